@@ -1,0 +1,14 @@
+pub mod Card
+pub mod CardBits
+pub mod Cards
+pub mod HandText
+pub mod Hands
+pub mod Law2
+pub mod Name
+pub mod Pair
+pub mod Place
+pub mod Rank
+pub mod Side
+pub mod Strain
+pub mod Suit
+pub mod Vulnerability

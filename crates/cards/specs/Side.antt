@@ -1,0 +1,13 @@
+-- The two sides at a table.
+use Rattle.std.specs.Prelude.{ℕ, List, codes}
+use Rattle.cards.specs.declared.side.Side.{Side}
+use Rattle.cards.specs.declared.side.Side.TheVariants.{NorthSouth, EastWest}
+
+-- the opponents of a side
+abbrev pub other_side : Side → Side
+other_side NorthSouth = EastWest
+other_side EastWest = NorthSouth
+
+abbrev pub side_text : Side → List ℕ
+side_text NorthSouth = codes "NS"
+side_text EastWest = codes "EW"

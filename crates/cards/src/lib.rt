@@ -1,0 +1,31 @@
+//! The cards and the table of duplicate bridge: suits, hands and deals, who sits where, and what is marked on a board.
+#![tactic(auto)]
+
+mod card;
+mod deal;
+mod hand;
+mod holding;
+mod law2;
+mod name;
+mod pair;
+mod place;
+mod rank;
+mod side;
+mod strain;
+mod suit;
+#[cfg(test)]
+mod tests;
+mod vulnerability;
+
+pub use card::{Card, NotACard};
+pub use deal::{Deal, NotADeal};
+pub use hand::Hand;
+pub use law2::{dealer_of, vulnerability_of};
+pub use name::{Name, NameTooLong};
+pub use pair::Pair;
+pub use place::Place;
+pub use rank::Rank;
+pub use side::Side;
+pub use strain::Strain;
+pub use suit::Suit;
+pub use vulnerability::Vulnerability;

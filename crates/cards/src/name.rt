@@ -1,0 +1,99 @@
+ghost use Rattle.std.specs.Prelude.{◌≡◌, ◌<◌, ◌≤◌, length, IfOk, OnErr, Some};
+
+use std::marker::Model;
+use std::{fmt, str};
+use thiserror::Error;
+
+/// The name of a user: a text of at most 32 bytes, which lies in the value itself.
+#[derive(Clone, Copy)]
+pub struct Name {
+    bytes: [u8; 32],
+    len: u8,
+}
+
+impl Model for Name {
+    ghost use Rattle.std.specs.Prelude.{List, ℕ};
+
+    ghost Value = { List ℕ };
+
+    ghost use Rattle.cards.specs.Name.{IsName, text_of, name_of, name_of-text_of};
+
+    ghost view = { text_of };
+
+    ghost invariant = { IsName };
+
+    ghost inverse = { name_of };
+
+    ghost inverse_ok = { name_of-text_of };
+}
+
+/// A text of more than 32 bytes.
+#[derive(Clone, Copy, Debug, PartialEq, Eq, Error)]
+#[error("a name has at most 32 bytes")]
+pub struct NameTooLong;
+
+impl Name {
+    /// How many bytes a name has at most.
+    pub const MOST: usize = 32;
+
+    pub fn new(text: &str) -> Result<Name, NameTooLong>
+        ensures ok { IfOk result (λ name. name ≡ text.now) }
+        ensures short { IfOk result (λ name. length text.now ≤ 32) }
+        ensures err { OnErr result (32 < length text.now) }
+    {
+        let len = text.len();
+        if len > Name::MOST {
+            return Err(NameTooLong);
+        }
+        let mut bytes = [0; 32];
+        bytes[..len].copy_from_slice(text.as_bytes());
+        Ok(Name {
+            bytes,
+            len: len as u8,
+        })
+    }
+
+    pub fn as_str(&self) -> &str
+        ensures text { result.now ≡ self.now }
+        ensures short { length result.now ≤ 32 }
+    {
+        match str::from_utf8(&self.bytes[..self.len as usize]) {
+            Ok(text) => text,
+            Err(_) => unreachable!(),
+        }
+    }
+}
+
+impl PartialEq for Name {
+    ghost use Rattle.std.specs.Prelude.{nat_eq};
+    ghost use Rattle.std.specs.Cmp.{partial_equiv_from_equiv};
+    ghost use Rattle.std.specs.Cmp.Lexicographic.{pointwise, nat_list_eq_equiv};
+
+    ghost eq = { pointwise nat_eq };
+
+    ghost laws = { partial_equiv_from_equiv nat_list_eq_equiv };
+
+    fn eq(&self, other: &Name) -> bool {
+        self.as_str() == other.as_str()
+    }
+}
+
+impl Eq for Name {
+    ghost use Rattle.std.specs.Cmp.Lexicographic.{nat_list_eq_equiv};
+
+    ghost laws = { nat_list_eq_equiv };
+}
+
+impl fmt::Display for Name {
+    ghost output = { λ name. Some name };
+
+    fn fmt<W: fmt::Write>(&self, f: &mut fmt::Formatter<W>) -> fmt::Result {
+        f.write_str(self.as_str())
+    }
+}
+
+impl fmt::Debug for Name {
+    fn fmt<W: fmt::Write>(&self, f: &mut fmt::Formatter<W>) -> fmt::Result {
+        f.write_str(self.as_str())
+    }
+}

@@ -1,0 +1,53 @@
+ghost use Rattle.std.specs.Prelude.{◌≡◌, ◌≢◌, ◌∷◌, [], IfSome, IfNone, Some};
+ghost use Rattle.cards.specs.Suit.{suit_letter};
+ghost use Rattle.cards.specs.declared.suit.Suit.{Suit};
+
+use std::fmt;
+
+/// A suit of the pack (Law 1), in the order in which a hand is written.
+#[derive(Clone, Copy, Debug, PartialEq, Eq, Hash)]
+pub enum Suit {
+    Spades,
+    Hearts,
+    Diamonds,
+    Clubs,
+}
+
+impl Suit {
+    /// The four suits, in the order in which a hand is written.
+    pub const ALL: [Suit; 4] = [Suit::Spades, Suit::Hearts, Suit::Diamonds, Suit::Clubs];
+
+    /// `S`, `H`, `D` or `C`.
+    pub fn letter(self) -> char
+        ensures { result ≡ suit_letter self }
+    {
+        match self {
+            Suit::Spades => 'S',
+            Suit::Hearts => 'H',
+            Suit::Diamonds => 'D',
+            Suit::Clubs => 'C',
+        }
+    }
+
+    /// The suit of a capital letter.
+    pub fn from_letter(letter: char) -> Option<Suit>
+        ensures found { IfSome result (λ suit. suit_letter suit ≡ letter) }
+        ensures none { IfNone result ((suit : Suit) → suit_letter suit ≢ letter) }
+    {
+        match letter {
+            'S' => Some(Suit::Spades),
+            'H' => Some(Suit::Hearts),
+            'D' => Some(Suit::Diamonds),
+            'C' => Some(Suit::Clubs),
+            _ => None,
+        }
+    }
+}
+
+impl fmt::Display for Suit {
+    ghost output = { λ suit. Some (suit_letter suit ∷ []) };
+
+    fn fmt<W: fmt::Write>(&self, f: &mut fmt::Formatter<W>) -> fmt::Result {
+        f.write_char(self.letter())
+    }
+}
