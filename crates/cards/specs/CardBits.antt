@@ -114,8 +114,8 @@ dropped : (a b c d : Bool) → (a ≡ true → b ≡ false) → c ≡ (d && b) �
 dropped true b c d h e = e ∙ ap (λ x. d && x) (h refl) ∙ never d ∙ sym (h refl)
 dropped false b c d h e = e
 
--- a filter keeps a card that passes
-any_filter : (e p : Card → Bool) (q : Card) → ((x : Card) → e x ≡ true → p x ≡ p q) → (xs : List Card) → list_any e (filter p xs) ≡ (list_any e xs && p q)
+-- a filter keeps what passes
+pub any_filter : {X : Type 0} (e p : X → Bool) (q : X) → ((x : X) → e x ≡ true → p x ≡ p q) → (xs : List X) → list_any e (filter p xs) ≡ (list_any e xs && p q)
 any_filter e p q alike [] = refl
 any_filter e p q alike (x ∷ xs) =
     elim (p x) as (λ b. p x ≡ b → list_any e (cond b (x ∷ filter p xs) (filter p xs)) ≡ ((e x || list_any e xs) && p q)) [
@@ -170,8 +170,8 @@ cards_of_no_bits = same_cards _ _ (λ card. contains-cards_of_bits 0 card ∙ no
 eq_by_number : (a b : Card) → eq_by_cmp card_cmp a b ≡ nat_eq (number_in_pack a) (number_in_pack b)
 eq_by_number a b = unsigned_tied (number_in_pack a) (number_in_pack b)
 
--- a bit that is set adds its card
-set_bit : (bits k j : ℕ) → k < 64 → nat_eq (bit_at (bit_or bits (1 * 2 ^ k % 2 ^ 64)) j) 1 ≡ (nat_eq j k || nat_eq (bit_at bits j) 1)
+-- a bit that is set is there beside the others
+pub set_bit : (bits k j : ℕ) → k < 64 → nat_eq (bit_at (bit_or bits (1 * 2 ^ k % 2 ^ 64)) j) 1 ≡ (nat_eq j k || nat_eq (bit_at bits j) 1)
 set_bit bits k j within =
     elim (cases_eq j k) [
       | inl same ↦ ap (λ x. nat_eq x 1) (ap (bit_at (bit_or bits (1 * 2 ^ k % 2 ^ 64))) same ∙ bit_at_set_same w64 bits k within) ∙ sym (ap (λ b. b || nat_eq (bit_at bits j) 1) (eq-eqb j k same))
@@ -185,8 +185,8 @@ cards_of_bits-set bits card = same_cards _ _ (λ other.
     ∙ (λ i. sym (eq_by_number other card) i || sym (contains-cards_of_bits bits other) i)
     ∙ sym (set.contains-insert card_cmp_total (cards_of_bits bits) card other))
 
--- a bit that is cleared takes its card away
-clear_bit : (bits k j : ℕ) → k < 64 → j < 64 → nat_eq (bit_at (bit_and bits (bit_not w64 (1 * 2 ^ k % 2 ^ 64))) j) 1 ≡ (not (nat_eq j k) && nat_eq (bit_at bits j) 1)
+-- a bit that is cleared is gone, and the others stay
+pub clear_bit : (bits k j : ℕ) → k < 64 → j < 64 → nat_eq (bit_at (bit_and bits (bit_not w64 (1 * 2 ^ k % 2 ^ 64))) j) 1 ≡ (not (nat_eq j k) && nat_eq (bit_at bits j) 1)
 clear_bit bits k j within also_within =
     elim (cases_eq j k) [
       | inl same ↦ ap (λ x. nat_eq x 1) (ap (bit_at (bit_and bits (bit_not w64 (1 * 2 ^ k % 2 ^ 64)))) same ∙ bit_at_clear_same w64 bits k within) ∙ sym (ap (λ b. not b && nat_eq (bit_at bits j) 1) (eq-eqb j k same))

@@ -1,0 +1,10 @@
+use Rattle.std.proofs.Common.{arith}
+use Rattle.movement.proofs.CellLemmas.{pair_at_table}
+use Rattle.movement.proofs.RowLemmas.{same_tables}
+use Rattle.movement.proofs.movement.Movement.ew_at.Goals as goal
+
+pub returns-clause-row : goal.returns-clause-row
+returns-clause-row c =
+    let tables = same_tables c.self.view_is in
+    pair_at_table c.args.self c.args.table c.args.round c.east_west_at-east_west.result c.requires.from_table
+    c.requires.from_round c.requires.to_round (omega arith) (rw tables at c.east_west_at-east_west.ensures.at)

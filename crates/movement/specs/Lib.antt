@@ -1,0 +1,3 @@
+pub mod Movement
+pub mod Refusal
+pub mod Row

@@ -1,0 +1,85 @@
+-- The Mitchell movement of one section, as the list of who plays what, where and when.
+--
+-- own: the movement is the plain Mitchell. The North-South pairs stay at their tables, the East-West pairs move up one
+-- table a round, and the sets of boards down one. At an even number of tables the East-West pairs skip a table in the
+-- middle of the session, so that they meet no set again.
+use Rattle.std.specs.Prelude.{◌≡◌, ℕ, ◌+◌, ◌-◌, ◌*◌, ◌/◌, ◌%◌, ◌<◌, ◌≤◌, Bool, List, map, Any, ◌==◌, ◌&&◌, nat_le, if◌then◌else◌}
+use Rattle.std.specs.List.{flat_map, range_with_len}
+use Rattle.cards.specs.declared.pair.Pair.{Pair}
+use Rattle.cards.specs.declared.side.Side.TheVariants.{NorthSouth, EastWest}
+use Rattle.movement.specs.declared.cell.Cell.{Cell}
+
+-- a section: its tables, the rounds that are played, and the boards in a set
+pub record Section : Type 0 where
+  pub tables : ℕ
+  pub rounds : ℕ
+  pub per_set : ℕ
+
+-- what one table plays in one round; rounds, tables and sets are counted from 1
+pub record Row : Type 0 where
+  pub round : ℕ
+  pub table : ℕ
+  pub set : ℕ
+  pub north_south : Pair
+  pub east_west : Pair
+
+-- the set on a table in a round, all counted from 0: the sets move down one table a round
+abbrev pub set_on : ℕ → ℕ → ℕ → ℕ
+set_on tables table round = (table + round) % tables
+
+-- whether the East-West pairs have skipped a table by a round, counted from 0
+abbrev pub has_skipped : ℕ → ℕ → Bool
+has_skipped tables round = (tables % 2 == 0) && nat_le (tables / 2) round
+
+-- the table of an East-West pair in a round, all counted from 0: it moves up one table a round, and one more at the skip
+abbrev pub table_of : ℕ → ℕ → ℕ → ℕ
+table_of tables east_west round = (east_west + round + (if has_skipped tables round then 1 else 0)) % tables
+
+-- what an East-West pair plays in a round, both counted from 0
+abbrev pub row_of : ℕ → ℕ → ℕ → Row
+row_of tables round east_west =
+    let table = table_of tables east_west round in
+    record {
+      round = round + 1;
+      table = table + 1;
+      set = set_on tables table round + 1;
+      north_south = record { side = NorthSouth; number = table + 1 };
+      east_west = record { side = EastWest; number = east_west + 1 };
+    }
+
+-- the movement: what each East-West pair plays in each round
+unfoldable pub rows : Section → List Row
+rows section =
+    flat_map (λ round. map (row_of section.tables round) (range_with_len 0 section.tables)) (range_with_len 0 section.rounds)
+
+-- how many boards the section plays
+abbrev pub boards_of : Section → ℕ
+boards_of section = section.tables * section.per_set
+
+-- a board of a set: the boards of set 1 come first, then those of set 2, and so on
+pub record IsOfSet (section : Section) (set board : ℕ) : Type 0 where
+  pub after : (set - 1) * section.per_set < board
+  pub within : board ≤ set * section.per_set
+
+-- the cell stands in the row: its table plays the board
+pub record HasCell (section : Section) (row : Row) (cell : Cell) : Type 0 where
+  pub table : row.table ≡ cell.table
+  pub board : IsOfSet section row.set cell.board
+
+-- a cell of the movement: its table is scheduled to play the board
+abbrev pub IsCell : Section → Cell → Type 0
+IsCell section cell = Any (λ row. HasCell section row cell) (rows section)
+
+-- the most rounds that can be played without a pair meeting a set again
+abbrev pub most_rounds : ℕ → ℕ
+most_rounds tables = if tables % 2 == 0 then tables - 1 else tables
+
+-- what is kept of every section
+pub record IsSection (section : Section) : Type 0 where
+  pub enough_tables : 3 ≤ section.tables
+  pub not_too_many_tables : section.tables ≤ 16
+  pub enough_rounds : 1 ≤ section.rounds
+  pub not_too_many_rounds : section.rounds ≤ most_rounds section.tables
+  pub enough_boards : 1 ≤ section.per_set
+  pub not_too_many_boards_in_a_set : section.per_set ≤ 8
+  pub not_too_many_boards : boards_of section ≤ 64

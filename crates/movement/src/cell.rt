@@ -1,0 +1,6 @@
+/// A table and a board that it is scheduled to play.
+#[derive(Clone, Copy, Debug, PartialEq, Eq, Hash)]
+pub struct Cell {
+    pub table: u8,
+    pub board: u8,
+}

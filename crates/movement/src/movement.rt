@@ -1,0 +1,214 @@
+ghost use Rattle.std.specs.Prelude.{◌≡◌, ℕ, ◌+◌, ◌-◌, ◌*◌, ◌<◌, ◌≤◌, Any, All, IfOk, OnOk, IfErr, IfSome, IfNone, IsBitSet, IsTrue, ◌↔◌};
+ghost use Rattle.movement.specs.Movement.{Section, IsSection, IsOfSet, HasCell, IsCell, boards_of, rows};
+ghost use Rattle.movement.specs.Row.{IsAt, Seats, Plays, board_of_set, IsCellInRange};
+ghost use Rattle.movement.specs.Refusal.{Refuses, IsFirst};
+ghost use Rattle.cards.specs.declared.side.Side.TheVariants.{EastWest};
+ghost use Rattle.movement.specs.declared.movement_error.MovementError.{MovementError};
+
+use crate::cell::Cell;
+use crate::mitchell;
+use crate::movement_error::MovementError;
+use cards::{Pair, Side};
+use std::marker::Model;
+
+/// Who plays what, where and when in one section of a plain Mitchell movement.
+#[derive(Clone, Copy, Debug, PartialEq, Eq)]
+pub struct Movement {
+    tables: u8,
+    rounds: u8,
+    per_set: u8,
+}
+
+impl Model for Movement {
+    ghost Value = { Section };
+
+    ghost view = { λ m. record { tables = m.tables; rounds = m.rounds; per_set = m.per_set } };
+
+    ghost invariant = { λ m. IsSection (record { tables = m.tables; rounds = m.rounds; per_set = m.per_set }) };
+
+    ghost inverse = { λ s. record { tables = s.tables; rounds = s.rounds; per_set = s.per_set } };
+}
+
+impl Movement {
+    /// The movement of a section of 3 to 16 tables, with `per_set` boards in a set.
+    pub fn new(tables: u8, rounds: u8, per_set: u8) -> Result<Movement, MovementError>
+        ensures section { IfOk result (λ movement.
+            movement ≡ record { tables = tables; rounds = rounds; per_set = per_set }) }
+        ensures allowed { IfOk result (λ movement. (error : MovementError) → ¬ Refuses error movement) }
+        ensures refused { IfErr result (IsFirst (record { tables = tables; rounds = rounds; per_set = per_set })) }
+    {
+        if tables < 3 || tables > 16 {
+            return Err(MovementError::BadTables);
+        }
+        if rounds < 1 || rounds > mitchell::most_rounds(tables) {
+            return Err(MovementError::BadRounds);
+        }
+        if per_set < 1 || per_set > 8 || tables * per_set > 64 {
+            return Err(MovementError::BadSets);
+        }
+        Ok(Movement {
+            tables,
+            rounds,
+            per_set,
+        })
+    }
+
+    /// How many tables the section has.
+    pub fn tables(self) -> u8
+        ensures tables { result ≡ self.tables }
+        ensures section { IsSection self }
+    {
+        self.tables
+    }
+
+    /// How many rounds are played.
+    pub fn rounds(self) -> u8
+        ensures rounds { result ≡ self.rounds }
+        ensures section { IsSection self }
+    {
+        self.rounds
+    }
+
+    /// How many boards a set has.
+    pub fn per_set(self) -> u8
+        ensures per_set { result ≡ self.per_set }
+        ensures section { IsSection self }
+    {
+        self.per_set
+    }
+
+    /// How many boards the section plays.
+    pub fn boards(self) -> u8
+        ensures boards { result ≡ boards_of self }
+        ensures section { IsSection self }
+    {
+        self.tables * self.per_set
+    }
+
+    /// The k-th board, from 1, that a table plays in a round.
+    pub fn board_at(self, table: u8, round: u8, k: u8) -> u8
+        requires from_table { 1 ≤ table }
+        requires to_table { table ≤ self.tables }
+        requires from_round { 1 ≤ round }
+        requires to_round { round ≤ self.rounds }
+        requires from_board { 1 ≤ k }
+        requires to_board { k ≤ self.per_set }
+        ensures row { Any (λ row. IsAt row table round × (result ≡ board_of_set self row.set k)) (rows self) }
+        ensures cell { IsCell self (record { table = table; board = result }) }
+    {
+        let set = mitchell::set_on(self.tables, table - 1, round - 1);
+        set * self.per_set + k
+    }
+
+    /// The East-West pair at a table in a round.
+    pub fn ew_at(self, table: u8, round: u8) -> Pair
+        requires from_table { 1 ≤ table }
+        requires to_table { table ≤ self.tables }
+        requires from_round { 1 ≤ round }
+        requires to_round { round ≤ self.rounds }
+        ensures row { Any (λ row. IsAt row table round × (row.east_west ≡ result)) (rows self) }
+        ensures number { (1 ≤ result.number) × (result.number ≤ self.tables) }
+    {
+        let east_west = mitchell::east_west_at(self.tables, table - 1, round - 1);
+        Pair {
+            side: Side::EastWest,
+            number: east_west + 1,
+        }
+    }
+
+    /// The round in which a cell is played.
+    pub fn round_of(self, cell: Cell) -> u8
+        requires { IsCell self cell }
+        ensures row { Any (λ row. HasCell self row cell × (row.round ≡ result)) (rows self) }
+        ensures round { (1 ≤ result) × (result ≤ self.rounds) }
+    {
+        let set = self.set_of(cell.board);
+        mitchell::round_of_table(self.tables, cell.table - 1, set) + 1
+    }
+
+    /// The cell in which a pair plays a board, if the schedule has one.
+    pub fn cell_of(self, pair: Pair, board: u8) -> Option<Cell>
+        ensures seat { IfSome result (λ cell. Any (λ row. Seats row pair × HasCell self row cell) (rows self)) }
+        ensures board { IfSome result (λ cell. cell.board ≡ board) }
+        ensures cell { IfSome result (IsCell self) }
+        ensures range { IfSome result (IsCellInRange self) }
+        ensures none { IfNone result (All (λ row. ¬ Plays self row pair board) (rows self)) }
+        ensures section { IsSection self }
+    {
+        match pair.side {
+            Side::NorthSouth => self.cell(pair.number, board),
+            Side::EastWest => self.east_west_cell(pair.number, board),
+        }
+    }
+
+    /// The cell of a table and a board, if the table is scheduled to play the board.
+    pub fn cell(self, table: u8, board: u8) -> Option<Cell>
+        ensures cell { IfSome result (λ cell. cell ≡ record { table = table; board = board }) }
+        ensures some { IfSome result (IsCell self) }
+        ensures range { IfSome result (IsCellInRange self) }
+        ensures none { IfNone result (¬ IsCell self (record { table = table; board = board })) }
+    {
+        if !self.has(table, board) {
+            return None;
+        }
+        let set = self.set_of(board);
+        let round = mitchell::round_of_table(self.tables, table - 1, set);
+        if round < self.rounds {
+            Some(Cell { table, board })
+        } else {
+            None
+        }
+    }
+
+    /// The tables that are scheduled to play a board: bit `t` stands for table `t + 1`.
+    pub fn scheduled(self, board: u8) -> u16
+        ensures { (t : ℕ) → (IsBitSet result t ↔ IsCell self (record { table = t + 1; board = board })) }
+    {
+        let mut scheduled = 0;
+        for table in 0..self.tables {
+            if self.cell(table + 1, board).is_some() {
+                scheduled |= 1 << table;
+            }
+        }
+        scheduled
+    }
+
+    // Whether the section has a table of this number, and so a pair on each side, and a board of that one.
+    fn has(self, number: u8, board: u8) -> bool
+        ensures { IsTrue result ↔
+            ((1 ≤ number) × (number ≤ self.tables) × (1 ≤ board) × (board ≤ boards_of self)) }
+    {
+        1 <= number && number <= self.tables && 1 <= board && board <= self.boards()
+    }
+
+    // The set of a board, counted from 0.
+    fn set_of(self, board: u8) -> u8
+        requires from_board { 1 ≤ board }
+        requires to_board { board ≤ boards_of self }
+        ensures set { result < self.tables }
+        ensures board { IsOfSet self (result + 1) board }
+    {
+        (board - 1) / self.per_set
+    }
+
+    // The cell in which an East-West pair plays a board, if the schedule has one.
+    fn east_west_cell(self, number: u8, board: u8) -> Option<Cell>
+        ensures seat { IfSome result (λ cell.
+            Any (λ row. Seats row (record { side = EastWest; number = number }) × HasCell self row cell) (rows self)) }
+        ensures board { IfSome result (λ cell. cell.board ≡ board) }
+        ensures none { IfNone result
+            (All (λ row. ¬ Plays self row (record { side = EastWest; number = number }) board) (rows self)) }
+    {
+        if !self.has(number, board) {
+            return None;
+        }
+        let set = self.set_of(board);
+        let round = mitchell::round_of_east_west(self.tables, number - 1, set);
+        if round < self.rounds {
+            let table = mitchell::table_of(self.tables, number - 1, round) + 1;
+            Some(Cell { table, board })
+        } else {
+            None
+        }
+    }
+}
