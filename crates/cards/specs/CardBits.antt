@@ -6,7 +6,8 @@ use Rattle.std.specs.FinSet as set
 use Rattle.std.specs.FinMap.{IsAntisymmetric, nat_cmp-IsAntisymmetric}
 use Rattle.std.specs.Cmp.{IsTotalOrder, nat_cmp_total, on_total, unsigned_tied}
 use Rattle.std.specs.Ordering.{eq_by_cmp}
-use Rattle.std.specs.Int.{bit_at, bit_not, w64}
+use Rattle.std.specs.Int.{Width, bit_at, bit_not, w64}
+use mir.Val.{bits}
 use Rattle.std.specs.Int.Count.{ones, ones_step, ones-ones}
 use Rattle.std.proofs.lemmas.List.FromFn.{sum_by-map-range_with_len_more}
 use Rattle.std.proofs.lemmas.Bool.{eqb-true, eq-eqb, ne_eqb, cases_eq, agree_below_at, eqb-false, cases_lt, and_parts, not-true}
@@ -171,32 +172,32 @@ eq_by_number : (a b : Card) → eq_by_cmp card_cmp a b ≡ nat_eq (number_in_pac
 eq_by_number a b = unsigned_tied (number_in_pack a) (number_in_pack b)
 
 -- a bit that is set is there beside the others
-pub set_bit : (bits k j : ℕ) → k < 64 → nat_eq (bit_at (bit_or bits (1 * 2 ^ k % 2 ^ 64)) j) 1 ≡ (nat_eq j k || nat_eq (bit_at bits j) 1)
-set_bit bits k j within =
+pub set_bit : (w : Width) (word k j : ℕ) → k < bits w → nat_eq (bit_at (bit_or word (1 * 2 ^ k % 2 ^ bits w)) j) 1 ≡ (nat_eq j k || nat_eq (bit_at word j) 1)
+set_bit w word k j within =
     elim (cases_eq j k) [
-      | inl same ↦ ap (λ x. nat_eq x 1) (ap (bit_at (bit_or bits (1 * 2 ^ k % 2 ^ 64))) same ∙ bit_at_set_same w64 bits k within) ∙ sym (ap (λ b. b || nat_eq (bit_at bits j) 1) (eq-eqb j k same))
-      | inr other ↦ ap (λ x. nat_eq x 1) (bit_at_set_other w64 bits k within j other) ∙ sym (ap (λ b. b || nat_eq (bit_at bits j) 1) (ne_eqb j k other))
+      | inl same ↦ ap (λ x. nat_eq x 1) (ap (bit_at (bit_or word (1 * 2 ^ k % 2 ^ bits w))) same ∙ bit_at_set_same w word k within) ∙ sym (ap (λ b. b || nat_eq (bit_at word j) 1) (eq-eqb j k same))
+      | inr other ↦ ap (λ x. nat_eq x 1) (bit_at_set_other w word k within j other) ∙ sym (ap (λ b. b || nat_eq (bit_at word j) 1) (ne_eqb j k other))
     ]
 
 pub cards_of_bits-set : (bits : ℕ) (card : Card) → cards_of_bits (bit_or bits (1 * 2 ^ number_in_pack card % 2 ^ 64)) ≡ set.insert (cards_of_bits bits) card
 cards_of_bits-set bits card = same_cards _ _ (λ other.
     contains-cards_of_bits _ other
-    ∙ set_bit bits (number_in_pack card) (number_in_pack other) (omega (arith, number_below card))
+    ∙ set_bit w64 bits (number_in_pack card) (number_in_pack other) (omega (arith, number_below card))
     ∙ (λ i. sym (eq_by_number other card) i || sym (contains-cards_of_bits bits other) i)
     ∙ sym (set.contains-insert card_cmp_total (cards_of_bits bits) card other))
 
 -- a bit that is cleared is gone, and the others stay
-pub clear_bit : (bits k j : ℕ) → k < 64 → j < 64 → nat_eq (bit_at (bit_and bits (bit_not w64 (1 * 2 ^ k % 2 ^ 64))) j) 1 ≡ (not (nat_eq j k) && nat_eq (bit_at bits j) 1)
-clear_bit bits k j within also_within =
+pub clear_bit : (w : Width) (word k j : ℕ) → k < bits w → j < bits w → nat_eq (bit_at (bit_and word (bit_not w (1 * 2 ^ k % 2 ^ bits w))) j) 1 ≡ (not (nat_eq j k) && nat_eq (bit_at word j) 1)
+clear_bit w word k j within also_within =
     elim (cases_eq j k) [
-      | inl same ↦ ap (λ x. nat_eq x 1) (ap (bit_at (bit_and bits (bit_not w64 (1 * 2 ^ k % 2 ^ 64)))) same ∙ bit_at_clear_same w64 bits k within) ∙ sym (ap (λ b. not b && nat_eq (bit_at bits j) 1) (eq-eqb j k same))
-      | inr other ↦ ap (λ x. nat_eq x 1) (bit_at_clear_other w64 bits k within j also_within other) ∙ sym (ap (λ b. not b && nat_eq (bit_at bits j) 1) (ne_eqb j k other))
+      | inl same ↦ ap (λ x. nat_eq x 1) (ap (bit_at (bit_and word (bit_not w (1 * 2 ^ k % 2 ^ bits w)))) same ∙ bit_at_clear_same w word k within) ∙ sym (ap (λ b. not b && nat_eq (bit_at word j) 1) (eq-eqb j k same))
+      | inr other ↦ ap (λ x. nat_eq x 1) (bit_at_clear_other w word k within j also_within other) ∙ sym (ap (λ b. not b && nat_eq (bit_at word j) 1) (ne_eqb j k other))
     ]
 
 pub cards_of_bits-clear : (bits : ℕ) (card : Card) → cards_of_bits (bit_and bits (bit_not w64 (1 * 2 ^ number_in_pack card % 2 ^ 64))) ≡ set.remove (cards_of_bits bits) card
 cards_of_bits-clear bits card = same_cards _ _ (λ other.
     contains-cards_of_bits _ other
-    ∙ clear_bit bits (number_in_pack card) (number_in_pack other) (omega (arith, number_below card)) (omega (arith, number_below other))
+    ∙ clear_bit w64 bits (number_in_pack card) (number_in_pack other) (omega (arith, number_below card)) (omega (arith, number_below other))
     ∙ (λ i. not (sym (eq_by_number other card) i) && sym (contains-cards_of_bits bits other) i)
     ∙ sym (set.contains-remove card_cmp_total (cards_of_bits bits) card other))
 

@@ -1,0 +1,12 @@
+use crate::doubling::Doubling;
+use crate::level::Level;
+use cards::{Place, Strain};
+
+/// The undertaking of declarer's side to win, at a strain, so many odd tricks (Law 22).
+#[derive(Clone, Copy, Debug, PartialEq, Eq)]
+pub struct Contract {
+    pub level: Level,
+    pub strain: Strain,
+    pub declarer: Place,
+    pub doubling: Doubling,
+}
