@@ -6,6 +6,7 @@ mod deal;
 mod hand;
 mod holding;
 mod law2;
+pub mod laws;
 mod name;
 mod pair;
 mod place;
