@@ -1,4 +1,11 @@
+pub mod DealReadingLemmas
+pub mod HandLawsLemmas
+pub mod HandReadingLemmas
 pub mod HandTextLemmas
+pub mod HandUnionLemmas
 pub mod HandsLemmas
 pub mod Law2Lemmas
 pub mod NameLemmas
+pub mod PairReadingLemmas
+pub mod PartsLemmas
+pub mod ReadBackLemmas

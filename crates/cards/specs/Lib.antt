@@ -1,11 +1,13 @@
 pub mod Card
 pub mod CardBits
 pub mod Cards
+pub mod HandReading
 pub mod HandText
 pub mod Hands
 pub mod Law2
 pub mod Name
 pub mod Pair
+pub mod PairReading
 pub mod Place
 pub mod Rank
 pub mod Side

@@ -65,6 +65,15 @@ impl Hand {
         self.bits &= !(1 << card.number());
     }
 
+    /// The cards that are in either hand.
+    pub fn union(self, other: Hand) -> Hand
+        ensures { result ≡ set.union self other }
+    {
+        Hand {
+            bits: self.bits | other.bits,
+        }
+    }
+
     /// How many cards there are.
     pub fn len(self) -> u32
         ensures { result ≡ set.len self }

@@ -1,12 +1,62 @@
 //! What follows from the definitions alone: each function here has nothing to do, and its clauses are the theorem.
-ghost use Rattle.std.specs.Prelude.{◌≡◌, ℕ};
+ghost use Rattle.std.specs.Prelude.{◌≡◌, ◌≤◌, ℕ, List, Result, Ok};
 ghost use Rattle.cards.specs.Law2.{IsDealer, IsMarked};
 ghost use Rattle.cards.specs.declared.place.Place.{Place};
 ghost use Rattle.cards.specs.declared.vulnerability.Vulnerability.{Vulnerability};
+ghost use Rattle.cards.specs.declared.hand_reading.NotAHand.{NotAHand};
+ghost use Rattle.cards.specs.declared.deal_reading.DealTextError.{DealTextError};
+ghost use Rattle.cards.specs.declared.pair.Pair.{Pair};
+ghost use Rattle.cards.specs.declared.pair_reading.NotAPair.{NotAPair};
+ghost use Rattle.cards.specs.Pair.{pair_text};
+ghost use Rattle.cards.specs.PairReading.{ReadsPair};
+ghost use Rattle.cards.specs.Cards.{Cards};
+ghost use Rattle.cards.specs.Hands.{Hands, IsDeal};
+ghost use Rattle.cards.specs.HandText.{hand_text, deal_text};
+ghost use Rattle.cards.specs.HandReading.{IsHandText, IsDealText, ReadsHand, ReadsDeal};
 
 /// Law 2 gives each board one dealer and one marking.
 pub fn one_dealer_and_one_marking()
     ensures dealer { (board : ℕ) (place other : Place) → IsDealer board place → IsDealer board other → place ≡ other }
     ensures marking { (board : ℕ) (vulnerability other : Vulnerability) →
         IsMarked board vulnerability → IsMarked board other → vulnerability ≡ other }
+{}
+
+/// What is written of a hand is read as that hand.
+pub fn a_hand_reads_what_it_writes()
+    ensures { (cards : Cards) → IsHandText cards (hand_text cards) }
+{}
+
+/// No text is that of two hands.
+pub fn a_text_is_one_hand()
+    ensures { (one other : Cards) (text : List ℕ) →
+        IsHandText one text → IsHandText other text → one ≡ other }
+{}
+
+/// What is written of four hands is read as those hands.
+pub fn a_deal_reads_what_it_writes()
+    ensures { (hands : Hands) → IsDealText hands (deal_text hands) }
+{}
+
+/// No text is that of two deals.
+pub fn a_text_is_one_deal()
+    ensures { (one other : Hands) (text : List ℕ) →
+        IsDealText one text → IsDealText other text → one ≡ other }
+{}
+
+/// A hand that is written is read back, and so no hand's own text is refused.
+pub fn a_written_hand_is_read_back()
+    ensures { (hand : Cards) (read : Result Cards NotAHand) →
+        ReadsHand (hand_text hand) read → read ≡ Ok hand }
+{}
+
+/// A deal that is written is read back.
+pub fn a_written_deal_is_read_back()
+    ensures { (deal : Hands) (read : Result Hands DealTextError) →
+        IsDeal deal → ReadsDeal (deal_text deal) read → read ≡ Ok deal }
+{}
+
+/// A pair with a number from 1 to 255 that is written is read back.
+pub fn a_written_pair_is_read_back()
+    ensures { (pair : Pair) (read : Result Pair NotAPair) →
+        1 ≤ pair.number → pair.number ≤ 255 → ReadsPair (pair_text pair) read → read ≡ Ok pair }
 {}

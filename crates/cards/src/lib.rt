@@ -3,12 +3,15 @@
 
 mod card;
 mod deal;
+mod deal_reading;
 mod hand;
+mod hand_reading;
 mod holding;
 mod law2;
 pub mod laws;
 mod name;
 mod pair;
+mod pair_reading;
 mod place;
 mod rank;
 mod side;
@@ -20,10 +23,13 @@ mod vulnerability;
 
 pub use card::{Card, NotACard};
 pub use deal::{Deal, NotADeal};
+pub use deal_reading::DealTextError;
 pub use hand::Hand;
+pub use hand_reading::NotAHand;
 pub use law2::{dealer_of, vulnerability_of};
 pub use name::{Name, NameTooLong};
 pub use pair::Pair;
+pub use pair_reading::NotAPair;
 pub use place::Place;
 pub use rank::Rank;
 pub use side::Side;

@@ -1,0 +1,195 @@
+ghost use Rattle.std.specs.Prelude.{◌≡◌, ◌≢◌, ◌∷◌, ◌++◌, ℕ, List, codes, IfSome, IfNone, IfOk, OnErr};
+ghost use Rattle.cards.specs.declared.place.Place.{Place};
+ghost use Rattle.cards.specs.Place.{place_letter};
+ghost use Rattle.cards.specs.Hands.{Hands, IsDeal};
+ghost use Rattle.cards.specs.HandReading.{IsDealText, ReadsDeal, clockwise_from};
+
+use crate::deal::{Deal, NotADeal};
+use crate::hand::Hand;
+use crate::hand_reading::read_hand;
+use crate::place::Place;
+use std::str::FromStr;
+use thiserror::Error;
+
+/// A text that is no deal's.
+#[derive(Clone, Copy, Debug, PartialEq, Eq, Error)]
+pub enum DealTextError {
+    /// A text that is not of four hands.
+    #[error("not the text of four hands")]
+    NotADealText,
+    /// A text of four hands: one has other than thirteen cards, or two have a card in common.
+    #[error("not a deal")]
+    NotADeal,
+}
+
+/// Reads the letter of any player, a colon, and the hands clockwise from that player's: `E:.63.AKQ987.A9732 A8654.KQ5.T.QJT6 ..`.
+impl FromStr for Deal {
+    type Err = DealTextError;
+
+    ghost from_str_gives = { ReadsDeal };
+
+    fn from_str(text: &str) -> Result<Deal, DealTextError> {
+        let hands = read_hands(text).ok_or(DealTextError::NotADealText)?;
+        match hands.deal() {
+            Ok(deal) => Ok(deal),
+            Err(NotADeal) => Err(DealTextError::NotADeal),
+        }
+    }
+}
+
+/// Four hands, clockwise from a player's.
+#[derive(Clone, Copy)]
+struct FourHands {
+    first: Place,
+    own: Hand,
+    left: Hand,
+    opposite: Hand,
+    right: Hand,
+}
+
+impl FourHands {
+    /// The deal, if they are one.
+    fn deal(&self) -> Result<Deal, NotADeal>
+        ensures ok { IfOk result (λ deal. deal ≡ clockwise_from self.now.first self.now.own self.now.left self.now.opposite self.now.right) }
+        ensures deal { IfOk result IsDeal }
+        ensures err { OnErr result (¬ IsDeal (clockwise_from self.now.first self.now.own self.now.left self.now.opposite self.now.right)) }
+    {
+        match self.first {
+            Place::North => Deal::new(self.own, self.left, self.opposite, self.right),
+            Place::East => Deal::new(self.right, self.own, self.left, self.opposite),
+            Place::South => Deal::new(self.opposite, self.right, self.own, self.left),
+            Place::West => Deal::new(self.left, self.opposite, self.right, self.own),
+        }
+    }
+}
+
+/// The four hands of a text.
+fn read_hands(text: &str) -> Option<FourHands>
+    ensures hands { IfSome result (λ read. IsDealText (clockwise_from read.first read.own read.left read.opposite read.right) text.now) }
+    ensures none { IfNone result ((hands : Hands) → ¬ IsDealText hands text.now) }
+{
+    let (first, rest) = read_first(text)?;
+    let (own, rest) = rest.split_once(' ')?;
+    let (left, rest) = rest.split_once(' ')?;
+    let (opposite, right) = rest.split_once(' ')?;
+    Some(FourHands {
+        first,
+        own: read_hand(own)?,
+        left: read_hand(left)?,
+        opposite: read_hand(opposite)?,
+        right: read_hand(right)?,
+    })
+}
+
+/// The player whose letter stands before a colon, and the text after it.
+fn read_first(text: &str) -> Option<(Place, &str)>
+    ensures first { IfSome result (λ read. text.now ≡ place_letter read.0 ∷ codes ":" ++ read.1.now) }
+    ensures none { IfNone result ((place : Place) (rest : List ℕ) → text.now ≢ place_letter place ∷ codes ":" ++ rest) }
+{
+    let (letter, rest) = text.split_once(':')?;
+    let [letter] = letter.as_bytes() else {
+        return None;
+    };
+    let place = Place::from_letter(char::from(*letter))?;
+    Some((place, rest))
+}
+
+#[cfg(test)]
+mod tests {
+    use super::*;
+    use std::test::Fail;
+
+    /// North has the spades, East the hearts, South the diamonds and West the clubs.
+    const SUITS: &str = "N:AKQJT98765432... .AKQJT98765432.. ..AKQJT98765432. ...AKQJT98765432";
+
+    #[test]
+    fn reads_any_players_hand_first(rt: HostRuntime) -> Result<(), Fail> {
+        let texts = [
+            SUITS,
+            "E:.AKQJT98765432.. ..AKQJT98765432. ...AKQJT98765432 AKQJT98765432...",
+            "S:..AKQJT98765432. ...AKQJT98765432 AKQJT98765432... .AKQJT98765432..",
+            "W:...AKQJT98765432 AKQJT98765432... .AKQJT98765432.. ..AKQJT98765432.",
+            "W:...23456789tjqka akqjt98765432... .AKQJT98765432.. ..AKQJT98765432.",
+        ];
+        for text in texts {
+            let deal = text.parse::<Deal>()?;
+            let written = deal.to_string(rt.alloc())?;
+            assert_eq!(rt; written.as_str(), SUITS, "{text}");
+            assert_eq!(rt;
+                deal.hand(Place::North),
+                "AKQJT98765432...".parse::<Hand>()?,
+                "{text}"
+            );
+        }
+        Ok(())
+    }
+
+    #[test]
+    fn reads_a_deal_from_play(rt: HostRuntime) -> Result<(), Fail> {
+        let text = "E:.63.AKQ987.A9732 A8654.KQ5.T.QJT6 J973.J98742.3.K4 KQT2.AT.J6542.85";
+        let deal = text.parse::<Deal>()?;
+        let written = deal.to_string(rt.alloc())?;
+        assert_eq!(rt;
+            written.as_str(),
+            "N:KQT2.AT.J6542.85 .63.AKQ987.A9732 A8654.KQ5.T.QJT6 J973.J98742.3.K4"
+        );
+        Ok(())
+    }
+
+    #[test]
+    fn refuses_four_hands_that_are_no_deal(rt: HostRuntime) {
+        let texts = [
+            "N:AKQJT9876543... .AKQJT98765432.. ..AKQJT98765432. ...AKQJT98765432",
+            "N:AKQJT98765432... AKQJT98765432... ..AKQJT98765432. ...AKQJT98765432",
+            "N:AKQJT98765432.2.. .AKQJT9876543.. ..AKQJT98765432. ...AKQJT98765432",
+            "S:... ... ... ...",
+        ];
+        for text in texts {
+            assert_eq!(rt;
+                text.parse::<Deal>(),
+                Err(DealTextError::NotADeal),
+                "{text}"
+            );
+        }
+    }
+
+    #[test]
+    fn refuses_what_is_no_deal_text(rt: HostRuntime) {
+        let texts = [
+            "",
+            "N",
+            "N:",
+            "AKQJT98765432... .AKQJT98765432.. ..AKQJT98765432. ...AKQJT98765432",
+            "n:AKQJT98765432... .AKQJT98765432.. ..AKQJT98765432. ...AKQJT98765432",
+            "NE:AKQJT98765432... .AKQJT98765432.. ..AKQJT98765432. ...AKQJT98765432",
+            "X:AKQJT98765432... .AKQJT98765432.. ..AKQJT98765432. ...AKQJT98765432",
+            "N: AKQJT98765432... .AKQJT98765432.. ..AKQJT98765432. ...AKQJT98765432",
+            "N:AKQJT98765432...  .AKQJT98765432.. ..AKQJT98765432. ...AKQJT98765432",
+            "N:AKQJT98765432... .AKQJT98765432.. ..AKQJT98765432. ...AKQJT98765432 ",
+            "N:AKQJT98765432... .AKQJT98765432.. ..AKQJT98765432.",
+            "N:AKQJT98765432... .AKQJT98765432.. ..AKQJT98765432. ...AKQJT98765432 ...",
+            "N:AKQJT98765432.. .AKQJT98765432.. ..AKQJT98765432. ...AKQJT98765432",
+            "N:AAKQJT9876543... .AKQJT98765432.. ..AKQJT98765432. ...AKQJT98765432",
+        ];
+        for text in texts {
+            assert_eq!(rt;
+                text.parse::<Deal>(),
+                Err(DealTextError::NotADealText),
+                "{text}"
+            );
+        }
+    }
+
+    #[test]
+    fn says_what_is_no_deal(rt: HostRuntime) -> Result<(), Fail> {
+        let rows = [
+            (DealTextError::NotADealText, "not the text of four hands"),
+            (DealTextError::NotADeal, "not a deal"),
+        ];
+        for (error, said) in rows {
+            let text = error.to_string(rt.alloc())?;
+            assert_eq!(rt; text.as_str(), said);
+        }
+        Ok(())
+    }
+}

@@ -1,0 +1,114 @@
+ghost use Rattle.std.specs.Prelude.{◌≡◌, true, IfSome, IfNone};
+ghost use Rattle.std.specs.FinSet as set;
+ghost use Rattle.cards.specs.declared.card.Card.{Card};
+ghost use Rattle.cards.specs.Cards.{Cards};
+ghost use Rattle.cards.specs.HandReading.{IsHoldingText, IsHandText, ReadsHand};
+
+use crate::card::Card;
+use crate::hand::Hand;
+use crate::rank::Rank;
+use crate::suit::Suit;
+use std::str::FromStr;
+use thiserror::Error;
+
+/// A text that is no hand's.
+#[derive(Clone, Copy, Debug, PartialEq, Eq, Error)]
+#[error("not a hand")]
+pub struct NotAHand;
+
+/// Reads the suits from the spades down with a dot between them, each in any order and in either case: `AKQ.jt.56789.432`.
+impl FromStr for Hand {
+    type Err = NotAHand;
+
+    ghost from_str_gives = { ReadsHand };
+
+    fn from_str(text: &str) -> Result<Hand, NotAHand> {
+        read_hand(text).ok_or(NotAHand)
+    }
+}
+
+/// The hand of a text.
+pub(crate) fn read_hand(text: &str) -> Option<Hand>
+    ensures hand { IfSome result (λ hand. IsHandText hand text.now) }
+    ensures none { IfNone result ((cards : Cards) → ¬ IsHandText cards text.now) }
+{
+    let (spades, rest) = text.split_once('.')?;
+    let (hearts, rest) = rest.split_once('.')?;
+    let (diamonds, clubs) = rest.split_once('.')?;
+    let spades = read_holding(Suit::Spades, spades)?;
+    let hearts = read_holding(Suit::Hearts, hearts)?;
+    let diamonds = read_holding(Suit::Diamonds, diamonds)?;
+    let clubs = read_holding(Suit::Clubs, clubs)?;
+    Some(spades.union(hearts).union(diamonds).union(clubs))
+}
+
+/// The cards of one suit, by the letters of their ranks.
+fn read_holding(suit: Suit, letters: &str) -> Option<Hand>
+    ensures held { IfSome result (λ hand. IsHoldingText hand suit letters.now) }
+    ensures only { IfSome result (λ hand. (card : Card) → set.contains hand card ≡ true → card.suit ≡ suit) }
+    ensures none { IfNone result ((cards : Cards) → ¬ IsHoldingText cards suit letters.now) }
+{
+    let mut hand = Hand::new();
+    for letter in letters.as_bytes() {
+        let rank = Rank::from_letter(char::from(letter.to_ascii_uppercase()))?;
+        let card = Card { suit, rank };
+        if hand.contains(card) {
+            return None;
+        }
+        hand.insert(card);
+    }
+    Some(hand)
+}
+
+#[cfg(test)]
+mod tests {
+    use super::*;
+    use std::test::Fail;
+
+    #[test]
+    fn reads_each_suit_in_any_order_and_either_case(rt: HostRuntime) -> Result<(), Fail> {
+        let rows = [
+            ("AKQJT98765432...", "AKQJT98765432..."),
+            (".AKQJT98765432..", ".AKQJT98765432.."),
+            ("akq.jt.98765.432", "AKQ.JT.98765.432"),
+            ("QAK.tJ.56789.324", "AKQ.JT.98765.432"),
+            ("a.K.q.J", "A.K.Q.J"),
+            ("...", "..."),
+        ];
+        for (text, written) in rows {
+            let hand = text.parse::<Hand>()?;
+            let again = hand.to_string(rt.alloc())?;
+            assert_eq!(rt; again.as_str(), written, "{text}");
+        }
+        Ok(())
+    }
+
+    #[test]
+    fn refuses_what_is_no_hand(rt: HostRuntime) {
+        let texts = [
+            "",
+            "A.K.Q",
+            "A.K.Q.J.T",
+            "AA...",
+            "aA...",
+            "...7327",
+            "1...",
+            "10...",
+            "A K...",
+            " ...",
+            "AKQ.JT.98765.432 ",
+            "AKQ,JT,98765,432",
+            "AKQ.JT.98765.43♣",
+        ];
+        for text in texts {
+            assert_eq!(rt; text.parse::<Hand>(), Err(NotAHand), "{text}");
+        }
+    }
+
+    #[test]
+    fn says_what_is_no_hand(rt: HostRuntime) -> Result<(), Fail> {
+        let text = NotAHand.to_string(rt.alloc())?;
+        assert_eq!(rt; text.as_str(), "not a hand");
+        Ok(())
+    }
+}
