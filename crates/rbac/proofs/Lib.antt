@@ -1,0 +1,12 @@
+pub mod AccountLemmas
+pub mod AuthorizationLemmas
+pub mod HierarchyLemmas
+pub mod InheritanceLemmas
+pub mod LawLemmas
+pub mod ListLemmas
+pub mod PairLemmas
+pub mod RefusalLemmas
+pub mod RoleBitsLemmas
+pub mod RoleLemmas
+pub mod SeparationLemmas
+pub mod ValidityLemmas

@@ -1,0 +1,6 @@
+use Rattle.rbac.proofs.AuthorizationLemmas.{decides_permission}
+use Rattle.rbac.proofs.roles.Roles.check_access.Goals as goal
+
+pub returns-in-Some : goal.returns-in-Some
+returns-in-Some c =
+    rw c.is_held_by.ensures (decides_permission c.args.self.now c.args.name.now c.in-Some.roles c.args.operation c.in-Some.ensures.exact)

@@ -1,0 +1,17 @@
+-- What the fields of `Roles` keep.
+use Rattle.std.specs.Prelude.{◌≤◌, vec_capacity}
+use Rattle.rbac.specs.declared.roles.Roles.TheInside.{Inside}
+use Rattle.rbac.specs.Hierarchy.{IsClosure}
+use Rattle.rbac.specs.RoleData.{RoleData}
+use Rattle.rbac.specs.Authorization.{IsValid}
+
+-- the accounts and the pairs
+abbrev pub data_of : Inside → RoleData
+data_of roles = record { accounts = roles.accounts.items; pairs = roles.pairs.items }
+
+-- the data is valid, the table is that of the pairs, and there is room for all users and for every pair of two roles
+pub record IsKept (roles : Inside) : Type 0 where
+  pub valid : IsValid (data_of roles)
+  pub closure : IsClosure roles.pairs.items roles.hierarchy.reached
+  pub users : 256 ≤ vec_capacity roles.accounts
+  pub room : 36 ≤ vec_capacity roles.pairs

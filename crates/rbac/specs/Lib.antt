@@ -1,0 +1,11 @@
+pub mod Account
+pub mod Authorization
+pub mod Hierarchy
+pub mod Inheritance
+pub mod Kept
+pub mod Operation
+pub mod Refusals
+pub mod Role
+pub mod RoleBits
+pub mod RoleData
+pub mod Separation

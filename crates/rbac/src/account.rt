@@ -1,0 +1,9 @@
+use crate::role_set::RoleSet;
+use cards::Name;
+
+/// A user's account: its name, and the roles that are assigned to it (core RBAC of INCITS 359-2012).
+#[derive(Clone, Copy, Debug)]
+pub struct Account {
+    pub name: Name,
+    pub assigned: RoleSet,
+}

@@ -1,0 +1,8 @@
+use thiserror::Error;
+
+/// Why an inheritance pair is not deleted.
+#[derive(Clone, Copy, Debug, PartialEq, Eq, Error)]
+pub enum DeleteInheritanceError {
+    #[error("the pair is not there")]
+    NotThere,
+}

@@ -1,0 +1,50 @@
+ghost use Rattle.std.specs.Prelude.{◌≡◌, vec_capacity};
+
+use crate::role::Role;
+
+/// A pair of the role hierarchy (INCITS 359-2012): the senior role inherits what the junior one may do.
+#[derive(Clone, Copy, Debug, PartialEq, Eq, Hash)]
+pub struct Inheritance {
+    pub senior: Role,
+    pub junior: Role,
+}
+
+impl Inheritance {
+    ghost use Rattle.rbac.specs.Inheritance.{without_pair};
+
+    /// The pairs of a new session, in their order.
+    pub const OPENING: [Inheritance; 6] = [
+        Inheritance {
+            senior: Role::Spectator,
+            junior: Role::Member,
+        },
+        Inheritance {
+            senior: Role::Contestant,
+            junior: Role::Member,
+        },
+        Inheritance {
+            senior: Role::Scorer,
+            junior: Role::Member,
+        },
+        Inheritance {
+            senior: Role::Administrator,
+            junior: Role::Member,
+        },
+        Inheritance {
+            senior: Role::Director,
+            junior: Role::Scorer,
+        },
+        Inheritance {
+            senior: Role::Director,
+            junior: Role::Spectator,
+        },
+    ];
+
+    /// Takes this pair out of a list of pairs.
+    pub(crate) fn remove_from(self, pairs: &mut Vec<Inheritance>)
+        ensures items { pairs.new.items ≡ without_pair pairs.old.items self }
+        ensures capacity { vec_capacity pairs.new ≡ vec_capacity pairs.old }
+    {
+        pairs.retain(|pair| *pair != self);
+    }
+}

@@ -1,0 +1,264 @@
+ghost use Rattle.std.specs.Prelude.{◌≡◌, ◌<◌, ◌≢◌, ◌↔◌, length, All, find, option_map, slice_get, Some, IsTrue, IfOk, IfErr, IfSome, IfNone, OnOk, OnErr, OnSome};
+ghost use Rattle.std.specs.List.{list_any, HoldsAt};
+ghost use Rattle.rbac.specs.declared.add_user_error.AddUserError.{AddUserError};
+ghost use Rattle.rbac.specs.declared.assign_error.AssignError.{AssignError};
+ghost use Rattle.rbac.specs.declared.deassign_error.DeassignError.{DeassignError};
+ghost use Rattle.rbac.specs.declared.add_inheritance_error.AddInheritanceError.{AddInheritanceError};
+ghost use Rattle.rbac.specs.declared.delete_inheritance_error.DeleteInheritanceError.{DeleteInheritanceError};
+ghost use Rattle.rbac.specs.Account.{HasAccount};
+ghost use Rattle.rbac.specs.RoleData.{opening_data, add_user, assign_user, deassign_user, add_inheritance, delete_inheritance, after};
+ghost use Rattle.rbac.specs.Authorization.{AreAuthorized, HasPermission, IsValid, authorized_roles};
+ghost use Rattle.rbac.specs.Refusals.{IsFirst, add_user_place, RefusesUser, assign_place, RefusesAssignment, deassign_place, RefusesDeassignment, inheritance_place, RefusesInheritance, RefusesDeletion};
+
+use crate::account::Account;
+use crate::add_inheritance_error::AddInheritanceError;
+use crate::add_user_error::AddUserError;
+use crate::assign_error::AssignError;
+use crate::change::Change;
+use crate::deassign_error::DeassignError;
+use crate::delete_inheritance_error::DeleteInheritanceError;
+use crate::hierarchy::Hierarchy;
+use crate::inheritance::Inheritance;
+use crate::lookup::{first_broken, is_user_name, place_of};
+use crate::operation::Operation;
+use crate::role::Role;
+use crate::role_set::RoleSet;
+use crate::separation_set::SeparationSet;
+use cards::Name;
+use std::alloc::{AllocError, Global};
+use std::marker::Model;
+
+/// The users of a session, the roles that are assigned to them, and the role hierarchy. Clauses see the accounts and
+/// the inheritance pairs, each in the order of adding. After `new` no call takes memory, and a refusal changes nothing.
+///
+/// A name is looked for among the accounts in turn, at most 256, and what each role reaches is kept as a table of six
+/// bytes. So `authorized` costs one scan of the names and at most six unions of a byte, `add_inheritance` that union for
+/// each account and separation set, and a deletion works the table out anew from the pairs.
+#[derive(Debug, Drop)]
+pub struct Roles {
+    accounts: Vec<Account>,
+    pairs: Vec<Inheritance>,
+    hierarchy: Hierarchy,
+}
+
+impl Model for Roles {
+    ghost use Rattle.rbac.specs.RoleData.{RoleData};
+
+    ghost Value = { RoleData };
+
+    ghost use Rattle.rbac.specs.Kept.{data_of, IsKept};
+
+    ghost view = { data_of };
+
+    ghost invariant = { IsKept };
+}
+
+impl Roles {
+    /// How many users there are at most.
+    pub const MOST_USERS: usize = 256;
+
+    /// How many ordered pairs of roles there are.
+    const MOST_PAIRS: usize = 36;
+
+    /// No users, the inheritance pairs of a new session, and room for all users and pairs.
+    pub fn new(alloc: Global) -> Result<Roles, AllocError>
+        ensures { IfOk result (λ roles. roles ≡ opening_data) }
+    {
+        let accounts = Vec::with_capacity(alloc, Roles::MOST_USERS)?;
+        let mut pairs = Vec::with_capacity(alloc, Roles::MOST_PAIRS)?;
+        let mut hierarchy = Hierarchy::new();
+        for pair in Inheritance::OPENING {
+            pairs.push_reserved(pair);
+            hierarchy = hierarchy.with(pair);
+        }
+        Ok(Roles {
+            accounts,
+            pairs,
+            hierarchy,
+        })
+    }
+
+    /// AddUser of INCITS 359-2012: adds an account with no role.
+    pub fn add_user(&mut self, name: &str) -> Result<(), AddUserError>
+        ensures added { OnOk result (self.new ≡ add_user self.old name.now) }
+        ensures ok { OnOk result ((cause : AddUserError) → ¬ RefusesUser self.old name.now cause) }
+        ensures cause { IfErr result (IsFirst add_user_place (RefusesUser self.old name.now)) }
+        ensures unchanged { OnErr result (self.new ≡ self.old) }
+    {
+        if !is_user_name(name) {
+            return Err(AddUserError::BadName);
+        }
+        if place_of(&self.accounts, name).is_some() {
+            return Err(AddUserError::UserExists);
+        }
+        if self.accounts.len() == Roles::MOST_USERS {
+            return Err(AddUserError::TooManyUsers);
+        }
+        let Ok(name) = Name::new(name) else {
+            unreachable!();
+        };
+        self.accounts.push_reserved(Account {
+            name,
+            assigned: RoleSet::new(),
+        });
+        Ok(())
+    }
+
+    /// AssignUser of INCITS 359-2012: assigns a role to a user.
+    pub fn assign(&mut self, name: &str, role: Role) -> Result<(), AssignError>
+        ensures assigned { OnOk result (self.new ≡ assign_user self.old name.now role) }
+        ensures ok { OnOk result ((cause : AssignError) → ¬ RefusesAssignment self.old name.now role cause) }
+        ensures cause { IfErr result (IsFirst assign_place (RefusesAssignment self.old name.now role)) }
+        ensures unchanged { OnErr result (self.new ≡ self.old) }
+    {
+        let Some(place) = place_of(&self.accounts, name) else {
+            return Err(AssignError::NoSuchUser);
+        };
+        let assigned = self.accounts[place].assigned;
+        if assigned.has(role) {
+            return Err(AssignError::AlreadyAssigned);
+        }
+        let more = assigned.with(role);
+        if let Some(set) = SeparationSet::first_broken_by(self.hierarchy.reached_from(more)) {
+            return Err(AssignError::Separation(set));
+        }
+        self.accounts[place].assigned = more;
+        Ok(())
+    }
+
+    /// DeassignUser of INCITS 359-2012: takes an assigned role away from a user.
+    pub fn deassign(&mut self, name: &str, role: Role) -> Result<(), DeassignError>
+        ensures deassigned { OnOk result (self.new ≡ deassign_user self.old name.now role) }
+        ensures ok { OnOk result ((cause : DeassignError) → ¬ RefusesDeassignment self.old name.now role cause) }
+        ensures cause { IfErr result (IsFirst deassign_place (RefusesDeassignment self.old name.now role)) }
+        ensures unchanged { OnErr result (self.new ≡ self.old) }
+    {
+        let Some(place) = place_of(&self.accounts, name) else {
+            return Err(DeassignError::NoSuchUser);
+        };
+        let assigned = self.accounts[place].assigned;
+        if !assigned.has(role) {
+            return Err(DeassignError::NotAssigned);
+        }
+        self.accounts[place].assigned = assigned.without(role);
+        Ok(())
+    }
+
+    /// AddInheritance of INCITS 359-2012: lets the senior role inherit the junior one.
+    pub fn add_inheritance(&mut self, senior: Role, junior: Role) -> Result<(), AddInheritanceError>
+        ensures added { OnOk result (self.new ≡ add_inheritance self.old senior junior) }
+        ensures ok { OnOk result ((cause : AddInheritanceError) → ¬ RefusesInheritance self.old senior junior cause) }
+        ensures cause { IfErr result (IsFirst inheritance_place (RefusesInheritance self.old senior junior)) }
+        ensures unchanged { OnErr result (self.new ≡ self.old) }
+    {
+        let pair = Inheritance { senior, junior };
+        if self.hierarchy.below(junior).has(senior) {
+            return Err(AddInheritanceError::Cycle);
+        }
+        if self.pairs.contains(&pair) {
+            return Err(AddInheritanceError::AlreadyThere);
+        }
+        let hierarchy = self.hierarchy.with(pair);
+        if let Some(set) = first_broken(&self.accounts, &hierarchy) {
+            return Err(AddInheritanceError::Separation(set));
+        }
+        self.pairs.push_reserved(pair);
+        self.hierarchy = hierarchy;
+        Ok(())
+    }
+
+    /// DeleteInheritance of INCITS 359-2012: deletes this pair alone, so the senior role may still inherit the
+    /// junior one by others.
+    pub fn delete_inheritance(
+        &mut self,
+        senior: Role,
+        junior: Role,
+    ) -> Result<(), DeleteInheritanceError>
+        ensures deleted { OnOk result (self.new ≡ delete_inheritance self.old senior junior) }
+        ensures ok { OnOk result ((cause : DeleteInheritanceError) → ¬ RefusesDeletion self.old senior junior cause) }
+        ensures cause { IfErr result (RefusesDeletion self.old senior junior) }
+        ensures unchanged { OnErr result (self.new ≡ self.old) }
+    {
+        let pair = Inheritance { senior, junior };
+        if !self.pairs.contains(&pair) {
+            return Err(DeleteInheritanceError::NotThere);
+        }
+        self.hierarchy = Hierarchy::of_all_but(&self.pairs, pair);
+        pair.remove_from(&mut self.pairs);
+        Ok(())
+    }
+
+    /// AuthorizedRoles of INCITS 359-2012: the roles for which a user is authorized, if there is such a user.
+    pub fn authorized(&self, name: &str) -> Option<RoleSet>
+        ensures roles { result ≡ authorized_roles self.now name.now }
+        ensures exact { IfSome result (AreAuthorized self.now name.now) }
+        ensures some { OnSome result (HasAccount self.now.accounts name.now) }
+        ensures none { IfNone result (¬ HasAccount self.now.accounts name.now) }
+        ensures valid { IsValid self.now }
+    {
+        let place = place_of(&self.accounts, name)?;
+        Some(self.hierarchy.reached_from(self.accounts[place].assigned))
+    }
+
+    /// CheckAccess of INCITS 359-2012: whether a user is authorized for a role that holds the operation.
+    pub fn check_access(&self, name: &str, operation: Operation) -> bool
+        ensures { IsTrue result ↔ HasPermission self.now name.now operation }
+    {
+        match self.authorized(name) {
+            Some(roles) => operation.is_held_by(roles),
+            None => false,
+        }
+    }
+
+    /// What `authorized` would answer after a change. A change that would be refused changes nothing.
+    pub fn authorized_if(&self, name: &str, change: Change<'_>) -> Option<RoleSet>
+        ensures { result ≡ authorized_roles (after self.now change.entry) name.now }
+    {
+        match change {
+            Change::Deassign(other, role) => self.authorized_without_role(name, other, role),
+            Change::DeleteInheritance(senior, junior) => self.authorized_without_pair(
+                name,
+                Inheritance { senior, junior },
+            ),
+        }
+    }
+
+    /// What `authorized` would answer if a role were not assigned to a user.
+    fn authorized_without_role(&self, name: &str, other: &str, role: Role) -> Option<RoleSet>
+        ensures { result ≡ authorized_roles (deassign_user self.now other.now role) name.now }
+    {
+        let place = place_of(&self.accounts, name)?;
+        let assigned = self.accounts[place].assigned;
+        if other == name {
+            return Some(self.hierarchy.reached_from(assigned.without(role)));
+        }
+        Some(self.hierarchy.reached_from(assigned))
+    }
+
+    /// What `authorized` would answer if an inheritance pair were not there.
+    fn authorized_without_pair(&self, name: &str, pair: Inheritance) -> Option<RoleSet>
+        ensures { result ≡ authorized_roles (delete_inheritance self.now pair.senior pair.junior) name.now }
+    {
+        let place = place_of(&self.accounts, name)?;
+        let hierarchy = Hierarchy::of_all_but(&self.pairs, pair);
+        Some(hierarchy.reached_from(self.accounts[place].assigned))
+    }
+
+    /// The user at a place from 0 and the roles that are assigned to it, if there are so many users.
+    pub fn user(&self, place: usize) -> Option<(Name, RoleSet)>
+        ensures user { result ≡ option_map (λ account. (account.name, account.assigned)) (slice_get self.now.accounts place) }
+        ensures valid { IsValid self.now }
+    {
+        let account = self.accounts.get(place)?;
+        Some((account.name, account.assigned))
+    }
+
+    /// The senior and the junior role of the inheritance pair at a place from 0, if there are so many pairs.
+    pub fn pair(&self, place: usize) -> Option<(Role, Role)>
+        ensures pair { result ≡ option_map (λ pair. (pair.senior, pair.junior)) (slice_get self.now.pairs place) }
+        ensures valid { IsValid self.now }
+    {
+        let pair = self.pairs.get(place)?;
+        Some((pair.senior, pair.junior))
+    }
+}
