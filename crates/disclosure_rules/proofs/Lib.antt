@@ -1,0 +1,4 @@
+pub mod LiveCellsLemmas
+pub mod NumbersLemmas
+pub mod RuleLemmas
+pub mod SeatingLemmas

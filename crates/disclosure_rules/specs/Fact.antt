@@ -1,0 +1,49 @@
+-- What may be shown, and to which board and table it belongs.
+use Rattle.std.specs.Prelude.{ℕ, Bool, true, false, Option, Some, None}
+use Rattle.movement.specs.declared.cell.Cell.{Cell}
+use Rattle.disclosure_rules.specs.declared.fact.Fact.{Fact}
+use Rattle.disclosure_rules.specs.declared.fact.Fact.TheVariants.{Public, Accounts, Hands, Analysis, Result, Play, Cost, Reason}
+
+-- the board that the fact belongs to: it is secret where it belongs to one
+abbrev pub board_of : Fact → Option ℕ
+board_of Public = None
+board_of Accounts = None
+board_of (Hands board) = Some board
+board_of (Analysis board) = Some board
+board_of (Result cell) = Some cell.board
+board_of (Play cell) = Some cell.board
+board_of (Cost cell) = Some cell.board
+board_of (Reason cell) = Some cell.board
+
+-- the table and board that the fact belongs to, if it belongs to one table
+abbrev pub cell_of : Fact → Option Cell
+cell_of Public = None
+cell_of Accounts = None
+cell_of (Hands _) = None
+cell_of (Analysis _) = None
+cell_of (Result cell) = Some cell
+cell_of (Play cell) = Some cell
+cell_of (Cost cell) = Some cell
+cell_of (Reason cell) = Some cell
+
+-- whether the fact is the accounts
+abbrev pub is_accounts : Fact → Bool
+is_accounts Accounts = true
+is_accounts _ = false
+
+-- whether the fact tells of the double-dummy value of the hands
+abbrev pub is_analysed : Fact → Bool
+is_analysed (Analysis _) = true
+is_analysed (Cost _) = true
+is_analysed _ = false
+
+-- whether the fact tells how the cards were played
+abbrev pub is_played : Fact → Bool
+is_played (Play _) = true
+is_played (Cost _) = true
+is_played _ = false
+
+-- whether the fact is the reason of a ruling
+abbrev pub is_reason : Fact → Bool
+is_reason (Reason _) = true
+is_reason _ = false

@@ -1,0 +1,4 @@
+pub mod Fact
+pub mod LiveCells
+pub mod Numbers
+pub mod Policy

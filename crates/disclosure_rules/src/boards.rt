@@ -1,0 +1,62 @@
+ghost use Rattle.std.specs.Prelude.{◌≡◌, [], ◌≤◌};
+ghost use Rattle.disclosure_rules.specs.Numbers.{holds, with_number, without_number};
+
+use std::marker::Model;
+
+/// Some boards of a session, as those that are held: clauses see the list of their numbers, ascending.
+#[derive(Debug, Drop)]
+pub struct Boards {
+    bits: u64,
+}
+
+impl Model for Boards {
+    ghost use Rattle.std.specs.Prelude.{ℕ, List};
+    ghost use Rattle.disclosure_rules.specs.Numbers.{numbers_of_bits};
+
+    ghost Value = { List ℕ };
+
+    ghost view = { λ boards. numbers_of_bits 64 boards.bits };
+}
+
+impl Boards {
+    /// No board.
+    pub fn new() -> Boards
+        ensures { result ≡ [] }
+    {
+        Boards { bits: 0 }
+    }
+
+    /// Whether the board is among them; no board has the number 0, or one above 64.
+    pub fn contains(&self, board: u8) -> bool
+        ensures { result ≡ holds self.now board }
+    {
+        let bits = self.bits;
+        if board < 1 || board > 64 {
+            return false;
+        }
+        bits >> (board - 1) & 1 == 1
+    }
+
+    pub fn insert(&mut self, board: u8)
+        requires from { 1 ≤ board }
+        requires to { board ≤ 64 }
+        ensures { self.new ≡ with_number 64 self.old board }
+    {
+        self.bits |= 1 << (board - 1);
+    }
+
+    pub fn remove(&mut self, board: u8)
+        requires from { 1 ≤ board }
+        requires to { board ≤ 64 }
+        ensures { self.new ≡ without_number 64 self.old board }
+    {
+        self.bits &= !(1 << (board - 1));
+    }
+
+    /// The same boards once more.
+    pub fn copy(&self) -> Boards
+        ensures { result ≡ self.now }
+    {
+        Boards { bits: self.bits }
+    }
+}

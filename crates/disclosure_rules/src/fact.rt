@@ -1,0 +1,79 @@
+ghost use Rattle.std.specs.Prelude.{◌≡◌};
+ghost use Rattle.disclosure_rules.specs.Fact.{board_of, cell_of, is_accounts, is_analysed, is_played, is_reason};
+
+use movement::Cell;
+
+/// Something that a user may be shown. Boards are numbered from 1.
+#[derive(Clone, Copy, Debug, PartialEq, Eq, Hash)]
+pub enum Fact {
+    /// What every member may see: the movement, the seats, the phase, what is held and where there is a result.
+    Public,
+    /// The users with their roles, and the inheritance of roles.
+    Accounts,
+    /// The four hands of a board.
+    Hands(u8),
+    /// The double-dummy table of a board.
+    Analysis(u8),
+    /// What was scored at a table on a board, or how it was ruled.
+    Result(Cell),
+    /// The cards as they were played at a table.
+    Play(Cell),
+    /// What each card that was played cost.
+    Cost(Cell),
+    /// The reason that the director gave for a ruling.
+    Reason(Cell),
+}
+
+impl Fact {
+    /// The board whose secret the fact is, if it is secret.
+    pub fn board(self) -> Option<u8>
+        ensures { result ≡ board_of self }
+    {
+        match self {
+            Fact::Public | Fact::Accounts => None,
+            Fact::Hands(board) | Fact::Analysis(board) => Some(board),
+            Fact::Result(cell) | Fact::Play(cell) | Fact::Cost(cell) | Fact::Reason(cell) => {
+                Some(cell.board)
+            }
+        }
+    }
+
+    /// The table and the board that the fact is of, if it is of one table.
+    pub fn cell(self) -> Option<Cell>
+        ensures { result ≡ cell_of self }
+    {
+        match self {
+            Fact::Public | Fact::Accounts | Fact::Hands(_) | Fact::Analysis(_) => None,
+            Fact::Result(cell) | Fact::Play(cell) | Fact::Cost(cell) | Fact::Reason(cell) => {
+                Some(cell)
+            }
+        }
+    }
+
+    pub fn is_accounts(self) -> bool
+        ensures { result ≡ is_accounts self }
+    {
+        matches!(self, Fact::Accounts)
+    }
+
+    /// Whether the fact tells of the double-dummy value of the hands.
+    pub fn is_analysed(self) -> bool
+        ensures { result ≡ is_analysed self }
+    {
+        matches!(self, Fact::Analysis(_) | Fact::Cost(_))
+    }
+
+    /// Whether the fact tells how the cards were played.
+    pub fn is_played(self) -> bool
+        ensures { result ≡ is_played self }
+    {
+        matches!(self, Fact::Play(_) | Fact::Cost(_))
+    }
+
+    /// Whether the fact is the reason of a ruling.
+    pub fn is_reason(self) -> bool
+        ensures { result ≡ is_reason self }
+    {
+        matches!(self, Fact::Reason(_))
+    }
+}

@@ -1,0 +1,8 @@
+use cards::{Place, Vulnerability};
+
+/// What is marked on a board (Law 2).
+#[derive(Clone, Copy, Debug, PartialEq, Eq, Hash)]
+pub struct Marks {
+    pub dealer: Place,
+    pub vulnerability: Vulnerability,
+}

@@ -1,0 +1,35 @@
+ghost use Rattle.std.specs.Prelude.{◌↔◌, IsTrue};
+ghost use Rattle.disclosure_rules.specs.LiveCells.{IsComplete};
+
+use crate::boards::Boards;
+use crate::live_cells::LiveCells;
+use crate::marks::Marks;
+use crate::phase::Phase;
+use movement::Movement;
+
+/// How many boards a session has at most.
+pub const MOST_BOARDS: usize = 64;
+
+/// What every member of a session may see, beside the seats.
+#[derive(Debug, Drop)]
+pub struct Public {
+    pub movement: Movement,
+    /// The markings of board 1, 2, ..
+    pub marks: [Marks; 64],
+    /// The present round, from 1.
+    pub round: u8,
+    pub phase: Phase,
+    /// The boards that the director withholds.
+    pub held: Boards,
+    pub live: LiveCells,
+}
+
+impl Public {
+    /// Whether every table that is scheduled to play the board has a result on it.
+    pub fn is_complete(&self, board: u8) -> bool
+        ensures { IsTrue result ↔ IsComplete self.now.movement self.now.live board }
+    {
+        let scheduled = self.movement.scheduled(board);
+        scheduled & !self.live.tables(board) == 0
+    }
+}

@@ -1,0 +1,8 @@
+use cards::{Pair, Place};
+
+/// Where a user sits: one of the two places of a pair.
+#[derive(Clone, Copy, Debug, PartialEq, Eq, Hash)]
+pub struct Seat {
+    pub pair: Pair,
+    pub place: Place,
+}
