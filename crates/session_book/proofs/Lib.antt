@@ -1,0 +1,7 @@
+pub mod HindranceLemmas
+pub mod JournalLemmas
+pub mod OpeningLemmas
+pub mod PlayLemmas
+pub mod RefusalLemmas
+pub mod RunLemmas
+pub mod ScheduleLemmas

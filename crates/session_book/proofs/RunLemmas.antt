@@ -1,0 +1,113 @@
+-- A batch of one command more.
+use Rattle.std.proofs.Common.{◌≡◌, ℕ, ◌+◌, ◌<◌, Bool, true, false, List, [], ◌∷◌, ◌++◌, map, length, refl, sym, ap, ◌∙◌, subst, append_assoc, ◌⊎◌, inl, inr, take, get_or}
+use Rattle.std.specs.Prelude.{Option, Some, None}
+use Rattle.std.proofs.lemmas.List.{take_more}
+use Rattle.std.proofs.lemmas.List.Sums.{fold-append}
+use Rattle.session_book.specs.declared.answer.Answer.{Answer}
+use Rattle.session_book.specs.declared.answer.Answer.TheVariants.{Accepted, Refused}
+use Rattle.session_book.specs.declared.command.Command.{Command}
+use Rattle.session_book.specs.declared.entry.Entry.{Entry}
+use Rattle.session_book.specs.declared.refusal.Refusal.{Refusal}
+use Rattle.session_book.specs.declared.refusal.Refusal.TheVariants.{OutOfMemory, NotTried}
+use Rattle.session_book.specs.Journal.{replay, refusal_after}
+use Rattle.session_book.specs.Refusal.{is_out_of_memory}
+use Rattle.session_book.proofs.RefusalLemmas.{never_memory}
+use Rattle.session_book.specs.Run.{Progress, answered, step, run, Runs}
+use Rattle.session_book.specs.SessionState.{SessionState}
+
+run_more : (opening : SessionState) (before : List Entry) (actor : List ℕ) (tried : List Command) (command : Command) →
+    run opening before actor (tried ++ command ∷ []) ≡ step opening actor (run opening before actor tried) command
+unfolding run
+run_more opening before actor tried command = fold-append (step opening actor) (record { journal = before; answers = [] }) tried (command ∷ [])
+
+-- a command is answered as the journal so far says
+pub runs_answered : (opening : SessionState) (before : List Entry) (actor : List ℕ) (tried : List Command) (command : Command) (so_far : Progress) (found : Option Refusal) →
+    Runs false opening before actor tried so_far → refusal_after opening so_far.journal actor command ≡ found →
+    Runs false opening before actor (tried ++ command ∷ []) (answered so_far actor command found)
+runs_answered opening before actor tried command so_far found ran refused =
+    sym (ap (answered so_far actor command) refused) ∙ (ap (λ progress. step opening actor progress command) ran ∙ sym (run_more opening before actor tried command))
+
+-- memory is refused at a command that nothing else refuses
+pub runs_stopped : (opening : SessionState) (before : List Entry) (actor : List ℕ) (tried : List Command) (command : Command) (so_far : Progress) →
+    Runs false opening before actor tried so_far → refusal_after opening so_far.journal actor command ≡ None →
+    Runs true opening before actor (tried ++ command ∷ []) (record { journal = so_far.journal; answers = so_far.answers ++ Refused OutOfMemory ∷ [] })
+runs_stopped opening before actor tried command so_far ran accepted = record {
+  tried = tried;
+  command = command;
+  later = [];
+  split = refl;
+  accepted = sym (ap (λ progress. refusal_after opening progress.journal actor command) ran) ∙ accepted;
+  journal = ap (λ progress. progress.journal) ran;
+  answers = ap (λ progress. progress.answers ++ Refused OutOfMemory ∷ []) ran;
+}
+
+map_more : (later : List Command) (command : Command) → map (λ _. Refused NotTried) (later ++ command ∷ []) ≡ map (λ _. Refused NotTried) later ++ Refused NotTried ∷ []
+map_more [] command = refl
+map_more (first ∷ later) command = ap (λ answers. Refused NotTried ∷ answers) (map_more later command)
+
+-- a command after that is not tried
+later_not_tried : (opening : SessionState) (before : List Entry) (actor : List ℕ) (tried : List Command) (command : Command) (so_far : Progress) →
+    Runs true opening before actor tried so_far →
+    Runs true opening before actor (tried ++ command ∷ []) (record { journal = so_far.journal; answers = so_far.answers ++ Refused NotTried ∷ [] })
+later_not_tried opening before actor tried command so_far until = record {
+  tried = until.tried;
+  command = until.command;
+  later = until.later ++ command ∷ [];
+  split = ap (λ commands. commands ++ command ∷ []) until.split ∙ append_assoc until.tried (until.command ∷ until.later) (command ∷ []);
+  accepted = until.accepted;
+  journal = until.journal;
+  answers =
+      ap (λ answers. answers ++ Refused NotTried ∷ []) until.answers
+      ∙ (append_assoc _ (Refused OutOfMemory ∷ map (λ _. Refused NotTried) until.later) (Refused NotTried ∷ [])
+      ∙ ap (λ answers. (run opening before actor until.tried).answers ++ Refused OutOfMemory ∷ answers) (sym (map_more until.later command)));
+}
+
+never_memory_after : (opening : SessionState) (journal : List Entry) (actor : List ℕ) (command : Command) (cause : Refusal) → refusal_after opening journal actor command ≡ Some cause → is_out_of_memory cause ≡ false
+unfolding refusal_after
+never_memory_after opening journal actor command cause refused = never_memory (replay opening journal) actor command (length journal) cause refused
+
+-- no command, no answer
+pub runs_none : (opening : SessionState) (before : List Entry) (actor : List ℕ) (answers : List Answer) → answers ≡ [] →
+    Runs false opening before actor [] (record { journal = before; answers = answers })
+unfolding run
+runs_none opening before actor answers none = λ i. record { journal = before; answers = none i }
+
+-- what the answer to one command makes of it: not tried, accepted, or refused
+pub runs_not_tried : (opening : SessionState) (before : List Entry) (actor : List ℕ) (tried : List Command) (command : Command) (journal : List Entry) (answers : List Answer) (stopped : Bool) → stopped ≡ true →
+    Runs stopped opening before actor tried (record { journal = journal; answers = answers }) →
+    Runs stopped opening before actor (tried ++ command ∷ []) (record { journal = journal; answers = answers ++ Refused NotTried ∷ [] })
+runs_not_tried opening before actor tried command journal answers stopped is_stopped until =
+    subst (λ b. Runs b opening before actor (tried ++ command ∷ []) (record { journal = journal; answers = answers ++ Refused NotTried ∷ [] })) (sym is_stopped)
+    (later_not_tried opening before actor tried command (record { journal = journal; answers = answers }) (subst (λ b. Runs b opening before actor tried (record { journal = journal; answers = answers })) is_stopped until))
+
+pub runs_accepted : (opening : SessionState) (before : List Entry) (actor : List ℕ) (tried : List Command) (command : Command) (journal : List Entry) (answers : List Answer) (stopped : Bool) (after : List Entry) → stopped ≡ false →
+    refusal_after opening journal actor command ≡ None → after ≡ journal ++ record { actor = actor; command = command } ∷ [] →
+    Runs stopped opening before actor tried (record { journal = journal; answers = answers }) →
+    Runs stopped opening before actor (tried ++ command ∷ []) (record { journal = after; answers = answers ++ Accepted ∷ [] })
+runs_accepted opening before actor tried command journal answers stopped after goes_on accepted more ran =
+    subst (λ b. Runs b opening before actor (tried ++ command ∷ []) (record { journal = after; answers = answers ++ Accepted ∷ [] })) (sym goes_on)
+    ((λ i. record { journal = more i; answers = answers ++ Accepted ∷ [] })
+    ∙ runs_answered opening before actor tried command (record { journal = journal; answers = answers }) None (subst (λ b. Runs b opening before actor tried (record { journal = journal; answers = answers })) goes_on ran) accepted)
+
+pub runs_refused : (opening : SessionState) (before : List Entry) (actor : List ℕ) (tried : List Command) (command : Command) (journal : List Entry) (answers : List Answer) (stopped : Bool) (after : List Entry) (cause : Refusal) (stops : Bool) → stopped ≡ false →
+    stops ≡ is_out_of_memory cause → after ≡ journal →
+    (refusal_after opening journal actor command ≡ Some cause) ⊎ ((cause ≡ OutOfMemory) × (refusal_after opening journal actor command ≡ None)) →
+    Runs stopped opening before actor tried (record { journal = journal; answers = answers }) →
+    Runs stops opening before actor (tried ++ command ∷ []) (record { journal = after; answers = answers ++ Refused cause ∷ [] })
+runs_refused opening before actor tried command journal answers stopped after cause stops goes_on is_stop same (inl refused) ran =
+    let ran' = subst (λ b. Runs b opening before actor tried (record { journal = journal; answers = answers })) goes_on ran in
+    subst (λ b. Runs b opening before actor (tried ++ command ∷ []) (record { journal = after; answers = answers ++ Refused cause ∷ [] })) (sym (is_stop ∙ never_memory_after opening journal actor command cause refused))
+    ((λ i. record { journal = same i; answers = answers ++ Refused cause ∷ [] })
+    ∙ runs_answered opening before actor tried command (record { journal = journal; answers = answers }) (Some cause) ran' refused)
+runs_refused opening before actor tried command journal answers stopped after cause stops goes_on is_stop same (inr (memory, accepted)) ran =
+    let ran' = subst (λ b. Runs b opening before actor tried (record { journal = journal; answers = answers })) goes_on ran in
+    let stopped' : stops ≡ true = is_stop ∙ ap is_out_of_memory memory in
+    let P : Bool → List Entry → Refusal → Type 0 = λ b entries other. Runs b opening before actor (tried ++ command ∷ []) (record { journal = entries; answers = answers ++ Refused other ∷ [] }) in
+    subst (λ b. P b after cause) (sym stopped') (subst (λ entries. P true entries cause) (sym same) (subst (λ other. P true journal other) (sym memory)
+    (runs_stopped opening before actor tried command (record { journal = journal; answers = answers }) ran' accepted)))
+
+-- one command more of the batch
+pub runs_more : (stopped : Bool) (opening : SessionState) (before : List Entry) (actor : List ℕ) (batch : List Command) (i : ℕ) (d : Command) (so_far : Progress) → i < length batch →
+    Runs stopped opening before actor (take i batch ++ get_or batch i d ∷ []) so_far → Runs stopped opening before actor (take (i + 1) batch) so_far
+runs_more stopped opening before actor batch i d so_far below ran =
+    subst (λ tried. Runs stopped opening before actor tried so_far) (sym (take_more batch i d below)) ran

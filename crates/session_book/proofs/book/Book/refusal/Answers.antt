@@ -1,0 +1,12 @@
+use Rattle.std.proofs.Common.{◌≡◌, length, ap, ◌∙◌, arith}
+use Rattle.session_book.specs.Journal.{refusal_at, refusal_after}
+use Rattle.session_book.specs.Refusal.{refusal_of}
+use Rattle.session_book.proofs.book.Book.refusal.Goals as goal
+
+pub returns : goal.returns
+unfolding refusal_after
+returns c =
+    let entries : c.len.result ≡ length c.self.inside.journal.items = omega (arith, c.self.inside.journal.ok.0, c.len.ensures) in
+    c.refusal.ensures
+    ∙ ((λ i. refusal_of (c.self.invariant.replayed i) c.args.actor c.args.command.now (entries i))
+    ∙ ap (λ ledger. refusal_at ledger c.args.actor c.args.command.now) c.self.view_is)

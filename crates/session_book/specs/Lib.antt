@@ -1,0 +1,13 @@
+pub mod Apply
+pub mod Journal
+pub mod KeptBook
+pub mod Open
+pub mod Opening
+pub mod Outcome
+pub mod Play
+pub mod PlayPlaces
+pub mod Refusal
+pub mod Run
+pub mod Schedule
+pub mod SessionState
+pub mod StateRoom

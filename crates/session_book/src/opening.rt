@@ -1,0 +1,198 @@
+//! The session that a book opens with, until a session can be read.
+
+ghost use Rattle.std.specs.Prelude.{◌≡◌, ◌≤◌, length, IfOk};
+ghost use Rattle.cards.specs.Hands.{IsDeal};
+ghost use Rattle.cards.specs.declared.place.Place.TheVariants.{North};
+ghost use Rattle.cards.specs.declared.side.Side.TheVariants.{NorthSouth};
+ghost use Rattle.session_book.specs.Opening.{member_and, director_roles, opening_accounts, opening_seats, opening_section, opening_public, whole_suit, opening_deals, opening_state, AreMarked};
+
+use crate::account::Account;
+use crate::seated::Seated;
+use crate::state::State;
+use cards::{Card, Deal, Hand, Name, Pair, Place, Rank, Side, Suit, dealer_of, vulnerability_of};
+use disclosure_rules::{Boards, LiveCells, Marks, Phase, Public, Seat};
+use movement::Movement;
+use rbac::{Role, RoleSet};
+use std::alloc::{AllocError, Global};
+
+// The ranks from the two up.
+const RANKS: [Rank; 13] = [
+    Rank::Two,
+    Rank::Three,
+    Rank::Four,
+    Rank::Five,
+    Rank::Six,
+    Rank::Seven,
+    Rank::Eight,
+    Rank::Nine,
+    Rank::Ten,
+    Rank::Jack,
+    Rank::Queen,
+    Rank::King,
+    Rank::Ace,
+];
+
+/// The opening state, with the markings of its boards.
+pub fn opening_state(alloc: Global, marks: [Marks; 64]) -> Result<State, AllocError>
+    ensures { IfOk result (λ state. state ≡ opening_state marks) }
+{
+    let accounts = accounts(alloc)?;
+    let seats = seats(alloc)?;
+    let deals = deals(alloc)?;
+    State::new(alloc, accounts, seats, public(marks), deals)
+}
+
+/// The markings of the boards (Law 2).
+pub fn opening_marks() -> [Marks; 64]
+    ensures { AreMarked result 64 }
+{
+    let mut marks = [Marks {
+        dealer: dealer_of(1),
+        vulnerability: vulnerability_of(1),
+    }; 64];
+    for i in 0..64 {
+        let board = i as u8 + 1;
+        marks[i] = Marks {
+            dealer: dealer_of(board),
+            vulnerability: vulnerability_of(board),
+        };
+    }
+    marks
+}
+
+fn public(marks: [Marks; 64]) -> Public
+    ensures { result ≡ opening_public marks }
+{
+    Public {
+        movement: section(),
+        marks,
+        round: 1,
+        phase: Phase::Running,
+        held: Boards::new(),
+        live: LiveCells::new(),
+    }
+}
+
+fn section() -> Movement
+    ensures { result ≡ opening_section }
+{
+    let Ok(movement) = Movement::new(3, 3, 1) else {
+        unreachable!()
+    };
+    movement
+}
+
+fn accounts(alloc: Global) -> Result<Vec<Account>, AllocError>
+    ensures { IfOk result (λ accounts. accounts.items ≡ opening_accounts) }
+{
+    let accounts = [
+        account("a", member(Role::Administrator)),
+        account("d", director()),
+        account("d2", director()),
+        account("k", member(Role::Scorer)),
+        account("s", member(Role::Spectator)),
+        account("n1", member(Role::Contestant)),
+        account("n2", member(Role::Contestant)),
+    ];
+    Vec::from_slice(alloc, &accounts)
+}
+
+fn account(text: &str, roles: RoleSet) -> Account
+    requires { length text.now ≤ 32 }
+    ensures { result ≡ record { name = text.now; roles = roles } }
+{
+    Account {
+        name: name(text),
+        roles,
+    }
+}
+
+fn name(text: &str) -> Name
+    requires { length text.now ≤ 32 }
+    ensures { result ≡ text.now }
+{
+    let Ok(name) = Name::new(text) else {
+        unreachable!()
+    };
+    name
+}
+
+fn member(role: Role) -> RoleSet
+    ensures { result ≡ member_and role }
+{
+    RoleSet::new().with(Role::Member).with(role)
+}
+
+fn director() -> RoleSet
+    ensures { result ≡ director_roles }
+{
+    member(Role::Spectator)
+        .with(Role::Scorer)
+        .with(Role::Director)
+}
+
+fn seats(alloc: Global) -> Result<Vec<Seated>, AllocError>
+    ensures { IfOk result (λ seats. seats.items ≡ opening_seats) }
+{
+    let seats = [north("n1", 1), north("n2", 2)];
+    Vec::from_slice(alloc, &seats)
+}
+
+fn north(text: &str, number: u8) -> Seated
+    requires { length text.now ≤ 32 }
+    ensures { result ≡ record {
+      name = text.now;
+      seat = record {
+        pair = record { side = NorthSouth; number = number };
+        place = North;
+      };
+    } }
+{
+    let pair = Pair {
+        side: Side::NorthSouth,
+        number,
+    };
+    Seated {
+        name: name(text),
+        seat: Seat {
+            pair,
+            place: Place::North,
+        },
+    }
+}
+
+fn deals(alloc: Global) -> Result<Vec<Deal>, AllocError>
+    ensures { IfOk result (λ deals. deals.items ≡ opening_deals) }
+{
+    let spades = whole_suit(Suit::Spades);
+    let hearts = whole_suit(Suit::Hearts);
+    let diamonds = whole_suit(Suit::Diamonds);
+    let clubs = whole_suit(Suit::Clubs);
+    let deals = [
+        deal(spades, hearts, diamonds, clubs),
+        deal(clubs, spades, hearts, diamonds),
+        deal(diamonds, clubs, spades, hearts),
+    ];
+    Vec::from_slice(alloc, &deals)
+}
+
+fn deal(north: Hand, east: Hand, south: Hand, west: Hand) -> Deal
+    requires { IsDeal (record { north = north; east = east; south = south; west = west }) }
+    ensures { result ≡ record { north = north; east = east; south = south; west = west } }
+{
+    let Ok(deal) = Deal::new(north, east, south, west) else {
+        unreachable!()
+    };
+    deal
+}
+
+// The thirteen cards of a suit.
+fn whole_suit(suit: Suit) -> Hand
+    ensures { result ≡ whole_suit suit }
+{
+    let mut hand = Hand::new();
+    for rank in RANKS {
+        hand.insert(Card { suit, rank });
+    }
+    hand
+}
