@@ -1,0 +1,10 @@
+pub mod BatchLemmas
+pub mod FaultLemmas
+pub mod GrammarLemmas
+pub mod LetterLemmas
+pub mod LineLaws
+pub mod LineLemmas
+pub mod ListLemmas
+pub mod MemberFaultLemmas
+pub mod QueryLemmas
+pub mod RequestLemmas

@@ -1,0 +1,182 @@
+-- A query is read from its members, and what has such members is read as the query.
+use Rattle.std.proofs.Common.{◌≡◌, ◌↔◌, ℕ, ◌<◌, ◌≤◌, List, [], ◌∷◌, length, nat_lt, nat_le, Bool, true, false, cond, ◌||◌, is_some, codes, Option, Some, None, option_and_then, Result, Ok, Err, refl, sym, ap, subst, ◌∙◌, arith}
+use Rattle.std.specs.Prelude.{count_by}
+use Rattle.std.specs.Str.{bytes_eq}
+use Rattle.std.proofs.lemmas.Slice.Eq.{bytes_eq-Decides}
+use Rattle.serde_json.specs.Data.{Data, Items}
+use Rattle.serde_json.specs.Find.{get, as_str, as_array}
+use Rattle.program.specs.declared.message.Message.{Message}
+use Rattle.program.specs.declared.message.Message.TheVariants.{Query}
+use Rattle.program.specs.declared.fault.Fault.{Fault}
+use Rattle.program.specs.declared.fault.Fault.TheVariants.{UnknownRequest, BadField}
+use Rattle.program.specs.Reading.{◌>>=◌, wanted}
+use Rattle.program.specs.Field.{has_only, text_at, whole, whole_at, small, small_at, name_of, user_of, whole_or_zero, since_of}
+use Rattle.program.specs.Command.{has_unknown, commands_in}
+use Rattle.program.specs.Message.{query_members, query_with, query_of, query_by, batch_with, batch_of, batch_by, ask_or_do, message_of, meaning}
+use Rattle.program.specs.Requests.{IsObject, IsSince, IsQuery}
+use Rattle.program.proofs.LineLaws.{of_object}
+
+pub bind_ok : {A B : Type 0} (read : Result A Fault) (more : A → Result B Fault) (y : B) → (read >>= more) ≡ Ok y → (x : A) × (read ≡ Ok x) × (more x ≡ Ok y)
+bind_ok (Ok x) more y h = (x, refl, h)
+bind_ok (Err e) more y h = absurd (cc)
+
+pub guarded : {A : Type 0} (b : Bool) (read : Result A Fault) (e : Fault) (y : A) → cond b read (Err e) ≡ Ok y → (b ≡ true) × (read ≡ Ok y)
+guarded true read e y h = (refl, h)
+guarded false read e y h = absurd (cc)
+
+pub is_below : (m n : ℕ) → nat_lt m n ≡ true → m < n
+is_below m n h = grind arith
+
+pub below_is : (m n : ℕ) → m < n → nat_lt m n ≡ true
+below_is m n h = grind arith
+
+pub is_most : (m n : ℕ) → nat_le m n ≡ true → m ≤ n
+is_most m n h = grind arith
+
+pub most_is : (m n : ℕ) → m ≤ n → nat_le m n ≡ true
+most_is m n h = grind arith
+
+pub name_read : (o : Option (List ℕ)) (user : List ℕ) → name_of o ≡ Ok user → (o ≡ Some user) × (length user ≤ 32)
+name_read None user h = absurd (cc)
+name_read (Some text) user h =
+    let kept = guarded (nat_le (length text) 32) (Ok text) BadField user h in
+    let same : text ≡ user = cc (kept.1) in
+    (ap Some same, subst (λ t. length t ≤ 32) same (is_most (length text) 32 kept.0))
+
+pub name_reads : (o : Option (List ℕ)) (user : List ℕ) → o ≡ Some user → length user ≤ 32 → name_of o ≡ Ok user
+name_reads o user is short = ap name_of is ∙ ap (λ b. cond b (Ok user) (Err BadField)) (most_is (length user) 32 short)
+
+pub small_read : (o : Option ℕ) (n : ℕ) → small o ≡ Ok n → (o ≡ Some n) × (n < 256)
+small_read None n h = absurd (cc)
+small_read (Some m) n h =
+    let kept = guarded (nat_lt m 256) (Ok m) BadField n h in
+    let same : m ≡ n = cc (kept.1) in
+    (ap Some same, subst (λ k. k < 256) same (is_below m 256 kept.0))
+
+pub small_reads : (o : Option ℕ) (n : ℕ) → o ≡ Some n → n < 256 → small o ≡ Ok n
+small_reads o n is below = ap small is ∙ ap (λ b. cond b (Ok n) (Err BadField)) (below_is n 256 below)
+
+pub wanted_read : {A : Type 0} (o : Option A) (x : A) → wanted o ≡ Ok x → o ≡ Some x
+wanted_read None x h = absurd (cc)
+wanted_read (Some y) x h = cc
+
+since_read : (o : Option Data) (since : ℕ) → whole_or_zero o ≡ Ok since → IsSince o since
+since_read None since h = cc
+since_read (Some d) since h = wanted_read (whole d) since h
+
+since_reads : (o : Option Data) (since : ℕ) → IsSince o since → whole_or_zero o ≡ Ok since
+since_reads None since h = ap (λ n. Ok n) (sym h)
+since_reads (Some d) since h = ap wanted h
+
+-- what a query's members are read as
+pub record Members (d : Data) (user : List ℕ) (board since : ℕ) : Type 0 where
+  pub listed : has_only query_members d ≡ true
+  pub name : user_of d ≡ Ok user
+  pub number : small_at (codes "board") d ≡ Ok board
+  pub version : since_of d ≡ Ok since
+
+with_read : (d : Data) (user : List ℕ) (board since : ℕ) → query_of d ≡ Ok (Query user board since) → Members d user board since
+unfolding query_of query_with
+with_read d user board since h =
+    let kept = guarded (has_only query_members d) (query_with d) BadField (Query user board since) h in
+    let first = bind_ok (user_of d) _ (Query user board since) kept.1 in
+    let second = bind_ok (small_at (codes "board") d) _ (Query user board since) first.2 in
+    let third = bind_ok (since_of d) _ (Query user board since) second.2 in
+    let users : first.0 ≡ user = cc (third.2) in
+    let boards : second.0 ≡ board = cc (third.2) in
+    let sinces : third.0 ≡ since = cc (third.2) in
+    record { listed = kept.0; name = first.1 ∙ ap (λ x. Ok x) users; number = second.1 ∙ ap (λ x. Ok x) boards; version = third.1 ∙ ap (λ x. Ok x) sinces }
+
+with_reads : (d : Data) (user : List ℕ) (board since : ℕ) → Members d user board since → query_of d ≡ Ok (Query user board since)
+unfolding query_of query_with
+with_reads d user board since m =
+    ap (λ b. cond b (query_with d) (Err BadField)) m.listed
+    ∙ ap (λ r. r >>= λ u. (small_at (codes "board") d >>= λ b. (since_of d >>= λ s. Ok (Query u b s)))) m.name
+    ∙ ap (λ r. r >>= λ b. (since_of d >>= λ s. Ok (Query user b s))) m.number
+    ∙ ap (λ r. r >>= λ s. Ok (Query user board s)) m.version
+
+by_read : (o : Option (List ℕ)) (d : Data) (y : Message) → query_by o d ≡ Ok y → (o ≡ Some (codes "board")) × (query_of d ≡ Ok y)
+by_read None d y h = absurd (cc)
+by_read (Some word) d y h =
+    let kept = guarded (bytes_eq word (codes "board")) (query_of d) UnknownRequest y h in
+    (ap Some ((bytes_eq-Decides word (codes "board")).0 kept.0), kept.1)
+
+by_reads : (o : Option (List ℕ)) (d : Data) → o ≡ Some (codes "board") → query_by o d ≡ query_of d
+by_reads o d h = ap (λ x. query_by x d) h
+
+-- a batch is no query
+batch_with_no_query : (ds : Items) (d : Data) (user : List ℕ) (board since : ℕ) → batch_with ds d ≡ Ok (Query user board since) → ⊥
+unfolding batch_with
+batch_with_no_query ds d user board since h =
+    let first = bind_ok (user_of d) _ (Query user board since) h in
+    let second = bind_ok (commands_in ds) _ (Query user board since) first.2 in
+    cc (second.2)
+
+batch_no_query : (ds : Items) (d : Data) (unknown : Bool) (user : List ℕ) (board since : ℕ) → cond unknown (Err UnknownRequest) (batch_of ds d) ≡ Ok (Query user board since) → ⊥
+unfolding batch_of
+batch_no_query ds d true user board since h = absurd (cc)
+batch_no_query ds d false user board since h = batch_with_no_query ds d user board since (guarded _ (batch_with ds d) BadField (Query user board since) h).1
+
+batch_by_no_query : (o : Option Items) (d : Data) (user : List ℕ) (board since : ℕ) → batch_by o d ≡ Ok (Query user board since) → ⊥
+batch_by_no_query None d user board since h = absurd (cc)
+batch_by_no_query (Some ds) d user board since h = batch_no_query ds d (has_unknown ds) user board since h
+
+-- the members that make a message a query
+pub record MakesQuery (ask list audit hello : Option Data) : Type 0 where
+  pub one : count_by (λ member. is_some member) (ask ∷ list ∷ audit ∷ hello ∷ []) ≡ 1
+  pub word : option_and_then as_str ask ≡ Some (codes "board")
+
+kind_read : (ask list audit hello : Option Data) (d : Data) (user : List ℕ) (board since : ℕ)
+    → cond (is_some audit || is_some hello) (Err UnknownRequest) (ask_or_do ask list d) ≡ Ok (Query user board since)
+    → MakesQuery ask list audit hello × (query_of d ≡ Ok (Query user board since))
+kind_read ask list (Some x) hello d user board since h = absurd (cc)
+kind_read ask list None (Some x) d user board since h = absurd (cc)
+kind_read None None None None d user board since h = absurd (cc)
+kind_read (Some ask) (Some list) None None d user board since h = absurd (cc)
+kind_read (Some ask) None None None d user board since h =
+    let k = by_read (as_str ask) d (Query user board since) h in
+    (record { one = refl; word = k.0 }, k.1)
+kind_read None (Some list) None None d user board since h = absurd (batch_by_no_query (as_array list) d user board since h)
+
+kind_reads : (ask list audit hello : Option Data) (d : Data) → MakesQuery ask list audit hello
+    → cond (is_some audit || is_some hello) (Err UnknownRequest) (ask_or_do ask list d) ≡ query_of d
+kind_reads None list audit hello d m = absurd (cc (m.word))
+kind_reads (Some ask) (Some list) audit hello d m = absurd (omega (arith, m.one))
+kind_reads (Some ask) None (Some x) hello d m = absurd (omega (arith, m.one))
+kind_reads (Some ask) None None (Some x) d m = absurd (omega (arith, m.one))
+kind_reads (Some ask) None None None d m = by_reads (as_str ask) d m.word
+
+is_query : (d : Data) (user : List ℕ) (board since : ℕ) → message_of d ≡ Ok (Query user board since) → IsQuery d user board since
+unfolding message_of user_of small_at since_of
+is_query d user board since h =
+    let kind = kind_read (get (codes "ask") d) (get (codes "do") d) (get (codes "audit") d) (get (codes "hello") d) d user board since h in
+    let m = with_read d user board since kind.1 in
+    let name = name_read (text_at (codes "as") d) user m.name in
+    let number = small_read (whole_at (codes "board") d) board m.number in
+    record {
+      one = kind.0.one;
+      ask = kind.0.word;
+      listed = m.listed;
+      name = name.0;
+      short = name.1;
+      number = number.0;
+      small = number.1;
+      version = since_read (get (codes "since") d) since m.version;
+    }
+
+says_query : (d : Data) (user : List ℕ) (board since : ℕ) → IsQuery d user board since → message_of d ≡ Ok (Query user board since)
+unfolding message_of user_of small_at since_of
+says_query d user board since q =
+    kind_reads (get (codes "ask") d) (get (codes "do") d) (get (codes "audit") d) (get (codes "hello") d) d (record { one = q.one; word = q.ask })
+    ∙ with_reads d user board since (record {
+      listed = q.listed;
+      name = name_reads (text_at (codes "as") d) user q.name q.short;
+      number = small_reads (whole_at (codes "board") d) board q.number q.small;
+      version = since_reads (get (codes "since") d) since q.version;
+    })
+
+pub query_line : (line : List ℕ) (d : Data) (user : List ℕ) (board since : ℕ) → IsObject line d → (meaning line ≡ Ok (Query user board since)) ↔ IsQuery d user board since
+query_line line d user board since object = (
+  λ h. is_query d user board since (sym (of_object line d object) ∙ h),
+  λ q. of_object line d object ∙ says_query d user board since q,
+)

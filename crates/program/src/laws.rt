@@ -1,0 +1,40 @@
+//! What reading comes to: each function here has nothing to do, and its clauses are the theorem.
+
+ghost use Rattle.std.specs.Prelude.{◌≡◌, ◌↔◌, ℕ, List, Ok, Err};
+ghost use Rattle.serde_json.specs.Data.{Data};
+ghost use Rattle.program.specs.declared.fault.Fault.TheVariants.{Malformed, UnknownRequest, BadField};
+ghost use Rattle.program.specs.declared.message.Message.TheVariants.{Query, Batch};
+ghost use Rattle.program.specs.declared.command_text.CommandText.{CommandText};
+ghost use Rattle.program.specs.Grammar.{IsBatch, IsNoMessage};
+ghost use Rattle.program.specs.Message.{meaning};
+ghost use Rattle.program.specs.Requests.{IsObject, IsUnknownRequest, IsQuery};
+
+/// A line is malformed exactly where it is no object's text.
+pub fn malformed_without_an_object()
+    ensures { (line : List ℕ) → (meaning line ≡ Err Malformed) ↔ ((d : Data) → ¬ IsObject line d) }
+{}
+
+/// An object is an unknown request exactly where its members make it no query and no batch, or a word in it names nothing,
+/// whatever else is wrong with it.
+pub fn unknown_before_bad()
+    ensures { (line : List ℕ) (d : Data) → IsObject line d →
+        (meaning line ≡ Err UnknownRequest) ↔ IsUnknownRequest d }
+{}
+
+/// An object is a query exactly where its members are those of the query.
+pub fn queries_by_their_members()
+    ensures { (line : List ℕ) (d : Data) (user : List ℕ) (board since : ℕ) → IsObject line d →
+        (meaning line ≡ Ok (Query user board since)) ↔ IsQuery d user board since }
+{}
+
+/// An object is a batch of commands exactly where its members are those of the batch.
+pub fn batches_by_their_members()
+    ensures { (line : List ℕ) (d : Data) (user : List ℕ) (commands : List CommandText) → IsObject line d →
+        (meaning line ≡ Ok (Batch user commands)) ↔ IsBatch d user commands }
+{}
+
+/// Any other object has a bad member.
+pub fn bad_members_in_all_others()
+    ensures { (line : List ℕ) (d : Data) → IsObject line d →
+        (meaning line ≡ Err BadField) ↔ (¬ IsUnknownRequest d × IsNoMessage d) }
+{}
