@@ -1,9 +1,15 @@
 -- The room that a state keeps.
-use Rattle.std.specs.Prelude.{◌≡◌, length, vec_len}
+use Rattle.std.specs.Prelude.{◌≡◌, ◌≤◌, ℕ, length, vec_len, vec_capacity}
 use Rattle.session_book.specs.SessionState.{most_cells}
 use Rattle.session_book.specs.declared.state.State.TheInside.{Inside}
 
--- there is a place for each cell, and a marking for each board
+-- how many users a session has at most
+abbrev pub most_users : ℕ
+most_users = 256
+
+-- there is a place for each cell, a marking for each board, and room for each user that a session can have
 pub record HasRoom (state : Inside) : Type 0 where
   pub cells : vec_len state.cells ≡ most_cells
   pub marks : length state.public.marks ≡ 64
+  pub accounts : most_users ≤ vec_capacity state.accounts
+  pub seats : most_users ≤ vec_capacity state.seats

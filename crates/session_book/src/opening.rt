@@ -1,14 +1,16 @@
 //! The session that a book opens with, until a session can be read.
 
-ghost use Rattle.std.specs.Prelude.{◌≡◌, ◌≤◌, length, IfOk};
+ghost use Rattle.std.specs.Prelude.{◌≡◌, ◌≤◌, length, vec_capacity, IfOk};
+ghost use Rattle.session_book.specs.StateRoom.{most_users};
 ghost use Rattle.cards.specs.Hands.{IsDeal};
 ghost use Rattle.cards.specs.declared.place.Place.TheVariants.{North};
 ghost use Rattle.cards.specs.declared.side.Side.TheVariants.{NorthSouth};
 ghost use Rattle.session_book.specs.Opening.{member_and, director_roles, opening_accounts, opening_seats, opening_section, opening_public, whole_suit, opening_deals, opening_state, AreMarked};
 
 use crate::account::Account;
+use crate::room::with_room;
 use crate::seated::Seated;
-use crate::state::State;
+use crate::state::{MOST_USERS, State};
 use cards::{Card, Deal, Hand, Name, Pair, Place, Rank, Side, Suit, dealer_of, vulnerability_of};
 use disclosure_rules::{Boards, LiveCells, Marks, Phase, Public, Seat};
 use movement::Movement;
@@ -83,7 +85,8 @@ fn section() -> Movement
 }
 
 fn accounts(alloc: Global) -> Result<Vec<Account>, AllocError>
-    ensures { IfOk result (λ accounts. accounts.items ≡ opening_accounts) }
+    ensures items { IfOk result (λ accounts. accounts.items ≡ opening_accounts) }
+    ensures room { IfOk result (λ accounts. most_users ≤ vec_capacity accounts) }
 {
     let accounts = [
         account("a", member(Role::Administrator)),
@@ -94,7 +97,7 @@ fn accounts(alloc: Global) -> Result<Vec<Account>, AllocError>
         account("n1", member(Role::Contestant)),
         account("n2", member(Role::Contestant)),
     ];
-    Vec::from_slice(alloc, &accounts)
+    with_room(alloc, &accounts, MOST_USERS)
 }
 
 fn account(text: &str, roles: RoleSet) -> Account
@@ -132,10 +135,11 @@ fn director() -> RoleSet
 }
 
 fn seats(alloc: Global) -> Result<Vec<Seated>, AllocError>
-    ensures { IfOk result (λ seats. seats.items ≡ opening_seats) }
+    ensures items { IfOk result (λ seats. seats.items ≡ opening_seats) }
+    ensures room { IfOk result (λ seats. most_users ≤ vec_capacity seats) }
 {
     let seats = [north("n1", 1), north("n2", 2)];
-    Vec::from_slice(alloc, &seats)
+    with_room(alloc, &seats, MOST_USERS)
 }
 
 fn north(text: &str, number: u8) -> Seated

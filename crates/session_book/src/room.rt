@@ -25,3 +25,13 @@ pub fn filled<T: Copy>(alloc: Global, item: T, count: usize) -> Result<Vec<T>, A
     }
     Ok(copies)
 }
+
+/// A copy of a list, with room for so many items.
+pub fn with_room<T: Copy>(alloc: Global, items: &[T], room: usize) -> Result<Vec<T>, AllocError>
+    ensures items { IfOk result (λ copy. copy.items ≡ items.now) }
+    ensures room { IfOk result (λ copy. room ≤ vec_capacity copy) }
+{
+    let mut copy = Vec::with_capacity(alloc, room)?;
+    copy.extend_from_slice(items)?;
+    Ok(copy)
+}

@@ -1,4 +1,4 @@
-ghost use Rattle.std.specs.Prelude.{◌≡◌, ◌-◌, ◌<◌, ◌≤◌, length, slice_get, Some, IfSome, IfNone, IfOk, IfErr, replicate};
+ghost use Rattle.std.specs.Prelude.{◌≡◌, ◌-◌, ◌<◌, ◌≤◌, length, slice_get, vec_capacity, Some, IfSome, IfNone, IfOk, IfErr, replicate};
 ghost use Rattle.session_book.specs.declared.cell_state.CellState.TheVariants.{Empty};
 ghost use Rattle.disclosure_rules.specs.Policy.{IsFirst, IsAllowed, is_authorized};
 ghost use Rattle.rbac.specs.declared.role.Role.TheVariants.{Scorer};
@@ -6,6 +6,7 @@ ghost use Rattle.session_book.specs.Apply.{apply, confirmed};
 ghost use Rattle.session_book.specs.Open.{IsOpen, IsPlaced};
 ghost use Rattle.session_book.specs.Refusal.{hindrance_of, refusal_of};
 ghost use Rattle.session_book.specs.SessionState.{authorized_of, seat_of, cell_at, place_of, most_cells};
+ghost use Rattle.session_book.specs.StateRoom.{most_users};
 
 use crate::account::Account;
 use crate::cell_state::CellState;
@@ -24,6 +25,9 @@ use std::marker::Model;
 
 /// How many cells there is room for: sixteen tables on each of 64 boards.
 const MOST_CELLS: usize = 1024;
+
+/// How many users a session has at most.
+pub const MOST_USERS: usize = 256;
 
 /// How many entries a journal has at most.
 pub const MOST_ENTRIES: usize = 60000;
@@ -61,7 +65,9 @@ impl State {
         public: Public,
         deals: Vec<Deal>,
     ) -> Result<State, AllocError>
-        requires { length public.marks ≡ 64 }
+        requires marks { length public.marks ≡ 64 }
+        requires accounts { most_users ≤ vec_capacity accounts }
+        requires seats { most_users ≤ vec_capacity seats }
         ensures { IfOk result (λ state. state ≡ record {
           accounts = accounts.items;
           seats = seats.items;
