@@ -1,3 +1,5 @@
+pub mod DecisionLemmas
+pub mod FirstLemmas
 pub mod LiveCellsLemmas
 pub mod NumbersLemmas
 pub mod RuleLemmas

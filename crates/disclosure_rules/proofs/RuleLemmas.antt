@@ -1,13 +1,10 @@
 -- The rules by their numbers.
-use Rattle.std.proofs.Common.{◌≡◌, ℕ, ◌+◌, ◌-◌, ◌<◌, true, List, [], ◌∷◌, get_or, nat_eq, refl, arith}
+use Rattle.std.proofs.Common.{◌≡◌, ℕ, ◌+◌, ◌-◌, ◌<◌, true, get_or, nat_eq, refl, arith}
 use Rattle.std.proofs.lemmas.Bool.{agree_below_at, eqb-true}
 use Rattle.disclosure_rules.specs.declared.rule.Rule.{Rule}
 use Rattle.disclosure_rules.specs.declared.rule.Rule.TheVariants.{NoAccount, NotAMember, AccountsAreClosed, BoardIsHeld, StillToPlay, OthersStillPlay, NeitherContestantNorSpectator, BoardIsIncomplete, AnalysisWaits, PlayWaits, ReasonIsForThePairs, NoResult}
+use Rattle.disclosure_rules.specs.Decision.{rules_in_order}
 use Rattle.disclosure_rules.specs.Policy.{number_of}
-
--- the rules in their order
-abbrev pub rules_in_order : List Rule
-rules_in_order = NoAccount ∷ NotAMember ∷ AccountsAreClosed ∷ BoardIsHeld ∷ StillToPlay ∷ OthersStillPlay ∷ NeitherContestantNorSpectator ∷ BoardIsIncomplete ∷ AnalysisWaits ∷ PlayWaits ∷ ReasonIsForThePairs ∷ NoResult ∷ []
 
 -- a rule stands at its number
 pub at_number : (rule : Rule) → get_or rules_in_order (number_of rule - 1) NoAccount ≡ rule

@@ -5,24 +5,21 @@ use Rattle.movement.specs.declared.cell.Cell.{Cell}
 use Rattle.movement.specs.Movement.{Section, Row, IsSection, rows, HasCell, IsOfSet}
 use Rattle.movement.specs.Row.{Seats, Plays}
 use Rattle.movement.proofs.MovementLemmas.{same_play}
+use Rattle.movement.proofs.ScheduleTests.{any_as}
 use Rattle.disclosure_rules.specs.LiveCells.{is_live}
 
 -- what holds of no element holds of none of them
 pub none_of_all : {X : Type 0} (P : X → Type 0) (xs : List X) → All (λ x. ¬ P x) xs → ¬ Any P xs
 none_of_all P xs all (k, x, below, here, holds) = all k x below (subst P (sym here) holds)
 
--- what holds of some element, said in other words
-any_as : {X : Type 0} (P Q : X → Type 0) (xs : List X) → ((x : X) → P x → Q x) → Any P xs → Any Q xs
-any_as P Q xs gives (k, x, below, here, holds) = (k, x, below, here, gives x holds)
-
 -- the cell stands in a row that seats the pair: so the pair plays its board there
-plays_of : (section : Section) (row : Row) (pair : Pair) (cell : Cell) (board : ℕ) → cell.board ≡ board →
+pub plays_of : (section : Section) (row : Row) (pair : Pair) (cell : Cell) (board : ℕ) → cell.board ≡ board →
     Seats row pair × HasCell section row cell → Plays section row pair board
 plays_of section row pair cell board at_board (seated, has) =
     record { seated = seated; board = subst (IsOfSet section row.set) at_board has.board }
 
 -- the table where a pair plays a board is that of any row in which it does
-one_table : (section : Section) (pair : Pair) (cell : Cell) (board : ℕ) → IsSection section → cell.board ≡ board →
+pub one_table : (section : Section) (pair : Pair) (cell : Cell) (board : ℕ) → IsSection section → cell.board ≡ board →
     Any (λ row. Seats row pair × HasCell section row cell) (rows section) → (row : Row) → Contains (rows section) row →
     Plays section row pair board → row.table ≡ cell.table
 one_table section pair cell board is_section at_board (k, own, below, here, stands) row listed plays =

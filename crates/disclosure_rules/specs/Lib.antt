@@ -1,3 +1,4 @@
+pub mod Decision
 pub mod Fact
 pub mod LiveCells
 pub mod Numbers

@@ -4,6 +4,7 @@
 mod authorized;
 mod boards;
 mod fact;
+pub mod laws;
 mod live_cells;
 mod marks;
 mod phase;

@@ -1,4 +1,5 @@
-ghost use Rattle.std.specs.Prelude.{◌↔◌, IsTrue, IfSome, IfNone};
+ghost use Rattle.std.specs.Prelude.{◌≡◌, ◌↔◌, IsTrue, IfSome, IfNone};
+ghost use Rattle.disclosure_rules.specs.Decision.{first_rule};
 ghost use Rattle.disclosure_rules.specs.Policy.{Forbids, ForbidsSecret, ForbidsOfCell, IsFirst, IsAllowed};
 
 use crate::authorized::{guarded_board, is_authorized};
@@ -20,6 +21,7 @@ pub fn decide(
 ) -> Option<Rule>
     ensures first { IfSome result (IsFirst public.now roles seat fact) }
     ensures allowed { IfNone result (IsAllowed public.now roles seat fact) }
+    ensures which { result ≡ first_rule public.now roles seat fact }
 {
     first_of(public, &roles, &seat, fact)
 }

@@ -4,5 +4,6 @@ pub mod MovementLemmas
 pub mod PairLemmas
 pub mod RoundLemmas
 pub mod RowLemmas
+pub mod ScheduleTests
 pub mod ScheduledLemmas
 pub mod SetLemmas

@@ -1,3 +1,4 @@
 pub mod Movement
 pub mod Refusal
 pub mod Row
+pub mod Schedule

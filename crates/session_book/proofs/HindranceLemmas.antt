@@ -12,7 +12,7 @@ use Rattle.session_book.specs.declared.cell_state.CellState.TheVariants.{Empty, 
 use Rattle.session_book.specs.declared.refusal.Refusal.TheVariants.{NoSuchCell, WrongPhase, RoundNotStarted, BadResult}
 use Rattle.session_book.specs.Apply.{confirmed}
 use Rattle.session_book.specs.Refusal.{cell_of, is_running, is_bad_result, hindrance_by, hindrance_of}
-use Rattle.session_book.specs.Schedule.{is_scheduled, is_later}
+use Rattle.movement.specs.Schedule.{is_scheduled, is_later}
 use Rattle.session_book.specs.SessionState.{SessionState, cell_at, place_of}
 
 pub hindered_cell : (state : SessionState) (command : Command) → is_scheduled state.public.movement (cell_of command) ≡ false →

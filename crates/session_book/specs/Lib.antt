@@ -8,6 +8,5 @@ pub mod Play
 pub mod PlayPlaces
 pub mod Refusal
 pub mod Run
-pub mod Schedule
 pub mod SessionState
 pub mod StateRoom

@@ -7,6 +7,7 @@ use Rattle.std.specs.List.{find}
 use Rattle.rbac.specs.declared.role.Role.TheVariants.{Scorer}
 use Rattle.cards.specs.declared.card.Card.{Card}
 use Rattle.movement.specs.declared.cell.Cell.{Cell}
+use Rattle.movement.specs.Schedule.{is_scheduled, is_later}
 use Rattle.disclosure_rules.specs.declared.phase.Phase.{Phase}
 use Rattle.disclosure_rules.specs.declared.phase.Phase.TheVariants.{Running, Closed, Final}
 use Rattle.disclosure_rules.specs.Policy.{is_authorized}
@@ -19,7 +20,6 @@ use Rattle.session_book.specs.declared.refusal.Refusal.{Refusal}
 use Rattle.session_book.specs.declared.refusal.Refusal.TheVariants.{NotPermitted, NoSuchCell, WrongPhase, RoundNotStarted, BadResult, AlreadyLive, NothingEntered, Mismatch, JournalFull, OutOfMemory, NotTried}
 use Rattle.session_book.specs.Play.{has_repeat}
 use Rattle.session_book.specs.Outcome.{same_outcome, is_passed_out}
-use Rattle.session_book.specs.Schedule.{is_scheduled, is_later}
 use Rattle.session_book.specs.SessionState.{SessionState, cell_at, authorized_of}
 
 -- the table and board that the command is about

@@ -2,7 +2,7 @@ ghost use Rattle.std.specs.Prelude.{◌≡◌, IfSome, is_some};
 ghost use Rattle.movement.specs.Movement.{IsCell};
 ghost use Rattle.session_book.specs.Open.{IsPlaced};
 ghost use Rattle.session_book.specs.Refusal.{is_running};
-ghost use Rattle.session_book.specs.Schedule.{is_scheduled, is_later};
+ghost use Rattle.movement.specs.Schedule.{is_scheduled, is_later};
 
 use disclosure_rules::Phase;
 use movement::{Cell, Movement};

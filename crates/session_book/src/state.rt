@@ -1,5 +1,7 @@
 ghost use Rattle.std.specs.Prelude.{◌≡◌, ◌-◌, ◌<◌, ◌≤◌, length, slice_get, vec_capacity, Some, IfSome, IfNone, IfOk, IfErr, replicate};
 ghost use Rattle.session_book.specs.declared.cell_state.CellState.TheVariants.{Empty};
+ghost use Rattle.movement.specs.Movement.{boards_of};
+ghost use Rattle.disclosure_rules.specs.Decision.{first_rule};
 ghost use Rattle.disclosure_rules.specs.Policy.{IsFirst, IsAllowed, is_authorized};
 ghost use Rattle.rbac.specs.declared.role.Role.TheVariants.{Scorer};
 ghost use Rattle.session_book.specs.Apply.{apply, confirmed};
@@ -66,6 +68,7 @@ impl State {
         deals: Vec<Deal>,
     ) -> Result<State, AllocError>
         requires marks { length public.marks ≡ 64 }
+        requires deals { boards_of public.movement ≤ length deals.items }
         requires accounts { most_users ≤ vec_capacity accounts }
         requires seats { most_users ≤ vec_capacity seats }
         ensures { IfOk result (λ state. state ≡ record {
@@ -127,7 +130,7 @@ impl State {
     /// The hands of a board.
     pub fn deal(&self, board: u8) -> Deal
         requires from { 1 ≤ board }
-        requires to { board ≤ length self.now.deals }
+        requires to { board ≤ boards_of self.now.public.movement }
         ensures { slice_get self.now.deals (board - 1) ≡ Some result }
     {
         self.deals[board as usize - 1]
@@ -149,6 +152,8 @@ impl State {
             (IsFirst self.now.public (authorized_of self.now name) (seat_of self.now name) fact) }
         ensures allowed { IfNone result
             (IsAllowed self.now.public (authorized_of self.now name) (seat_of self.now name) fact) }
+        ensures which { result ≡
+            first_rule self.now.public (authorized_of self.now name) (seat_of self.now name) fact }
     {
         let roles = self.authorized(name);
         let seat = self.seat(name);

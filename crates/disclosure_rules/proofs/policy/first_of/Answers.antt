@@ -1,7 +1,8 @@
 use Rattle.std.proofs.Common.{◌-◌, ◌<◌, get_or, sym, subst, arith}
 use Rattle.disclosure_rules.specs.declared.rule.Rule.TheVariants.{NoAccount}
 use Rattle.disclosure_rules.specs.Policy.{number_of, Forbids}
-use Rattle.disclosure_rules.proofs.RuleLemmas.{rules_in_order, at_number, number_within, number_at}
+use Rattle.disclosure_rules.specs.Decision.{rules_in_order}
+use Rattle.disclosure_rules.proofs.RuleLemmas.{at_number, number_within, number_at}
 use Rattle.disclosure_rules.proofs.policy.first_of.Goals as goal
 
 pub returns-then-forbids-clause-first : goal.returns-then-forbids-clause-first

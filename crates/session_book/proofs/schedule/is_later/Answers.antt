@@ -1,4 +1,4 @@
-use Rattle.session_book.proofs.ScheduleLemmas.{later_than}
+use Rattle.movement.proofs.ScheduleTests.{later_than}
 use Rattle.session_book.proofs.schedule.is_later.Goals as goal
 
 pub returns : goal.returns

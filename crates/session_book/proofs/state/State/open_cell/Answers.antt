@@ -2,7 +2,7 @@ use Rattle.std.proofs.Common.{◌≡◌, sym, ap, ◌∙◌, subst}
 use Rattle.std.specs.Prelude.{Some}
 use Rattle.session_book.specs.declared.refusal.Refusal.TheVariants.{NoSuchCell, WrongPhase, RoundNotStarted, BadResult}
 use Rattle.session_book.specs.Refusal.{cell_of, hindrance_by, hindrance_of}
-use Rattle.session_book.specs.Schedule.{is_scheduled, is_later}
+use Rattle.movement.specs.Schedule.{is_scheduled, is_later}
 use Rattle.session_book.specs.SessionState.{cell_at}
 use Rattle.session_book.proofs.HindranceLemmas.{hindered_cell, hindered_phase, hindered_round, hindered_result, hindered_known}
 use Rattle.session_book.proofs.state.State.open_cell.Goals as goal
