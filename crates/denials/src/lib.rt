@@ -1,0 +1,10 @@
+//! Why a user is denied a fact: the first rule that forbids it, with evidence that the public facts bear out.
+#![tactic(auto)]
+
+mod denial;
+mod evidence;
+#[cfg(test)]
+mod tests;
+
+pub use denial::{Denial, explain};
+pub use evidence::{check, deny};
