@@ -1,0 +1,8 @@
+/// What ended a line.
+#[derive(Clone, Copy, Debug, PartialEq, Eq)]
+pub enum LineEnd {
+    /// An LF, and there may be more lines.
+    LineFeed,
+    /// The input's end.
+    EndOfInput,
+}
