@@ -1,0 +1,2 @@
+mod AgreementLemmas
+mod ShownLemmas

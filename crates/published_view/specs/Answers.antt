@@ -1,0 +1,39 @@
+-- The replies to queries. What they tell of a state is read from what the user is shown of it, and from nothing else.
+use Rattle.std.specs.Prelude.{ℕ, Bool, not, ◌&&◌, nat_le, nat_lt, if◌then◌else◌, Option, Some, None, List}
+use Rattle.cards.specs.Hands.{Hands}
+use Rattle.movement.specs.Movement.{Section, boards_of}
+use Rattle.disclosure_rules.specs.declared.fact.Fact.TheVariants as fact
+use Rattle.disclosure_rules.specs.declared.marks.Marks.{Marks}
+use Rattle.denials.specs.declared.denial.Denial.{Denial}
+use Rattle.denials.specs.Evidence.{denial_of}
+use Rattle.session_book.specs.SessionState.{SessionState, authorized_of, seat_of}
+use Rattle.published_view.specs.Shown.{Shown, shown, shown_hands, shown_marks}
+use Rattle.published_view.specs.declared.reply.Reply.{Reply}
+use Rattle.published_view.specs.declared.reply.Reply.TheVariants as reply
+
+-- a board with its marks, where both are shown; what isn't shown can't be told from what isn't there
+abbrev pub board_by : ℕ → ℕ → Option Hands → Option Marks → Reply
+board_by number version None marks = reply.NoSuchBoard version
+board_by number version (Some hands) None = reply.NoSuchBoard version
+board_by number version (Some hands) (Some marks) = reply.Board number hands marks version
+
+-- the answer to a query of a board, from what is shown
+abbrev pub board_answer : ℕ → ℕ → List Shown → Reply
+board_answer number version items = board_by number version (shown_hands items number) (shown_marks items number)
+
+-- whether the movement has the board
+abbrev pub has_board : Section → ℕ → Bool
+has_board section board = nat_le 1 board && nat_le board (boards_of section)
+
+-- a denial, or else the answer
+abbrev pub denied_or : Option Denial → ℕ → Reply → Reply
+denied_or None version answer = answer
+denied_or (Some denial) version answer = reply.Denied denial version
+
+-- the reply to a query of a board, at a state and its version: a board that isn't there comes first, then a version that is older than the
+-- user wants, then a rule that forbids the board's hands
+unfoldable pub board_reply : SessionState → ℕ → List ℕ → ℕ → ℕ → Reply
+board_reply state version user board since =
+    if not (has_board state.public.movement board) then reply.NoSuchBoard version
+    else if nat_lt version since then reply.Behind version
+    else denied_or (denial_of state.public (authorized_of state user) (seat_of state user) (fact.Hands board)) version (board_answer board version (shown state user))

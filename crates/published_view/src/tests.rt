@@ -1,0 +1,172 @@
+use super::*;
+use cards::{Name, Place, Strain};
+use scoring::{Contract, Doubling, Level, Outcome, Tricks};
+use session_book::{Answer, Book, Command, Play};
+use std::alloc::Global;
+use std::process::Abort;
+use std::test::Fail;
+
+fn name(text: &str) -> Result<Name, Fail> {
+    Ok(Name::new(text)?)
+}
+
+/// A reply as one line: its version, and then what it tells.
+fn line(alloc: Global, reply: &Reply) -> Result<String, Fail> {
+    let text = match reply {
+        Reply::NoSuchBoard { version } => format!(in alloc; "{version}: no such board")?,
+        Reply::Behind { version } => format!(in alloc; "{version}: behind")?,
+        Reply::Denied { denial, version } => {
+            let rule = denial.rule;
+            let board = denial.board;
+            let table = denial.table;
+            format!(in alloc; "{version}: {rule:?}, board {board}, table {table}")?
+        }
+        Reply::Board {
+            number,
+            deal,
+            marks,
+            version,
+        } => {
+            let dealer = marks.dealer;
+            let vulnerability = marks.vulnerability;
+            format!(in alloc; "{version}: board {number}, {dealer:?}, {vulnerability:?}, {deal}")?
+        }
+    };
+    Ok(text)
+}
+
+/// Compares the replies to some users' queries of a board, each with the version that the user wants.
+fn replies(
+    rt: &impl Abort,
+    alloc: Global,
+    book: &Book,
+    rows: &[(&str, u8, u64, &str)],
+) -> Result<(), Fail> {
+    for (user, board, since, expected) in rows {
+        let reply = board_reply(book.state(), book.version(), name(user)?, *board, *since);
+        let found = line(alloc, &reply)?;
+        assert_eq!(rt; found.as_str(), *expected, "{user} {board} {since}");
+    }
+    Ok(())
+}
+
+/// Four spades by North, ten tricks, on board 1 at table 1: entered and confirmed.
+fn play_the_first_board(rt: &impl Abort, book: &mut Book) -> Result<(), Fail> {
+    let contract = Contract {
+        level: Level::new(4).ok_or("a level")?,
+        strain: Strain::Spades,
+        declarer: Place::North,
+        doubling: Doubling::Undoubled,
+    };
+    let outcome = Outcome::Played {
+        contract,
+        tricks: Tricks::new(10).ok_or("tricks")?,
+    };
+    let enter = Command::Enter {
+        table: 1,
+        board: 1,
+        outcome,
+        play: Play::none(),
+    };
+    let confirm = Command::Confirm {
+        table: 1,
+        board: 1,
+        outcome,
+    };
+    let submission = book.submit(name("k")?, &[enter, confirm])?;
+    let answers = [Answer::Accepted, Answer::Accepted];
+    assert_eq!(rt; submission.answers.as_slice(), answers.as_slice());
+    Ok(())
+}
+
+#[test]
+fn before_any_result(rt: HostRuntime) -> Result<(), Fail> {
+    let alloc = rt.alloc();
+    let book = Book::open(alloc)?;
+    let watches_nothing = "0: NeitherContestantNorSpectator, board 1, table 0";
+    replies(
+        &rt,
+        alloc,
+        &book,
+        &[
+            ("n1", 1, 0, "0: StillToPlay, board 1, table 1"),
+            ("n2", 1, 0, "0: StillToPlay, board 1, table 2"),
+            ("n1", 2, 0, "0: StillToPlay, board 2, table 1"),
+            ("s", 1, 0, "0: BoardIsIncomplete, board 1, table 1"),
+            ("k", 1, 0, watches_nothing),
+            ("a", 1, 0, watches_nothing),
+            ("zz", 1, 0, "0: NoAccount, board 0, table 0"),
+            ("d", 0, 0, "0: no such board"),
+            ("d", 4, 0, "0: no such board"),
+            ("n1", 4, 0, "0: no such board"),
+            ("zz", 255, 0, "0: no such board"),
+        ],
+    )
+}
+
+#[test]
+fn a_version_that_is_not_there_yet(rt: HostRuntime) -> Result<(), Fail> {
+    let alloc = rt.alloc();
+    let book = Book::open(alloc)?;
+    replies(
+        &rt,
+        alloc,
+        &book,
+        &[
+            ("d", 1, 1, "0: behind"),
+            ("n1", 1, 1, "0: behind"),
+            ("zz", 1, 1, "0: behind"),
+            ("s", 3, u64::MAX, "0: behind"),
+            ("d", 4, 1, "0: no such board"),
+            ("zz", 0, 1, "0: no such board"),
+        ],
+    )
+}
+
+#[test]
+fn a_director_sees_each_board(rt: HostRuntime) -> Result<(), Fail> {
+    let alloc = rt.alloc();
+    let book = Book::open(alloc)?;
+    let first =
+        "0: board 1, North, Neither, N:AKQJT98765432... .AKQJT98765432.. ..AKQJT98765432. ...AKQJT98765432";
+    let second =
+        "0: board 2, East, NorthSouth, N:...AKQJT98765432 AKQJT98765432... .AKQJT98765432.. ..AKQJT98765432.";
+    let third =
+        "0: board 3, South, EastWest, N:..AKQJT98765432. ...AKQJT98765432 AKQJT98765432... .AKQJT98765432..";
+    replies(
+        &rt,
+        alloc,
+        &book,
+        &[
+            ("d", 1, 0, first),
+            ("d2", 1, 0, first),
+            ("d", 2, 0, second),
+            ("d", 3, 0, third),
+        ],
+    )
+}
+
+#[test]
+fn after_the_first_table(rt: HostRuntime) -> Result<(), Fail> {
+    let alloc = rt.alloc();
+    let mut book = Book::open(alloc)?;
+    play_the_first_board(&rt, &mut book)?;
+    let first =
+        "2: board 1, North, Neither, N:AKQJT98765432... .AKQJT98765432.. ..AKQJT98765432. ...AKQJT98765432";
+    replies(
+        &rt,
+        alloc,
+        &book,
+        &[
+            ("n1", 1, 0, first),
+            ("n1", 1, 2, first),
+            ("n1", 1, 3, "2: behind"),
+            ("n1", 2, 2, "2: StillToPlay, board 2, table 1"),
+            ("n2", 1, 2, "2: StillToPlay, board 1, table 2"),
+            ("s", 1, 2, "2: BoardIsIncomplete, board 1, table 2"),
+            ("zz", 1, 2, "2: NoAccount, board 0, table 0"),
+            ("d", 1, 2, first),
+            ("d", 4, 3, "2: no such board"),
+        ],
+    )
+}
