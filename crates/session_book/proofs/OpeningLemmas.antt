@@ -1,6 +1,6 @@
--- The hands and the markings of the opening.
+-- The users, the hands and the markings of the opening.
 use Rattle.std.proofs.Common.{◌≡◌, ◌≢◌, ℕ, ◌+◌, ◌<◌, ◌^◌, ◌*◌, List, [], ◌∷◌, map, length, get_or, take, refl, sym, ap, ◌∙◌, subst, arith, inl, inr}
-use Rattle.std.specs.Prelude.{slice_set, slice_index_or}
+use Rattle.std.specs.Prelude.{codes, slice_set, slice_index_or}
 use Rattle.std.specs.FinSet as set
 use Rattle.std.specs.Int.Count.{ones, ones-ones, ones_cat}
 use Rattle.std.proofs.Math.Pow.{pow_pos}
@@ -16,8 +16,47 @@ use Rattle.cards.specs.declared.card.Card.{Card}
 use Rattle.cards.specs.declared.rank.Rank.{Rank}
 use Rattle.cards.specs.declared.suit.Suit.{Suit}
 use Rattle.cards.specs.declared.suit.Suit.TheVariants.{Spades, Hearts, Diamonds, Clubs}
+use Rattle.rbac.specs.Authorization.{reached}
+use Rattle.rbac.specs.Inheritance.{opening_pairs, reaches}
+use Rattle.rbac.specs.Role.{roles_that}
+use Rattle.rbac.specs.RoleData.{RoleData}
+use Rattle.rbac.specs.declared.role.Role.TheVariants.{Spectator, Contestant, Scorer, Director, Administrator}
 use Rattle.disclosure_rules.specs.declared.marks.Marks.{Marks}
-use Rattle.session_book.specs.Opening.{whole_suit, AreMarked}
+use Rattle.session_book.specs.NewAccount.{MayJoin}
+use Rattle.session_book.specs.Opening.{opening_accounts, whole_suit, AreMarked}
+
+-- the role hierarchy of a new session, and the first users
+abbrev first_users : ℕ → RoleData
+first_users users = record { accounts = take users opening_accounts; pairs = opening_pairs }
+
+-- each user may join those before it
+pub a_joins : MayJoin (first_users 0) (codes "a") Administrator
+unfolding reached reaches roles_that
+a_joins = record { named = refl; new = refl; room = omega arith; apart = refl }
+
+pub d_joins : MayJoin (first_users 1) (codes "d") Director
+unfolding reached reaches roles_that
+d_joins = record { named = refl; new = refl; room = omega arith; apart = refl }
+
+pub d2_joins : MayJoin (first_users 2) (codes "d2") Director
+unfolding reached reaches roles_that
+d2_joins = record { named = refl; new = refl; room = omega arith; apart = refl }
+
+pub k_joins : MayJoin (first_users 3) (codes "k") Scorer
+unfolding reached reaches roles_that
+k_joins = record { named = refl; new = refl; room = omega arith; apart = refl }
+
+pub s_joins : MayJoin (first_users 4) (codes "s") Spectator
+unfolding reached reaches roles_that
+s_joins = record { named = refl; new = refl; room = omega arith; apart = refl }
+
+pub n1_joins : MayJoin (first_users 5) (codes "n1") Contestant
+unfolding reached reaches roles_that
+n1_joins = record { named = refl; new = refl; room = omega arith; apart = refl }
+
+pub n2_joins : MayJoin (first_users 6) (codes "n2") Contestant
+unfolding reached reaches roles_that
+n2_joins = record { named = refl; new = refl; room = omega arith; apart = refl }
 
 -- the numbers in whose bits the suits stand
 suit_bits : Suit → ℕ

@@ -1,6 +1,7 @@
 pub mod Apply
 pub mod Journal
 pub mod KeptBook
+pub mod NewAccount
 pub mod Open
 pub mod Opening
 pub mod Outcome

@@ -10,37 +10,34 @@ use Rattle.cards.specs.declared.place.Place.TheVariants.{North}
 use Rattle.cards.specs.declared.side.Side.TheVariants.{NorthSouth}
 use Rattle.cards.specs.declared.suit.Suit.{Suit}
 use Rattle.cards.specs.declared.suit.Suit.TheVariants.{Spades, Hearts, Diamonds, Clubs}
-use Rattle.rbac.specs.Role.{with_role}
-use Rattle.rbac.specs.declared.role.Role.{Role}
-use Rattle.rbac.specs.declared.role.Role.TheVariants.{Member, Spectator, Contestant, Scorer, Director, Administrator}
+use Rattle.rbac.specs.Inheritance.{opening_pairs}
+use Rattle.rbac.specs.RoleData.{RoleData}
+use Rattle.rbac.specs.declared.account.Account.{Account}
+use Rattle.rbac.specs.declared.role.Role.TheVariants.{Spectator, Contestant, Scorer, Director, Administrator}
 use Rattle.movement.specs.Movement.{Section}
 use Rattle.disclosure_rules.specs.declared.marks.Marks.{Marks}
 use Rattle.disclosure_rules.specs.declared.phase.Phase.TheVariants.{Running}
 use Rattle.disclosure_rules.specs.declared.public.Public.{Public}
-use Rattle.session_book.specs.declared.account.Account.{Account}
 use Rattle.session_book.specs.declared.seated.Seated.{Seated}
 use Rattle.session_book.specs.declared.cell_state.CellState.TheVariants.{Empty}
+use Rattle.session_book.specs.NewAccount.{account_with}
 use Rattle.session_book.specs.SessionState.{SessionState, most_cells}
-
--- the roles of a user who is assigned one role that is senior to Member alone
-abbrev pub member_and : Role → List Role
-member_and role = with_role (with_role [] Member) role
-
--- the roles of a director, which is senior to scorer and to spectator
-abbrev pub director_roles : List Role
-director_roles = with_role (with_role (member_and Spectator) Scorer) Director
 
 -- an administrator, two directors, a scorer, a spectator and two contestants
 abbrev pub opening_accounts : List Account
 opening_accounts =
-    record { name = codes "a"; roles = member_and Administrator }
-    ∷ record { name = codes "d"; roles = director_roles }
-    ∷ record { name = codes "d2"; roles = director_roles }
-    ∷ record { name = codes "k"; roles = member_and Scorer }
-    ∷ record { name = codes "s"; roles = member_and Spectator }
-    ∷ record { name = codes "n1"; roles = member_and Contestant }
-    ∷ record { name = codes "n2"; roles = member_and Contestant }
+    account_with (codes "a") Administrator
+    ∷ account_with (codes "d") Director
+    ∷ account_with (codes "d2") Director
+    ∷ account_with (codes "k") Scorer
+    ∷ account_with (codes "s") Spectator
+    ∷ account_with (codes "n1") Contestant
+    ∷ account_with (codes "n2") Contestant
     ∷ []
+
+-- these users, and the role hierarchy of a new session
+abbrev pub opening_roles : RoleData
+opening_roles = record { accounts = opening_accounts; pairs = opening_pairs }
 
 -- the contestants sit North at the first two tables
 abbrev pub opening_seats : List Seated
@@ -76,7 +73,7 @@ opening_deals =
 -- the opening state, with the markings of its boards
 abbrev pub opening_state : List Marks → SessionState
 opening_state marks =
-    record { accounts = opening_accounts; seats = opening_seats; public = opening_public marks; cells = replicate most_cells Empty; deals = opening_deals }
+    record { roles = opening_roles; seats = opening_seats; public = opening_public marks; cells = replicate most_cells Empty; deals = opening_deals }
 
 -- each board is marked by Law 2
 abbrev pub AreMarked : List Marks → ℕ → Type 0

@@ -6,22 +6,23 @@ use Rattle.std.specs.Cmp.Lexicographic.{pointwise}
 use Rattle.std.specs.Coded.{Coded, code_by, coded×, coded_list}
 use Rattle.cards.specs.Hands.{Hands, hands_code}
 use Rattle.rbac.specs.declared.role.Role.{Role}
+use Rattle.rbac.specs.Authorization.{authorized_roles}
+use Rattle.rbac.specs.RoleData.{RoleData}
+use Rattle.rbac.specs.contracts.roles.Roles as the_roles
 use Rattle.movement.specs.declared.cell.Cell.{Cell}
 use Rattle.disclosure_rules.specs.declared.public.Public.{Public}
 use Rattle.disclosure_rules.specs.contracts.public.Public as the_public
 use Rattle.disclosure_rules.specs.declared.seat.Seat.{Seat}
-use Rattle.session_book.specs.declared.account.Account.{Account}
-use Rattle.session_book.specs.contracts.account.Account as the_account
 use Rattle.session_book.specs.declared.seated.Seated.{Seated}
 use Rattle.session_book.specs.contracts.seated.Seated as the_seated
 use Rattle.session_book.specs.declared.cell_state.CellState.{CellState}
 use Rattle.session_book.specs.declared.cell_state.CellState.TheVariants.{Empty}
 use Rattle.session_book.specs.contracts.cell_state.CellState as the_cell_state
 
--- the users with their roles, where users sit, what every member may see, what is known of each cell, and the hands of
+-- the users with their roles and the role hierarchy, where users sit, what every member may see, what is known of each cell, and the hands of
 -- board 1, 2, ..
 pub record SessionState : Type 0 where
-  pub accounts : List Account
+  pub roles : RoleData
   pub seats : List Seated
   pub public : Public
   pub cells : List CellState
@@ -30,10 +31,10 @@ pub record SessionState : Type 0 where
 -- a state is stored as the tuple of its parts
 abbrev pub session_code : Coded SessionState
 session_code =
-    code_by (List Account × (List Seated × (Public × (List CellState × List Hands))))
-    (coded× (coded_list the_account.the_row.coded) (coded× (coded_list the_seated.the_row.coded) (coded× the_public.the_row.coded (coded× (coded_list the_cell_state.the_row.coded) (coded_list hands_code)))))
-    (λ s. (s.accounts, (s.seats, (s.public, (s.cells, s.deals)))))
-    (λ p. record { accounts = p.0; seats = p.1.0; public = p.1.1.0; cells = p.1.1.1.0; deals = p.1.1.1.1 })
+    code_by (RoleData × (List Seated × (Public × (List CellState × List Hands))))
+    (coded× the_roles.the_row.coded (coded× (coded_list the_seated.the_row.coded) (coded× the_public.the_row.coded (coded× (coded_list the_cell_state.the_row.coded) (coded_list hands_code)))))
+    (λ s. (s.roles, (s.seats, (s.public, (s.cells, s.deals)))))
+    (λ p. record { roles = p.0; seats = p.1.0; public = p.1.1.0; cells = p.1.1.1.0; deals = p.1.1.1.1 })
     (λ _. refl)
 
 -- how many cells there is room for: sixteen tables on each of 64 boards
@@ -54,7 +55,7 @@ with_cell state cell known = record state { cells = slice_set state.cells (place
 
 -- the roles that a user is authorized for, if the user has an account
 abbrev pub authorized_of : SessionState → List ℕ → Option (List Role)
-authorized_of state name = option_map (λ account. account.roles) (find (λ (account : Account). pointwise nat_eq account.name name) state.accounts)
+authorized_of state name = authorized_roles state.roles name
 
 -- where a user sits, if the user sits somewhere
 abbrev pub seat_of : SessionState → List ℕ → Option Seat

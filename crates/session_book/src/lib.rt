@@ -1,7 +1,6 @@
 //! The book of a session: the commands that were accepted, in their order, and the state that they lead to.
 #![tactic(auto)]
 
-mod account;
 mod answer;
 mod book;
 mod cell_state;
@@ -19,7 +18,6 @@ mod submission;
 #[cfg(test)]
 mod tests;
 
-pub use account::Account;
 pub use answer::Answer;
 pub use book::Book;
 pub use cell_state::CellState;

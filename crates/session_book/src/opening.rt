@@ -5,16 +5,17 @@ ghost use Rattle.session_book.specs.StateRoom.{most_users};
 ghost use Rattle.cards.specs.Hands.{IsDeal};
 ghost use Rattle.cards.specs.declared.place.Place.TheVariants.{North};
 ghost use Rattle.cards.specs.declared.side.Side.TheVariants.{NorthSouth};
-ghost use Rattle.session_book.specs.Opening.{member_and, director_roles, opening_accounts, opening_seats, opening_section, opening_public, whole_suit, opening_deals, opening_state, AreMarked};
+ghost use Rattle.rbac.specs.Authorization.{KeepsSeparation};
+ghost use Rattle.session_book.specs.NewAccount.{MayJoin, with_account};
+ghost use Rattle.session_book.specs.Opening.{opening_roles, opening_seats, opening_section, opening_public, whole_suit, opening_deals, opening_state, AreMarked};
 
-use crate::account::Account;
 use crate::room::with_room;
 use crate::seated::Seated;
 use crate::state::{MOST_USERS, State};
 use cards::{Card, Deal, Hand, Name, Pair, Place, Rank, Side, Suit, dealer_of, vulnerability_of};
 use disclosure_rules::{Boards, LiveCells, Marks, Phase, Public, Seat};
 use movement::Movement;
-use rbac::{Role, RoleSet};
+use rbac::{Role, Roles};
 use std::alloc::{AllocError, Global};
 
 // The ranks from the two up.
@@ -38,10 +39,10 @@ const RANKS: [Rank; 13] = [
 pub fn opening_state(alloc: Global, marks: [Marks; 64]) -> Result<State, AllocError>
     ensures { IfOk result (λ state. state ≡ opening_state marks) }
 {
-    let accounts = accounts(alloc)?;
+    let roles = roles(alloc)?;
     let seats = seats(alloc)?;
     let deals = deals(alloc)?;
-    State::new(alloc, accounts, seats, public(marks), deals)
+    State::new(alloc, roles, seats, public(marks), deals)
 }
 
 /// The markings of the boards (Law 2).
@@ -84,30 +85,33 @@ fn section() -> Movement
     movement
 }
 
-fn accounts(alloc: Global) -> Result<Vec<Account>, AllocError>
-    ensures items { IfOk result (λ accounts. accounts.items ≡ opening_accounts) }
-    ensures room { IfOk result (λ accounts. most_users ≤ vec_capacity accounts) }
+fn roles(alloc: Global) -> Result<Roles, AllocError>
+    ensures { IfOk result (λ roles. roles ≡ opening_roles) }
 {
-    let accounts = [
-        account("a", member(Role::Administrator)),
-        account("d", director()),
-        account("d2", director()),
-        account("k", member(Role::Scorer)),
-        account("s", member(Role::Spectator)),
-        account("n1", member(Role::Contestant)),
-        account("n2", member(Role::Contestant)),
-    ];
-    with_room(alloc, &accounts, MOST_USERS)
+    let mut roles = Roles::new(alloc)?;
+    add_account(&mut roles, "a", Role::Administrator);
+    add_account(&mut roles, "d", Role::Director);
+    add_account(&mut roles, "d2", Role::Director);
+    add_account(&mut roles, "k", Role::Scorer);
+    add_account(&mut roles, "s", Role::Spectator);
+    add_account(&mut roles, "n1", Role::Contestant);
+    add_account(&mut roles, "n2", Role::Contestant);
+    Ok(roles)
 }
 
-fn account(text: &str, roles: RoleSet) -> Account
-    requires { length text.now ≤ 32 }
-    ensures { result ≡ record { name = text.now; roles = roles } }
+// Adds an account that is assigned one role, where nothing refuses it.
+fn add_account(roles: &mut Roles, name: &str, role: Role)
+    requires may_join { MayJoin roles.old name.now role }
+    requires separate { KeepsSeparation roles.old }
+    ensures added { roles.new ≡ with_account roles.old name.now role }
+    ensures separate { KeepsSeparation roles.new }
 {
-    Account {
-        name: name(text),
-        roles,
-    }
+    let Ok(()) = roles.add_user(name) else {
+        unreachable!()
+    };
+    let Ok(()) = roles.assign(name, role) else {
+        unreachable!()
+    };
 }
 
 fn name(text: &str) -> Name
@@ -118,20 +122,6 @@ fn name(text: &str) -> Name
         unreachable!()
     };
     name
-}
-
-fn member(role: Role) -> RoleSet
-    ensures { result ≡ member_and role }
-{
-    RoleSet::new().with(Role::Member).with(role)
-}
-
-fn director() -> RoleSet
-    ensures { result ≡ director_roles }
-{
-    member(Role::Spectator)
-        .with(Role::Scorer)
-        .with(Role::Director)
 }
 
 fn seats(alloc: Global) -> Result<Vec<Seated>, AllocError>

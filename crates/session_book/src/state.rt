@@ -10,7 +10,6 @@ ghost use Rattle.session_book.specs.Refusal.{hindrance_of, refusal_of};
 ghost use Rattle.session_book.specs.SessionState.{authorized_of, seat_of, cell_at, place_of, most_cells};
 ghost use Rattle.session_book.specs.StateRoom.{most_users};
 
-use crate::account::Account;
 use crate::cell_state::CellState;
 use crate::command::Command;
 use crate::entry::Entry;
@@ -21,7 +20,7 @@ use crate::seated::Seated;
 use cards::{Deal, Name};
 use disclosure_rules::{Fact, Marks, Public, Rule, Seat, decide};
 use movement::Cell;
-use rbac::{Role, RoleSet};
+use rbac::{Role, RoleSet, Roles};
 use std::alloc::{AllocError, Global};
 use std::marker::Model;
 
@@ -37,7 +36,7 @@ pub const MOST_ENTRIES: usize = 60000;
 /// What a session has come to.
 #[derive(Drop)]
 pub struct State {
-    accounts: Vec<Account>,
+    roles: Roles,
     seats: Vec<Seated>,
     public: Public,
     cells: Vec<CellState>,
@@ -53,7 +52,7 @@ impl Model for State {
 
     ghost use Rattle.session_book.specs.StateRoom.{HasRoom};
 
-    ghost view = { λ s. record { accounts = s.accounts.items; seats = s.seats.items; public = s.public; cells = s.cells.items; deals = s.deals.items } };
+    ghost view = { λ s. record { roles = s.roles; seats = s.seats.items; public = s.public; cells = s.cells.items; deals = s.deals.items } };
 
     ghost invariant = { HasRoom };
 }
@@ -62,17 +61,16 @@ impl State {
     /// A state in which nothing is entered yet.
     pub(crate) fn new(
         alloc: Global,
-        accounts: Vec<Account>,
+        roles: Roles,
         seats: Vec<Seated>,
         public: Public,
         deals: Vec<Deal>,
     ) -> Result<State, AllocError>
         requires marks { length public.marks ≡ 64 }
         requires deals { boards_of public.movement ≤ length deals.items }
-        requires accounts { most_users ≤ vec_capacity accounts }
         requires seats { most_users ≤ vec_capacity seats }
         ensures { IfOk result (λ state. state ≡ record {
-          accounts = accounts.items;
+          roles = roles;
           seats = seats.items;
           public = public;
           cells = replicate most_cells Empty;
@@ -81,7 +79,7 @@ impl State {
     {
         let cells = filled(alloc, CellState::Empty, MOST_CELLS)?;
         Ok(State {
-            accounts,
+            roles,
             seats,
             public,
             cells,
@@ -100,10 +98,7 @@ impl State {
     pub fn authorized(&self, name: Name) -> Option<RoleSet>
         ensures { result ≡ authorized_of self.now name }
     {
-        self.accounts
-            .iter()
-            .find(|account| account.name == name)
-            .map(|account| account.roles)
+        self.roles.authorized(name.as_str())
     }
 
     /// Where a user sits, if the user sits somewhere.

@@ -2,6 +2,7 @@ use super::*;
 use cards::{Card, Name, Place, Rank, Strain, Suit};
 use disclosure_rules::{Fact, Rule};
 use movement::Cell;
+use rbac::{Role, RoleSet};
 use scoring::{Contract, Doubling, Level, Outcome, Tricks};
 use std::alloc::Global;
 use std::process::Abort;
@@ -64,6 +65,36 @@ fn hands(rt: &impl Abort, book: &Book, rows: &[(&str, Option<Rule>)]) -> Result<
         let user = name(user)?;
         assert_eq!(rt; book.state().decide(user, Fact::Hands(1)), *rule, "{user}");
     }
+    Ok(())
+}
+
+/// The set of these roles.
+fn set_of(roles: &[Role]) -> RoleSet {
+    let mut set = RoleSet::new();
+    for role in roles {
+        set = set.with(*role);
+    }
+    set
+}
+
+#[test]
+fn a_user_has_the_roles_that_the_assigned_one_inherits(rt: HostRuntime) -> Result<(), Fail> {
+    let book = Book::open(rt.alloc())?;
+    let director = set_of(&[Role::Member, Role::Spectator, Role::Scorer, Role::Director]);
+    let rows = [
+        ("a", set_of(&[Role::Member, Role::Administrator])),
+        ("d", director),
+        ("d2", director),
+        ("k", set_of(&[Role::Member, Role::Scorer])),
+        ("s", set_of(&[Role::Member, Role::Spectator])),
+        ("n1", set_of(&[Role::Member, Role::Contestant])),
+        ("n2", set_of(&[Role::Member, Role::Contestant])),
+    ];
+    for (user, roles) in rows {
+        let authorized = book.state().authorized(name(user)?);
+        assert_eq!(rt; authorized, Some(roles), "{user}");
+    }
+    assert!(rt; book.state().authorized(name("zz")?).is_none());
     Ok(())
 }
 
