@@ -3,8 +3,8 @@ use Rattle.std.proofs.Common.{◌≡◌, ℕ, zero, suc, List, length, nat_lt, n
 use Rattle.std.specs.Str.{bytes_eq}
 use Rattle.serde_json.specs.Data.{Data, Items, no_items, item}
 use Rattle.serde_json.specs.Find.{get, as_str, as_array}
-use Rattle.program.specs.declared.fault.Fault.{Fault}
-use Rattle.program.specs.declared.fault.Fault.TheVariants.{UnknownRequest, BadField}
+use Rattle.program.specs.declared.message_fault.MessageFault.{MessageFault}
+use Rattle.program.specs.declared.message_fault.MessageFault.TheVariants.{UnknownRequest, BadField}
 use Rattle.program.specs.Reading.{◌>>=◌, wanted}
 use Rattle.program.specs.Field.{has_only, small, small_at, name_of, user_of, whole, whole_or_zero, since_of, text_at, whole_at}
 use Rattle.program.specs.Result.{place_named, strain_named, declarer_of, strain_of, doubling_numbered, doubling_of, level_numbered, level_of, tricks_numbered, tricks_of, played_with, played_members, played_of, text_or_played, outcome_by, outcome_of}
@@ -13,8 +13,8 @@ use Rattle.program.specs.Command.{is_unknown_word, is_unknown, has_unknown, ente
 use Rattle.program.specs.Message.{query_members, query_with, query_of, batch_members, batch_with, batch_of}
 
 -- reading fails by a bad member alone
-pub record FailsByMember {A : Type 0} (read : Result A Fault) : Type 0 where
-  pub only : (fault : Fault) → read ≡ Err fault → fault ≡ BadField
+pub record FailsByMember {A : Type 0} (read : Result A MessageFault) : Type 0 where
+  pub only : (fault : MessageFault) → read ≡ Err fault → fault ≡ BadField
 
 read_well : {A : Type 0} (x : A) → FailsByMember (Ok x)
 read_well x = record { only = λ fault h. absurd (cc) }
@@ -22,11 +22,11 @@ read_well x = record { only = λ fault h. absurd (cc) }
 bad : {A : Type 0} → FailsByMember {A = A} (Err BadField)
 bad = record { only = λ fault h. cc }
 
-then_on : {A B : Type 0} (read : Result A Fault) (more : A → Result B Fault) → FailsByMember read → ((x : A) → FailsByMember (more x)) → FailsByMember (read >>= more)
+then_on : {A B : Type 0} (read : Result A MessageFault) (more : A → Result B MessageFault) → FailsByMember read → ((x : A) → FailsByMember (more x)) → FailsByMember (read >>= more)
 then_on (Ok x) more first later = later x
 then_on (Err e) more first later = record { only = λ fault h. cc (first.only e refl) }
 
-either : {A : Type 0} (b : Bool) (first second : Result A Fault) → FailsByMember first → FailsByMember second → FailsByMember (cond b first second)
+either : {A : Type 0} (b : Bool) (first second : Result A MessageFault) → FailsByMember first → FailsByMember second → FailsByMember (cond b first second)
 either true first second f s = f
 either false first second f s = s
 

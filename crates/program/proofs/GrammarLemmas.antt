@@ -21,7 +21,7 @@ use Rattle.scoring.specs.declared.doubling.Doubling.{Doubling}
 use Rattle.scoring.specs.declared.doubling.Doubling.TheVariants.{Undoubled, Doubled, Redoubled}
 use Rattle.scoring.specs.declared.outcome.Outcome.{Outcome}
 use Rattle.scoring.specs.declared.outcome.Outcome.TheVariants.{PassedOut, Played}
-use Rattle.program.specs.declared.fault.Fault.TheVariants.{BadField}
+use Rattle.program.specs.declared.message_fault.MessageFault.TheVariants.{BadField}
 use Rattle.program.specs.Reading.{◌>>=◌, wanted}
 use Rattle.program.specs.Field.{has_only, text_at, whole_at, small_at}
 use Rattle.program.specs.Result.{place_named, strain_named, declarer_of, strain_of, doubling_numbered, doubling_of, level_numbered, level_of, tricks_numbered, tricks_of, played_members, played_with, played_of, text_or_played, outcome_by, outcome_of}
@@ -283,6 +283,10 @@ cards_count no_items [] h = refl
 cards_count no_items (card ∷ cards) h = absurd h
 cards_count (item d ds) [] h = absurd h
 cards_count (item d ds) (card ∷ cards) h = omega (arith, cards_count ds cards h.1)
+
+-- as many cards are read as the list has elements
+pub cards_as_many : (ds : Items) (cards : List Card) → cards_in ds ≡ Ok cards → item_count ds ≡ length cards
+cards_as_many ds cards h = cards_count ds cards (cards_read ds cards h)
 
 list_read : (o : Option Items) (cards : List Card) → cards_by o ≡ Ok cards → (elements : Items) × (o ≡ Some elements) × AreCards elements cards × (length cards ≤ 52)
 list_read None cards h = absurd (cc)

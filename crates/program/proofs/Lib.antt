@@ -1,5 +1,6 @@
 pub mod BatchLemmas
 pub mod FaultLemmas
+pub mod FewLemmas
 pub mod GrammarLemmas
 pub mod LetterLemmas
 pub mod LineLaws
@@ -7,4 +8,9 @@ pub mod LineLemmas
 pub mod ListLemmas
 pub mod MemberFaultLemmas
 pub mod QueryLemmas
+pub mod ReceiptLemmas
+pub mod ReplyLemmas
 pub mod RequestLemmas
+pub mod ScriptLemmas
+pub mod TellsLemmas
+pub mod TextLemmas

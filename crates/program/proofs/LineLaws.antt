@@ -6,8 +6,8 @@ use Rattle.serde_json.specs.Data.{Data, Items}
 use Rattle.serde_json.specs.Read.{read}
 use Rattle.serde_json.specs.Find.{get, as_str, as_array, as_object}
 use Rattle.program.specs.declared.message.Message.{Message}
-use Rattle.program.specs.declared.fault.Fault.{Fault}
-use Rattle.program.specs.declared.fault.Fault.TheVariants.{Malformed, UnknownRequest, BadField, OutOfMemory}
+use Rattle.program.specs.declared.message_fault.MessageFault.{MessageFault}
+use Rattle.program.specs.declared.message_fault.MessageFault.TheVariants.{Malformed, UnknownRequest, BadField, OutOfMemory}
 use Rattle.program.specs.Command.{has_unknown}
 use Rattle.program.specs.Message.{query_of, query_by, batch_of, batch_by, ask_or_do, message_of, object_of, text_meaning, meaning}
 use Rattle.program.specs.Requests.{IsObject, IsUnknownRequest}
@@ -22,43 +22,43 @@ of_object line d object =
     ∙ ap (λ b. cond b (message_of d) (Err Malformed)) object.members
 
 -- a message of an object fails as an unknown request or by a member
-pub record IsFaultOfObject (fault : Fault) : Type 0 where
+pub record IsFaultOfObject (fault : MessageFault) : Type 0 where
   pub read_well : fault ≢ Malformed
   pub in_memory : fault ≢ OutOfMemory
 
-unknown_fault : (fault : Fault) (read : Result Message Fault) → read ≡ Err UnknownRequest → read ≡ Err fault → IsFaultOfObject fault
+unknown_fault : (fault : MessageFault) (read : Result Message MessageFault) → read ≡ Err UnknownRequest → read ≡ Err fault → IsFaultOfObject fault
 unknown_fault fault read is h = record { read_well = λ e. cc; in_memory = λ e. cc }
 
-member_fault : (read : Result Message Fault) (fault : Fault) → FailsByMember read → read ≡ Err fault → IsFaultOfObject fault
+member_fault : (read : Result Message MessageFault) (fault : MessageFault) → FailsByMember read → read ≡ Err fault → IsFaultOfObject fault
 member_fault read fault so h = let same : fault ≡ BadField = so.only fault h in record { read_well = λ e. cc; in_memory = λ e. cc }
 
-query_at : (word : List ℕ) (d : Data) (b : Bool) (fault : Fault) → cond b (query_of d) (Err UnknownRequest) ≡ Err fault → IsFaultOfObject fault
+query_at : (word : List ℕ) (d : Data) (b : Bool) (fault : MessageFault) → cond b (query_of d) (Err UnknownRequest) ≡ Err fault → IsFaultOfObject fault
 query_at word d true fault h = member_fault (query_of d) fault (query_so d) h
 query_at word d false fault h = unknown_fault fault (Err UnknownRequest) refl h
 
-query_fault : (o : Option (List ℕ)) (d : Data) (fault : Fault) → query_by o d ≡ Err fault → IsFaultOfObject fault
+query_fault : (o : Option (List ℕ)) (d : Data) (fault : MessageFault) → query_by o d ≡ Err fault → IsFaultOfObject fault
 query_fault None d fault h = record { read_well = λ e. cc; in_memory = λ e. cc }
 query_fault (Some word) d fault h = query_at word d (bytes_eq word (codes "board")) fault h
 
-batch_at : (ds : Items) (d : Data) (b : Bool) (fault : Fault) → has_unknown ds ≡ b → cond b (Err UnknownRequest) (batch_of ds d) ≡ Err fault → IsFaultOfObject fault
+batch_at : (ds : Items) (d : Data) (b : Bool) (fault : MessageFault) → has_unknown ds ≡ b → cond b (Err UnknownRequest) (batch_of ds d) ≡ Err fault → IsFaultOfObject fault
 batch_at ds d true fault is h = unknown_fault fault (Err UnknownRequest) refl h
 batch_at ds d false fault is h = member_fault (batch_of ds d) fault (batch_so ds d is) h
 
-batch_fault : (o : Option Items) (d : Data) (fault : Fault) → batch_by o d ≡ Err fault → IsFaultOfObject fault
+batch_fault : (o : Option Items) (d : Data) (fault : MessageFault) → batch_by o d ≡ Err fault → IsFaultOfObject fault
 batch_fault None d fault h = record { read_well = λ e. cc; in_memory = λ e. cc }
 batch_fault (Some ds) d fault h = batch_at ds d (has_unknown ds) fault refl h
 
-request_fault : (ask list : Option Data) (d : Data) (fault : Fault) → ask_or_do ask list d ≡ Err fault → IsFaultOfObject fault
+request_fault : (ask list : Option Data) (d : Data) (fault : MessageFault) → ask_or_do ask list d ≡ Err fault → IsFaultOfObject fault
 request_fault None None d fault h = unknown_fault fault (Err UnknownRequest) refl h
 request_fault (Some ask) None d fault h = query_fault (as_str ask) d fault h
 request_fault None (Some list) d fault h = batch_fault (as_array list) d fault h
 request_fault (Some ask) (Some list) d fault h = unknown_fault fault (Err UnknownRequest) refl h
 
-other_fault : (other : Bool) (ask list : Option Data) (d : Data) (fault : Fault) → cond other (Err UnknownRequest) (ask_or_do ask list d) ≡ Err fault → IsFaultOfObject fault
+other_fault : (other : Bool) (ask list : Option Data) (d : Data) (fault : MessageFault) → cond other (Err UnknownRequest) (ask_or_do ask list d) ≡ Err fault → IsFaultOfObject fault
 other_fault true ask list d fault h = unknown_fault fault (Err UnknownRequest) refl h
 other_fault false ask list d fault h = request_fault ask list d fault h
 
-pub object_fault : (d : Data) (fault : Fault) → message_of d ≡ Err fault → IsFaultOfObject fault
+pub object_fault : (d : Data) (fault : MessageFault) → message_of d ≡ Err fault → IsFaultOfObject fault
 unfolding message_of
 object_fault d fault h = other_fault (is_some (get (codes "audit") d) || is_some (get (codes "hello") d)) (get (codes "ask") d) (get (codes "do") d) d fault h
 

@@ -3,8 +3,8 @@ use Rattle.std.proofs.Common.{◌≡◌, ◌↔◌, ℕ, List, Result, Ok, Err, 
 use Rattle.serde_json.specs.Data.{Data}
 use Rattle.program.specs.declared.message.Message.{Message}
 use Rattle.program.specs.declared.message.Message.TheVariants.{Query, Batch}
-use Rattle.program.specs.declared.fault.Fault.{Fault}
-use Rattle.program.specs.declared.fault.Fault.TheVariants.{Malformed, UnknownRequest, BadField, OutOfMemory}
+use Rattle.program.specs.declared.message_fault.MessageFault.{MessageFault}
+use Rattle.program.specs.declared.message_fault.MessageFault.TheVariants.{Malformed, UnknownRequest, BadField, OutOfMemory}
 use Rattle.program.specs.Message.{meaning}
 use Rattle.program.specs.Requests.{IsObject, IsUnknownRequest}
 use Rattle.program.specs.Grammar.{IsNoMessage}
@@ -12,7 +12,7 @@ use Rattle.program.proofs.LineLaws.{of_object, object_fault, unknown_line}
 use Rattle.program.proofs.QueryLemmas.{query_line}
 use Rattle.program.proofs.BatchLemmas.{batch_line}
 
-only_bad : (line : List ℕ) (d : Data) (said : Result Message Fault) → IsObject line d → meaning line ≡ said → ¬ IsUnknownRequest d → IsNoMessage d → said ≡ Err BadField
+only_bad : (line : List ℕ) (d : Data) (said : Result Message MessageFault) → IsObject line d → meaning line ≡ said → ¬ IsUnknownRequest d → IsNoMessage d → said ≡ Err BadField
 only_bad line d (Ok (Query user board since)) object is known none = absurd (none.no_query user board since ((query_line line d user board since object).0 is))
 only_bad line d (Ok (Batch user commands)) object is known none = absurd (none.no_batch user commands ((batch_line line d user commands object).0 is))
 only_bad line d (Err Malformed) object is known none = absurd ((object_fault d Malformed (sym (of_object line d object) ∙ is)).read_well refl)

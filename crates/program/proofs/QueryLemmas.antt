@@ -7,8 +7,8 @@ use Rattle.serde_json.specs.Data.{Data, Items}
 use Rattle.serde_json.specs.Find.{get, as_str, as_array}
 use Rattle.program.specs.declared.message.Message.{Message}
 use Rattle.program.specs.declared.message.Message.TheVariants.{Query}
-use Rattle.program.specs.declared.fault.Fault.{Fault}
-use Rattle.program.specs.declared.fault.Fault.TheVariants.{UnknownRequest, BadField}
+use Rattle.program.specs.declared.message_fault.MessageFault.{MessageFault}
+use Rattle.program.specs.declared.message_fault.MessageFault.TheVariants.{UnknownRequest, BadField}
 use Rattle.program.specs.Reading.{◌>>=◌, wanted}
 use Rattle.program.specs.Field.{has_only, text_at, whole, whole_at, small, small_at, name_of, user_of, whole_or_zero, since_of}
 use Rattle.program.specs.Command.{has_unknown, commands_in}
@@ -16,11 +16,11 @@ use Rattle.program.specs.Message.{query_members, query_with, query_of, query_by,
 use Rattle.program.specs.Requests.{IsObject, IsSince, IsQuery}
 use Rattle.program.proofs.LineLaws.{of_object}
 
-pub bind_ok : {A B : Type 0} (read : Result A Fault) (more : A → Result B Fault) (y : B) → (read >>= more) ≡ Ok y → (x : A) × (read ≡ Ok x) × (more x ≡ Ok y)
+pub bind_ok : {A B : Type 0} (read : Result A MessageFault) (more : A → Result B MessageFault) (y : B) → (read >>= more) ≡ Ok y → (x : A) × (read ≡ Ok x) × (more x ≡ Ok y)
 bind_ok (Ok x) more y h = (x, refl, h)
 bind_ok (Err e) more y h = absurd (cc)
 
-pub guarded : {A : Type 0} (b : Bool) (read : Result A Fault) (e : Fault) (y : A) → cond b read (Err e) ≡ Ok y → (b ≡ true) × (read ≡ Ok y)
+pub guarded : {A : Type 0} (b : Bool) (read : Result A MessageFault) (e : MessageFault) (y : A) → cond b read (Err e) ≡ Ok y → (b ≡ true) × (read ≡ Ok y)
 guarded true read e y h = (refl, h)
 guarded false read e y h = absurd (cc)
 

@@ -7,15 +7,15 @@ use Rattle.serde_json.specs.Data.{Data, Items}
 use Rattle.serde_json.specs.Read.{read}
 use Rattle.serde_json.specs.Find.{get, as_str, as_array}
 use Rattle.program.specs.declared.message.Message.{Message}
-use Rattle.program.specs.declared.fault.Fault.{Fault}
-use Rattle.program.specs.declared.fault.Fault.TheVariants.{UnknownRequest}
+use Rattle.program.specs.declared.message_fault.MessageFault.{MessageFault}
+use Rattle.program.specs.declared.message_fault.MessageFault.TheVariants.{UnknownRequest}
 use Rattle.program.specs.Command.{has_unknown}
 use Rattle.program.specs.Message.{query_of, query_by, batch_of, batch_by, ask_or_do, message_of}
 use Rattle.program.specs.Requests.{IsUnknownRequest}
 use Rattle.program.proofs.FaultLemmas.{FailsByMember, query_so, batch_so}
 
 -- what a message says, by the four members
-abbrev said : Option Data → Option Data → Option Data → Option Data → Data → Result Message Fault
+abbrev said : Option Data → Option Data → Option Data → Option Data → Data → Result Message MessageFault
 said ask list audit hello d = cond (is_some audit || is_some hello) (Err UnknownRequest) (ask_or_do ask list d)
 
 -- when it is unknown, by the four members
@@ -28,7 +28,7 @@ WantsOther list = (commands : Items) × (option_and_then as_array list ≡ Some 
 abbrev IsUnknown : Option Data → Option Data → Option Data → Option Data → Type 0
 IsUnknown ask list audit hello = (count_by (λ member. is_some member) (ask ∷ list ∷ audit ∷ hello ∷ []) ≢ 1) ⊎ (IsSome audit ⊎ (IsSome hello ⊎ (AsksOther ask ⊎ WantsOther list)))
 
-never : {A : Type 0} (read : Result A Fault) → FailsByMember read → read ≡ Err UnknownRequest → ⊥
+never : {A : Type 0} (read : Result A MessageFault) → FailsByMember read → read ≡ Err UnknownRequest → ⊥
 never read so h = absurd (cc (so.only UnknownRequest h))
 
 asks_at : (word : List ℕ) (d : Data) (b : Bool) → bytes_eq word (codes "board") ≡ b → cond b (query_of d) (Err UnknownRequest) ≡ Err UnknownRequest → word ≢ codes "board"

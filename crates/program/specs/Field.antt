@@ -4,8 +4,8 @@ use Rattle.std.specs.List.{list_any}
 use Rattle.std.specs.Str.{bytes_eq}
 use Rattle.serde_json.specs.Data.{Data, Members, no_members, member}
 use Rattle.serde_json.specs.Find.{get, as_str, as_number, as_u64, as_object}
-use Rattle.program.specs.declared.fault.Fault.{Fault}
-use Rattle.program.specs.declared.fault.Fault.TheVariants.{BadField}
+use Rattle.program.specs.declared.message_fault.MessageFault.{MessageFault}
+use Rattle.program.specs.declared.message_fault.MessageFault.TheVariants.{BadField}
 use Rattle.program.specs.Reading.{wanted}
 
 -- each member's name is listed
@@ -34,26 +34,26 @@ abbrev pub whole_at : List ℕ → Data → Option ℕ
 whole_at name d = option_and_then whole (get name d)
 
 -- a number of a table or a board: 0 to 255
-abbrev pub small : Option ℕ → Result ℕ Fault
+abbrev pub small : Option ℕ → Result ℕ MessageFault
 small None = Err BadField
 small (Some n) = if nat_lt n 256 then Ok n else Err BadField
 
-unfoldable pub small_at : List ℕ → Data → Result ℕ Fault
+unfoldable pub small_at : List ℕ → Data → Result ℕ MessageFault
 small_at name d = small (whole_at name d)
 
 -- a name has at most 32 bytes
-abbrev pub name_of : Option (List ℕ) → Result (List ℕ) Fault
+abbrev pub name_of : Option (List ℕ) → Result (List ℕ) MessageFault
 name_of None = Err BadField
 name_of (Some text) = if nat_le (length text) 32 then Ok text else Err BadField
 
 -- in whose name the message is: its member `as`
-unfoldable pub user_of : Data → Result (List ℕ) Fault
+unfoldable pub user_of : Data → Result (List ℕ) MessageFault
 user_of d = name_of (text_at (codes "as") d)
 
-abbrev pub whole_or_zero : Option Data → Result ℕ Fault
+abbrev pub whole_or_zero : Option Data → Result ℕ MessageFault
 whole_or_zero None = Ok 0
 whole_or_zero (Some d) = wanted (whole d)
 
 -- from which version on an answer is wanted: its member `since`, or 0
-unfoldable pub since_of : Data → Result ℕ Fault
+unfoldable pub since_of : Data → Result ℕ MessageFault
 since_of d = whole_or_zero (get (codes "since") d)

@@ -11,8 +11,8 @@ use Rattle.scoring.specs.declared.doubling.Doubling.{Doubling}
 use Rattle.scoring.specs.declared.doubling.Doubling.TheVariants.{Undoubled, Doubled, Redoubled}
 use Rattle.scoring.specs.declared.outcome.Outcome.{Outcome}
 use Rattle.scoring.specs.declared.outcome.Outcome.TheVariants.{PassedOut, Played}
-use Rattle.program.specs.declared.command_text.CommandText.{CommandText}
-use Rattle.program.specs.declared.command_text.CommandText.TheVariants.{Enter, Confirm}
+use Rattle.session_book.specs.declared.command.Command.{Command}
+use Rattle.session_book.specs.declared.command.Command.TheVariants.{Enter, Confirm}
 use Rattle.program.specs.Field.{has_only, text_at, whole_at}
 use Rattle.program.specs.Result.{played_members}
 use Rattle.program.specs.Command.{enter_members, confirm_members}
@@ -75,19 +75,19 @@ pub record IsConfirm (d : Data) (table board : ℕ) (outcome : Outcome) : Type 0
   pub board_small : board < 256
   pub result : IsOutcome (get (codes "result") d) outcome
 
-abbrev pub IsCommand : Data → CommandText → Type 0
+abbrev pub IsCommand : Data → Command → Type 0
 IsCommand d (Enter table board outcome play) = IsEnter d table board outcome play
 IsCommand d (Confirm table board outcome) = IsConfirm d table board outcome
 
 -- the elements are the commands, one after another
-abbrev pub AreCommands : Items → List CommandText → Type 0
+abbrev pub AreCommands : Items → List Command → Type 0
 AreCommands no_items [] = Unit {0}
 AreCommands no_items (command ∷ commands) = ⊥
 AreCommands (item d ds) [] = ⊥
 AreCommands (item d ds) (command ∷ commands) = IsCommand d command × AreCommands ds commands
 
 -- it wants these commands done, in this name, and nothing else stands in it
-pub record IsBatch (d : Data) (user : List ℕ) (commands : List CommandText) : Type 0 where
+pub record IsBatch (d : Data) (user : List ℕ) (commands : List Command) : Type 0 where
   pub one : request_count d ≡ 1
   pub list : (elements : Items) × (option_and_then as_array (get (codes "do") d) ≡ Some elements) × AreCommands elements commands
   pub few : length commands ≤ 64
@@ -98,4 +98,4 @@ pub record IsBatch (d : Data) (user : List ℕ) (commands : List CommandText) : 
 -- it is no query and no batch
 pub record IsNoMessage (d : Data) : Type 0 where
   pub no_query : (user : List ℕ) (board since : ℕ) → ¬ IsQuery d user board since
-  pub no_batch : (user : List ℕ) (commands : List CommandText) → ¬ IsBatch d user commands
+  pub no_batch : (user : List ℕ) (commands : List Command) → ¬ IsBatch d user commands

@@ -6,3 +6,8 @@ pub mod Command
 pub mod Message
 pub mod Requests
 pub mod Grammar
+pub mod ReplyText
+pub mod Script
+pub mod Writes
+pub mod Standing
+pub mod ReceiptText

@@ -9,8 +9,8 @@ use Rattle.serde_json.specs.Read.{read}
 use Rattle.serde_json.specs.Find.{get, as_str, as_array, as_object}
 use Rattle.program.specs.declared.message.Message.{Message}
 use Rattle.program.specs.declared.message.Message.TheVariants.{Query, Batch}
-use Rattle.program.specs.declared.fault.Fault.{Fault}
-use Rattle.program.specs.declared.fault.Fault.TheVariants.{Malformed, UnknownRequest, BadField}
+use Rattle.program.specs.declared.message_fault.MessageFault.{MessageFault}
+use Rattle.program.specs.declared.message_fault.MessageFault.TheVariants.{Malformed, UnknownRequest, BadField}
 use Rattle.program.specs.Reading.{◌>>=◌}
 use Rattle.program.specs.Field.{has_only, small_at, user_of, since_of}
 use Rattle.program.specs.Play.{item_count}
@@ -21,7 +21,7 @@ use Rattle.program.specs.Command.{has_unknown, commands_in}
 abbrev pub query_members : List (List ℕ)
 query_members = codes "as" ∷ codes "ask" ∷ codes "board" ∷ codes "since" ∷ []
 
-unfoldable pub query_with : Data → Result Message Fault
+unfoldable pub query_with : Data → Result Message MessageFault
 query_with d = do
   user ← user_of d
   board ← small_at (codes "board") d
@@ -29,11 +29,11 @@ query_with d = do
   Ok (Query user board since)
 
 -- these members and no other, of which `since` may be absent
-unfoldable pub query_of : Data → Result Message Fault
+unfoldable pub query_of : Data → Result Message MessageFault
 query_of d = if has_only query_members d then query_with d else Err BadField
 
 -- what is asked for has to be a text, and a text other than `board` names nothing
-abbrev pub query_by : Option (List ℕ) → Data → Result Message Fault
+abbrev pub query_by : Option (List ℕ) → Data → Result Message MessageFault
 query_by None d = Err BadField
 query_by (Some word) d = if bytes_eq word (codes "board") then query_of d else Err UnknownRequest
 
@@ -42,25 +42,25 @@ query_by (Some word) d = if bytes_eq word (codes "board") then query_of d else E
 abbrev pub batch_members : List (List ℕ)
 batch_members = codes "as" ∷ codes "do" ∷ []
 
-unfoldable pub batch_with : Items → Data → Result Message Fault
+unfoldable pub batch_with : Items → Data → Result Message MessageFault
 batch_with ds d = do
   user ← user_of d
   commands ← commands_in ds
   Ok (Batch user commands)
 
 -- these members and no other, and at most 64 commands
-unfoldable pub batch_of : Items → Data → Result Message Fault
+unfoldable pub batch_of : Items → Data → Result Message MessageFault
 batch_of ds d = if has_only batch_members d && nat_le (item_count ds) 64 then batch_with ds d else Err BadField
 
 -- what is to be done has to be a list; a word in it that names no command comes before all that is wrong elsewhere
-abbrev pub batch_by : Option Items → Data → Result Message Fault
+abbrev pub batch_by : Option Items → Data → Result Message MessageFault
 batch_by None d = Err BadField
 batch_by (Some ds) d = if has_unknown ds then Err UnknownRequest else batch_of ds d
 
 -- ---- messages
 
 -- exactly one of `ask` and `do` is there
-abbrev pub ask_or_do : Option Data → Option Data → Data → Result Message Fault
+abbrev pub ask_or_do : Option Data → Option Data → Data → Result Message MessageFault
 ask_or_do None None d = Err UnknownRequest
 ask_or_do (Some ask) None d = query_by (as_str ask) d
 ask_or_do None (Some list) d = batch_by (as_array list) d
@@ -70,17 +70,17 @@ ask_or_do (Some ask) (Some list) d = Err UnknownRequest
 abbrev pub is_other : Data → Bool
 is_other d = is_some (get (codes "audit") d) || is_some (get (codes "hello") d)
 
-unfoldable pub message_of : Data → Result Message Fault
+unfoldable pub message_of : Data → Result Message MessageFault
 message_of d = if is_other d then Err UnknownRequest else ask_or_do (get (codes "ask") d) (get (codes "do") d) d
 
-abbrev pub object_of : Option Data → Result Message Fault
+abbrev pub object_of : Option Data → Result Message MessageFault
 object_of None = Err Malformed
 object_of (Some d) = if is_some (as_object d) then message_of d else Err Malformed
 
 -- what a text says
-unfoldable pub text_meaning : List ℕ → Result Message Fault
+unfoldable pub text_meaning : List ℕ → Result Message MessageFault
 text_meaning text = object_of (read text)
 
 -- what the bytes of a line say: they have to be a text, in UTF-8
-unfoldable pub meaning : List ℕ → Result Message Fault
+unfoldable pub meaning : List ℕ → Result Message MessageFault
 meaning line = if utf8_valid_len line == length line then text_meaning line else Err Malformed

@@ -8,8 +8,8 @@ use Rattle.cards.specs.declared.rank.Rank.{Rank}
 use Rattle.cards.specs.declared.card.Card.{Card}
 use Rattle.cards.specs.Suit.{suits, suit_letter}
 use Rattle.cards.specs.Rank.{ranks_up, rank_letter}
-use Rattle.program.specs.declared.fault.Fault.{Fault}
-use Rattle.program.specs.declared.fault.Fault.TheVariants.{BadField}
+use Rattle.program.specs.declared.message_fault.MessageFault.{MessageFault}
+use Rattle.program.specs.declared.message_fault.MessageFault.TheVariants.{BadField}
 use Rattle.program.specs.Reading.{◌>>=◌, wanted}
 
 -- the suit whose letter it is
@@ -32,11 +32,11 @@ card_named (suit ∷ []) = None
 card_named (suit ∷ rank ∷ []) = card_by (suit_named suit) (rank_named rank)
 card_named (suit ∷ rank ∷ other ∷ rest) = None
 
-unfoldable pub card_of : Data → Result Card Fault
+unfoldable pub card_of : Data → Result Card MessageFault
 card_of d = wanted (option_and_then card_named (as_str d))
 
 -- a card for each element
-abbrev pub cards_in : Items → Result (List Card) Fault
+abbrev pub cards_in : Items → Result (List Card) MessageFault
 cards_in no_items = Ok []
 cards_in (item d ds) = card_of d >>= λ card. (cards_in ds >>= λ cards. Ok (card ∷ cards))
 
@@ -46,14 +46,14 @@ item_count no_items = 0
 item_count (item d ds) = item_count ds + 1
 
 -- at most the 52 cards of the pack
-abbrev pub cards_by : Option Items → Result (List Card) Fault
+abbrev pub cards_by : Option Items → Result (List Card) MessageFault
 cards_by None = Err BadField
 cards_by (Some ds) = if nat_le (item_count ds) 52 then cards_in ds else Err BadField
 
-abbrev pub play_by : Option Data → Result (List Card) Fault
+abbrev pub play_by : Option Data → Result (List Card) MessageFault
 play_by None = Ok []
 play_by (Some d) = cards_by (as_array d)
 
 -- the cards as they were played: the member `play`, or none
-unfoldable pub play_of : Data → Result (List Card) Fault
+unfoldable pub play_of : Data → Result (List Card) MessageFault
 play_of d = play_by (get (codes "play") d)

@@ -14,8 +14,8 @@ use Rattle.scoring.specs.declared.doubling.Doubling.{Doubling}
 use Rattle.scoring.specs.declared.doubling.Doubling.TheVariants.{Undoubled, Doubled, Redoubled}
 use Rattle.scoring.specs.declared.outcome.Outcome.{Outcome}
 use Rattle.scoring.specs.declared.outcome.Outcome.TheVariants.{PassedOut, Played}
-use Rattle.program.specs.declared.fault.Fault.{Fault}
-use Rattle.program.specs.declared.fault.Fault.TheVariants.{BadField}
+use Rattle.program.specs.declared.message_fault.MessageFault.{MessageFault}
+use Rattle.program.specs.declared.message_fault.MessageFault.TheVariants.{BadField}
 use Rattle.program.specs.Reading.{◌>>=◌, wanted}
 use Rattle.program.specs.Field.{has_only, text_at, small_at}
 
@@ -32,40 +32,40 @@ strain_named (letter ∷ []) = find (λ x. strain_letter x == letter) (strain.Sp
 strain_named (letter ∷ other ∷ rest) = None
 
 -- 0 undoubled, 1 doubled, 2 redoubled
-abbrev pub doubling_numbered : ℕ → Result Doubling Fault
+abbrev pub doubling_numbered : ℕ → Result Doubling MessageFault
 doubling_numbered zero = Ok Undoubled
 doubling_numbered (suc zero) = Ok Doubled
 doubling_numbered (suc (suc zero)) = Ok Redoubled
 doubling_numbered (suc (suc (suc n))) = Err BadField
 
 -- a level is 1 to 7
-abbrev pub level_numbered : ℕ → Result ℕ Fault
+abbrev pub level_numbered : ℕ → Result ℕ MessageFault
 level_numbered n = if nat_le 1 n && nat_le n 7 then Ok n else Err BadField
 
 -- tricks are 0 to 13
-abbrev pub tricks_numbered : ℕ → Result ℕ Fault
+abbrev pub tricks_numbered : ℕ → Result ℕ MessageFault
 tricks_numbered n = if nat_le n 13 then Ok n else Err BadField
 
-unfoldable pub declarer_of : Data → Result Place Fault
+unfoldable pub declarer_of : Data → Result Place MessageFault
 declarer_of d = wanted (option_and_then place_named (text_at (codes "by") d))
 
-unfoldable pub strain_of : Data → Result Strain Fault
+unfoldable pub strain_of : Data → Result Strain MessageFault
 strain_of d = wanted (option_and_then strain_named (text_at (codes "strain") d))
 
-unfoldable pub doubling_of : Data → Result Doubling Fault
+unfoldable pub doubling_of : Data → Result Doubling MessageFault
 doubling_of d = small_at (codes "doubled") d >>= doubling_numbered
 
-unfoldable pub level_of : Data → Result ℕ Fault
+unfoldable pub level_of : Data → Result ℕ MessageFault
 level_of d = small_at (codes "level") d >>= level_numbered
 
-unfoldable pub tricks_of : Data → Result ℕ Fault
+unfoldable pub tricks_of : Data → Result ℕ MessageFault
 tricks_of d = small_at (codes "tricks") d >>= tricks_numbered
 
 abbrev pub played_members : List (List ℕ)
 played_members = codes "by" ∷ codes "doubled" ∷ codes "level" ∷ codes "strain" ∷ codes "tricks" ∷ []
 
 -- the five members
-unfoldable pub played_with : Data → Result Outcome Fault
+unfoldable pub played_with : Data → Result Outcome MessageFault
 played_with d = do
   declarer ← declarer_of d
   doubling ← doubling_of d
@@ -75,20 +75,20 @@ played_with d = do
   Ok (Played (record { level = level; strain = trumps; declarer = declarer; doubling = doubling }) tricks)
 
 -- a contract was played: these five members and no other
-unfoldable pub played_of : Data → Result Outcome Fault
+unfoldable pub played_of : Data → Result Outcome MessageFault
 played_of d = if has_only played_members d then played_with d else Err BadField
 
-abbrev pub passed_out : List ℕ → Result Outcome Fault
+abbrev pub passed_out : List ℕ → Result Outcome MessageFault
 passed_out text = if bytes_eq text (codes "pass") then Ok PassedOut else Err BadField
 
-abbrev pub text_or_played : Option (List ℕ) → Data → Result Outcome Fault
+abbrev pub text_or_played : Option (List ℕ) → Data → Result Outcome MessageFault
 text_or_played (Some text) d = passed_out text
 text_or_played None d = played_of d
 
-abbrev pub outcome_by : Option Data → Result Outcome Fault
+abbrev pub outcome_by : Option Data → Result Outcome MessageFault
 outcome_by None = Err BadField
 outcome_by (Some d) = text_or_played (as_str d) d
 
 -- how the board ended: the member `result`
-unfoldable pub outcome_of : Data → Result Outcome Fault
+unfoldable pub outcome_of : Data → Result Outcome MessageFault
 outcome_of d = outcome_by (get (codes "result") d)

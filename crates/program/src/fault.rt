@@ -1,30 +1,15 @@
-ghost use Rattle.std.specs.Prelude.{◌≡◌};
-ghost use Rattle.program.specs.declared.fault.Fault.TheVariants.{OutOfMemory};
-
-use std::alloc::AllocFailed;
 use thiserror::Error;
 
-/// Why no message was read. Of the first three the first that applies is given.
+/// Why a script's run ended before the script did.
 #[derive(Clone, Copy, Debug, PartialEq, Eq, Error)]
 pub enum Fault {
-    /// The text is no JSON object.
-    #[error("Malformed")]
-    Malformed,
-    /// It is no query and no batch of commands, or some word in it names none.
-    #[error("UnknownRequest")]
-    UnknownRequest,
-    /// A member is missing, isn't listed, or hasn't the type or the range that it should.
-    #[error("BadField")]
-    BadField,
-    /// Memory was refused.
-    #[error("OutOfMemory")]
+    /// The input can't be read, or is too long.
+    #[error("the script can't be read")]
+    Input,
+    /// The output can't be written.
+    #[error("the answers can't be written")]
+    Output,
+    /// There is no memory for the session, or for a line.
+    #[error("out of memory")]
     OutOfMemory,
-}
-
-impl<T: Drop> From<AllocFailed<T>> for Fault {
-    ghost from_gives = { λ _ fault. fault ≡ OutOfMemory };
-
-    fn from(_refused: AllocFailed<T>) -> Fault {
-        Fault::OutOfMemory
-    }
 }

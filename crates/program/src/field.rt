@@ -6,7 +6,7 @@ ghost use Rattle.std.specs.Str.{bytes_eq};
 ghost use Rattle.serde_json.specs.View.{view, members_view};
 ghost use Rattle.program.specs.Field.{names_are, has_only, text_at, whole_at, small_at, user_of, since_of};
 
-use crate::fault::Fault;
+use crate::message_fault::MessageFault;
 use cards::Name;
 use serde_json::{Map, Value};
 
@@ -61,36 +61,36 @@ fn whole_at(value: &Value, name: &str) -> Option<u64>
 }
 
 #[tactic(auto, unfolding(crate::specs::Field::small_at))]
-pub(crate) fn small_at(value: &Value, name: &str) -> Result<u8, Fault>
+pub(crate) fn small_at(value: &Value, name: &str) -> Result<u8, MessageFault>
     ensures { result ≡ small_at name.now (view value.now) }
 {
     match whole_at(value, name) {
         Some(number) if number < 256 => Ok(number as u8),
-        _ => Err(Fault::BadField),
+        _ => Err(MessageFault::BadField),
     }
 }
 
 #[tactic(auto, unfolding(crate::specs::Field::user_of))]
-pub(crate) fn user_of(value: &Value) -> Result<Name, Fault>
+pub(crate) fn user_of(value: &Value) -> Result<Name, MessageFault>
     ensures { result ≡ user_of (view value.now) }
 {
     match text_at(value, "as") {
         Some(text) => match Name::new(text) {
             Ok(name) => Ok(name),
-            Err(_) => Err(Fault::BadField),
+            Err(_) => Err(MessageFault::BadField),
         },
-        None => Err(Fault::BadField),
+        None => Err(MessageFault::BadField),
     }
 }
 
 #[tactic(auto, unfolding(crate::specs::Field::since_of))]
-pub(crate) fn since_of(value: &Value) -> Result<u64, Fault>
+pub(crate) fn since_of(value: &Value) -> Result<u64, MessageFault>
     ensures { result ≡ since_of (view value.now) }
 {
     match value.get("since") {
         Some(member) => match member.as_u64() {
             Some(number) => Ok(number),
-            None => Err(Fault::BadField),
+            None => Err(MessageFault::BadField),
         },
         None => Ok(0),
     }

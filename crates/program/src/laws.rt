@@ -1,12 +1,15 @@
-//! What reading comes to: each function here has nothing to do, and its clauses are the theorem.
+//! What reading and answering come to: each function here has nothing to do, and its clauses are the theorem.
 
-ghost use Rattle.std.specs.Prelude.{◌≡◌, ◌↔◌, ℕ, List, Ok, Err};
+ghost use Rattle.std.specs.Prelude.{◌≡◌, ◌↔◌, ◌++◌, ℕ, List, map, All, Ok, Err};
 ghost use Rattle.serde_json.specs.Data.{Data};
-ghost use Rattle.program.specs.declared.fault.Fault.TheVariants.{Malformed, UnknownRequest, BadField};
+ghost use Rattle.program.specs.declared.message_fault.MessageFault.TheVariants.{Malformed, UnknownRequest, BadField};
 ghost use Rattle.program.specs.declared.message.Message.TheVariants.{Query, Batch};
-ghost use Rattle.program.specs.declared.command_text.CommandText.{CommandText};
+ghost use Rattle.session_book.specs.declared.command.Command.{Command};
 ghost use Rattle.program.specs.Grammar.{IsBatch, IsNoMessage};
 ghost use Rattle.program.specs.Message.{meaning};
+ghost use Rattle.script_lines.specs.Lines.{lines_of};
+ghost use Rattle.session_book.specs.SessionState.{SessionState};
+ghost use Rattle.program.specs.Script.{Heard, found, told, messages_among, script_text};
 ghost use Rattle.program.specs.Requests.{IsObject, IsUnknownRequest, IsQuery};
 
 /// A line is malformed exactly where it is no object's text.
@@ -29,7 +32,7 @@ pub fn queries_by_their_members()
 
 /// An object is a batch of commands exactly where its members are those of the batch.
 pub fn batches_by_their_members()
-    ensures { (line : List ℕ) (d : Data) (user : List ℕ) (commands : List CommandText) → IsObject line d →
+    ensures { (line : List ℕ) (d : Data) (user : List ℕ) (commands : List Command) → IsObject line d →
         (meaning line ≡ Ok (Batch user commands)) ↔ IsBatch d user commands }
 {}
 
@@ -37,4 +40,17 @@ pub fn batches_by_their_members()
 pub fn bad_members_in_all_others()
     ensures { (line : List ℕ) (d : Data) → IsObject line d →
         (meaning line ≡ Err BadField) ↔ (¬ IsUnknownRequest d × IsNoMessage d) }
+{}
+
+/// Where all the memory is there that a script takes, its messages have one text.
+pub fn one_text_where_memory_is_found()
+    ensures { (opening : SessionState) (input : List ℕ) (heard : List Heard) →
+        map (λ (h : Heard). h.line) heard ≡ messages_among (lines_of input) → All (λ (h : Heard). h.memory ≡ found) heard →
+        (told opening heard).text ≡ script_text opening input }
+{}
+
+/// What a script leads to goes on: the text of its first messages is a first part of the text of them all.
+pub fn a_script_goes_on()
+    ensures { (opening : SessionState) (heard later : List Heard) →
+        (more : List ℕ) × ((told opening (heard ++ later)).text ≡ (told opening heard).text ++ more) }
 {}

@@ -1,18 +1,15 @@
 //! The cards of a board as a message has them.
 
-ghost use Rattle.std.specs.Prelude.{◌≡◌};
+ghost use Rattle.std.specs.Prelude.{◌≡◌, Some, Ok, IfOk, IfErr};
 ghost use Rattle.serde_json.specs.View.{view, items_view};
-ghost use Rattle.program.specs.Reading.{Gives};
-ghost use Rattle.program.specs.Play.{card_named, card_of, cards_in, play_of};
+ghost use Rattle.program.specs.Reading.{Fails, Gives};
+ghost use Rattle.program.specs.Play.{card_named, card_of, cards_in, cards_by, play_of};
 
-use crate::fault::Fault;
-use crate::noted_play::NotedPlay;
+use crate::message_fault::MessageFault;
 use cards::Card;
 use serde_json::Value;
+use session_book::Play;
 use std::alloc::Global;
-
-// The cards of the pack.
-const MOST: usize = 52;
 
 fn card_named(text: &str) -> Option<Card>
     ensures { result ≡ card_named text.now }
@@ -24,35 +21,48 @@ fn card_named(text: &str) -> Option<Card>
 }
 
 #[tactic(auto, unfolding(crate::specs::Play::card_of))]
-fn card_of(value: &Value) -> Result<Card, Fault>
+fn card_of(value: &Value) -> Result<Card, MessageFault>
     ensures { result ≡ card_of (view value.now) }
 {
     match value.as_str() {
-        Some(text) => card_named(text).ok_or(Fault::BadField),
-        None => Err(Fault::BadField),
+        Some(text) => card_named(text).ok_or(MessageFault::BadField),
+        None => Err(MessageFault::BadField),
     }
 }
 
-fn cards_in(alloc: Global, list: &[Value]) -> Result<NotedPlay, Fault>
-    ensures { Gives result (cards_in (items_view list.now)) }
+fn cards_in(alloc: Global, list: &[Value]) -> Result<Vec<Card>, MessageFault>
+    ensures cards { IfOk result (λ cards. cards_in (items_view list.now) ≡ Ok cards.items) }
+    ensures fault { IfErr result (λ fault. Fails fault (cards_in (items_view list.now))) }
 {
     let mut cards = Vec::new(alloc);
     for value in list {
         let card = card_of(value)?;
         cards.push(card)?;
     }
-    Ok(NotedPlay::new(cards))
+    Ok(cards)
 }
 
-#[tactic(auto, using(crate::proofs::ListLemmas::item_count_of), unfolding(crate::specs::Play::play_of))]
-pub(crate) fn play_of(alloc: Global, value: &Value) -> Result<NotedPlay, Fault>
+// The play of a list of cards, which is looked at only where it isn't too long.
+#[tactic(auto, using(crate::proofs::ListLemmas::item_count_of, crate::proofs::GrammarLemmas::cards_as_many))]
+fn play_in(alloc: Global, list: &[Value]) -> Result<Play, MessageFault>
+    ensures { Gives result (cards_by (Some (items_view list.now))) }
+{
+    if list.len() > Play::MOST {
+        return Err(MessageFault::BadField);
+    }
+    let cards = cards_in(alloc, list)?;
+    Play::new(cards.as_slice()).ok_or(MessageFault::BadField)
+}
+
+#[tactic(auto, unfolding(crate::specs::Play::play_of))]
+pub(crate) fn play_of(alloc: Global, value: &Value) -> Result<Play, MessageFault>
     ensures { Gives result (play_of (view value.now)) }
 {
     let Some(member) = value.get("play") else {
-        return Ok(NotedPlay::new(Vec::new(alloc)));
+        return Ok(Play::none());
     };
     match member.as_array() {
-        Some(list) if list.len() <= MOST => cards_in(alloc, list.as_slice()),
-        _ => Err(Fault::BadField),
+        Some(list) => play_in(alloc, list.as_slice()),
+        None => Err(MessageFault::BadField),
     }
 }

@@ -7,9 +7,9 @@ ghost use Rattle.program.specs.Reading.{Gives};
 ghost use Rattle.program.specs.Message.{query_with, query_of, query_by, batch_with, batch_of, batch_by, message_of, text_meaning, meaning};
 
 use crate::command::{commands_in, has_unknown};
-use crate::fault::Fault;
 use crate::field::{has_only, since_of, small_at, user_of};
 use crate::message::Message;
+use crate::message_fault::MessageFault;
 use serde_json::Value;
 use std::alloc::Global;
 use std::str;
@@ -18,7 +18,7 @@ use std::str;
 const MOST: usize = 64;
 
 #[tactic(auto, unfolding(crate::specs::Message::query_with))]
-fn query_with(value: &Value) -> Result<Message, Fault>
+fn query_with(value: &Value) -> Result<Message, MessageFault>
     ensures { result ≡ query_with (view value.now) }
 {
     let user = user_of(value)?;
@@ -28,30 +28,30 @@ fn query_with(value: &Value) -> Result<Message, Fault>
 }
 
 #[tactic(auto, unfolding(crate::specs::Message::query_of))]
-fn query_of(value: &Value) -> Result<Message, Fault>
+fn query_of(value: &Value) -> Result<Message, MessageFault>
     ensures { result ≡ query_of (view value.now) }
 {
     if !has_only(value, &["as", "ask", "board", "since"]) {
-        return Err(Fault::BadField);
+        return Err(MessageFault::BadField);
     }
     query_with(value)
 }
 
-fn query_by(ask: &Value, value: &Value) -> Result<Message, Fault>
+fn query_by(ask: &Value, value: &Value) -> Result<Message, MessageFault>
     ensures { result ≡ query_by (as_str (view ask.now)) (view value.now) }
 {
     let Some(word) = ask.as_str() else {
-        return Err(Fault::BadField);
+        return Err(MessageFault::BadField);
     };
     if word == "board" {
         query_of(value)
     } else {
-        Err(Fault::UnknownRequest)
+        Err(MessageFault::UnknownRequest)
     }
 }
 
 #[tactic(auto, unfolding(crate::specs::Message::batch_with))]
-fn batch_with(alloc: Global, list: &[Value], value: &Value) -> Result<Message, Fault>
+fn batch_with(alloc: Global, list: &[Value], value: &Value) -> Result<Message, MessageFault>
     ensures { Gives result (batch_with (items_view list.now) (view value.now)) }
 {
     let user = user_of(value)?;
@@ -60,68 +60,68 @@ fn batch_with(alloc: Global, list: &[Value], value: &Value) -> Result<Message, F
 }
 
 #[tactic(auto, using(crate::proofs::ListLemmas::item_count_of), unfolding(crate::specs::Message::batch_of))]
-fn batch_of(alloc: Global, list: &[Value], value: &Value) -> Result<Message, Fault>
+fn batch_of(alloc: Global, list: &[Value], value: &Value) -> Result<Message, MessageFault>
     ensures { Gives result (batch_of (items_view list.now) (view value.now)) }
 {
     if !has_only(value, &["as", "do"]) || list.len() > MOST {
-        return Err(Fault::BadField);
+        return Err(MessageFault::BadField);
     }
     batch_with(alloc, list, value)
 }
 
-fn batch_by(alloc: Global, list: &Value, value: &Value) -> Result<Message, Fault>
+fn batch_by(alloc: Global, list: &Value, value: &Value) -> Result<Message, MessageFault>
     ensures { Gives result (batch_by (as_array (view list.now)) (view value.now)) }
 {
     let Some(list) = list.as_array() else {
-        return Err(Fault::BadField);
+        return Err(MessageFault::BadField);
     };
     if has_unknown(list.as_slice()) {
-        return Err(Fault::UnknownRequest);
+        return Err(MessageFault::UnknownRequest);
     }
     batch_of(alloc, list.as_slice(), value)
 }
 
 #[tactic(auto, unfolding(crate::specs::Message::message_of))]
-fn message_of(alloc: Global, value: &Value) -> Result<Message, Fault>
+fn message_of(alloc: Global, value: &Value) -> Result<Message, MessageFault>
     ensures { Gives result (message_of (view value.now)) }
 {
     if value.get("audit").is_some() || value.get("hello").is_some() {
-        return Err(Fault::UnknownRequest);
+        return Err(MessageFault::UnknownRequest);
     }
     match value.get("ask") {
         Some(ask) => match value.get("do") {
-            Some(_) => Err(Fault::UnknownRequest),
+            Some(_) => Err(MessageFault::UnknownRequest),
             None => query_by(ask, value),
         },
         None => match value.get("do") {
             Some(list) => batch_by(alloc, list, value),
-            None => Err(Fault::UnknownRequest),
+            None => Err(MessageFault::UnknownRequest),
         },
     }
 }
 
 #[tactic(auto, unfolding(crate::specs::Message::text_meaning))]
-fn read_text(alloc: Global, text: &str) -> Result<Message, Fault>
+fn read_text(alloc: Global, text: &str) -> Result<Message, MessageFault>
     ensures { Gives result (text_meaning text.now) }
 {
     let value = match Value::from_str(alloc, text) {
         Ok(value) => value,
-        Err(error) if error.is_memory() => return Err(Fault::OutOfMemory),
-        Err(_) => return Err(Fault::Malformed),
+        Err(error) if error.is_memory() => return Err(MessageFault::OutOfMemory),
+        Err(_) => return Err(MessageFault::Malformed),
     };
     if !value.is_object() {
-        return Err(Fault::Malformed);
+        return Err(MessageFault::Malformed);
     }
     message_of(alloc, &value)
 }
 
 /// The message that a line's bytes are.
 #[tactic(auto, unfolding(crate::specs::Message::meaning))]
-pub fn read_message(alloc: Global, line: &[u8]) -> Result<Message, Fault>
+pub fn read_message(alloc: Global, line: &[u8]) -> Result<Message, MessageFault>
     ensures { Gives result (meaning line.now) }
 {
     match str::from_utf8(line) {
         Ok(text) => read_text(alloc, text),
-        Err(_) => Err(Fault::Malformed),
+        Err(_) => Err(MessageFault::Malformed),
     }
 }
