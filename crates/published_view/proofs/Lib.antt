@@ -1,2 +1,5 @@
 mod AgreementLemmas
+mod PairLemmas
+mod ResultLemmas
 mod ShownLemmas
+mod TravellerLemmas

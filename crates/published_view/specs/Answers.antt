@@ -4,10 +4,13 @@ use Rattle.cards.specs.Hands.{Hands}
 use Rattle.movement.specs.Movement.{Section, boards_of}
 use Rattle.disclosure_rules.specs.declared.fact.Fact.TheVariants as fact
 use Rattle.disclosure_rules.specs.declared.marks.Marks.{Marks}
+use Rattle.disclosure_rules.specs.declared.public.Public.{Public}
 use Rattle.denials.specs.declared.denial.Denial.{Denial}
 use Rattle.denials.specs.Evidence.{denial_of}
 use Rattle.session_book.specs.SessionState.{SessionState, authorized_of, seat_of}
-use Rattle.published_view.specs.Shown.{Shown, shown, shown_hands, shown_marks}
+use Rattle.published_view.specs.Shown.{Shown, shown, shown_hands, shown_public, shown_marks, shown_results}
+use Rattle.published_view.specs.Traveller.{traveller_rows}
+use Rattle.published_view.specs.declared.table_result.TableResult.{TableResult}
 use Rattle.published_view.specs.declared.reply.Reply.{Reply}
 use Rattle.published_view.specs.declared.reply.Reply.TheVariants as reply
 
@@ -21,6 +24,16 @@ board_by number version (Some hands) (Some marks) = reply.Board number hands mar
 abbrev pub board_answer : ℕ → ℕ → List Shown → Reply
 board_answer number version items = board_by number version (shown_hands items number) (shown_marks items number)
 
+-- a traveller, where what every member may see, and with it the board's marks, is shown
+abbrev pub traveller_by : ℕ → ℕ → List TableResult → Option Public → Option Marks → Reply
+traveller_by number version results None marks = reply.NoSuchBoard version
+traveller_by number version results (Some public) None = reply.NoSuchBoard version
+traveller_by number version results (Some public) (Some marks) = reply.Traveller number (traveller_rows public.movement marks.vulnerability results) version
+
+-- the answer to a query of a board's traveller, from what is shown
+abbrev pub traveller_answer : ℕ → ℕ → List Shown → Reply
+traveller_answer number version items = traveller_by number version (shown_results items number) (shown_public items) (shown_marks items number)
+
 -- whether the movement has the board
 abbrev pub has_board : Section → ℕ → Bool
 has_board section board = nat_le 1 board && nat_le board (boards_of section)
@@ -30,10 +43,18 @@ abbrev pub denied_or : Option Denial → ℕ → Reply → Reply
 denied_or None version answer = answer
 denied_or (Some denial) version answer = reply.Denied denial version
 
--- the reply to a query of a board, at a state and its version: a board that isn't there comes first, then a version that is older than the
--- user wants, then a rule that forbids the board's hands
-unfoldable pub board_reply : SessionState → ℕ → List ℕ → ℕ → ℕ → Reply
-board_reply state version user board since =
+-- what comes before the answer to a query about a board, at a state and its version: a board that isn't there comes first, then a version
+-- that is older than the user wants, then a rule that forbids the board's hands
+abbrev pub reply_or : SessionState → ℕ → List ℕ → ℕ → ℕ → Reply → Reply
+reply_or state version user board since answer =
     if not (has_board state.public.movement board) then reply.NoSuchBoard version
     else if nat_lt version since then reply.Behind version
-    else denied_or (denial_of state.public (authorized_of state user) (seat_of state user) (fact.Hands board)) version (board_answer board version (shown state user))
+    else denied_or (denial_of state.public (authorized_of state user) (seat_of state user) (fact.Hands board)) version answer
+
+-- the reply to a query of a board
+unfoldable pub board_reply : SessionState → ℕ → List ℕ → ℕ → ℕ → Reply
+board_reply state version user board since = reply_or state version user board since (board_answer board version (shown state user))
+
+-- the reply to a query of a board's traveller
+unfoldable pub traveller_reply : SessionState → ℕ → List ℕ → ℕ → ℕ → Reply
+traveller_reply state version user board since = reply_or state version user board since (traveller_answer board version (shown state user))

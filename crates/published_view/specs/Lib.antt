@@ -1,3 +1,4 @@
 pub mod Shown
 pub mod Agreement
+pub mod Traveller
 pub mod Answers

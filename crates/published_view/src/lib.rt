@@ -3,9 +3,19 @@
 
 mod answer;
 pub mod laws;
+mod query;
 mod reply;
+mod table_result;
 #[cfg(test)]
 mod tests;
+mod traveller;
+mod traveller_row;
+mod traveller_rows;
 
 pub use answer::board_reply;
+pub use query::Query;
 pub use reply::Reply;
+pub use table_result::TableResult;
+pub use traveller::traveller_reply;
+pub use traveller_row::TravellerRow;
+pub use traveller_rows::TravellerRows;

@@ -1,3 +1,4 @@
+use crate::traveller_rows::TravellerRows;
 use cards::Deal;
 use denials::Denial;
 use disclosure_rules::Marks;
@@ -23,6 +24,12 @@ pub enum Reply {
         number: u8,
         deal: Deal,
         marks: Marks,
+        version: usize,
+    },
+    /// The results on a board.
+    Traveller {
+        number: u8,
+        rows: TravellerRows,
         version: usize,
     },
 }

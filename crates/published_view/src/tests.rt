@@ -1,5 +1,7 @@
 use super::*;
-use cards::{Name, Place, Strain};
+use crate::traveller::traveller_rows;
+use cards::{Name, Place, Strain, Vulnerability};
+use movement::{Cell, Movement};
 use scoring::{Contract, Doubling, Level, Outcome, Tricks};
 use session_book::{Answer, Book, Command, Play};
 use std::alloc::Global;
@@ -31,7 +33,31 @@ fn line(alloc: Global, reply: &Reply) -> Result<String, Fail> {
             let vulnerability = marks.vulnerability;
             format!(in alloc; "{version}: board {number}, {dealer:?}, {vulnerability:?}, {deal}")?
         }
+        Reply::Traveller {
+            number,
+            rows,
+            version,
+        } => {
+            let rows = rows_text(alloc, rows.as_slice())?;
+            format!(in alloc; "{version}: traveller {number}{rows}")?
+        }
     };
+    Ok(text)
+}
+
+/// The rows of a traveller as one text: for each the table, the pairs, the score and the units.
+fn rows_text(alloc: Global, rows: &[TravellerRow]) -> Result<String, Fail> {
+    let mut text = format!(in alloc; "")?;
+    for row in rows {
+        let table = row.table;
+        let north_south = row.north_south;
+        let east_west = row.east_west;
+        let score = row.score;
+        let points = row.points;
+        text = format!(in alloc;
+            "{text}; table {table}: {north_south} {east_west} {score} {points}"
+        )?;
+    }
     Ok(text)
 }
 
@@ -50,18 +76,46 @@ fn replies(
     Ok(())
 }
 
-/// Four spades by North, ten tricks, on board 1 at table 1: entered and confirmed.
-fn play_the_first_board(rt: &impl Abort, book: &mut Book) -> Result<(), Fail> {
+/// Compares the replies to some users' queries of a board's traveller, each with the version that the user wants.
+fn travellers(
+    rt: &impl Abort,
+    alloc: Global,
+    book: &Book,
+    rows: &[(&str, u8, u64, &str)],
+) -> Result<(), Fail> {
+    for (user, board, since, expected) in rows {
+        let user_name = name(user)?;
+        let reply = traveller_reply(
+            alloc,
+            book.state(),
+            book.version(),
+            user_name,
+            *board,
+            *since,
+        )?;
+        let found = line(alloc, &reply)?;
+        assert_eq!(rt; found.as_str(), *expected, "{user} {board} {since}");
+    }
+    Ok(())
+}
+
+/// Four spades by North, and so many tricks.
+fn four_spades(tricks: u8) -> Result<Outcome, Fail> {
     let contract = Contract {
         level: Level::new(4).ok_or("a level")?,
         strain: Strain::Spades,
         declarer: Place::North,
         doubling: Doubling::Undoubled,
     };
-    let outcome = Outcome::Played {
+    Ok(Outcome::Played {
         contract,
-        tricks: Tricks::new(10).ok_or("tricks")?,
-    };
+        tricks: Tricks::new(tricks).ok_or("tricks")?,
+    })
+}
+
+/// Four spades by North, ten tricks, on board 1 at table 1: entered and confirmed.
+fn play_the_first_board(rt: &impl Abort, book: &mut Book) -> Result<(), Fail> {
+    let outcome = four_spades(10)?;
     let enter = Command::Enter {
         table: 1,
         board: 1,
@@ -169,4 +223,100 @@ fn after_the_first_table(rt: HostRuntime) -> Result<(), Fail> {
             ("d", 4, 3, "2: no such board"),
         ],
     )
+}
+
+#[test]
+fn travellers_before_any_result(rt: HostRuntime) -> Result<(), Fail> {
+    let alloc = rt.alloc();
+    let book = Book::open(alloc)?;
+    travellers(
+        &rt,
+        alloc,
+        &book,
+        &[
+            ("d", 1, 0, "0: traveller 1"),
+            ("n1", 1, 0, "0: StillToPlay, board 1, table 1"),
+            ("s", 1, 0, "0: BoardIsIncomplete, board 1, table 1"),
+            (
+                "k",
+                1,
+                0,
+                "0: NeitherContestantNorSpectator, board 1, table 0",
+            ),
+            ("zz", 1, 0, "0: NoAccount, board 0, table 0"),
+            ("d", 0, 0, "0: no such board"),
+            ("d", 4, 1, "0: no such board"),
+            ("d", 1, 1, "0: behind"),
+            ("zz", 1, 1, "0: behind"),
+        ],
+    )
+}
+
+#[test]
+fn travellers_after_the_first_table(rt: HostRuntime) -> Result<(), Fail> {
+    let alloc = rt.alloc();
+    let mut book = Book::open(alloc)?;
+    play_the_first_board(&rt, &mut book)?;
+    let first = "2: traveller 1; table 1: NS1 EW1 420 0";
+    travellers(
+        &rt,
+        alloc,
+        &book,
+        &[
+            ("n1", 1, 2, first),
+            ("d", 1, 0, first),
+            ("d2", 1, 2, first),
+            ("d", 2, 2, "2: traveller 2"),
+            ("n1", 1, 3, "2: behind"),
+            ("n1", 2, 2, "2: StillToPlay, board 2, table 1"),
+            ("n2", 1, 2, "2: StillToPlay, board 1, table 2"),
+            ("s", 1, 2, "2: BoardIsIncomplete, board 1, table 2"),
+            ("zz", 1, 2, "2: NoAccount, board 0, table 0"),
+        ],
+    )
+}
+
+#[test]
+fn an_entered_outcome_is_no_result_yet(rt: HostRuntime) -> Result<(), Fail> {
+    let alloc = rt.alloc();
+    let mut book = Book::open(alloc)?;
+    let enter = Command::Enter {
+        table: 1,
+        board: 1,
+        outcome: four_spades(10)?,
+        play: Play::none(),
+    };
+    let submission = book.submit(name("k")?, &[enter])?;
+    assert_eq!(rt;
+        submission.answers.as_slice(),
+        [Answer::Accepted].as_slice()
+    );
+    travellers(&rt, alloc, &book, &[("d", 1, 1, "1: traveller 1")])
+}
+
+/// The result of a table on board 1: four spades by North, and so many tricks.
+fn result(table: u8, tricks: u8) -> Result<TableResult, Fail> {
+    Ok(TableResult {
+        cell: Cell { table, board: 1 },
+        outcome: four_spades(tricks)?,
+    })
+}
+
+#[test]
+fn rows_of_three_tables(rt: HostRuntime) -> Result<(), Fail> {
+    let alloc = rt.alloc();
+    let movement = Movement::new(3, 3, 1)?;
+    let results = [result(1, 10)?, result(2, 11)?, result(3, 10)?];
+    let rows = traveller_rows(alloc, movement, Vulnerability::Neither, &results)?;
+    let rows = TravellerRows::new(rows);
+    let found = rows_text(alloc, rows.as_slice())?;
+    let expected = "; table 1: NS1 EW1 420 1; table 2: NS2 EW3 450 4; table 3: NS3 EW2 420 1";
+    assert_eq!(rt; found.as_str(), expected);
+    let rows = rows.into_vec();
+    assert_eq!(rt; rows.len(), 3);
+    let vulnerable = traveller_rows(alloc, movement, Vulnerability::NorthSouth, &results)?;
+    let found = rows_text(alloc, vulnerable.as_slice())?;
+    let expected = "; table 1: NS1 EW1 620 1; table 2: NS2 EW3 650 4; table 3: NS3 EW2 620 1";
+    assert_eq!(rt; found.as_str(), expected);
+    Ok(())
 }
