@@ -9,15 +9,17 @@ use Rattle.cards.specs.declared.card.Card.{Card}
 use Rattle.scoring.specs.declared.outcome.Outcome.{Outcome}
 use Rattle.session_book.specs.declared.command.Command.{Command}
 use Rattle.session_book.specs.declared.command.Command.TheVariants.{Enter, Confirm}
+use Rattle.published_view.specs.declared.query.Query.{Query}
+use Rattle.published_view.specs.declared.query.Query.TheVariants.{Board, Traveller}
 use Rattle.program.specs.declared.message.Message.{Message}
 use Rattle.program.specs.declared.message.Message.TheVariants.{Batch}
 use Rattle.program.specs.declared.message_fault.MessageFault.TheVariants.{UnknownRequest, BadField}
 use Rattle.program.specs.Reading.{◌>>=◌}
-use Rattle.program.specs.Field.{has_only, text_at, small_at, user_of, since_of}
+use Rattle.program.specs.Field.{has_only, text_at, small_at, user_of}
 use Rattle.program.specs.Result.{outcome_of}
 use Rattle.program.specs.Play.{item_count, play_of}
 use Rattle.program.specs.Command.{is_unknown_word, is_unknown, has_unknown, enter_members, enter_with, enter_of, confirm_members, confirm_with, confirm_of, command_by, command_of, commands_in}
-use Rattle.program.specs.Message.{query_members, query_with, query_of, query_by, batch_members, batch_with, batch_of, batch_by, ask_or_do, message_of, meaning}
+use Rattle.program.specs.Message.{asked_of, query_of, query_by, batch_members, batch_with, batch_of, batch_by, ask_or_do, message_of, meaning}
 use Rattle.program.specs.Requests.{IsObject}
 use Rattle.program.specs.Grammar.{IsEnter, IsConfirm, IsCommand, AreCommands, IsBatch}
 use Rattle.program.proofs.LineLaws.{of_object}
@@ -171,19 +173,21 @@ all_known (item d ds) (command ∷ commands) h = ap (λ b. b || has_unknown ds) 
 
 -- ---- batches
 
-query_no_batch : (d : Data) (user : List ℕ) (commands : List Command) → query_of d ≡ Ok (Batch user commands) → ⊥
-unfolding query_of query_with
-query_no_batch d user commands h =
-    let y : Message = Batch user commands in
-    let kept = guarded (has_only query_members d) (query_with d) BadField y h in
-    let first = bind_ok (user_of d) _ y kept.1 in
-    let second = bind_ok (small_at (codes "board") d) _ y first.2 in
-    let third = bind_ok (since_of d) _ y second.2 in
-    cc (third.2)
+query_no_batch : (of_board : ℕ → Query) (d : Data) (user : List ℕ) (commands : List Command) → query_of of_board d ≡ Ok (Batch user commands) → ⊥
+unfolding query_of
+query_no_batch of_board d user commands h =
+    let read = bind_ok (asked_of d) _ (Batch user commands) h in
+    cc (read.2)
+
+called_no_batch : (is_board is_traveller : Bool) (d : Data) (user : List ℕ) (commands : List Command)
+    → cond is_board (query_of Board d) (cond is_traveller (query_of Traveller d) (Err UnknownRequest)) ≡ Ok (Batch user commands) → ⊥
+called_no_batch true is_traveller d user commands h = query_no_batch Board d user commands h
+called_no_batch false true d user commands h = query_no_batch Traveller d user commands h
+called_no_batch false false d user commands h = absurd (cc)
 
 query_by_no_batch : (o : Option (List ℕ)) (d : Data) (user : List ℕ) (commands : List Command) → query_by o d ≡ Ok (Batch user commands) → ⊥
 query_by_no_batch None d user commands h = absurd (cc)
-query_by_no_batch (Some word) d user commands h = query_no_batch d user commands (guarded (bytes_eq word (codes "board")) (query_of d) UnknownRequest (Batch user commands) h).1
+query_by_no_batch (Some word) d user commands h = called_no_batch (bytes_eq word (codes "board")) (bytes_eq word (codes "traveller")) d user commands h
 
 -- what the members of a batch are
 pub record Parts (ds : Items) (d : Data) (user : List ℕ) (commands : List Command) : Type 0 where

@@ -5,12 +5,13 @@ use Rattle.serde_json.specs.Data.{Data, Items, no_items, item}
 use Rattle.serde_json.specs.Find.{get, as_str, as_array}
 use Rattle.program.specs.declared.message_fault.MessageFault.{MessageFault}
 use Rattle.program.specs.declared.message_fault.MessageFault.TheVariants.{UnknownRequest, BadField}
+use Rattle.published_view.specs.declared.query.Query.{Query}
 use Rattle.program.specs.Reading.{◌>>=◌, wanted}
 use Rattle.program.specs.Field.{has_only, small, small_at, name_of, user_of, whole, whole_or_zero, since_of, text_at, whole_at}
 use Rattle.program.specs.Result.{place_named, strain_named, declarer_of, strain_of, doubling_numbered, doubling_of, level_numbered, level_of, tricks_numbered, tricks_of, played_with, played_members, played_of, text_or_played, outcome_by, outcome_of}
 use Rattle.program.specs.Play.{card_named, card_of, cards_in, item_count, cards_by, play_by, play_of}
 use Rattle.program.specs.Command.{is_unknown_word, is_unknown, has_unknown, enter_members, enter_with, enter_of, confirm_members, confirm_with, confirm_of, command_by, command_of, commands_in}
-use Rattle.program.specs.Message.{query_members, query_with, query_of, batch_members, batch_with, batch_of}
+use Rattle.program.specs.Message.{query_members, asked_with, asked_of, query_of, batch_members, batch_with, batch_of}
 
 -- reading fails by a bad member alone
 pub record FailsByMember {A : Type 0} (read : Result A MessageFault) : Type 0 where
@@ -184,13 +185,17 @@ pub batch_so : (ds : Items) (d : Data) → has_unknown ds ≡ false → FailsByM
 unfolding batch_of
 batch_so ds d known = either (has_only batch_members d && nat_le (item_count ds) 64) _ _ (batch_with_so ds d known) bad
 
-query_with_so : (d : Data) → FailsByMember (query_with d)
-unfolding query_with
-query_with_so d =
+asked_with_so : (d : Data) → FailsByMember (asked_with d)
+unfolding asked_with
+asked_with_so d =
     then_on (user_of d) _ (user_so d) (λ user.
     then_on (small_at (codes "board") d) _ (small_at_so (codes "board") d) (λ board.
     then_on (since_of d) _ (since_so d) (λ since. read_well _)))
 
-pub query_so : (d : Data) → FailsByMember (query_of d)
+asked_so : (d : Data) → FailsByMember (asked_of d)
+unfolding asked_of
+asked_so d = either (has_only query_members d) _ _ (asked_with_so d) bad
+
+pub query_so : (of_board : ℕ → Query) (d : Data) → FailsByMember (query_of of_board d)
 unfolding query_of
-query_so d = either (has_only query_members d) _ _ (query_with_so d) bad
+query_so of_board d = then_on (asked_of d) _ (asked_so d) (λ asked. read_well _)

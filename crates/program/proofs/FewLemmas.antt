@@ -12,7 +12,7 @@ use Rattle.program.specs.Standing.{HasFew}
 use Rattle.program.proofs.BatchLemmas.{is_batch}
 
 of_data : (d : Data) (message : Message) → message_of d ≡ Ok message → HasFew message
-of_data d (Query user board since) means = tt
+of_data d (Query user query since) means = tt
 of_data d (Batch user commands) means = (is_batch d user commands means).few
 
 of_object : (d : Data) (is_object : Bool) (message : Message) → cond is_object (message_of d) (Err Malformed) ≡ Ok message → HasFew message

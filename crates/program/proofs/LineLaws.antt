@@ -5,6 +5,7 @@ use Rattle.std.specs.Str.Lossy.{utf8_valid_len}
 use Rattle.serde_json.specs.Data.{Data, Items}
 use Rattle.serde_json.specs.Read.{read}
 use Rattle.serde_json.specs.Find.{get, as_str, as_array, as_object}
+use Rattle.published_view.specs.declared.query.Query.TheVariants.{Board, Traveller}
 use Rattle.program.specs.declared.message.Message.{Message}
 use Rattle.program.specs.declared.message_fault.MessageFault.{MessageFault}
 use Rattle.program.specs.declared.message_fault.MessageFault.TheVariants.{Malformed, UnknownRequest, BadField, OutOfMemory}
@@ -32,13 +33,14 @@ unknown_fault fault read is h = record { read_well = λ e. cc; in_memory = λ e.
 member_fault : (read : Result Message MessageFault) (fault : MessageFault) → FailsByMember read → read ≡ Err fault → IsFaultOfObject fault
 member_fault read fault so h = let same : fault ≡ BadField = so.only fault h in record { read_well = λ e. cc; in_memory = λ e. cc }
 
-query_at : (word : List ℕ) (d : Data) (b : Bool) (fault : MessageFault) → cond b (query_of d) (Err UnknownRequest) ≡ Err fault → IsFaultOfObject fault
-query_at word d true fault h = member_fault (query_of d) fault (query_so d) h
-query_at word d false fault h = unknown_fault fault (Err UnknownRequest) refl h
+query_at : (d : Data) (is_board is_traveller : Bool) (fault : MessageFault) → cond is_board (query_of Board d) (cond is_traveller (query_of Traveller d) (Err UnknownRequest)) ≡ Err fault → IsFaultOfObject fault
+query_at d true is_traveller fault h = member_fault (query_of Board d) fault (query_so Board d) h
+query_at d false true fault h = member_fault (query_of Traveller d) fault (query_so Traveller d) h
+query_at d false false fault h = unknown_fault fault (Err UnknownRequest) refl h
 
 query_fault : (o : Option (List ℕ)) (d : Data) (fault : MessageFault) → query_by o d ≡ Err fault → IsFaultOfObject fault
 query_fault None d fault h = record { read_well = λ e. cc; in_memory = λ e. cc }
-query_fault (Some word) d fault h = query_at word d (bytes_eq word (codes "board")) fault h
+query_fault (Some word) d fault h = query_at d (bytes_eq word (codes "board")) (bytes_eq word (codes "traveller")) fault h
 
 batch_at : (ds : Items) (d : Data) (b : Bool) (fault : MessageFault) → has_unknown ds ≡ b → cond b (Err UnknownRequest) (batch_of ds d) ≡ Err fault → IsFaultOfObject fault
 batch_at ds d true fault is h = unknown_fault fault (Err UnknownRequest) refl h

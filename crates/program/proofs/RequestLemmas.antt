@@ -6,12 +6,14 @@ use Rattle.std.proofs.lemmas.Slice.Eq.{bytes_eq-Decides}
 use Rattle.serde_json.specs.Data.{Data, Items}
 use Rattle.serde_json.specs.Read.{read}
 use Rattle.serde_json.specs.Find.{get, as_str, as_array}
+use Rattle.published_view.specs.declared.query.Query.{Query}
+use Rattle.published_view.specs.declared.query.Query.TheVariants.{Board, Traveller}
 use Rattle.program.specs.declared.message.Message.{Message}
 use Rattle.program.specs.declared.message_fault.MessageFault.{MessageFault}
 use Rattle.program.specs.declared.message_fault.MessageFault.TheVariants.{UnknownRequest}
 use Rattle.program.specs.Command.{has_unknown}
 use Rattle.program.specs.Message.{query_of, query_by, batch_of, batch_by, ask_or_do, message_of}
-use Rattle.program.specs.Requests.{IsUnknownRequest}
+use Rattle.program.specs.Requests.{query_word, IsUnknownRequest}
 use Rattle.program.proofs.FaultLemmas.{FailsByMember, query_so, batch_so}
 
 -- what a message says, by the four members
@@ -20,7 +22,7 @@ said ask list audit hello d = cond (is_some audit || is_some hello) (Err Unknown
 
 -- when it is unknown, by the four members
 abbrev AsksOther : Option Data → Type 0
-AsksOther ask = (word : List ℕ) × (option_and_then as_str ask ≡ Some word) × (word ≢ codes "board")
+AsksOther ask = (word : List ℕ) × (option_and_then as_str ask ≡ Some word) × ((query : Query) → word ≢ query_word query)
 
 abbrev WantsOther : Option Data → Type 0
 WantsOther list = (commands : Items) × (option_and_then as_array list ≡ Some commands) × (has_unknown commands ≡ true)
@@ -31,17 +33,26 @@ IsUnknown ask list audit hello = (count_by (λ member. is_some member) (ask ∷ 
 never : {A : Type 0} (read : Result A MessageFault) → FailsByMember read → read ≡ Err UnknownRequest → ⊥
 never read so h = absurd (cc (so.only UnknownRequest h))
 
-asks_at : (word : List ℕ) (d : Data) (b : Bool) → bytes_eq word (codes "board") ≡ b → cond b (query_of d) (Err UnknownRequest) ≡ Err UnknownRequest → word ≢ codes "board"
-asks_at word d true is h = absurd (never (query_of d) (query_so d) h)
-asks_at word d false is h = λ same. cc (is, (bytes_eq-Decides word (codes "board")).1 same)
+-- a word that is neither of the two
+no_word : (word : List ℕ) → bytes_eq word (codes "board") ≡ false → bytes_eq word (codes "traveller") ≡ false → (query : Query) → word ≢ query_word query
+no_word word no_board no_traveller (Board board) = λ same. cc (no_board, (bytes_eq-Decides word (codes "board")).1 same)
+no_word word no_board no_traveller (Traveller board) = λ same. cc (no_traveller, (bytes_eq-Decides word (codes "traveller")).1 same)
 
-asks_other : (o : Option (List ℕ)) (d : Data) → query_by o d ≡ Err UnknownRequest → (word : List ℕ) × (o ≡ Some word) × (word ≢ codes "board")
+asks_at : (word : List ℕ) (d : Data) (is_board is_traveller : Bool) → bytes_eq word (codes "board") ≡ is_board → bytes_eq word (codes "traveller") ≡ is_traveller
+    → cond is_board (query_of Board d) (cond is_traveller (query_of Traveller d) (Err UnknownRequest)) ≡ Err UnknownRequest → (query : Query) → word ≢ query_word query
+asks_at word d true is_traveller board_is traveller_is h = absurd (never (query_of Board d) (query_so Board d) h)
+asks_at word d false true board_is traveller_is h = absurd (never (query_of Traveller d) (query_so Traveller d) h)
+asks_at word d false false board_is traveller_is h = no_word word board_is traveller_is
+
+asks_other : (o : Option (List ℕ)) (d : Data) → query_by o d ≡ Err UnknownRequest → (word : List ℕ) × (o ≡ Some word) × ((query : Query) → word ≢ query_word query)
 asks_other None d h = absurd (cc)
-asks_other (Some word) d h = (word, refl, asks_at word d (bytes_eq word (codes "board")) refl h)
+asks_other (Some word) d h = (word, refl, asks_at word d (bytes_eq word (codes "board")) (bytes_eq word (codes "traveller")) refl refl h)
 
-asked_other : (word : List ℕ) (d : Data) (b : Bool) → bytes_eq word (codes "board") ≡ b → word ≢ codes "board" → cond b (query_of d) (Err UnknownRequest) ≡ Err UnknownRequest
-asked_other word d true is other = absurd (other ((bytes_eq-Decides word (codes "board")).0 is))
-asked_other word d false is other = refl
+asked_other : (word : List ℕ) (d : Data) (is_board is_traveller : Bool) → bytes_eq word (codes "board") ≡ is_board → bytes_eq word (codes "traveller") ≡ is_traveller
+    → ((query : Query) → word ≢ query_word query) → cond is_board (query_of Board d) (cond is_traveller (query_of Traveller d) (Err UnknownRequest)) ≡ Err UnknownRequest
+asked_other word d true is_traveller board_is traveller_is other = absurd (other (Board 0) ((bytes_eq-Decides word (codes "board")).0 board_is))
+asked_other word d false true board_is traveller_is other = absurd (other (Traveller 0) ((bytes_eq-Decides word (codes "traveller")).0 traveller_is))
+asked_other word d false false board_is traveller_is other = refl
 
 wants_at : (ds : Items) (d : Data) (b : Bool) → has_unknown ds ≡ b → cond b (Err UnknownRequest) (batch_of ds d) ≡ Err UnknownRequest → b ≡ true
 wants_at ds d true is h = refl
@@ -61,7 +72,7 @@ unknown_is (Some ask) None None None d h = inr (inr (inr (inl (asks_other (as_st
 unknown_is None (Some list) None None d h = inr (inr (inr (inr (wants_other (as_array list) d h))))
 
 said_asks : (ask : Data) (d : Data) → AsksOther (Some ask) → query_by (as_str ask) d ≡ Err UnknownRequest
-said_asks ask d other = subst (λ o. query_by o d ≡ Err UnknownRequest) (sym other.1) (asked_other other.0 d (bytes_eq other.0 (codes "board")) refl other.2)
+said_asks ask d other = subst (λ o. query_by o d ≡ Err UnknownRequest) (sym other.1) (asked_other other.0 d (bytes_eq other.0 (codes "board")) (bytes_eq other.0 (codes "traveller")) refl refl other.2)
 
 said_wants : (list : Data) (d : Data) → WantsOther (Some list) → batch_by (as_array list) d ≡ Err UnknownRequest
 said_wants list d other = subst (λ o. batch_by o d ≡ Err UnknownRequest) (sym other.1) (ap (λ b. cond b (Err UnknownRequest) (batch_of other.0 d)) other.2)

@@ -8,16 +8,16 @@ use Rattle.session_book.specs.declared.refusal.Refusal.TheVariants as refusal
 use Rattle.session_book.specs.Journal.{replay}
 use Rattle.session_book.specs.Run.{Progress, run, Runs, first_number, last_number}
 use Rattle.session_book.specs.SessionState.{SessionState}
-use Rattle.published_view.specs.Answers.{board_reply}
+use Rattle.published_view.specs.declared.query.Query.{Query}
 use Rattle.program.specs.declared.message_fault.MessageFault.{MessageFault}
 use Rattle.program.specs.declared.message_fault.MessageFault.TheVariants.{Malformed, UnknownRequest, BadField, OutOfMemory}
 use Rattle.program.specs.declared.message.Message.{Message}
-use Rattle.program.specs.declared.message.Message.TheVariants.{Query, Batch}
+use Rattle.program.specs.declared.message.Message.TheVariants as message
 use Rattle.program.specs.Message.{meaning}
 use Rattle.program.specs.Reading.{Fails}
 use Rattle.program.specs.ReceiptText.{receipt_text, fault_text}
 use Rattle.program.specs.ReplyText.{reply_text}
-use Rattle.program.specs.Script.{Memory, found, Told, told_message, told_line, stopped_at, run_with}
+use Rattle.program.specs.Script.{Memory, found, Told, reply_to, told_message, told_line, stopped_at, run_with}
 use Rattle.program.specs.Standing.{Tells, line_of}
 
 module _ (opening : SessionState) (journal : List Entry) (line : List ℕ) where
@@ -48,10 +48,10 @@ module _ (opening : SessionState) (journal : List Entry) (line : List ℕ) where
   tells_fault OutOfMemory fails = tells_no_memory
 
   -- a query is answered by its reply
-  pub tells_reply : (user : List ℕ) (board since : ℕ) (text : List ℕ) → meaning line ≡ Ok (Query user board since) →
-      text ≡ reply_text (board_reply (replay opening journal) (length journal) user board since) → Tells opening journal line journal (text ++ 10 ∷ [])
-  tells_reply user board since text means is_reply =
-      subst (λ t. Tells opening journal line journal (t ++ 10 ∷ [])) (sym is_reply) (tells_by found (Ok (Query user board since)) refl means)
+  pub tells_reply : (user : List ℕ) (query : Query) (since : ℕ) (text : List ℕ) → meaning line ≡ Ok (message.Query user query since) →
+      text ≡ reply_text (reply_to (replay opening journal) (length journal) user query since) → Tells opening journal line journal (text ++ 10 ∷ [])
+  tells_reply user query since text means is_reply =
+      subst (λ t. Tells opening journal line journal (t ++ 10 ∷ [])) (sym is_reply) (tells_by found (Ok (message.Query user query since)) refl means)
 
   -- a place in a batch where memory was refused
   abbrev place : (stopped : Bool) (actor : List ℕ) (batch : List Command) (after : Progress) → Runs stopped opening journal actor batch after → Option ℕ
@@ -79,13 +79,13 @@ module _ (opening : SessionState) (journal : List Entry) (line : List ℕ) where
       ∙ (λ i. record { journal = sym runs.journal i; answers = sym runs.answers i })
 
   -- a batch is answered by its receipt, or there is no memory for it
-  pub tells_receipt : (stopped : Bool) (user : List ℕ) (commands : List Command) (after : Progress) (first last version : ℕ) (text : List ℕ) → meaning line ≡ Ok (Batch user commands) →
+  pub tells_receipt : (stopped : Bool) (user : List ℕ) (commands : List Command) (after : Progress) (first last version : ℕ) (text : List ℕ) → meaning line ≡ Ok (message.Batch user commands) →
       Runs stopped opening journal user commands after → first ≡ first_number (length journal) (length after.journal) → last ≡ last_number (length journal) (length after.journal) →
       version ≡ length after.journal → text ≡ receipt_text after.answers first last version → Tells opening journal line after.journal (text ++ 10 ∷ [])
   tells_receipt stopped user commands after first last version text means runs is_first is_last is_version is_text =
       let memory : Memory = record { refused_before = false; refused_at = place stopped user commands after runs; refused_after = false } in
       let ran = runs_with stopped user commands after runs in
-      let step = told_by memory (Ok (Batch user commands)) refl means in
+      let step = told_by memory (Ok (message.Batch user commands)) refl means in
       record {
         memory = memory;
         journal_is = ap (λ (t : Told). t.journal) step ∙ ap (λ (p : Progress). p.journal) ran;
@@ -95,12 +95,12 @@ module _ (opening : SessionState) (journal : List Entry) (line : List ℕ) where
             ∙ ap (λ bytes. bytes ++ 10 ∷ []) (sym is_text);
       }
 
-  pub tells_no_receipt : (stopped : Bool) (user : List ℕ) (commands : List Command) (after : Progress) → meaning line ≡ Ok (Batch user commands) →
+  pub tells_no_receipt : (stopped : Bool) (user : List ℕ) (commands : List Command) (after : Progress) → meaning line ≡ Ok (message.Batch user commands) →
       Runs stopped opening journal user commands after → Tells opening journal line after.journal (fault_text OutOfMemory ++ 10 ∷ [])
   tells_no_receipt stopped user commands after means runs =
       let memory : Memory = record { refused_before = false; refused_at = place stopped user commands after runs; refused_after = true } in
       let ran = runs_with stopped user commands after runs in
-      let step = told_by memory (Ok (Batch user commands)) refl means in
+      let step = told_by memory (Ok (message.Batch user commands)) refl means in
       record { memory = memory; journal_is = ap (λ (t : Told). t.journal) step ∙ ap (λ (p : Progress). p.journal) ran; text_is = ap (λ (t : Told). t.text ++ 10 ∷ []) step }
 
 -- a text whose line was ended, or for which there was no memory

@@ -13,6 +13,7 @@ use Rattle.scoring.specs.declared.outcome.Outcome.{Outcome}
 use Rattle.scoring.specs.declared.outcome.Outcome.TheVariants.{PassedOut, Played}
 use Rattle.session_book.specs.declared.command.Command.{Command}
 use Rattle.session_book.specs.declared.command.Command.TheVariants.{Enter, Confirm}
+use Rattle.published_view.specs.declared.query.Query.{Query}
 use Rattle.program.specs.Field.{has_only, text_at, whole_at}
 use Rattle.program.specs.Result.{played_members}
 use Rattle.program.specs.Command.{enter_members, confirm_members}
@@ -97,5 +98,5 @@ pub record IsBatch (d : Data) (user : List ℕ) (commands : List Command) : Type
 
 -- it is no query and no batch
 pub record IsNoMessage (d : Data) : Type 0 where
-  pub no_query : (user : List ℕ) (board since : ℕ) → ¬ IsQuery d user board since
+  pub no_query : (user : List ℕ) (query : Query) (since : ℕ) → ¬ IsQuery d user query since
   pub no_batch : (user : List ℕ) (commands : List Command) → ¬ IsBatch d user commands

@@ -6,6 +6,7 @@ pub mod Command
 pub mod Message
 pub mod Requests
 pub mod Grammar
+pub mod TravellerText
 pub mod ReplyText
 pub mod Script
 pub mod Writes

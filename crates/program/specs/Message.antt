@@ -7,10 +7,13 @@ use Rattle.std.specs.Str.Lossy.{utf8_valid_len}
 use Rattle.serde_json.specs.Data.{Data, Items}
 use Rattle.serde_json.specs.Read.{read}
 use Rattle.serde_json.specs.Find.{get, as_str, as_array, as_object}
+use Rattle.published_view.specs.declared.query.Query.{Query}
+use Rattle.published_view.specs.declared.query.Query.TheVariants.{Board, Traveller}
 use Rattle.program.specs.declared.message.Message.{Message}
-use Rattle.program.specs.declared.message.Message.TheVariants.{Query, Batch}
+use Rattle.program.specs.declared.message.Message.TheVariants as message
 use Rattle.program.specs.declared.message_fault.MessageFault.{MessageFault}
 use Rattle.program.specs.declared.message_fault.MessageFault.TheVariants.{Malformed, UnknownRequest, BadField}
+use Rattle.program.specs.declared.reading.Asked.{Asked}
 use Rattle.program.specs.Reading.{◌>>=◌}
 use Rattle.program.specs.Field.{has_only, small_at, user_of, since_of}
 use Rattle.program.specs.Play.{item_count}
@@ -21,21 +24,29 @@ use Rattle.program.specs.Command.{has_unknown, commands_in}
 abbrev pub query_members : List (List ℕ)
 query_members = codes "as" ∷ codes "ask" ∷ codes "board" ∷ codes "since" ∷ []
 
-unfoldable pub query_with : Data → Result Message MessageFault
-query_with d = do
+unfoldable pub asked_with : Data → Result Asked MessageFault
+asked_with d = do
   user ← user_of d
   board ← small_at (codes "board") d
   since ← since_of d
-  Ok (Query user board since)
+  Ok (record { user = user; board = board; since = since })
 
 -- these members and no other, of which `since` may be absent
-unfoldable pub query_of : Data → Result Message MessageFault
-query_of d = if has_only query_members d then query_with d else Err BadField
+unfoldable pub asked_of : Data → Result Asked MessageFault
+asked_of d = if has_only query_members d then asked_with d else Err BadField
 
--- what is asked for has to be a text, and a text other than `board` names nothing
+-- a query for what there is of the board that is named
+unfoldable pub query_of : (ℕ → Query) → Data → Result Message MessageFault
+query_of of_board d = asked_of d >>= λ asked. Ok (message.Query asked.user (of_board asked.board) asked.since)
+
+-- a query, by its word; a text other than these names nothing
+abbrev pub query_called : List ℕ → Data → Result Message MessageFault
+query_called word d = if bytes_eq word (codes "board") then query_of Board d else (if bytes_eq word (codes "traveller") then query_of Traveller d else Err UnknownRequest)
+
+-- what is asked for has to be a text
 abbrev pub query_by : Option (List ℕ) → Data → Result Message MessageFault
 query_by None d = Err BadField
-query_by (Some word) d = if bytes_eq word (codes "board") then query_of d else Err UnknownRequest
+query_by (Some word) d = query_called word d
 
 -- ---- batches
 
@@ -46,7 +57,7 @@ unfoldable pub batch_with : Items → Data → Result Message MessageFault
 batch_with ds d = do
   user ← user_of d
   commands ← commands_in ds
-  Ok (Batch user commands)
+  Ok (message.Batch user commands)
 
 -- these members and no other, and at most 64 commands
 unfoldable pub batch_of : Items → Data → Result Message MessageFault

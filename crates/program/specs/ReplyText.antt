@@ -11,7 +11,8 @@ use Rattle.disclosure_rules.specs.Policy.{number_of}
 use Rattle.denials.specs.declared.denial.Denial.{Denial}
 use Rattle.denials.specs.Evidence.{explanation}
 use Rattle.published_view.specs.declared.reply.Reply.{Reply}
-use Rattle.published_view.specs.declared.reply.Reply.TheVariants.{NoSuchBoard, Behind, Denied, Board}
+use Rattle.published_view.specs.declared.reply.Reply.TheVariants.{NoSuchBoard, Behind, Denied, Board, Traveller}
+use Rattle.program.specs.TravellerText.{traveller_data}
 
 -- a named error, at a version
 abbrev pub error_data : List ℕ → ℕ → Data
@@ -34,6 +35,8 @@ reply_data (Denied denial version) =
     object (member (codes "denied") (denial_data denial) (member (codes "version") (number (unsigned version)) no_members))
 reply_data (Board board hands marks version) =
     object (member (codes "board") (board_data board hands marks) (member (codes "version") (number (unsigned version)) no_members))
+reply_data (Traveller board rows version) =
+    object (member (codes "traveller") (traveller_data board rows) (member (codes "version") (number (unsigned version)) no_members))
 
 -- the reply as it is written
 unfoldable pub reply_text : Reply → List ℕ

@@ -4,6 +4,8 @@ use Rattle.std.specs.Str.Lossy.{utf8_valid_len}
 use Rattle.serde_json.specs.Data.{Data, Items}
 use Rattle.serde_json.specs.Read.{read}
 use Rattle.serde_json.specs.Find.{get, as_array, as_object}
+use Rattle.published_view.specs.declared.query.Query.{Query}
+use Rattle.published_view.specs.declared.query.Query.TheVariants.{Board, Traveller}
 use Rattle.program.specs.Field.{has_only, text_at, whole, whole_at}
 use Rattle.program.specs.Command.{has_unknown}
 use Rattle.program.specs.Message.{query_members}
@@ -18,9 +20,19 @@ pub record IsObject (line : List ℕ) (d : Data) : Type 0 where
 abbrev pub request_count : Data → ℕ
 request_count d = count_by (λ member. is_some member) (get (codes "ask") d ∷ get (codes "do") d ∷ get (codes "audit") d ∷ get (codes "hello") d ∷ [])
 
--- it asks for another thing than a board
+-- how what is asked for is called
+abbrev pub query_word : Query → List ℕ
+query_word (Board board) = codes "board"
+query_word (Traveller board) = codes "traveller"
+
+-- the board that it is about
+abbrev pub board_of : Query → ℕ
+board_of (Board board) = board
+board_of (Traveller board) = board
+
+-- it asks by a text that no query is called by
 abbrev pub AsksAnother : Data → Type 0
-AsksAnother d = (word : List ℕ) × (text_at (codes "ask") d ≡ Some word) × (word ≢ codes "board")
+AsksAnother d = (word : List ℕ) × (text_at (codes "ask") d ≡ Some word) × ((query : Query) → word ≢ query_word query)
 
 -- somewhere in its list a word names no command
 abbrev pub WantsAnother : Data → Type 0
@@ -35,13 +47,13 @@ abbrev pub IsSince : Option Data → ℕ → Type 0
 IsSince None since = since ≡ 0
 IsSince (Some d) since = whole d ≡ Some since
 
--- it asks for a board, in this name and from this version on, and nothing else stands in it
-pub record IsQuery (d : Data) (user : List ℕ) (board since : ℕ) : Type 0 where
+-- it asks for this, in this name and from this version on, and nothing else stands in it
+pub record IsQuery (d : Data) (user : List ℕ) (query : Query) (since : ℕ) : Type 0 where
   pub one : request_count d ≡ 1
-  pub ask : text_at (codes "ask") d ≡ Some (codes "board")
+  pub ask : text_at (codes "ask") d ≡ Some (query_word query)
   pub listed : has_only query_members d ≡ true
   pub name : text_at (codes "as") d ≡ Some user
   pub short : length user ≤ 32
-  pub number : whole_at (codes "board") d ≡ Some board
-  pub small : board < 256
+  pub number : whole_at (codes "board") d ≡ Some (board_of query)
+  pub small : board_of query < 256
   pub version : IsSince (get (codes "since") d) since

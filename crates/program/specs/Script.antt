@@ -2,7 +2,10 @@
 use Rattle.std.specs.Prelude.{ℕ, Bool, true, false, is_some, if◌then◌else◌, Option, Some, None, Result, Ok, Err, List, [], ◌∷◌, ◌++◌, map, filter, take, drop, length}
 use Rattle.std.specs.List.{fold}
 use Rattle.script_lines.specs.Lines.{lines_of}
-use Rattle.published_view.specs.Answers.{board_reply}
+use Rattle.published_view.specs.declared.query.Query.{Query}
+use Rattle.published_view.specs.declared.query.Query.TheVariants.{Board, Traveller}
+use Rattle.published_view.specs.declared.reply.Reply.{Reply}
+use Rattle.published_view.specs.Answers.{board_reply, traveller_reply}
 use Rattle.session_book.specs.declared.answer.Answer.TheVariants.{Refused}
 use Rattle.session_book.specs.declared.command.Command.{Command}
 use Rattle.session_book.specs.declared.entry.Entry.{Entry}
@@ -13,7 +16,7 @@ use Rattle.session_book.specs.SessionState.{SessionState}
 use Rattle.program.specs.declared.message_fault.MessageFault.{MessageFault}
 use Rattle.program.specs.declared.message_fault.MessageFault.TheVariants.{OutOfMemory}
 use Rattle.program.specs.declared.message.Message.{Message}
-use Rattle.program.specs.declared.message.Message.TheVariants.{Query, Batch}
+use Rattle.program.specs.declared.message.Message.TheVariants as message
 use Rattle.program.specs.Message.{meaning}
 use Rattle.program.specs.ReceiptText.{receipt_text, fault_text}
 use Rattle.program.specs.ReplyText.{reply_text}
@@ -85,12 +88,17 @@ receipt_after before after =
 abbrev pub told_batch : Memory → List Entry → Progress → Told
 told_batch memory journal after = record { journal = after.journal; text = text_with memory (receipt_after (length journal) after) }
 
+-- the reply to a query, at a state and its version
+abbrev pub reply_to : SessionState → ℕ → List ℕ → Query → ℕ → Reply
+reply_to state version user (Board board) since = board_reply state version user board since
+reply_to state version user (Traveller board) since = traveller_reply state version user board since
+
 -- a query is answered at the newest version, a batch by its receipt, and anything else by its fault
 abbrev pub told_message : SessionState → List Entry → Memory → Result Message MessageFault → Told
 told_message opening journal memory (Err fault) = record { journal = journal; text = text_with memory (fault_text fault) }
-told_message opening journal memory (Ok (Query user board since)) =
-    record { journal = journal; text = text_with memory (reply_text (board_reply (replay opening journal) (length journal) user board since)) }
-told_message opening journal memory (Ok (Batch user commands)) = told_batch memory journal (run_with memory.refused_at opening journal user commands)
+told_message opening journal memory (Ok (message.Query user query since)) =
+    record { journal = journal; text = text_with memory (reply_text (reply_to (replay opening journal) (length journal) user query since)) }
+told_message opening journal memory (Ok (message.Batch user commands)) = told_batch memory journal (run_with memory.refused_at opening journal user commands)
 
 -- what a line leads to, after a journal
 unfoldable pub told_line : SessionState → List Entry → Heard → Told

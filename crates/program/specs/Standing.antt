@@ -17,7 +17,7 @@ use Rattle.program.specs.Writes.{script_limit, Answers}
 
 -- a batch has at most 64 commands
 abbrev pub HasFew : Message → Type 0
-HasFew (Query user board since) = Unit {0}
+HasFew (Query user query since) = Unit {0}
 HasFew (Batch user commands) = length commands ≤ 64
 
 -- the line that answers: the text, or the fault's own

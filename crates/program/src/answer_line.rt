@@ -4,8 +4,9 @@ ghost use Rattle.std.specs.Prelude.{◌≡◌, ◌++◌, ◌∷◌, [], ◌≤�
 ghost use Rattle.std.specs.Io.KnownBytes.{Appends};
 ghost use Rattle.script_lines.specs.Writing.{WritesPart};
 ghost use Rattle.program.specs.declared.message_fault.MessageFault.TheVariants.{OutOfMemory};
-ghost use Rattle.program.specs.declared.message.Message.TheVariants.{Query, Batch};
+ghost use Rattle.program.specs.declared.message.Message.TheVariants as message;
 ghost use Rattle.program.specs.Message.{meaning};
+ghost use Rattle.program.specs.Script.{reply_to};
 ghost use Rattle.program.specs.Standing.{Tells, HasFew, line_of};
 
 use crate::commands::Commands;
@@ -15,9 +16,9 @@ use crate::reading::read_message;
 use crate::receipt_text::{fault_line, receipt_text};
 use crate::reply_text::reply_text;
 use cards::Name;
-use published_view::board_reply;
+use published_view::{Query, Reply, board_reply, traveller_reply};
 use script_lines::{WriteFault, write_text};
-use session_book::Book;
+use session_book::{Book, State};
 use std::alloc::{AllocError, Global};
 use std::io::Write;
 
@@ -59,7 +60,7 @@ fn message_line(alloc: Global, book: &mut Book, message: &Message) -> Result<Str
     ensures opening { book.new.opening ≡ book.old.opening }
 {
     match message {
-        Message::Query { user, board, since } => query_line(alloc, book, *user, *board, *since),
+        Message::Query { user, query, since } => query_line(alloc, book, *user, *query, *since),
         Message::Batch { user, commands } => batch_line(alloc, book, *user, commands),
     }
 }
@@ -69,16 +70,35 @@ fn query_line(
     alloc: Global,
     book: &Book,
     user: Name,
-    board: u8,
+    query: Query,
     since: u64,
 ) -> Result<String, MessageFault>
-    ensures told { (line : List ℕ) → meaning line ≡ Ok (Query user board since) →
+    ensures told { (line : List ℕ) → meaning line ≡ Ok (message.Query user query since) →
         Tells book.now.opening book.now.journal line book.now.journal (line_of string_bytes result) }
 {
-    let reply = board_reply(book.state(), book.version(), user, board, since);
+    let Ok(reply) = reply_to(alloc, book.state(), book.version(), user, query, since) else {
+        return Err(MessageFault::OutOfMemory);
+    };
     match reply_text(alloc, &reply) {
         Ok(text) => with_line_feed(text),
         Err(_) => Err(MessageFault::OutOfMemory),
+    }
+}
+
+// The reply to a query, at a state and its version.
+fn reply_to(
+    alloc: Global,
+    state: &State,
+    version: usize,
+    user: Name,
+    query: Query,
+    since: u64,
+) -> Result<Reply, AllocError>
+    ensures { IfOk result (λ reply. reply ≡ reply_to state.now version user query since) }
+{
+    match query {
+        Query::Board(board) => Ok(board_reply(state, version, user, board, since)),
+        Query::Traveller(board) => traveller_reply(alloc, state, version, user, board, since),
     }
 }
 
@@ -90,7 +110,7 @@ fn batch_line(
     commands: &Commands,
 ) -> Result<String, MessageFault>
     requires { length commands.now ≤ 64 }
-    ensures told { (line : List ℕ) → meaning line ≡ Ok (Batch user commands.now) →
+    ensures told { (line : List ℕ) → meaning line ≡ Ok (message.Batch user commands.now) →
         Tells book.old.opening book.old.journal line book.new.journal (line_of string_bytes result) }
     ensures opening { book.new.opening ≡ book.old.opening }
 {

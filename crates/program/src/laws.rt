@@ -3,7 +3,8 @@
 ghost use Rattle.std.specs.Prelude.{◌≡◌, ◌↔◌, ◌++◌, ℕ, List, map, All, Ok, Err};
 ghost use Rattle.serde_json.specs.Data.{Data};
 ghost use Rattle.program.specs.declared.message_fault.MessageFault.TheVariants.{Malformed, UnknownRequest, BadField};
-ghost use Rattle.program.specs.declared.message.Message.TheVariants.{Query, Batch};
+ghost use Rattle.published_view.specs.declared.query.Query.{Query};
+ghost use Rattle.program.specs.declared.message.Message.TheVariants as message;
 ghost use Rattle.session_book.specs.declared.command.Command.{Command};
 ghost use Rattle.program.specs.Grammar.{IsBatch, IsNoMessage};
 ghost use Rattle.program.specs.Message.{meaning};
@@ -26,14 +27,14 @@ pub fn unknown_before_bad()
 
 /// An object is a query exactly where its members are those of the query.
 pub fn queries_by_their_members()
-    ensures { (line : List ℕ) (d : Data) (user : List ℕ) (board since : ℕ) → IsObject line d →
-        (meaning line ≡ Ok (Query user board since)) ↔ IsQuery d user board since }
+    ensures { (line : List ℕ) (d : Data) (user : List ℕ) (query : Query) (since : ℕ) → IsObject line d →
+        (meaning line ≡ Ok (message.Query user query since)) ↔ IsQuery d user query since }
 {}
 
 /// An object is a batch of commands exactly where its members are those of the batch.
 pub fn batches_by_their_members()
     ensures { (line : List ℕ) (d : Data) (user : List ℕ) (commands : List Command) → IsObject line d →
-        (meaning line ≡ Ok (Batch user commands)) ↔ IsBatch d user commands }
+        (meaning line ≡ Ok (message.Batch user commands)) ↔ IsBatch d user commands }
 {}
 
 /// Any other object has a bad member.

@@ -17,6 +17,7 @@ mod result;
 mod script;
 #[cfg(test)]
 mod tests;
+mod traveller_text;
 
 pub use commands::Commands;
 pub use fault::Fault;

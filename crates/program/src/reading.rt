@@ -4,12 +4,15 @@ ghost use Rattle.std.specs.Prelude.{◌≡◌};
 ghost use Rattle.serde_json.specs.Find.{as_str, as_array};
 ghost use Rattle.serde_json.specs.View.{view, items_view};
 ghost use Rattle.program.specs.Reading.{Gives};
-ghost use Rattle.program.specs.Message.{query_with, query_of, query_by, batch_with, batch_of, batch_by, message_of, text_meaning, meaning};
+ghost use Rattle.published_view.specs.declared.query.Query.TheVariants.{Board, Traveller};
+ghost use Rattle.program.specs.Message.{asked_with, asked_of, query_of, query_called, query_by, batch_with, batch_of, batch_by, message_of, text_meaning, meaning};
 
 use crate::command::{commands_in, has_unknown};
 use crate::field::{has_only, since_of, small_at, user_of};
 use crate::message::Message;
 use crate::message_fault::MessageFault;
+use cards::Name;
+use published_view::Query;
 use serde_json::Value;
 use std::alloc::Global;
 use std::str;
@@ -17,36 +20,70 @@ use std::str;
 // How many commands a batch has at most.
 const MOST: usize = 64;
 
-#[tactic(auto, unfolding(crate::specs::Message::query_with))]
-fn query_with(value: &Value) -> Result<Message, MessageFault>
-    ensures { result ≡ query_with (view value.now) }
+// Who asks, about which board, and from which version on.
+#[derive(Drop)]
+struct Asked {
+    user: Name,
+    board: u8,
+    since: u64,
+}
+
+#[tactic(auto, unfolding(crate::specs::Message::asked_with))]
+fn asked_with(value: &Value) -> Result<Asked, MessageFault>
+    ensures { result ≡ asked_with (view value.now) }
 {
     let user = user_of(value)?;
     let board = small_at(value, "board")?;
     let since = since_of(value)?;
-    Ok(Message::Query { user, board, since })
+    Ok(Asked { user, board, since })
 }
 
-#[tactic(auto, unfolding(crate::specs::Message::query_of))]
-fn query_of(value: &Value) -> Result<Message, MessageFault>
-    ensures { result ≡ query_of (view value.now) }
+#[tactic(auto, unfolding(crate::specs::Message::asked_of))]
+fn asked_of(value: &Value) -> Result<Asked, MessageFault>
+    ensures { result ≡ asked_of (view value.now) }
 {
     if !has_only(value, &["as", "ask", "board", "since"]) {
         return Err(MessageFault::BadField);
     }
-    query_with(value)
+    asked_with(value)
+}
+
+#[tactic(auto, unfolding(crate::specs::Message::query_of))]
+fn board_query(value: &Value) -> Result<Message, MessageFault>
+    ensures { result ≡ query_of Board (view value.now) }
+{
+    let Asked { user, board, since } = asked_of(value)?;
+    let query = Query::Board(board);
+    Ok(Message::Query { user, query, since })
+}
+
+#[tactic(auto, unfolding(crate::specs::Message::query_of))]
+fn traveller_query(value: &Value) -> Result<Message, MessageFault>
+    ensures { result ≡ query_of Traveller (view value.now) }
+{
+    let Asked { user, board, since } = asked_of(value)?;
+    let query = Query::Traveller(board);
+    Ok(Message::Query { user, query, since })
+}
+
+fn query_called(word: &str, value: &Value) -> Result<Message, MessageFault>
+    ensures { result ≡ query_called word.now (view value.now) }
+{
+    if word == "board" {
+        return board_query(value);
+    }
+    if word == "traveller" {
+        return traveller_query(value);
+    }
+    Err(MessageFault::UnknownRequest)
 }
 
 fn query_by(ask: &Value, value: &Value) -> Result<Message, MessageFault>
     ensures { result ≡ query_by (as_str (view ask.now)) (view value.now) }
 {
-    let Some(word) = ask.as_str() else {
-        return Err(MessageFault::BadField);
-    };
-    if word == "board" {
-        query_of(value)
-    } else {
-        Err(MessageFault::UnknownRequest)
+    match ask.as_str() {
+        Some(word) => query_called(word, value),
+        None => Err(MessageFault::BadField),
     }
 }
 

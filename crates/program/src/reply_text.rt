@@ -4,6 +4,7 @@ ghost use Rattle.std.specs.Prelude.{◌≡◌, IfOk, string_bytes};
 ghost use Rattle.serde_json.specs.View.{view};
 ghost use Rattle.program.specs.ReplyText.{error_data, denial_data, board_data, reply_data, reply_text};
 
+use crate::traveller_text::traveller_value;
 use cards::Deal;
 use denials::{Denial, explain};
 use disclosure_rules::Marks;
@@ -37,6 +38,14 @@ fn reply_value(alloc: Global, reply: &Reply) -> Result<Value, AllocError>
         } => {
             let board = board_value(alloc, *number, deal, *marks)?;
             json!(in alloc; {"board": board, "version": *version})
+        }
+        Reply::Traveller {
+            number,
+            rows,
+            version,
+        } => {
+            let traveller = traveller_value(alloc, *number, rows)?;
+            json!(in alloc; {"traveller": traveller, "version": *version})
         }
     }
 }

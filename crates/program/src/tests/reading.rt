@@ -1,5 +1,6 @@
 use crate::*;
 use cards::{Card, Place, Rank, Strain, Suit};
+use published_view::Query;
 use scoring::{Contract, Doubling, Level, Outcome, Tricks};
 use session_book::Command;
 use std::alloc::{AllocError, Global};
@@ -76,6 +77,11 @@ fn knows_no_other_request(rt: HostRuntime) {
         "{\"as\":\"n1\",\"hello\":\"n1\",\"token\":\"abc\"}",
         "{\"as\":\"n1\",\"audit\":{\"from\":1,\"limit\":1}}",
         "{\"as\":\"n1\",\"ask\":\"Board\",\"board\":1}",
+        "{\"as\":\"n1\",\"ask\":\"Traveller\",\"board\":1}",
+        "{\"as\":\"n1\",\"ask\":\"travellers\",\"board\":1}",
+        "{\"as\":\"n1\",\"ask\":\"\",\"board\":1}",
+        "{\"as\":\"n1\",\"ask\":\"traveller\",\"board\":1,\"do\":[]}",
+        "{\"as\":\"n1\",\"ask\":\"Traveller\",\"board\":256}",
         "{\"as\":\"k\",\"do\":[5,{\"board\":1,\"cmd\":\"Enter\"},{\"cmd\":\"Shuffle\"}]}",
         "{\"do\":[{\"cmd\":\"enter\"}]}",
     ];
@@ -107,6 +113,12 @@ fn refuses_bad_members_of_a_query(rt: HostRuntime) {
         "{\"as\":\"abcdefghijklmnopqrstuvwxyz0123456\",\"ask\":\"board\",\"board\":1}",
         "{\"ask\":5,\"as\":\"n1\",\"board\":1}",
         "{\"as\":\"n1\",\"ask\":\"board\",\"board\":1,\"board\":256}",
+        "{\"as\":\"n1\",\"ask\":\"traveller\",\"board\":256}",
+        "{\"as\":\"n1\",\"ask\":\"traveller\",\"board\":\"1\"}",
+        "{\"as\":\"n1\",\"ask\":\"traveller\"}",
+        "{\"as\":\"n1\",\"ask\":\"traveller\",\"board\":1,\"since\":-1}",
+        "{\"as\":\"n1\",\"ask\":\"traveller\",\"board\":1,\"table\":1}",
+        "{\"ask\":\"traveller\",\"board\":1}",
     ];
     for text in rows {
         assert_eq!(rt;
@@ -148,9 +160,9 @@ fn refuses_bad_members_of_a_batch(rt: HostRuntime) {
     }
 }
 
-fn board_asked(message: &Message) -> Option<(u8, u64)> {
+fn asked(message: &Message) -> Option<(Query, u64)> {
     match message {
-        Message::Query { board, since, .. } => Some((*board, *since)),
+        Message::Query { query, since, .. } => Some((*query, *since)),
         Message::Batch { .. } => None,
     }
 }
@@ -158,31 +170,50 @@ fn board_asked(message: &Message) -> Option<(u8, u64)> {
 #[test]
 fn reads_a_query(rt: HostRuntime) -> Result<(), Fail> {
     let rows = [
-        ("{\"as\":\"n1\",\"ask\":\"board\",\"board\":1}", 1, 0),
+        (
+            "{\"as\":\"n1\",\"ask\":\"board\",\"board\":1}",
+            Query::Board(1),
+            0,
+        ),
         (
             "{\"as\":\"n1\",\"ask\":\"board\",\"board\":0,\"since\":7}",
-            0,
+            Query::Board(0),
             7,
         ),
         (
             "{\"board\":255,\"ask\":\"board\",\"as\":\"n1\",\"since\":18446744073709551615}",
-            255,
+            Query::Board(255),
             u64::MAX,
         ),
         (
             " {\"as\":\"zz\",\"as\":\"n1\",\"ask\":5,\"ask\":\"board\",\"board\":256,\"board\":3} ",
-            3,
+            Query::Board(3),
             0,
         ),
         (
             "{\"\\u0061s\":\"n\\u0031\",\"ask\":\"board\",\"board\":1}",
-            1,
+            Query::Board(1),
             0,
         ),
+        (
+            "{\"as\":\"n1\",\"ask\":\"traveller\",\"board\":1}",
+            Query::Traveller(1),
+            0,
+        ),
+        (
+            "{\"as\":\"n1\",\"ask\":\"traveller\",\"board\":255,\"since\":7}",
+            Query::Traveller(255),
+            7,
+        ),
+        (
+            "{\"as\":\"n1\",\"ask\":\"board\",\"ask\":\"traveller\",\"board\":0,\"since\":18446744073709551615}",
+            Query::Traveller(0),
+            u64::MAX,
+        ),
     ];
-    for (text, board, since) in rows {
+    for (text, query, since) in rows {
         let message = read_message(rt.alloc(), text.as_bytes())?;
-        assert_eq!(rt; board_asked(&message), Some((board, since)), "{text}");
+        assert_eq!(rt; asked(&message), Some((query, since)), "{text}");
         let Message::Query { user, .. } = message else {
             return Err("no query".into());
         };

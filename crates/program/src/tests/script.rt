@@ -57,7 +57,40 @@ fn shows_a_board_once_its_result_is_confirmed(rt: HostRuntime) -> Result<(), Fai
 {"denied":{"board":1,"rule":5,"table":2,"why":"your pair has still to play this board"},"version":2}
 {"denied":{"board":1,"rule":8,"table":2,"why":"the board isn't complete"},"version":2}
 {"error":"UnknownRequest"}
-{"error":"UnknownRequest"}
+{"traveller":{"board":1,"rows":[{"ew":"EW1","ns":"NS1","points":0,"result":{"by":"N","doubled":0,"level":4,"strain":"S","tricks":10},"score":420,"table":1}]},"version":2}
+"#;
+    assert_eq!(rt; answers_to(rt.alloc(), script)?.as_str(), answers);
+    Ok(())
+}
+
+#[test]
+fn shows_a_traveller_of_what_was_confirmed(rt: HostRuntime) -> Result<(), Fail> {
+    let script = r#"{}
+{"as":"d","ask":"traveller","board":3}
+{"as":"k","do":[{"board":2,"cmd":"Enter","result":"pass","table":2},{"board":2,"cmd":"Confirm","result":"pass","table":2}]}
+{"as":"k","do":[{"board":3,"cmd":"Enter","result":{"by":"S","doubled":2,"level":7,"strain":"N","tricks":0},"table":3}]}
+{"as":"d","ask":"traveller","board":3}
+{"as":"k","do":[{"board":3,"cmd":"Confirm","result":{"by":"S","doubled":2,"level":7,"strain":"N","tricks":0},"table":3}]}
+{"as":"d","ask":"traveller","board":3,"since":4}
+{"as":"n2","ask":"traveller","board":2}
+{"as":"n1","ask":"traveller","board":2}
+{"as":"s","ask":"traveller","board":2}
+{"as":"k","ask":"traveller","board":2}
+{"as":"zz","ask":"traveller","board":2,"since":5}
+{"as":"zz","ask":"traveller","board":4,"since":5}
+"#;
+    let answers = r#"{"traveller":{"board":3,"rows":[]},"version":0}
+{"answers":["ok","ok"],"first":1,"last":2,"version":2}
+{"answers":["ok"],"first":3,"last":3,"version":3}
+{"traveller":{"board":3,"rows":[]},"version":3}
+{"answers":["ok"],"first":4,"last":4,"version":4}
+{"traveller":{"board":3,"rows":[{"ew":"EW3","ns":"NS3","points":0,"result":{"by":"S","doubled":2,"level":7,"strain":"N","tricks":0},"score":-7000,"table":3}]},"version":4}
+{"traveller":{"board":2,"rows":[{"ew":"EW2","ns":"NS2","points":0,"result":"pass","score":0,"table":2}]},"version":4}
+{"denied":{"board":2,"rule":5,"table":1,"why":"your pair has still to play this board"},"version":4}
+{"denied":{"board":2,"rule":8,"table":1,"why":"the board isn't complete"},"version":4}
+{"denied":{"board":2,"rule":7,"table":0,"why":"neither a contestant nor a spectator"},"version":4}
+{"error":"Behind","version":4}
+{"error":"NoSuchBoard","version":4}
 "#;
     assert_eq!(rt; answers_to(rt.alloc(), script)?.as_str(), answers);
     Ok(())

@@ -2,12 +2,15 @@ use Rattle.std.proofs.Common.{rules, string_bytes}
 use Rattle.program.proofs.TellsLemmas.{tells_no_memory, tells_reply, tells_by_line}
 use Rattle.program.proofs.answer_line.query_line.Goals as goal
 
-pub returns-in-Ok : goal.returns-in-Ok
-returns-in-Ok c = record {
+pub returns-in_default : goal.returns-in_default
+returns-in_default c = record { told = λ line means. tells_no_memory c.args.book.now.opening c.args.book.now.journal line }
+
+pub returns-in-Ok-reply_text : goal.returns-in-Ok-reply_text
+returns-in-Ok-reply_text c = record {
   told = λ line means. tells_by_line string_bytes c.args.book.now.opening c.args.book.now.journal line _ _ c.with_line_feed.result c.with_line_feed.ensures.line c.with_line_feed.ensures.err
-      (tells_reply c.args.book.now.opening c.args.book.now.journal line c.args.user c.args.board c.args.since _ means (search rules))
+      (tells_reply c.args.book.now.opening c.args.book.now.journal line c.args.user c.args.query c.args.since _ means (search rules))
       (tells_no_memory c.args.book.now.opening c.args.book.now.journal line);
 }
 
-pub returns-in-Err : goal.returns-in-Err
-returns-in-Err c = record { told = λ line means. tells_no_memory c.args.book.now.opening c.args.book.now.journal line }
+pub returns : goal.returns
+returns c = record { told = λ line means. tells_no_memory c.args.book.now.opening c.args.book.now.journal line }
