@@ -1,5 +1,5 @@
--- What a denial says beside its rule: the board, and a table from which anybody who knows the public facts can see that the
--- rule forbids.
+-- What a denial says beside its rule: the board, and a table from which its user, who knows the public facts and the own roles and
+-- seat, can see that the rule forbids.
 --
 -- own: what is named as evidence is this project's choice. It never depends on what the user may not see.
 use Rattle.std.specs.Prelude.{ℕ, Bool, not, ◌&&◌, Option, Some, None, List, codes}
