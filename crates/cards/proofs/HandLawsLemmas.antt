@@ -9,7 +9,8 @@ use Rattle.cards.specs.declared.suit.Suit.TheVariants.{Spades, Hearts, Diamonds,
 use Rattle.cards.specs.declared.rank.Rank.{Rank}
 use Rattle.cards.specs.Rank.{rank_letter, ranks_down}
 use Rattle.cards.specs.Cards.{Cards}
-use Rattle.cards.specs.CardBits.{each_rank, same_cards}
+use Rattle.cards.specs.CardBits.{each_rank}
+use Rattle.cards.proofs.CardBitsLemmas.{same_cards}
 use Rattle.cards.specs.HandText.{held_letters, holding_text, hand_text}
 use Rattle.cards.specs.HandReading.{Names, names, IsHoldingText, IsHandText}
 use Rattle.cards.proofs.HandReadingLemmas.{suits_joined, suits_of}

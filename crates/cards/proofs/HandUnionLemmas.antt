@@ -6,7 +6,8 @@ use Rattle.std.specs.Int.{bit_at}
 use Rattle.std.proofs.lemmas.Nat.Bits.{bit_at-lt, bit_at_or}
 use Rattle.cards.specs.Card.{number_in_pack}
 use Rattle.cards.specs.Cards.{cards_of_bits}
-use Rattle.cards.specs.CardBits.{card_cmp_total, contains-cards_of_bits, same_cards}
+use Rattle.cards.specs.CardBits.{card_cmp_total, contains-cards_of_bits}
+use Rattle.cards.proofs.CardBitsLemmas.{same_cards}
 
 -- of two digits the greater is 1 where one of them is
 greater_digit : (x y : ℕ) → x < 2 → y < 2 → nat_eq (max x y) 1 ≡ (nat_eq x 1 || nat_eq y 1)

@@ -5,13 +5,14 @@ use Rattle.std.specs.FinSet as set
 use Rattle.cards.specs.declared.place.Place.{Place}
 use Rattle.cards.specs.declared.place.Place.TheVariants.{North, East, South, West}
 use Rattle.cards.specs.Cards.{Cards, AreDisjoint}
-use Rattle.cards.specs.Hands.{Hands, hand_of, IsDeal, NoTwoShare}
+use Rattle.cards.specs.Hands.{Hands, hand_of, IsDeal}
+use Rattle.cards.specs.FourHands.{NoTwoShare}
 
 -- disjoint sets are so in either order
 disjoint_back : (a b : Cards) → AreDisjoint a b → AreDisjoint b a
 disjoint_back a b apart card in_b = false_from_ne_true _ (λ in_a. true≢false (sym in_b ∙ apart card in_a))
 
-apart_of : (hands : Hands) → NoTwoShare hands → (place other : Place) → place ≢ other → AreDisjoint (hand_of hands place) (hand_of hands other)
+pub apart_of : (hands : Hands) → NoTwoShare hands → (place other : Place) → place ≢ other → AreDisjoint (hand_of hands place) (hand_of hands other)
 apart_of hands s North North ne = absurd (ne refl)
 apart_of hands s North East ne = s.north_east
 apart_of hands s North South ne = s.north_south

@@ -1,6 +1,8 @@
+pub mod CardBitsLemmas
 pub mod DealReadingLemmas
 pub mod HandLawsLemmas
 pub mod HandReadingLemmas
+pub mod HandSetLemmas
 pub mod HandTextLemmas
 pub mod HandUnionLemmas
 pub mod HandsLemmas
@@ -8,4 +10,6 @@ pub mod Law2Lemmas
 pub mod NameLemmas
 pub mod PairReadingLemmas
 pub mod PartsLemmas
+pub mod PlayLemmas
+pub mod PositionLemmas
 pub mod ReadBackLemmas

@@ -1,4 +1,5 @@
--- How a hand and a deal are read: the tag Deal of PBN 2.1, with the cards of a suit in any order, each letter in either case, and any player's hand first.
+-- How a hand and a deal are read: the tag Deal of PBN 2.1, with the cards of a suit in any order, each letter in either
+-- case, and any player's hand first.
 use Rattle.std.specs.Prelude.{◌≡◌, ℕ, Bool, nat_eq, List, ◌∷◌, ◌++◌, All, count_by, codes, if◌then◌else◌, Result, IfOk, IfErr, OnErr}
 use Rattle.std.specs.Char.{to_ascii_uppercase}
 use Rattle.std.specs.FinSet as set
@@ -6,7 +7,6 @@ use Rattle.cards.specs.declared.suit.Suit.{Suit}
 use Rattle.cards.specs.declared.suit.Suit.TheVariants.{Spades, Hearts, Diamonds, Clubs}
 use Rattle.cards.specs.declared.rank.Rank.{Rank}
 use Rattle.cards.specs.declared.place.Place.{Place}
-use Rattle.cards.specs.declared.place.Place.TheVariants.{North, East, South, West}
 use Rattle.cards.specs.declared.hand_reading.NotAHand.{NotAHand}
 use Rattle.cards.specs.declared.deal_reading.DealTextError.{DealTextError}
 use Rattle.cards.specs.declared.deal_reading.DealTextError.TheVariants.{NotADealText, NotADeal}
@@ -26,7 +26,8 @@ names rank letter = nat_eq (to_ascii_uppercase letter) (rank_letter rank)
 -- the letters name what the cards have in a suit: in any order, each card once
 pub record IsHoldingText (cards : Cards) (suit : Suit) (letters : List ℕ) : Type 0 where
   pub each : All (λ letter. (rank : Rank) × Names letter rank) letters
-  pub held : (rank : Rank) → count_by (names rank) letters ≡ (if set.contains cards (record { suit = suit; rank = rank }) then 1 else 0)
+  pub held : (rank : Rank) →
+      count_by (names rank) letters ≡ (if set.contains cards (record { suit = suit; rank = rank }) then 1 else 0)
 
 -- the suits of a hand, from the spades down, with a dot between them
 pub record IsHandText (cards : Cards) (text : List ℕ) : Type 0 where
@@ -51,18 +52,12 @@ pub record IsDealText (hands : Hands) (text : List ℕ) : Type 0 where
   pub left : List ℕ
   pub opposite : List ℕ
   pub right : List ℕ
-  pub joined : text ≡ place_letter first ∷ codes ":" ++ (own ++ (codes " " ++ (left ++ (codes " " ++ (opposite ++ (codes " " ++ right))))))
+  pub joined : text ≡ place_letter first ∷ codes ":"
+      ++ (own ++ (codes " " ++ (left ++ (codes " " ++ (opposite ++ (codes " " ++ right))))))
   pub is_own : IsHandText (hand_of hands first) own
   pub is_left : IsHandText (hand_of hands (left_of first)) left
   pub is_opposite : IsHandText (hand_of hands (partner_of first)) opposite
   pub is_right : IsHandText (hand_of hands (partner_of (left_of first))) right
-
--- the four hands that a player and those clockwise from there hold
-abbrev pub clockwise_from : Place → Cards → Cards → Cards → Cards → Hands
-clockwise_from North own left opposite right = record { north = own; east = left; south = opposite; west = right }
-clockwise_from East own left opposite right = record { north = right; east = own; south = left; west = opposite }
-clockwise_from South own left opposite right = record { north = opposite; east = right; south = own; west = left }
-clockwise_from West own left opposite right = record { north = left; east = opposite; south = right; west = own }
 
 -- why a text is refused as a deal's: it is that of no four hands, or of four hands that are no deal
 abbrev pub IsRefusedFor : DealTextError → List ℕ → Type 0
@@ -71,4 +66,5 @@ IsRefusedFor NotADeal text = (hands : Hands) × IsDealText hands text × ¬ IsDe
 
 -- what reading a text as a deal gives: the deal whose text it is, or why it is none's
 abbrev pub ReadsDeal : List ℕ → Result Hands DealTextError → Type 0
-ReadsDeal text read = IfOk read (λ deal. IsDealText deal text) × IfOk read IsDeal × IfErr read (λ error. IsRefusedFor error text)
+ReadsDeal text read =
+    IfOk read (λ deal. IsDealText deal text) × IfOk read IsDeal × IfErr read (λ error. IsRefusedFor error text)

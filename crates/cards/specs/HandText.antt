@@ -20,9 +20,15 @@ holding_text cards suit = held_letters cards suit ranks_down
 -- the suits of a hand, from the spades down, with a dot between them: `AKQ.JT.98765.432`
 abbrev pub hand_text : Cards → List ℕ
 hand_text cards =
-    holding_text cards Spades ++ (codes "." ++ (holding_text cards Hearts ++ (codes "." ++ (holding_text cards Diamonds ++ (codes "." ++ holding_text cards Clubs)))))
+    holding_text cards Spades
+    ++ (codes "." ++ (holding_text cards Hearts
+    ++ (codes "." ++ (holding_text cards Diamonds
+    ++ (codes "." ++ holding_text cards Clubs)))))
 
 -- the hands of a deal, clockwise from North, with a space between them
 abbrev pub deal_text : Hands → List ℕ
 deal_text hands =
-    codes "N:" ++ (hand_text hands.north ++ (codes " " ++ (hand_text hands.east ++ (codes " " ++ (hand_text hands.south ++ (codes " " ++ hand_text hands.west))))))
+    codes "N:" ++ (hand_text hands.north
+    ++ (codes " " ++ (hand_text hands.east
+    ++ (codes " " ++ (hand_text hands.south
+    ++ (codes " " ++ hand_text hands.west))))))

@@ -34,12 +34,3 @@ hand_of hands West = hands.west
 pub record IsDeal (hands : Hands) : Type 0 where
   pub thirteen : (place : Place) → set.len (hand_of hands place) ≡ 13
   pub apart : (place other : Place) → place ≢ other → AreDisjoint (hand_of hands place) (hand_of hands other)
-
--- the six pairs of players
-pub record NoTwoShare (hands : Hands) : Type 0 where
-  pub north_east : AreDisjoint hands.north hands.east
-  pub north_south : AreDisjoint hands.north hands.south
-  pub north_west : AreDisjoint hands.north hands.west
-  pub east_south : AreDisjoint hands.east hands.south
-  pub east_west : AreDisjoint hands.east hands.west
-  pub south_west : AreDisjoint hands.south hands.west

@@ -1,6 +1,8 @@
 pub mod Card
 pub mod CardBits
 pub mod Cards
+pub mod First
+pub mod FourHands
 pub mod HandReading
 pub mod HandText
 pub mod Hands
@@ -9,8 +11,11 @@ pub mod Name
 pub mod Pair
 pub mod PairReading
 pub mod Place
+pub mod Play
+pub mod Position
 pub mod Rank
 pub mod Side
 pub mod Strain
 pub mod Suit
+pub mod Trick
 pub mod Vulnerability

@@ -1,4 +1,4 @@
--- The four places at a table, and how the turn passes round it.
+-- The four places at a table (Law 3), who plays with whom (Law 4), and how the turn passes round it (Law 17C, Law 44).
 use Rattle.std.specs.Prelude.{ℕ}
 use Rattle.cards.specs.declared.place.Place.{Place}
 use Rattle.cards.specs.declared.place.Place.TheVariants.{North, East, South, West}
@@ -11,6 +11,13 @@ left_of North = East
 left_of East = South
 left_of South = West
 left_of West = North
+
+-- a place's number in turn, counted from North's 0
+abbrev pub place_number : Place → ℕ
+place_number North = 0
+place_number East = 1
+place_number South = 2
+place_number West = 3
 
 -- who sits opposite
 abbrev pub partner_of : Place → Place

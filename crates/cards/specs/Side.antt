@@ -1,4 +1,4 @@
--- The two sides at a table.
+-- The two sides at a table (Law 4).
 use Rattle.std.specs.Prelude.{ℕ, List, codes}
 use Rattle.cards.specs.declared.side.Side.{Side}
 use Rattle.cards.specs.declared.side.Side.TheVariants.{NorthSouth, EastWest}
@@ -8,6 +8,7 @@ abbrev pub other_side : Side → Side
 other_side NorthSouth = EastWest
 other_side EastWest = NorthSouth
 
+-- `NS`, `EW`
 abbrev pub side_text : Side → List ℕ
 side_text NorthSouth = codes "NS"
 side_text EastWest = codes "EW"

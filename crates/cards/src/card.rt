@@ -34,7 +34,8 @@ pub struct NotACard;
 impl FromStr for Card {
     type Err = NotACard;
 
-    ghost from_str_gives = { λ text read. (IfOk read (λ card. card_text card ≡ text)) × (OnErr read ((card : Card) → card_text card ≢ text)) };
+    ghost from_str_gives = { λ text read.
+        (IfOk read (λ card. card_text card ≡ text)) × (OnErr read ((card : Card) → card_text card ≢ text)) };
 
     fn from_str(text: &str) -> Result<Card, NotACard> {
         let [suit, rank] = text.as_bytes() else {

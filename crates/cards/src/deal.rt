@@ -1,5 +1,6 @@
 ghost use Rattle.std.specs.Prelude.{◌≡◌, ◌↔◌, IsTrue, IfOk, OnErr, Some};
-ghost use Rattle.cards.specs.Hands.{IsDeal, NoTwoShare, hand_of};
+ghost use Rattle.cards.specs.Hands.{IsDeal, hand_of};
+ghost use Rattle.cards.specs.FourHands.{NoTwoShare};
 ghost use Rattle.std.specs.FinSet as set;
 ghost use Rattle.cards.specs.HandText.{deal_text};
 
@@ -38,6 +39,7 @@ impl Model for Deal {
 pub struct NotADeal;
 
 impl Deal {
+    /// The deal of four hands, if they are one.
     pub fn new(north: Hand, east: Hand, south: Hand, west: Hand) -> Result<Deal, NotADeal>
         ensures ok { IfOk result (λ deal. deal ≡ record { north = north; east = east; south = south; west = west }) }
         ensures deal { IfOk result IsDeal }
@@ -91,7 +93,7 @@ fn all_have_thirteen(north: Hand, east: Hand, south: Hand, west: Hand) -> bool
     north.len() == 13 && east.len() == 13 && south.len() == 13 && west.len() == 13
 }
 
-fn no_two_share(north: Hand, east: Hand, south: Hand, west: Hand) -> bool
+pub(crate) fn no_two_share(north: Hand, east: Hand, south: Hand, west: Hand) -> bool
     ensures { IsTrue result ↔ NoTwoShare (record { north = north; east = east; south = south; west = west }) }
 {
     north.is_disjoint(east)

@@ -2,7 +2,8 @@ ghost use Rattle.std.specs.Prelude.{◌≡◌, ◌≢◌, ◌∷◌, ◌++◌, �
 ghost use Rattle.cards.specs.declared.place.Place.{Place};
 ghost use Rattle.cards.specs.Place.{place_letter};
 ghost use Rattle.cards.specs.Hands.{Hands, IsDeal};
-ghost use Rattle.cards.specs.HandReading.{IsDealText, ReadsDeal, clockwise_from};
+ghost use Rattle.cards.specs.FourHands.{clockwise_from};
+ghost use Rattle.cards.specs.HandReading.{IsDealText, ReadsDeal};
 
 use crate::deal::{Deal, NotADeal};
 use crate::hand::Hand;
@@ -22,7 +23,8 @@ pub enum DealTextError {
     NotADeal,
 }
 
-/// Reads the letter of any player, a colon, and the hands clockwise from that player's: `E:.63.AKQ987.A9732 A8654.KQ5.T.QJT6 ..`.
+/// Reads the letter of any player, a colon, and the hands clockwise from that player's:
+/// `E:.63.AKQ987.A9732 A8654.KQ5.T.QJT6 ..`.
 impl FromStr for Deal {
     type Err = DealTextError;
 
@@ -50,9 +52,11 @@ struct FourHands {
 impl FourHands {
     /// The deal, if they are one.
     fn deal(&self) -> Result<Deal, NotADeal>
-        ensures ok { IfOk result (λ deal. deal ≡ clockwise_from self.now.first self.now.own self.now.left self.now.opposite self.now.right) }
+        ensures ok { IfOk result (λ deal.
+            deal ≡ clockwise_from self.now.first self.now.own self.now.left self.now.opposite self.now.right) }
         ensures deal { IfOk result IsDeal }
-        ensures err { OnErr result (¬ IsDeal (clockwise_from self.now.first self.now.own self.now.left self.now.opposite self.now.right)) }
+        ensures err { OnErr result (¬ IsDeal
+            (clockwise_from self.now.first self.now.own self.now.left self.now.opposite self.now.right)) }
     {
         match self.first {
             Place::North => Deal::new(self.own, self.left, self.opposite, self.right),
@@ -65,7 +69,8 @@ impl FourHands {
 
 /// The four hands of a text.
 fn read_hands(text: &str) -> Option<FourHands>
-    ensures hands { IfSome result (λ read. IsDealText (clockwise_from read.first read.own read.left read.opposite read.right) text.now) }
+    ensures hands { IfSome result (λ read.
+        IsDealText (clockwise_from read.first read.own read.left read.opposite read.right) text.now) }
     ensures none { IfNone result ((hands : Hands) → ¬ IsDealText hands text.now) }
 {
     let (first, rest) = read_first(text)?;

@@ -1,8 +1,10 @@
-ghost use Rattle.std.specs.Prelude.{◌≡◌, ◌+◌, ◌*◌, ◌^◌, ◌<◌, ◌↔◌, IsTrue};
+ghost use Rattle.std.specs.Prelude.{◌≡◌, ◌+◌, ◌*◌, ◌^◌, ◌<◌, ◌≤◌, ◌↔◌, IsTrue};
 ghost use Rattle.std.specs.FinSet as set;
 ghost use Rattle.cards.specs.Card.{card_cmp, number_in_pack};
 ghost use Rattle.cards.specs.Cards.{AreDisjoint};
 ghost use Rattle.cards.specs.declared.card.Card.{Card};
+
+mod sets;
 
 use crate::card::Card;
 use crate::holding::Holding;
@@ -76,11 +78,13 @@ impl Hand {
 
     /// How many cards there are.
     pub fn len(self) -> u32
-        ensures { result ≡ set.len self }
+        ensures cards { result ≡ set.len self }
+        ensures few { result ≤ 52 }
     {
         self.bits.count_ones()
     }
 
+    /// Whether there is no card.
     pub fn is_empty(self) -> bool
         ensures { IsTrue result ↔ (self ≡ set.empty) }
     {

@@ -16,7 +16,8 @@ use thiserror::Error;
 #[error("not a hand")]
 pub struct NotAHand;
 
-/// Reads the suits from the spades down with a dot between them, each in any order and in either case: `AKQ.jt.56789.432`.
+/// Reads the suits from the spades down with a dot between them, the cards of each in any order and in either case:
+/// `AKQ.jt.56789.432`.
 impl FromStr for Hand {
     type Err = NotAHand;
 

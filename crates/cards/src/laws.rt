@@ -1,5 +1,6 @@
 //! What follows from the definitions alone: each function here has nothing to do, and its clauses are the theorem.
-ghost use Rattle.std.specs.Prelude.{◌≡◌, ◌≤◌, ℕ, List, Result, Ok};
+ghost use Rattle.std.specs.Prelude.{◌≡◌, ◌+◌, ◌<◌, ◌≤◌, ◌↔◌, true, ℕ, List, Result, Ok, IsTrue};
+ghost use Rattle.std.specs.FinSet as set;
 ghost use Rattle.cards.specs.Law2.{IsDealer, IsMarked};
 ghost use Rattle.cards.specs.declared.place.Place.{Place};
 ghost use Rattle.cards.specs.declared.vulnerability.Vulnerability.{Vulnerability};
@@ -9,7 +10,9 @@ ghost use Rattle.cards.specs.declared.pair.Pair.{Pair};
 ghost use Rattle.cards.specs.declared.pair_reading.NotAPair.{NotAPair};
 ghost use Rattle.cards.specs.Pair.{pair_text};
 ghost use Rattle.cards.specs.PairReading.{ReadsPair};
-ghost use Rattle.cards.specs.Cards.{Cards};
+ghost use Rattle.cards.specs.Cards.{Cards, are_same};
+ghost use Rattle.cards.specs.Play.{Position, legal, after, cards_left, IsPosition};
+ghost use Rattle.cards.specs.declared.card.Card.{Card};
 ghost use Rattle.cards.specs.Hands.{Hands, IsDeal};
 ghost use Rattle.cards.specs.HandText.{hand_text, deal_text};
 ghost use Rattle.cards.specs.HandReading.{IsHandText, IsDealText, ReadsHand, ReadsDeal};
@@ -19,6 +22,12 @@ pub fn one_dealer_and_one_marking()
     ensures dealer { (board : ℕ) (place other : Place) → IsDealer board place → IsDealer board other → place ≡ other }
     ensures marking { (board : ℕ) (vulnerability other : Vulnerability) →
         IsMarked board vulnerability → IsMarked board other → vulnerability ≡ other }
+{}
+
+/// Two hands are found equal exactly where they have the same cards.
+#[tactic(auto, using(crate::proofs::CardBitsLemmas::are_same_decides))]
+pub fn equal_hands_are_one()
+    ensures { (one other : Cards) → IsTrue (are_same one other) ↔ (one ≡ other) }
 {}
 
 /// What is written of a hand is read as that hand.
@@ -59,4 +68,14 @@ pub fn a_written_deal_is_read_back()
 pub fn a_written_pair_is_read_back()
     ensures { (pair : Pair) (read : Result Pair NotAPair) →
         1 ≤ pair.number → pair.number ≤ 255 → ReadsPair (pair_text pair) read → read ≡ Ok pair }
+{}
+
+/// While cards are left the player in turn has a legal one, and it leads to a position with one card fewer.
+pub fn a_deal_can_be_played_out()
+    ensures legal { (p : Position) → IsPosition p → 0 < cards_left p →
+        (card : Card) × (set.contains (legal p) card ≡ true) }
+    ensures position { (p : Position) (card : Card) →
+        IsPosition p → set.contains (legal p) card ≡ true → IsPosition (after p card) }
+    ensures fewer { (p : Position) (card : Card) →
+        IsPosition p → set.contains (legal p) card ≡ true → cards_left (after p card) + 1 ≡ cards_left p }
 {}

@@ -36,6 +36,7 @@ impl Name {
     /// How many bytes a name has at most.
     pub const MOST: usize = 32;
 
+    /// The name that is this text.
     pub fn new(text: &str) -> Result<Name, NameTooLong>
         ensures ok { IfOk result (λ name. name ≡ text.now) }
         ensures short { IfOk result (λ name. length text.now ≤ 32) }
@@ -53,6 +54,7 @@ impl Name {
         })
     }
 
+    /// The text.
     pub fn as_str(&self) -> &str
         ensures text { result.now ≡ self.now }
         ensures short { length result.now ≤ 32 }

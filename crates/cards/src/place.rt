@@ -5,7 +5,7 @@ ghost use Rattle.cards.specs.declared.place.Place.{Place};
 use crate::side::Side;
 use std::fmt;
 
-/// Where a player sits at the table, clockwise from North.
+/// Where a player sits at the table, clockwise from North (Law 3).
 #[derive(Clone, Copy, Debug, PartialEq, Eq, Hash)]
 pub enum Place {
     North,
@@ -15,9 +15,6 @@ pub enum Place {
 }
 
 impl Place {
-    /// The four places, clockwise from North.
-    pub const ALL: [Place; 4] = [Place::North, Place::East, Place::South, Place::West];
-
     /// The player to the left, to whom the turn passes (Law 17C, Law 44).
     pub fn left(self) -> Place
         ensures { result ≡ left_of self }

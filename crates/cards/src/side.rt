@@ -3,7 +3,7 @@ ghost use Rattle.cards.specs.Side.{other_side, side_text};
 
 use std::fmt;
 
-/// Two partners at a table (Law 1): North and South, or East and West.
+/// Two partners at a table (Law 4): North and South, or East and West.
 #[derive(Clone, Copy, Debug, PartialEq, Eq, Hash)]
 pub enum Side {
     NorthSouth,

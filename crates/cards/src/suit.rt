@@ -14,9 +14,6 @@ pub enum Suit {
 }
 
 impl Suit {
-    /// The four suits, in the order in which a hand is written.
-    pub const ALL: [Suit; 4] = [Suit::Spades, Suit::Hearts, Suit::Diamonds, Suit::Clubs];
-
     /// `S`, `H`, `D` or `C`.
     pub fn letter(self) -> char
         ensures { result ≡ suit_letter self }

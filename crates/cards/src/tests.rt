@@ -10,29 +10,40 @@ fn whole_suit(suit: Suit) -> Hand {
     hand
 }
 
+/// The boards that each player deals, of the first sixteen, as Law 2 prints them.
+const DEALT: [(Place, [u8; 4]); 4] = [
+    (Place::North, [1, 5, 9, 13]),
+    (Place::East, [2, 6, 10, 14]),
+    (Place::South, [3, 7, 11, 15]),
+    (Place::West, [4, 8, 12, 16]),
+];
+
+/// The boards with each marking, of the first sixteen, as Law 2 prints them.
+const MARKED: [(Vulnerability, [u8; 4]); 4] = [
+    (Vulnerability::Neither, [1, 8, 11, 14]),
+    (Vulnerability::NorthSouth, [2, 5, 12, 15]),
+    (Vulnerability::EastWest, [3, 6, 9, 16]),
+    (Vulnerability::Both, [4, 7, 10, 13]),
+];
+
+/// Boards 1 to 64, and on to 128: each further sixteen repeat the first.
 #[test]
 fn marks_boards_as_law_2_does(rt: HostRuntime) {
-    let rows = [
-        (1, Place::North, Vulnerability::Neither),
-        (2, Place::East, Vulnerability::NorthSouth),
-        (3, Place::South, Vulnerability::EastWest),
-        (4, Place::West, Vulnerability::Both),
-        (5, Place::North, Vulnerability::NorthSouth),
-        (7, Place::South, Vulnerability::Both),
-        (8, Place::West, Vulnerability::Neither),
-        (9, Place::North, Vulnerability::EastWest),
-        (10, Place::East, Vulnerability::Both),
-        (13, Place::North, Vulnerability::Both),
-        (16, Place::West, Vulnerability::EastWest),
-        (17, Place::North, Vulnerability::Neither),
-        (36, Place::West, Vulnerability::Both),
-        (64, Place::West, Vulnerability::EastWest),
-        (128, Place::West, Vulnerability::EastWest),
-    ];
-    for (board, dealer, vulnerability) in rows {
-        assert!(rt; board >= 1);
-        assert_eq!(rt; dealer_of(board), dealer, "board {board}");
-        assert_eq!(rt; vulnerability_of(board), vulnerability, "board {board}");
+    for series in 0..8 {
+        for (dealer, boards) in DEALT {
+            for like in boards {
+                assert!(rt; 1 <= like && like <= 16);
+                let board = 16 * series + like;
+                assert_eq!(rt; dealer_of(board), dealer, "board {board}");
+            }
+        }
+        for (vulnerability, boards) in MARKED {
+            for like in boards {
+                assert!(rt; 1 <= like && like <= 16);
+                let board = 16 * series + like;
+                assert_eq!(rt; vulnerability_of(board), vulnerability, "board {board}");
+            }
+        }
     }
 }
 
@@ -51,24 +62,6 @@ fn writes_a_deal_from_north(rt: HostRuntime) -> Result<(), Fail> {
     );
     assert_eq!(rt; deal.hand(Place::East), whole_suit(Suit::Hearts));
     Ok(())
-}
-
-#[test]
-fn refuses_hands_that_are_no_deal(rt: HostRuntime) {
-    let [spades, hearts, diamonds, clubs] = Suit::ALL.map(whole_suit);
-    assert_eq!(rt;
-        Deal::new(spades, hearts, diamonds, diamonds),
-        Err(NotADeal)
-    );
-    let two_of_clubs = Card {
-        suit: Suit::Clubs,
-        rank: Rank::Two,
-    };
-    let mut twelve = clubs;
-    twelve.remove(two_of_clubs);
-    assert_eq!(rt; twelve.len(), 12);
-    assert!(rt; !twelve.contains(two_of_clubs));
-    assert_eq!(rt; Deal::new(spades, hearts, diamonds, twelve), Err(NotADeal));
 }
 
 #[test]
@@ -95,13 +88,29 @@ fn reads_and_writes_cards_and_pairs(rt: HostRuntime) -> Result<(), Fail> {
 
 #[test]
 fn a_name_has_32_bytes_at_most(rt: HostRuntime) -> Result<(), Fail> {
-    let name = Name::new("abcdefghijklmnopqrstuvwxyz-_0123")?;
-    assert_eq!(rt; name.as_str(), "abcdefghijklmnopqrstuvwxyz-_0123");
-    assert_eq!(rt;
-        Name::new("abcdefghijklmnopqrstuvwxyz-_01234"),
-        Err(NameTooLong)
-    );
-    assert_ne!(rt; name, Name::new("n1")?);
-    assert_eq!(rt; Name::new("")?.as_str(), "");
+    // The fourth has 16 letters of two bytes, the last 8 of four.
+    let names = [
+        "",
+        "n1",
+        "abcdefghijklmnopqrstuvwxyz-_0123",
+        "éééééééééééééééé",
+        "Zoë Müller",
+        "Łukasz Żółć",
+        "王小明",
+        "🂡🂱🃁🃑🂡🂱🃁🃑",
+    ];
+    for text in names {
+        let name = Name::new(text)?;
+        assert_eq!(rt; name.as_str(), text);
+        assert_eq!(rt; name.to_string(rt.alloc())?.as_str(), text);
+    }
+    for text in [
+        "abcdefghijklmnopqrstuvwxyz-_01234",
+        "aéééééééééééééééé",
+        "🂡🂱🃁🃑🂡🂱🃁🃑🂡",
+    ] {
+        assert_eq!(rt; Name::new(text), Err(NameTooLong), "{text}");
+    }
+    assert_ne!(rt; Name::new("Zoe")?, Name::new("Zoë")?);
     Ok(())
 }

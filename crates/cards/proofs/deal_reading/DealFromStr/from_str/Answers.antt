@@ -1,4 +1,4 @@
-use Rattle.cards.specs.HandReading.{clockwise_from}
+use Rattle.cards.specs.FourHands.{clockwise_from}
 use Rattle.cards.proofs.deal_reading.DealFromStr.from_str.Goals as goal
 
 pub returns-in-Err : goal.returns-in-Err

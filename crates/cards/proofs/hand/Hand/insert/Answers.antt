@@ -2,7 +2,7 @@ use Rattle.std.proofs.Common.{◌*◌, ◌^◌, ◌%◌, bit_or, ap, ◌∙◌}
 use Rattle.std.specs.FinSet as set
 use Rattle.std.proofs.lemmas.Nat.{or_lt}
 use Rattle.cards.specs.Cards.{cards_of_bits}
-use Rattle.cards.specs.CardBits.{cards_of_bits-set, one_bit_below}
+use Rattle.cards.proofs.CardBitsLemmas.{cards_of_bits-set, one_bit_below}
 use Rattle.cards.proofs.hand.Hand.insert.Goals as goal
 
 pub invariant_of-self : goal.invariant_of-self

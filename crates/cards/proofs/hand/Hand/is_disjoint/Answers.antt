@@ -1,7 +1,7 @@
 use Rattle.std.proofs.Common.{◌≡◌, ℕ, ◌<◌, ◌^◌, bit_and, sym, subst}
 use Rattle.std.proofs.lemmas.Bool.{eqb-true, eq-eqb}
 use Rattle.cards.specs.Cards.{Cards, cards_of_bits, AreDisjoint}
-use Rattle.cards.specs.CardBits.{disjoint_of_bits, bits_of_disjoint}
+use Rattle.cards.proofs.CardBitsLemmas.{disjoint_of_bits, bits_of_disjoint}
 use Rattle.cards.proofs.hand.Hand.is_disjoint.Goals as goal
 
 -- what the test says of the words, it says of the sets that they are seen as

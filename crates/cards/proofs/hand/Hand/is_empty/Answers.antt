@@ -1,7 +1,7 @@
 use Rattle.std.proofs.Common.{sym, ap, ◌∙◌}
 use Rattle.std.proofs.lemmas.Bool.{eqb-true, eq-eqb}
 use Rattle.cards.specs.Cards.{cards_of_bits}
-use Rattle.cards.specs.CardBits.{cards_of_no_bits, no_bits_of_none}
+use Rattle.cards.proofs.CardBitsLemmas.{cards_of_no_bits, no_bits_of_none}
 use Rattle.cards.proofs.hand.Hand.is_empty.Goals as goal
 
 pub returns : goal.returns

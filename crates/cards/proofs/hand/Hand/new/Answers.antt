@@ -1,4 +1,4 @@
-use Rattle.cards.specs.CardBits.{cards_of_no_bits}
+use Rattle.cards.proofs.CardBitsLemmas.{cards_of_no_bits}
 use Rattle.cards.proofs.hand.Hand.new.Goals as goal
 
 pub returns : goal.returns

@@ -1,7 +1,7 @@
 use Rattle.std.proofs.Common.{◌*◌, ◌^◌, ◌%◌, ◌-◌, bit_and, ap, ◌∙◌}
 use Rattle.std.specs.FinSet as set
 use Rattle.cards.specs.Cards.{cards_of_bits}
-use Rattle.cards.specs.CardBits.{cards_of_bits-clear}
+use Rattle.cards.proofs.CardBitsLemmas.{cards_of_bits-clear}
 use Rattle.cards.proofs.hand.Hand.remove.Goals as goal
 
 pub returns : goal.returns

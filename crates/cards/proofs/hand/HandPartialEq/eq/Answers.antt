@@ -1,6 +1,6 @@
 use Rattle.std.proofs.Common.{sym, ◌∙◌}
 use Rattle.cards.specs.Cards.{are_same}
-use Rattle.cards.specs.CardBits.{are_same-cards_of_bits}
+use Rattle.cards.proofs.CardBitsLemmas.{are_same-cards_of_bits}
 use Rattle.cards.proofs.hand.HandPartialEq.eq.Goals as goal
 
 pub returns : goal.returns

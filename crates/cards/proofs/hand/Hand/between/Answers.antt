@@ -1,0 +1,11 @@
+use Rattle.std.proofs.Common.{◌∙◌, nat_lt, ◌&&◌, arith}
+use Rattle.cards.specs.CardBits.{contains-cards_of_bits}
+use Rattle.cards.specs.Card.{number_in_pack}
+use Rattle.cards.proofs.HandSetLemmas.{bits_between}
+use Rattle.cards.proofs.hand.Hand.between.Goals as goal
+
+pub returns : goal.returns
+returns c card =
+    contains-cards_of_bits _ card
+    ∙ bits_between c.number-2.result c.number.result card (omega arith) (omega arith)
+    ∙ (λ i. nat_lt (c.number-2.ensures.number i) (number_in_pack card) && nat_lt (number_in_pack card) (c.number.ensures.number i))

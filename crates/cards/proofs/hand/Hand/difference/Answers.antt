@@ -1,0 +1,9 @@
+use Rattle.std.proofs.Common.{◌∙◌}
+use Rattle.std.specs.FinSet as set
+use Rattle.cards.proofs.HandSetLemmas.{cards_of_bits-without}
+use Rattle.cards.proofs.hand.Hand.difference.Goals as goal
+
+pub returns : goal.returns
+returns c =
+    cards_of_bits-without c.self.inside.bits c.other.inside.bits c.other.invariant
+    ∙ (λ i. set.difference (c.self.view_is i) (c.other.view_is i))
