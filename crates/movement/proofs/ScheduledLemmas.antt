@@ -2,7 +2,7 @@
 use Rattle.std.proofs.Common.{◌≡◌, ◌≢◌, ℕ, ◌+◌, ◌*◌, ◌%◌, ◌^◌, ◌<◌, ◌↔◌, inl, inr, sym, ap, ◌∙◌, bit_and, bit_or, IsBitSet, true, false, Option, Some, None, is_some, IfSome, IfNone, arith}
 use Rattle.std.specs.Int.{bit_at, w16}
 use Rattle.std.proofs.lemmas.Bool.{cases_eq}
-use Rattle.std.proofs.lemmas.Nat.{pow_pos, and_le_l}
+use Rattle.std.proofs.lemmas.Nat.{pow_pos}
 use Rattle.std.proofs.lemmas.Nat.Bits.{and_pow, bit_at_set_same, bit_at_set_other}
 use Rattle.movement.specs.declared.cell.Cell.{Cell}
 use Rattle.movement.specs.Movement.{Section, IsCell}
@@ -11,9 +11,6 @@ use Rattle.movement.proofs.CellLemmas.{scheduled_of}
 -- the number with one more bit
 abbrev pub with_bit : ℕ → ℕ → ℕ
 with_bit n k = bit_or n (1 * 2 ^ k % 2 ^ 16)
-
-pub no_bit : (k : ℕ) → ¬ IsBitSet 0 k
-no_bit k is_set = is_set (omega (arith, and_le_l 0 (2 ^ k)))
 
 pub IsBitSet-same : (n k : ℕ) → k < 16 → IsBitSet (with_bit n k) k
 IsBitSet-same n k below zero =
@@ -30,9 +27,6 @@ IsBitSet-other n k t below other =
 abbrev pub IsSoFar : Section → ℕ → ℕ → ℕ → Type 0
 IsSoFar section board bits tables =
     (t : ℕ) → IsBitSet bits t ↔ ((t < tables) × IsCell section (record { table = t + 1; board = board }))
-
-pub so_far_none : (section : Section) (board : ℕ) → IsSoFar section board 0 0
-so_far_none section board t = (λ is_set. absurd (no_bit t is_set), λ found. absurd (omega (arith, found.0)))
 
 pub so_far_more : (section : Section) (board bits table : ℕ) → table < 16 →
     IsCell section (record { table = table + 1; board = board }) → IsSoFar section board bits table →

@@ -31,7 +31,7 @@ set_on tables table round = (table + round) % tables
 abbrev pub has_skipped : ℕ → ℕ → Bool
 has_skipped tables round = (tables % 2 == 0) && nat_le (tables / 2) round
 
--- the table of an East-West pair in a round, all counted from 0: it moves up one table a round, and one more at the skip
+-- the table of an East-West pair in a round, all counted from 0: up one table a round, and one more at the skip
 abbrev pub table_of : ℕ → ℕ → ℕ → ℕ
 table_of tables east_west round = (east_west + round + (if has_skipped tables round then 1 else 0)) % tables
 
@@ -50,7 +50,9 @@ row_of tables round east_west =
 -- the movement: what each East-West pair plays in each round
 unfoldable pub rows : Section → List Row
 rows section =
-    flat_map (λ round. map (row_of section.tables round) (range_with_len 0 section.tables)) (range_with_len 0 section.rounds)
+    flat_map
+    (λ round. map (row_of section.tables round) (range_with_len 0 section.tables))
+    (range_with_len 0 section.rounds)
 
 -- how many boards the section plays
 abbrev pub boards_of : Section → ℕ
@@ -74,12 +76,24 @@ IsCell section cell = Any (λ row. HasCell section row cell) (rows section)
 abbrev pub most_rounds : ℕ → ℕ
 most_rounds tables = if tables % 2 == 0 then tables - 1 else tables
 
+-- how many tables a section has at most
+abbrev pub most_tables : ℕ
+most_tables = 16
+
+-- how many boards a set has at most
+abbrev pub most_per_set : ℕ
+most_per_set = 8
+
+-- how many boards a section plays at most
+abbrev pub most_boards : ℕ
+most_boards = 64
+
 -- what is kept of every section
 pub record IsSection (section : Section) : Type 0 where
   pub enough_tables : 3 ≤ section.tables
-  pub not_too_many_tables : section.tables ≤ 16
+  pub not_too_many_tables : section.tables ≤ most_tables
   pub enough_rounds : 1 ≤ section.rounds
   pub not_too_many_rounds : section.rounds ≤ most_rounds section.tables
   pub enough_boards : 1 ≤ section.per_set
-  pub not_too_many_boards_in_a_set : section.per_set ≤ 8
-  pub not_too_many_boards : boards_of section ≤ 64
+  pub not_too_many_boards_in_a_set : section.per_set ≤ most_per_set
+  pub not_too_many_boards : boards_of section ≤ most_boards

@@ -1,22 +1,17 @@
 -- When no movement is made: the causes of refusal, in the order in which they are tested.
 use Rattle.std.specs.Prelude.{ℕ, ◌<◌, ◌⊎◌}
-use Rattle.movement.specs.Movement.{Section, most_rounds, boards_of}
+use Rattle.movement.specs.Movement.{Section, most_rounds, boards_of, most_tables, most_per_set, most_boards}
 use Rattle.movement.specs.declared.movement_error.MovementError.{MovementError}
 use Rattle.movement.specs.declared.movement_error.MovementError.TheVariants.{BadTables, BadRounds, BadSets}
 
 -- the limit that each refusal says is broken: too few or too many tables, rounds, boards in a set or boards in all
 abbrev pub Refuses : MovementError → Section → Type 0
-Refuses BadTables section = (section.tables < 3) ⊎ (16 < section.tables)
+Refuses BadTables section = (section.tables < 3) ⊎ (most_tables < section.tables)
 Refuses BadRounds section = (section.rounds < 1) ⊎ (most_rounds section.tables < section.rounds)
-Refuses BadSets section = (section.per_set < 1) ⊎ ((8 < section.per_set) ⊎ (64 < boards_of section))
+Refuses BadSets section = (section.per_set < 1) ⊎ ((most_per_set < section.per_set) ⊎ (most_boards < boards_of section))
 
 -- the place of a cause in the order
 abbrev pub number_of : MovementError → ℕ
 number_of BadTables = 1
 number_of BadRounds = 2
 number_of BadSets = 3
-
--- the cause holds of the section, and no cause before it does
-pub record IsFirst (section : Section) (error : MovementError) : Type 0 where
-  pub refuses : Refuses error section
-  pub least : (other : MovementError) → number_of other < number_of error → ¬ Refuses other section

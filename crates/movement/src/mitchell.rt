@@ -32,7 +32,7 @@ fn moved(tables: u8, round: u8) -> u8
 
 /// The set on a table in a round.
 pub fn set_on(tables: u8, table: u8, round: u8) -> u8
-    requires few { tables ≤ 16 }
+    requires few { tables ≤ spec.most_tables }
     requires table { table < tables }
     requires round { round < tables }
     ensures { result ≡ spec.set_on tables table round }
@@ -42,7 +42,7 @@ pub fn set_on(tables: u8, table: u8, round: u8) -> u8
 
 /// The table of an East-West pair in a round.
 pub fn table_of(tables: u8, east_west: u8, round: u8) -> u8
-    requires few { tables ≤ 16 }
+    requires few { tables ≤ spec.most_tables }
     requires pair { east_west < tables }
     requires round { round < tables }
     ensures { result ≡ spec.table_of tables east_west round }
@@ -52,7 +52,7 @@ pub fn table_of(tables: u8, east_west: u8, round: u8) -> u8
 
 /// The East-West pair at a table in a round.
 pub fn east_west_at(tables: u8, table: u8, round: u8) -> u8
-    requires few { tables ≤ 16 }
+    requires few { tables ≤ spec.most_tables }
     requires table { table < tables }
     requires round { round < tables }
     ensures pair { result < tables }
@@ -63,7 +63,7 @@ pub fn east_west_at(tables: u8, table: u8, round: u8) -> u8
 
 /// The round in which a table plays a set.
 pub fn round_of_table(tables: u8, table: u8, set: u8) -> u8
-    requires few { tables ≤ 16 }
+    requires few { tables ≤ spec.most_tables }
     requires table { table < tables }
     requires set { set < tables }
     ensures round { result < tables }
@@ -75,7 +75,7 @@ pub fn round_of_table(tables: u8, table: u8, set: u8) -> u8
 
 /// The round in which an East-West pair plays a set.
 pub fn round_of_east_west(tables: u8, east_west: u8, set: u8) -> u8
-    requires few { tables ≤ 16 }
+    requires few { tables ≤ spec.most_tables }
     requires pair { east_west < tables }
     requires set { set < tables }
     ensures round { result < tables }

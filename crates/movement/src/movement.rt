@@ -1,7 +1,8 @@
 ghost use Rattle.std.specs.Prelude.{◌≡◌, ℕ, ◌+◌, ◌-◌, ◌*◌, ◌<◌, ◌≤◌, Any, All, IfOk, OnOk, IfErr, IfSome, IfNone, IsBitSet, IsTrue, ◌↔◌};
 ghost use Rattle.movement.specs.Movement.{Section, IsSection, IsOfSet, HasCell, IsCell, boards_of, rows};
 ghost use Rattle.movement.specs.Row.{IsAt, Seats, Plays, board_of_set, IsCellInRange};
-ghost use Rattle.movement.specs.Refusal.{Refuses, IsFirst};
+ghost use Rattle.cards.specs.First.{IsFirst};
+ghost use Rattle.movement.specs.Refusal.{Refuses, number_of};
 ghost use Rattle.cards.specs.declared.side.Side.TheVariants.{EastWest};
 ghost use Rattle.movement.specs.declared.movement_error.MovementError.{MovementError};
 
@@ -30,20 +31,33 @@ impl Model for Movement {
 }
 
 impl Movement {
+    /// How many tables a section has at most.
+    pub const MOST_TABLES: u8 = 16;
+
+    /// How many boards a set has at most.
+    pub const MOST_PER_SET: u8 = 8;
+
+    /// How many boards a section plays at most.
+    pub const MOST_BOARDS: u8 = 64;
+
     /// The movement of a section of 3 to 16 tables, with `per_set` boards in a set.
     pub fn new(tables: u8, rounds: u8, per_set: u8) -> Result<Movement, MovementError>
         ensures section { IfOk result (λ movement.
             movement ≡ record { tables = tables; rounds = rounds; per_set = per_set }) }
         ensures allowed { IfOk result (λ movement. (error : MovementError) → ¬ Refuses error movement) }
-        ensures refused { IfErr result (IsFirst (record { tables = tables; rounds = rounds; per_set = per_set })) }
+        ensures refused { IfErr result (IsFirst number_of (λ error.
+            Refuses error (record { tables = tables; rounds = rounds; per_set = per_set }))) }
     {
-        if tables < 3 || tables > 16 {
+        if tables < 3 || tables > Movement::MOST_TABLES {
             return Err(MovementError::BadTables);
         }
         if rounds < 1 || rounds > mitchell::most_rounds(tables) {
             return Err(MovementError::BadRounds);
         }
-        if per_set < 1 || per_set > 8 || tables * per_set > 64 {
+        if per_set < 1
+            || per_set > Movement::MOST_PER_SET
+            || tables * per_set > Movement::MOST_BOARDS
+        {
             return Err(MovementError::BadSets);
         }
         Ok(Movement {
@@ -121,6 +135,8 @@ impl Movement {
         requires { IsCell self cell }
         ensures row { Any (λ row. HasCell self row cell × (row.round ≡ result)) (rows self) }
         ensures round { (1 ≤ result) × (result ≤ self.rounds) }
+        ensures range { IsCellInRange self cell }
+        ensures section { IsSection self }
     {
         let set = self.set_of(cell.board);
         mitchell::round_of_table(self.tables, cell.table - 1, set) + 1
@@ -147,6 +163,7 @@ impl Movement {
         ensures some { IfSome result (IsCell self) }
         ensures range { IfSome result (IsCellInRange self) }
         ensures none { IfNone result (¬ IsCell self (record { table = table; board = board })) }
+        ensures section { IsSection self }
     {
         if !self.has(table, board) {
             return None;

@@ -200,20 +200,24 @@ fn same_movement(rt: &impl Abort, movement: Movement, rows: &[Row]) {
     }
 }
 
+/// Up to 16 tables, all the rounds that can be played, 8 boards in a set and 64 in all.
 #[test]
 fn movements_are_as_walked(rt: HostRuntime) -> Result<(), Fail> {
     for tables in 3..=16 {
         for rounds in 1..=tables {
-            for per_set in [1, 2, 4] {
+            for per_set in [1, 2, 4, 8] {
                 match Movement::new(tables, rounds, per_set) {
                     Ok(movement) => same_movement(
                         &rt,
                         movement,
                         &walked(rt.alloc(), tables, rounds)?,
                     ),
-                    Err(error) => {
-                        assert_eq!(rt; error, MovementError::BadRounds);
+                    Err(MovementError::BadRounds) => {
                         assert!(rt; tables % 2 == 0 && rounds == tables, "{tables} {rounds}");
+                    }
+                    Err(error) => {
+                        assert_eq!(rt; error, MovementError::BadSets);
+                        assert!(rt; tables > 8 && per_set == 8, "{tables} {per_set}");
                     }
                 }
             }
@@ -222,24 +226,23 @@ fn movements_are_as_walked(rt: HostRuntime) -> Result<(), Fail> {
     Ok(())
 }
 
+/// Rounds, tables and boards at once: each limit that a section can reach beside the others.
 #[test]
-fn refuses_in_order(rt: HostRuntime) {
-    for (tables, rounds, per_set, error) in [
-        (2, 1, 1, MovementError::BadTables),
-        (17, 0, 0, MovementError::BadTables),
-        (4, 4, 1, MovementError::BadRounds),
-        (3, 0, 9, MovementError::BadRounds),
-        (3, 4, 1, MovementError::BadRounds),
-        (3, 3, 0, MovementError::BadSets),
-        (3, 3, 9, MovementError::BadSets),
-        (16, 1, 5, MovementError::BadSets),
+fn the_largest_sections_are_made(rt: HostRuntime) -> Result<(), Fail> {
+    for (tables, rounds, per_set, boards) in [
+        (16, 15, 4, 64),
+        (15, 15, 4, 60),
+        (8, 7, 8, 64),
+        (7, 7, 8, 56),
+        (3, 3, 8, 24),
     ] {
         assert_eq!(rt;
-            Movement::new(tables, rounds, per_set),
-            Err(error),
+            Movement::new(tables, rounds, per_set)?.boards(),
+            boards,
             "{tables} {rounds} {per_set}"
         );
     }
+    Ok(())
 }
 
 #[test]

@@ -1,6 +1,6 @@
 use Rattle.std.proofs.Common.{arith}
 use Rattle.movement.specs.Movement.{IsSection}
-use Rattle.movement.proofs.CellLemmas.{cell_in_round, scheduled_of, set_on-scheduled}
+use Rattle.movement.proofs.CellLemmas.{cell_in_range, cell_in_round, scheduled_of, set_on-scheduled}
 use Rattle.movement.proofs.RowLemmas.{rounds-le, same_tables}
 use Rattle.movement.proofs.movement.Movement.round_of.Goals as goal
 
@@ -38,3 +38,6 @@ returns-clause-row c =
     let plays = rw (same_tables c.self.view_is) at c.round_of_table.ensures.plays in
     cell_in_round c.args.self is_section c.args.cell c.set_of-set.result c.round_of_table.result scheduled.from_table
     scheduled.to_table (omega (arith, limits.1)) plays c.set_of-set.ensures.board
+
+pub returns-clause-range : goal.returns-clause-range
+returns-clause-range c = cell_in_range c.args.self c.args.cell c.requires
