@@ -5,3 +5,4 @@ pub mod MatchpointLemmas
 pub mod ScoreLemmas
 pub mod StakeLemmas
 pub mod BoardLemmas
+pub mod OutcomeLemmas

@@ -8,13 +8,6 @@ use Rattle.scoring.specs.declared.doubling.Doubling.{Doubling}
 use Rattle.scoring.specs.declared.doubling.Doubling.TheVariants.{Undoubled, Doubled, Redoubled}
 use Rattle.scoring.specs.Law77.{first_odd_trick, trick_value, factor, trick_score, slam, game_or_partscore, overtrick, doubled_contract, made_score}
 
-first_odd_trick_most : (strain : Strain) → first_odd_trick strain ≤ 40
-first_odd_trick_most Spades = omega arith
-first_odd_trick_most Hearts = omega arith
-first_odd_trick_most Diamonds = omega arith
-first_odd_trick_most Clubs = omega arith
-first_odd_trick_most NoTrump = omega arith
-
 -- odd tricks before they are doubled
 undoubled_most : (strain : Strain) (level : ℕ) → 1 ≤ level → first_odd_trick strain + (level - 1) * trick_value strain ≤ 30 * level + 10
 undoubled_most Spades level h = omega arith

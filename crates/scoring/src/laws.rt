@@ -1,5 +1,5 @@
 //! What the laws come to: each function here has nothing to do, and its clauses are the theorem.
-ghost use Rattle.std.specs.Prelude.{◌≡◌, ℕ, ◌+◌, ◌-◌, ◌*◌, ◌<◌, ◌≤◌, ◌⊎◌, ◌↔◌, Bool, true, false, ℤ, pos, neg_ℤ, ◌<ℤ◌, ◌≤ℤ◌, List, length, map, sum, slice_index, slice_index_or, EachIndex};
+ghost use Rattle.std.specs.Prelude.{◌≡◌, ℕ, ◌+◌, ◌-◌, ◌*◌, ◌<◌, ◌≤◌, ◌⊎◌, ◌↔◌, Bool, true, false, ℤ, pos, neg_ℤ, ◌<ℤ◌, ◌≤ℤ◌, List, length, map, sum, slice_index, slice_index_or, EachIndex, IsTrue};
 ghost use Rattle.cards.specs.declared.vulnerability.Vulnerability.{Vulnerability};
 ghost use Rattle.scoring.specs.declared.contract.Contract.{Contract};
 ghost use Rattle.scoring.specs.declared.doubling.Doubling.TheVariants.{Undoubled, Doubled, Redoubled};
@@ -8,7 +8,14 @@ ghost use Rattle.scoring.specs.declared.outcome.Outcome.TheVariants.{PassedOut};
 ghost use Rattle.scoring.specs.declared.standing.Standing.{Standing};
 ghost use Rattle.scoring.specs.Law77.{score_of, tricks_needed, ns_score_of};
 ghost use Rattle.scoring.specs.Law78A.{units};
+ghost use Rattle.scoring.specs.Outcome.{same_outcome};
 ghost use Rattle.scoring.specs.Ranking.{RanksBefore};
+
+/// Two outcomes are found equal exactly where they are one: the same contract with the same tricks, or no contract.
+#[tactic(auto, using(crate::proofs::OutcomeLemmas::same_outcome_decides))]
+pub fn equal_outcomes_are_one()
+    ensures { (one other : Outcome) → IsTrue (same_outcome one other) ↔ (one ≡ other) }
+{}
 
 /// A contract that is made scores for declarer's side, and one that is set scores against it.
 pub fn made_or_set()

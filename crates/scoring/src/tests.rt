@@ -124,6 +124,23 @@ fn boards_in_matchpoints(rt: HostRuntime) -> Result<(), Fail> {
     Ok(())
 }
 
+/// Two tables have each score, and beat all that stand before them: they get 1 unit, 5, 9 and so on.
+#[test]
+fn boards_of_many_tables(rt: HostRuntime) -> Result<(), Fail> {
+    for tables in [2u16, 16, 64] {
+        let mut scores = Vec::new(rt.alloc());
+        let mut units = Vec::new(rt.alloc());
+        for table in 0..tables {
+            scores.push(i32::from(table / 2) * 10 - 200)?;
+            units.push(u32::from(table / 2) * 4 + 1)?;
+        }
+        assert!(rt; scores.len() <= 64);
+        let points = matchpoints(rt.alloc(), &scores)?;
+        assert_eq!(rt; points.as_slice(), units.as_slice(), "{tables}");
+    }
+    Ok(())
+}
+
 fn standing(side: Side, number: u8, earned: u64, tops: u64) -> Standing {
     Standing {
         pair: Pair { side, number },

@@ -1,0 +1,20 @@
+-- How a board ended at a table, compared.
+use Rattle.std.specs.Prelude.{ℕ, Bool, nat_eq, List, [], ◌∷◌}
+use Rattle.std.specs.Cmp.Lexicographic.{pointwise}
+use Rattle.cards.specs.Place.{place_letter}
+use Rattle.cards.specs.Strain.{strain_letter}
+use Rattle.scoring.specs.declared.outcome.Outcome.{Outcome}
+use Rattle.scoring.specs.declared.outcome.Outcome.TheVariants.{PassedOut, Played}
+use Rattle.scoring.specs.Doubling.{times_doubled}
+
+-- what tells one outcome from another: nothing where all four players passed; else the level, the strain, the declarer,
+-- the doubling and the tricks
+abbrev pub marks_of : Outcome → List ℕ
+marks_of PassedOut = []
+marks_of (Played contract tricks) =
+    contract.level ∷ strain_letter contract.strain ∷ place_letter contract.declarer
+    ∷ times_doubled contract.doubling ∷ tricks ∷ []
+
+-- whether two outcomes are one
+abbrev pub same_outcome : Outcome → Outcome → Bool
+same_outcome a b = pointwise nat_eq (marks_of a) (marks_of b)
