@@ -1,3 +1,4 @@
 pub mod Lines
+pub mod NextByte
 pub mod Reading
 pub mod Writing

@@ -1,5 +1,5 @@
--- The lines of a text of bytes. An LF ends a line; neither it nor one CR before it belongs to the line. What stands after the
--- last LF is a line too, where it isn't empty, and a CR there is a byte of the line.
+-- The lines of a text of bytes. An LF ends a line; neither it nor one CR before it belongs to the line. What stands after
+-- the last LF is a line too, where it isn't empty, and a CR there is a byte of the line.
 use Rattle.std.specs.Prelude.{ℕ, ◌==◌, if◌then◌else◌, List, [], ◌∷◌, ◌++◌, map}
 use Rattle.std.specs.Io.BufRead.{strip_last}
 
@@ -16,7 +16,9 @@ before_rest byte (line ∷ lines) rest = record { ended = (byte ∷ line) ∷ li
 -- an LF ends an empty line before what follows it
 abbrev pub before : ℕ → Pieces → Pieces
 before byte following =
-    if byte == 10 then record { ended = [] ∷ following.ended; rest = following.rest } else before_rest byte following.ended following.rest
+    if byte == 10
+    then record { ended = [] ∷ following.ended; rest = following.rest }
+    else before_rest byte following.ended following.rest
 
 abbrev pub pieces_of : List ℕ → Pieces
 pieces_of [] = record { ended = []; rest = [] }

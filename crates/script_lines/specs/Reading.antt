@@ -1,8 +1,10 @@
 -- What reading a line takes from a reader.
-use Rattle.std.specs.Prelude.{◌≡◌, ◌≢◌, ℕ, ◌+◌, ◌<◌, ◌≤◌, Option, Some, None, List, [], ◌∷◌, ◌++◌, length, All}
+use Rattle.std.specs.Prelude.{◌≡◌, ◌≢◌, ℕ, ◌+◌, ◌<◌, ◌≤◌, Option, List, [], ◌∷◌, ◌++◌, length, All}
 use Rattle.std.specs.Io.KnownBytes.{Consumes, IsAtEnd}
 use Rattle.script_lines.specs.declared.line_end.LineEnd.{LineEnd}
 use Rattle.script_lines.specs.declared.line_end.LineEnd.TheVariants.{LineFeed, EndOfInput}
+use Rattle.script_lines.specs.declared.reading.ReadFault.{ReadFault}
+use Rattle.script_lines.specs.declared.reading.ReadFault.TheVariants.{Input, OutOfMemory}
 use Rattle.script_lines.specs.Lines.{ended_line}
 
 -- no byte of it ends a line
@@ -28,7 +30,7 @@ abbrev pub TakesLine : LineEnd → Option (List ℕ) → Option (List ℕ) → L
 TakesLine LineFeed old new line left_old left_new = TakesEnded old new line left_old left_new
 TakesLine EndOfInput old new line left_old left_new = TakesRest old new line left_old left_new
 
--- a reading that fails has taken so many bytes of a line, and no LF; or one byte more than may be read
+-- whichever fault it is: so many bytes of a line are taken, and no LF; or one byte more than may be read
 pub record FailsInLine (old new : Option (List ℕ)) (left_old : ℕ) : Type 0 where
   pub piece : List ℕ
   pub unbroken : IsUnbroken piece
@@ -38,11 +40,24 @@ pub record FailsInLine (old new : Option (List ℕ)) (left_old : ℕ) : Type 0 w
   pub within : length piece ≤ left_old
   pub full : 0 < length beyond → length piece ≡ left_old
 
--- a byte that is read is lost to the reader, and counts; there is none only at the end
-abbrev pub TakesByte : Option ℕ → Option (List ℕ) → Option (List ℕ) → ℕ → ℕ → Type 0
-TakesByte None old new left_old left_new = Consumes old new [] × IsAtEnd new × (left_new ≡ left_old)
-TakesByte (Some byte) old new left_old left_new = Consumes old new (byte ∷ []) × (left_new + 1 ≡ left_old)
+-- the reader failed, or had a byte more than may be read: the line keeps what came before, and nothing else is lost
+pub record FailsAtInput (old new : Option (List ℕ)) (line : List ℕ) (left_old left_new : ℕ) : Type 0 where
+  pub unbroken : IsUnbroken line
+  pub beyond : List ℕ
+  pub consumed : Consumes old new (line ++ beyond)
+  pub few : length beyond ≤ 1
+  pub counted : left_new + length line ≡ left_old
+  pub full : 0 < length beyond → left_new ≡ 0
 
--- a reading of a byte that fails takes none, or one more than may be read
-abbrev pub FailsAtByte : Option (List ℕ) → Option (List ℕ) → ℕ → Type 0
-FailsAtByte old new left_old = (beyond : List ℕ) × Consumes old new beyond × (length beyond ≤ 1) × (0 < length beyond → left_old ≡ 0)
+-- memory was refused for a byte of the line, which may be read and is lost: the line keeps what came before
+pub record FailsForMemory (old new : Option (List ℕ)) (line : List ℕ) (left_old left_new : ℕ) : Type 0 where
+  pub unbroken : IsUnbroken line
+  pub lost : ℕ
+  pub ends_no_line : lost ≢ 10
+  pub consumed : Consumes old new (line ++ lost ∷ [])
+  pub counted : left_new + (length line + 1) ≡ left_old
+
+-- what each fault says of what was read
+abbrev pub FailsFor : ReadFault → Option (List ℕ) → Option (List ℕ) → List ℕ → ℕ → ℕ → Type 0
+FailsFor Input old new line left_old left_new = FailsAtInput old new line left_old left_new
+FailsFor OutOfMemory old new line left_old left_new = FailsForMemory old new line left_old left_new

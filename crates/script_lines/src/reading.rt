@@ -1,6 +1,8 @@
 ghost use Rattle.std.specs.Prelude.{◌≡◌, ◌+◌, ◌∷◌, [], ◌<◌, IfOk, IfErr, OnErr, Some, None, MatchOption};
 ghost use Rattle.std.specs.Io.KnownBytes.{Consumes, IsAtEnd};
-ghost use Rattle.script_lines.specs.Reading.{TakesLine, FailsInLine, TakesByte, FailsAtByte};
+ghost use Rattle.script_lines.specs.Reading.{TakesLine, FailsInLine, FailsFor};
+ghost use Rattle.script_lines.specs.NextByte.{TakesByte, FailsAtByte};
+ghost use Rattle.script_lines.specs.declared.reading.ReadFault.TheVariants.{Input};
 
 use crate::line_end::LineEnd;
 use std::alloc::AllocFailed;
@@ -18,14 +20,18 @@ pub enum ReadFault {
     OutOfMemory,
 }
 
-/// Reads the next line, in place of the one that was there. `left` is how many bytes may still be read of the whole input.
+/// Reads the next line, in place of the one that was there. `left` is how many bytes may still be read of the whole
+/// input. A read that fails is not tried again.
 pub fn read_line<R: Read>(
     reader: &mut R,
     line: &mut Vec<u8>,
     left: &mut usize,
 ) -> Result<LineEnd, ReadFault>
-    ensures line { IfOk result (λ end. TakesLine end (R.remaining reader.old) (R.remaining reader.new) line.new.items left.old left.new) }
+    ensures line { IfOk result (λ end.
+        TakesLine end (R.remaining reader.old) (R.remaining reader.new) line.new.items left.old left.new) }
     ensures fault { OnErr result (FailsInLine (R.remaining reader.old) (R.remaining reader.new) left.old) }
+    ensures which { IfErr result (λ fault.
+        FailsFor fault (R.remaining reader.old) (R.remaining reader.new) line.new.items left.old left.new) }
 {
     line.clear();
     loop {
@@ -49,8 +55,10 @@ pub fn read_line<R: Read>(
 
 // The next byte, if there is one. It counts against what may still be read.
 fn next_byte<R: Read>(reader: &mut R, left: &mut usize) -> Result<Option<u8>, ReadFault>
-    ensures byte { IfOk result (λ found. TakesByte found (R.remaining reader.old) (R.remaining reader.new) left.old left.new) }
-    ensures fault { OnErr result (FailsAtByte (R.remaining reader.old) (R.remaining reader.new) left.old) }
+    ensures byte { IfOk result (λ found.
+        TakesByte found (R.remaining reader.old) (R.remaining reader.new) left.old left.new) }
+    ensures input { IfErr result (λ fault. fault ≡ Input) }
+    ensures fault { OnErr result (FailsAtByte (R.remaining reader.old) (R.remaining reader.new) left.old left.new) }
 {
     let mut one = [0u8; 1];
     match reader.read(&mut one) {
