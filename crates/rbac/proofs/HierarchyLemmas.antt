@@ -9,7 +9,7 @@ use Rattle.rbac.specs.declared.role.Role.{Role}
 use Rattle.rbac.specs.declared.role.Role.TheVariants.{Member}
 use Rattle.rbac.specs.declared.inheritance.Inheritance.{Inheritance}
 use Rattle.rbac.specs.Role.{roles, role_number, roles_that, same_role, has, with_role, union_of}
-use Rattle.rbac.specs.Inheritance.{same_pair, without_pair, reaches}
+use Rattle.rbac.specs.Inheritance.{same_inheritance, without_pair, reaches}
 use Rattle.rbac.specs.Hierarchy.{below, reach, IsClosure, HasOneMore}
 use Rattle.rbac.proofs.RoleLemmas.{each_role, has_roles_that, same_roles_that}
 use Rattle.rbac.proofs.InheritanceLemmas.{reaches_push}
@@ -83,11 +83,11 @@ step_dropped : (p : Inheritance → Bool) (pairs : List Inheritance) (n : ℕ) (
 step_dropped p pairs n d within fails =
     filter_more p pairs n d within ∙ ap (λ b. filter p (take n pairs) ++ cond b (get_or pairs n d ∷ []) []) fails ∙ append-nil (filter p (take n pairs))
 
-pub closure_with : (pairs : List Inheritance) (left_out : Inheritance) (n : ℕ) (d : Inheritance) (old new : List (List Role)) → n < length pairs → not (same_pair (get_or pairs n d) left_out) ≡ true → IsClosure (without_pair (take n pairs) left_out) old → HasOneMore old (get_or pairs n d) new → IsClosure (without_pair (take (n + 1) pairs) left_out) new
+pub closure_with : (pairs : List Inheritance) (left_out : Inheritance) (n : ℕ) (d : Inheritance) (old new : List (List Role)) → n < length pairs → not (same_inheritance (get_or pairs n d) left_out) ≡ true → IsClosure (without_pair (take n pairs) left_out) old → HasOneMore old (get_or pairs n d) new → IsClosure (without_pair (take (n + 1) pairs) left_out) new
 closure_with pairs left_out n d old new within other closure more =
-    subst (λ kept. IsClosure kept new) (sym (step_kept (λ pair. not (same_pair pair left_out)) pairs n d within other))
+    subst (λ kept. IsClosure kept new) (sym (step_kept (λ pair. not (same_inheritance pair left_out)) pairs n d within other))
     (closure_push (without_pair (take n pairs) left_out) old new (get_or pairs n d) closure more)
 
-pub closure_left_out : (pairs : List Inheritance) (left_out : Inheritance) (n : ℕ) (d : Inheritance) (old : List (List Role)) → n < length pairs → not (same_pair (get_or pairs n d) left_out) ≡ false → IsClosure (without_pair (take n pairs) left_out) old → IsClosure (without_pair (take (n + 1) pairs) left_out) old
+pub closure_left_out : (pairs : List Inheritance) (left_out : Inheritance) (n : ℕ) (d : Inheritance) (old : List (List Role)) → n < length pairs → not (same_inheritance (get_or pairs n d) left_out) ≡ false → IsClosure (without_pair (take n pairs) left_out) old → IsClosure (without_pair (take (n + 1) pairs) left_out) old
 closure_left_out pairs left_out n d old within same closure =
-    subst (λ kept. IsClosure kept old) (sym (step_dropped (λ pair. not (same_pair pair left_out)) pairs n d within same)) closure
+    subst (λ kept. IsClosure kept old) (sym (step_dropped (λ pair. not (same_inheritance pair left_out)) pairs n d within same)) closure

@@ -6,7 +6,7 @@ use Rattle.std.proofs.lemmas.Bool.Decides.{same_from_decides, Decides-like, Deci
 use Rattle.std.proofs.lemmas.List.Elements.{Contains-append_left, Contains-append_right, Contains-append_cases, Contains-push, Contains-push_cases, All-contains_itself, All-filter, All-contains}
 use Rattle.rbac.specs.declared.role.Role.{Role}
 use Rattle.rbac.specs.declared.inheritance.Inheritance.{Inheritance}
-use Rattle.rbac.specs.Inheritance.{pair_of, Chain, Reaches, IsAcyclic, same_pair, without_pair, reaches}
+use Rattle.rbac.specs.Inheritance.{pair_of, Chain, Reaches, IsAcyclic, same_inheritance, without_pair, reaches}
 use Rattle.rbac.proofs.RoleLemmas.{same_role_decides}
 
 -- a chain and one that leads on from it are a chain
@@ -133,7 +133,7 @@ acyclic_push pairs pair acyclic up role n round =
 -- a pair that is left is one of all
 pub contains_without : (pairs : List Inheritance) (pair other : Inheritance) → Contains (without_pair pairs pair) other → Contains pairs other
 contains_without pairs pair other there =
-    All-contains (Contains pairs) (without_pair pairs pair) other (All-filter (λ other. not (same_pair other pair)) (Contains pairs) pairs (All-contains_itself pairs)) there
+    All-contains (Contains pairs) (without_pair pairs pair) other (All-filter (λ other. not (same_inheritance other pair)) (Contains pairs) pairs (All-contains_itself pairs)) there
 
 -- without a pair there is no more chain than before
 pub reaches_without : (pairs : List Inheritance) (pair : Inheritance) (senior junior : Role) → Reaches (without_pair pairs pair) senior junior → Reaches pairs senior junior

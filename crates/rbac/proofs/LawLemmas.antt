@@ -1,6 +1,11 @@
 -- The laws of roles and authorization.
 use Rattle.std.proofs.Common.{◌≡◌, ◌≢◌, ℕ, ◌<◌, Bool, true, false, cond, List, [], ◌∷◌, get_or, inl, inr, suc, zero, refl, sym, ap, subst, ◌∙◌, arith}
-use Rattle.std.specs.Prelude.{◌⊎◌, not, All, Contains, MatchOption}
+use Rattle.std.specs.Prelude.{◌⊎◌, not, All, Contains, Option, Some, None, MatchOption, IfSome, OnSome, IfNone}
+use Rattle.std.specs.Option.{option_map_or}
+use Rattle.std.specs.Bool.{Decides}
+use Rattle.rbac.specs.declared.change.Change.{Change}
+use Rattle.rbac.specs.declared.change.Change.TheVariants.{Deassign, DeleteInheritance}
+use Rattle.rbac.specs.Operation.{are_allowed}
 use Rattle.std.specs.List.{Any}
 use Rattle.std.proofs.lemmas.Bool.{both_ways, false≢true, or_right, false_from_ne_true, not_from_false}
 use Rattle.std.proofs.lemmas.Bool.Decides.{same_from_decides}
@@ -14,17 +19,17 @@ use Rattle.rbac.specs.declared.account.Account.{Account}
 use Rattle.rbac.specs.declared.separation_set.SeparationSet.{SeparationSet}
 use Rattle.rbac.specs.declared.separation_set.SeparationSet.TheVariants.{S1, S2, S3}
 use Rattle.rbac.specs.Role.{has, IsListed, with_role, without_role, same_role}
-use Rattle.rbac.specs.Inheritance.{Reaches, pair_of, same_pair}
+use Rattle.rbac.specs.Inheritance.{Reaches, pair_of, same_inheritance}
 use Rattle.rbac.specs.Separation.{apart}
 use Rattle.rbac.specs.Account.{HasAccount, IsAssigned, same_name}
-use Rattle.rbac.specs.RoleData.{RoleData, assign_user, deassign_user, delete_inheritance}
-use Rattle.rbac.specs.Authorization.{IsReached, IsAuthorized, AreAuthorized, RoleHasPermission, KeepsSeparation, KeepsAssignedApart, IsValid, authorized_roles}
+use Rattle.rbac.specs.RoleData.{RoleData, assign_user, deassign_user, delete_inheritance, after}
+use Rattle.rbac.specs.Authorization.{IsReached, IsAuthorized, AreAuthorized, HasPermission, RoleHasPermission, KeepsSeparation, KeepsAssignedApart, IsValid, authorized_roles, has_permission}
 use Rattle.rbac.proofs.RoleLemmas.{same_sets, has_with_role, without_role_absent}
 use Rattle.rbac.proofs.InheritanceLemmas.{reaches_on}
 use Rattle.rbac.proofs.ListLemmas.{filter_all}
 use Rattle.rbac.proofs.PairLemmas.{same_pair_decides}
-use Rattle.rbac.proofs.AccountLemmas.{FoundAt, with_roles, changed, name_kept, same_name_decides, same_default, at_changed, length_changed, of_the_one, no_account}
-use Rattle.rbac.proofs.AuthorizationLemmas.{are_authorized, authorized_is, none_authorized}
+use Rattle.rbac.proofs.AccountLemmas.{AreApart, FoundAt, apart_changed, found_changed, none_changed, with_roles, changed, name_kept, same_name_decides, same_default, at_changed, length_changed, of_the_one, no_account}
+use Rattle.rbac.proofs.AuthorizationLemmas.{are_authorized, authorized_is, decides_permission, none_authorized}
 
 pub senior_permissions : (pairs : List Inheritance) (senior junior : Role) (operation : Operation) → Reaches pairs senior junior → RoleHasPermission pairs junior operation → RoleHasPermission pairs senior operation
 senior_permissions pairs senior junior operation down permission =
@@ -114,19 +119,93 @@ place_or_none [] name = inr (All-nil (λ account. account.name ≢ name))
 place_or_none (account ∷ accounts) name =
     place_step account accounts name (same_name account.name name) refl (place_or_none accounts name)
 
-exact_at : (state : RoleData) (name : List ℕ) → IsValid state → ((place : ℕ) × FoundAt state.accounts name place) ⊎ All (λ account. account.name ≢ name) state.accounts → MatchOption (authorized_roles state name) (¬ HasAccount state.accounts name) (AreAuthorized state name)
-exact_at state name valid (inl at) =
+exact_at : (state : RoleData) (name : List ℕ) → AreApart state.accounts → ((place : ℕ) × FoundAt state.accounts name place) ⊎ All (λ account. account.name ≢ name) state.accounts → MatchOption (authorized_roles state name) (¬ HasAccount state.accounts name) (AreAuthorized state name)
+exact_at state name apart (inl at) =
     let d : Account = record { name = name; assigned = [] } in
-    subst (λ answer. MatchOption answer (¬ HasAccount state.accounts name) (AreAuthorized state name)) (sym (authorized_is state name at.0 at.1 valid.names d)) (are_authorized state name at.0 at.1 valid.names d)
-exact_at state name valid (inr none) =
+    subst (λ answer. MatchOption answer (¬ HasAccount state.accounts name) (AreAuthorized state name)) (sym (authorized_is state name at.0 at.1 apart d)) (are_authorized state name at.0 at.1 apart d)
+exact_at state name apart (inr none) =
     subst (λ answer. MatchOption answer (¬ HasAccount state.accounts name) (AreAuthorized state name)) (sym (none_authorized state name none)) (no_account state.accounts name none)
 
 pub authorized_roles_exact : (state : RoleData) (name : List ℕ) → IsValid state → MatchOption (authorized_roles state name) (¬ HasAccount state.accounts name) (AreAuthorized state name)
-authorized_roles_exact state name valid = exact_at state name valid (place_or_none state.accounts name)
+authorized_roles_exact state name valid = exact_at state name valid.names (place_or_none state.accounts name)
 
 pub authorized_alone : (state : RoleData) (name : List ℕ) (set other : List Role) → AreAuthorized state name set → AreAuthorized state name other → set ≡ other
 authorized_alone state name set other one two =
     same_sets set other one.listed two.listed (λ role. same_from_decides (has set role) (has other role) (one.exact role) (two.exact role))
+
+-- the test of a permission decides whether the user has it
+permission_of : (state : RoleData) (name : List ℕ) (operation : Operation) (answer : Option (List Role)) → MatchOption answer (¬ HasAccount state.accounts name) (AreAuthorized state name)
+    → Decides (option_map_or (λ set. are_allowed set operation) answer false) (HasPermission state name operation)
+permission_of state name operation (Some set) are = decides_permission state name set operation are
+permission_of state name operation None none = (
+  λ test. absurd (false≢true test),
+  λ has. let is = has.1 in absurd (none (is.0, is.1, is.2, is.3, is.4.0)),
+)
+
+pub permission_exact : (state : RoleData) (name : List ℕ) (operation : Operation) → IsValid state → Decides (has_permission state name operation) (HasPermission state name operation)
+permission_exact state name operation valid =
+    permission_of state name operation (authorized_roles state name) (authorized_roles_exact state name valid)
+
+-- a change that takes authorization away keeps the accounts and their names
+apart_after : (state : RoleData) (change : Change) → AreApart state.accounts → AreApart (after state change).accounts
+apart_after state (Deassign other role) apart = apart_changed (λ set. without_role set role) other.now state.accounts apart
+apart_after state (DeleteInheritance senior junior) apart = apart
+
+found_after : (state : RoleData) (change : Change) (name : List ℕ) (place : ℕ) → FoundAt state.accounts name place → FoundAt (after state change).accounts name place
+found_after state (Deassign other role) name place at = found_changed (λ set. without_role set role) other.now state.accounts name place at
+found_after state (DeleteInheritance senior junior) name place at = at
+
+missing_after : (state : RoleData) (change : Change) (name : List ℕ) → All (λ account. account.name ≢ name) state.accounts → All (λ account. account.name ≢ name) (after state change).accounts
+missing_after state (Deassign other role) name none = none_changed (λ set. without_role set role) other.now state.accounts name none
+missing_after state (DeleteInheritance senior junior) name none = none
+
+has_found : (accounts : List Account) (name : List ℕ) (place : ℕ) → FoundAt accounts name place → HasAccount accounts name
+has_found accounts name place at =
+    let d : Account = record { name = name; assigned = [] } in
+    (place, get_or accounts place d, at.within, same_default accounts place (get_or accounts place d) d at.within, at.found d)
+
+-- what a user with an account, and one without, is authorized for after such a change
+answer_after : (state : RoleData) (change : Change) (name : List ℕ) → AreApart state.accounts → ((place : ℕ) × FoundAt state.accounts name place) ⊎ All (λ account. account.name ≢ name) state.accounts
+    → MatchOption (authorized_roles (after state change) name) (¬ HasAccount state.accounts name) (λ set. HasAccount state.accounts name × AreAuthorized (after state change) name set)
+answer_after state change name apart (inl at) =
+    let d : Account = record { name = name; assigned = [] } in
+    let there = found_after state change name at.0 at.1 in
+    let still = apart_after state change apart in
+    subst (λ answer. MatchOption answer (¬ HasAccount state.accounts name) (λ set. HasAccount state.accounts name × AreAuthorized (after state change) name set))
+    (sym (authorized_is (after state change) name at.0 there still d))
+    (has_found state.accounts name at.0 at.1, are_authorized (after state change) name at.0 there still d)
+answer_after state change name apart (inr none) =
+    subst (λ answer. MatchOption answer (¬ HasAccount state.accounts name) (λ set. HasAccount state.accounts name × AreAuthorized (after state change) name set))
+    (sym (none_authorized (after state change) name (missing_after state change name none)))
+    (no_account state.accounts name none)
+
+exact_of : (answer : Option (List Role)) (Missing There : Type 0) (P : List Role → Type 0) → MatchOption answer Missing (λ set. There × P set) → IfSome answer P
+exact_of (Some set) Missing There P both = both.1
+exact_of None Missing There P missing = tt
+
+some_of : (answer : Option (List Role)) (Missing There : Type 0) (P : List Role → Type 0) → MatchOption answer Missing (λ set. There × P set) → OnSome answer There
+some_of (Some set) Missing There P both = both.0
+some_of None Missing There P missing = tt
+
+none_of : (answer : Option (List Role)) (Missing There : Type 0) (P : List Role → Type 0) → MatchOption answer Missing (λ set. There × P set) → IfNone answer Missing
+none_of (Some set) Missing There P both = tt
+none_of None Missing There P missing = missing
+
+-- so what is answered for the data after the change is exact
+module _ (state : RoleData) (change : Change) (name : List ℕ) (answer : Option (List Role)) (valid : IsValid state) (is : answer ≡ authorized_roles (after state change) name) where
+  answered : MatchOption answer (¬ HasAccount state.accounts name) (λ set. HasAccount state.accounts name × AreAuthorized (after state change) name set)
+  answered =
+      subst (λ found. MatchOption found (¬ HasAccount state.accounts name) (λ set. HasAccount state.accounts name × AreAuthorized (after state change) name set)) (sym is)
+      (answer_after state change name valid.names (place_or_none state.accounts name))
+
+  pub exact_after : IfSome answer (AreAuthorized (after state change) name)
+  exact_after = exact_of answer _ _ _ answered
+
+  pub some_after : OnSome answer (HasAccount state.accounts name)
+  some_after = some_of answer _ _ _ answered
+
+  pub none_after : IfNone answer (¬ HasAccount state.accounts name)
+  none_after = none_of answer _ _ _ answered
 
 -- an account whose role is taken away stays, where it has no such role
 kept_account : (b : Bool) (account : Account) (role : Role) → IsListed account.assigned → (b ≡ true → has account.assigned role ≡ false) → cond b (with_roles account (without_role account.assigned role)) account ≡ account
@@ -145,6 +224,6 @@ nothing_deassigned state name role valid not_assigned =
 pub nothing_deleted : (state : RoleData) (senior junior : Role) → ¬ Contains state.pairs (pair_of senior junior) → delete_inheritance state senior junior ≡ state
 nothing_deleted state senior junior not_there =
     ap (λ (pairs : List Inheritance). let now : RoleData = record { accounts = state.accounts; pairs = pairs } in now)
-    (filter_all (λ other. not (same_pair other (pair_of senior junior))) state.pairs (λ k d within.
-    not_from_false (same_pair (get_or state.pairs k d) (pair_of senior junior)) (false_from_ne_true _ (λ same. not_there
+    (filter_all (λ other. not (same_inheritance other (pair_of senior junior))) state.pairs (λ k d within.
+    not_from_false (same_inheritance (get_or state.pairs k d) (pair_of senior junior)) (false_from_ne_true _ (λ same. not_there
     (k, within, same_default state.pairs k (pair_of senior junior) d within ∙ (same_pair_decides _ _).0 same)))))

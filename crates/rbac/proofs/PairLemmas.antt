@@ -13,25 +13,25 @@ use Rattle.rbac.specs.declared.role.Role.{Role}
 use Rattle.rbac.specs.declared.role.Role.TheVariants.{Member, Spectator, Contestant, Scorer, Director, Administrator}
 use Rattle.rbac.specs.declared.inheritance.Inheritance.{Inheritance}
 use Rattle.rbac.specs.Role.{roles}
-use Rattle.rbac.specs.Inheritance.{pair_of, Chain, IsAcyclic, opening_pairs, same_pair}
+use Rattle.rbac.specs.Inheritance.{most_pairs, pair_of, Chain, IsAcyclic, opening_pairs, same_inheritance}
 use Rattle.rbac.proofs.RoleLemmas.{each_role, same_role_decides}
 use Rattle.rbac.proofs.ListLemmas.{equivalence}
 
-pub same_pair_decides : (a b : Inheritance) → Decides (same_pair a b) (a ≡ b)
+pub same_pair_decides : (a b : Inheritance) → Decides (same_inheritance a b) (a ≡ b)
 same_pair_decides a b =
-    Decides-like (same_pair a b)
+    Decides-like (same_inheritance a b)
     (λ (s, j) i. record { senior = s i; junior = j i })
     (λ e. (ap (λ (p : Inheritance). p.senior) e, ap (λ (p : Inheritance). p.junior) e))
     (Decides-and _ _ (same_role_decides a.senior b.senior) (same_role_decides a.junior b.junior))
 
-pub same_pair_equivalence : IsEquivalence same_pair
-same_pair_equivalence = equivalence same_pair same_pair_decides
+pub same_pair_equivalence : IsEquivalence same_inheritance
+same_pair_equivalence = equivalence same_inheritance same_pair_decides
 
 -- the ordered pairs of two roles
 all_pairs : List Inheritance
 all_pairs = flat_map (λ senior. map (λ junior. pair_of senior junior) roles) roles
 
-each_pair : (senior junior : Role) → list_any (same_pair (pair_of senior junior)) all_pairs ≡ true
+each_pair : (senior junior : Role) → list_any (same_inheritance (pair_of senior junior)) all_pairs ≡ true
 unfolding all_pairs
 each_pair =
     each_role _
@@ -43,11 +43,11 @@ each_pair =
     (each_role _ refl refl refl refl refl refl)
 
 -- there is room for one pair more
-pub room_for_pair : (pairs : List Inheritance) (pair : Inheritance) → IsDistinct same_pair pairs → list_any (same_pair pair) pairs ≡ false → length pairs < 36
+pub room_for_pair : (pairs : List Inheritance) (pair : Inheritance) → IsDistinct same_inheritance pairs → list_any (same_inheritance pair) pairs ≡ false → length pairs < most_pairs
 unfolding all_pairs
 room_for_pair pairs pair once new =
     let distinct = IsDistinct-push same_pair_equivalence pairs pair once new in
-    let few : length (pairs ++ pair ∷ []) ≤ 36 = length-le_from_is_member same_pair_equivalence (pairs ++ pair ∷ []) all_pairs distinct (λ q there. each_pair q.senior q.junior) in
+    let few : length (pairs ++ pair ∷ []) ≤ most_pairs = length-le_from_is_member same_pair_equivalence (pairs ++ pair ∷ []) all_pairs distinct (λ q there. each_pair q.senior q.junior) in
     omega (arith, length_push pairs pair)
 
 -- each pair of a new session leads from a higher place to a lower one
@@ -73,5 +73,5 @@ pub opening_acyclic : IsAcyclic opening_pairs
 opening_acyclic role n round =
     absurd (omega (arith, each_falls role round.0 round.1, falls n round.0 role round.2))
 
-pub opening_once : IsDistinct same_pair opening_pairs
+pub opening_once : IsDistinct same_inheritance opening_pairs
 opening_once = IsDistinct-from_count same_pair_equivalence opening_pairs refl

@@ -20,13 +20,14 @@ use Rattle.rbac.specs.declared.add_inheritance_error.AddInheritanceError.TheVari
 use Rattle.rbac.specs.declared.delete_inheritance_error.DeleteInheritanceError.{DeleteInheritanceError}
 use Rattle.rbac.specs.declared.delete_inheritance_error.DeleteInheritanceError.TheVariants.{NotThere}
 use Rattle.rbac.specs.Role.{has, same_role, with_role, without_role}
-use Rattle.rbac.specs.Inheritance.{Reaches, pair_of, same_pair}
+use Rattle.rbac.specs.Inheritance.{Reaches, pair_of, same_inheritance}
 use Rattle.rbac.specs.Hierarchy.{IsClosure, reach, reached_from, is_broken_in}
 use Rattle.rbac.specs.Separation.{separation_sets, set_number, has_both}
 use Rattle.rbac.specs.Account.{is_user_name, HasAccount, IsAssigned, with_change}
 use Rattle.rbac.specs.RoleData.{RoleData, assign_user, deassign_user, add_inheritance}
 use Rattle.rbac.specs.Authorization.{IsReached, IsBroken, IsValid, reached}
-use Rattle.rbac.specs.Refusals.{IsFirst, add_user_place, RefusesUser, assign_place, RefusesAssignment, deassign_place, RefusesDeassignment, inheritance_place, RefusesInheritance, RefusesDeletion}
+use Rattle.cards.specs.First.{IsFirst}
+use Rattle.rbac.specs.Refusals.{add_user_place, RefusesUser, assign_place, RefusesAssignment, deassign_place, RefusesDeassignment, inheritance_place, RefusesInheritance, RefusesDeletion}
 use Rattle.rbac.proofs.RoleLemmas.{listed_roles_that, has_roles_that}
 use Rattle.rbac.proofs.AccountLemmas.{FoundAt, AreApart, change_is_write, has_account, of_the_one, by_the_one, any_here, same_default}
 use Rattle.rbac.proofs.AuthorizationLemmas.{ReachesBoth, closure_reached, decides_both, decides_broken}
@@ -177,11 +178,11 @@ refused_there state senior junior up there = record {
   ];
 }
 
-pub decides_there : (pairs : List Inheritance) (pair : Inheritance) → Decides (list_any (λ other. same_pair other pair) pairs) (Contains pairs pair)
-decides_there pairs pair = decides_contains same_pair same_pair_decides pairs pair
+pub decides_there : (pairs : List Inheritance) (pair : Inheritance) → Decides (list_any (λ other. same_inheritance other pair) pairs) (Contains pairs pair)
+decides_there pairs pair = decides_contains same_inheritance same_pair_decides pairs pair
 
 -- the two orders in which pairs are compared
-pub not_there : (pairs : List Inheritance) (pair : Inheritance) → list_any (λ other. same_pair other pair) pairs ≡ false → list_any (same_pair pair) pairs ≡ false
+pub not_there : (pairs : List Inheritance) (pair : Inheritance) → list_any (λ other. same_inheritance other pair) pairs ≡ false → list_any (same_inheritance pair) pairs ≡ false
 not_there pairs pair no_such = ap (λ test. list_any test pairs) (λ i other. same_pair_equivalence.symm pair other i) ∙ no_such
 
 -- a user of the name, or none, by what the search answered

@@ -1,11 +1,11 @@
 -- What a byte's operations do to the set of roles that it stands for.
 use Rattle.std.proofs.Common.{◌≡◌, ℕ, ◌^◌, ◌*◌, ◌-◌, ◌/◌, ◌%◌, ◌<◌, Bool, true, [], zero, suc, max, arith, refl, sym, ap, ◌∙◌}
-use Rattle.std.specs.Prelude.{◌||◌, ◌&&◌, not, nat_eq, nat_lt, bit_and, bit_or, ◌↔◌}
+use Rattle.std.specs.Prelude.{◌||◌, ◌&&◌, not, nat_eq, nat_lt, bit_and, bit_or}
 use Rattle.std.specs.Cmp.Lexicographic.{pointwise, pointwise_decides}
 use Rattle.std.proofs.lemmas.Nat.Bits.{bit_at_or, bit_at-lt}
 use Rattle.std.proofs.lemmas.Nat.{or_lt}
 use Rattle.std.proofs.lemmas.Bool.Decides.{same_from_decides, Decides-eqb, Decides-like}
-use Rattle.std.proofs.lemmas.Bool.{agree_below, agree_below_at, eqb-true, ltb-true, eq-eqb}
+use Rattle.std.proofs.lemmas.Bool.{agree_below, agree_below_at, ltb-true}
 use Rattle.rbac.specs.declared.role.Role.{Role}
 use Rattle.rbac.specs.Role.{role_number, roles_that, same_role, has, IsListed, with_role, without_role, union_of}
 use Rattle.rbac.specs.RoleBits.{has_bit, roles_of_bits, bits_of_roles, bits_of_roles_of_bits}
@@ -105,13 +105,6 @@ or_sets_below a b below_a below_b = or_lt 6 a b below_a below_b
 pub zero_is_none : roles_of_bits 0 ≡ []
 unfolding roles_of_bits roles_that
 zero_is_none = refl
-
-pub zero_iff_none : (bits : ℕ) → bits < 64 → (nat_eq bits 0 ≡ true) ↔ (roles_of_bits bits ≡ [])
-unfolding bits_of_roles
-zero_iff_none bits below = (
-  λ zero. ap roles_of_bits (eqb-true bits 0 zero) ∙ zero_is_none,
-  λ none. eq-eqb bits 0 (sym (bits_of_roles_of_bits bits below) ∙ ap bits_of_roles none),
-)
 
 -- bytes are equal where their sets are
 pub same_bits : (a b : ℕ) → a < 64 → b < 64 → nat_eq a b ≡ pointwise same_role (roles_of_bits a) (roles_of_bits b)

@@ -12,9 +12,9 @@ use Rattle.rbac.specs.declared.inheritance.Inheritance.{Inheritance}
 use Rattle.rbac.specs.declared.account.Account.{Account}
 use Rattle.rbac.specs.declared.separation_set.SeparationSet.{SeparationSet}
 use Rattle.rbac.specs.Role.{roles_that, IsListed}
-use Rattle.rbac.specs.Inheritance.{Reaches, pair_of, same_pair, without_pair}
+use Rattle.rbac.specs.Inheritance.{Reaches, pair_of, same_inheritance, without_pair}
 use Rattle.rbac.specs.Separation.{apart}
-use Rattle.rbac.specs.Account.{is_user_name, same_name, new_account, with_change}
+use Rattle.rbac.specs.Account.{most_users, is_user_name, same_name, new_account, with_change}
 use Rattle.rbac.specs.RoleData.{RoleData, opening_data, add_user, add_inheritance, delete_inheritance}
 use Rattle.rbac.specs.Authorization.{IsReached, IsBroken, IsValid}
 use Rattle.rbac.proofs.InheritanceLemmas.{acyclic_push, acyclic_without, reaches_without}
@@ -44,7 +44,7 @@ new_breaks : (state : RoleData) (name : List ℕ) (set : SeparationSet) → IsVa
 new_breaks state name set valid (inl old) = valid.separate set old
 new_breaks state name set valid (inr new) = false≢true new.0.1
 
-pub valid_add_user : (state : RoleData) (name : List ℕ) → IsValid state → is_user_name name ≡ true → All (λ account. account.name ≢ name) state.accounts → length state.accounts < 256 → IsValid (add_user state name)
+pub valid_add_user : (state : RoleData) (name : List ℕ) → IsValid state → is_user_name name ≡ true → All (λ account. account.name ≢ name) state.accounts → length state.accounts < most_users → IsValid (add_user state name)
 valid_add_user state name valid fits new room = record {
   named = All-push (λ account. is_user_name account.name ≡ true) state.accounts (new_account name) valid.named fits;
   listed = All-push (λ account. IsListed account.assigned) state.accounts (new_account name) valid.listed listed_none;
@@ -74,13 +74,13 @@ module _ (state : RoleData) (change : List Role → List Role) (name : List ℕ)
     named = All-map (λ account. is_user_name account.name ≡ true) (changed change name) state.accounts (λ k e within. subst (λ text. is_user_name text ≡ true) (sym (name_kept change name (get_or state.accounts k e))) (valid.named k e within));
     listed = All-map (λ account. IsListed account.assigned) (changed change name) state.accounts (λ k e within. listed_as (same_name (get_or state.accounts k e).name name) (get_or state.accounts k e) (change (get_or state.accounts k e).assigned) (valid.listed k e within) (listed (get_or state.accounts k e).assigned));
     names = apart_changed change name state.accounts valid.names;
-    few = subst (λ n. n ≤ 256) (sym (length_changed change name state.accounts)) valid.few;
+    few = subst (λ n. n ≤ most_users) (sym (length_changed change name state.accounts)) valid.few;
     once = valid.once;
     acyclic = valid.acyclic;
     separate = λ set broken. keeps set (breaks_itself set broken);
   }
 
-pub valid_add_inheritance : (state : RoleData) (senior junior : Role) → IsValid state → ¬ Reaches state.pairs junior senior → list_any (same_pair (pair_of senior junior)) state.pairs ≡ false → ((set : SeparationSet) → ¬ IsBroken (add_inheritance state senior junior) set) → IsValid (add_inheritance state senior junior)
+pub valid_add_inheritance : (state : RoleData) (senior junior : Role) → IsValid state → ¬ Reaches state.pairs junior senior → list_any (same_inheritance (pair_of senior junior)) state.pairs ≡ false → ((set : SeparationSet) → ¬ IsBroken (add_inheritance state senior junior) set) → IsValid (add_inheritance state senior junior)
 valid_add_inheritance state senior junior valid up new keeps = record {
   named = valid.named;
   listed = valid.listed;
@@ -101,7 +101,7 @@ valid_delete_inheritance state senior junior valid = record {
   listed = valid.listed;
   names = valid.names;
   few = valid.few;
-  once = distinct_filter same_pair _ state.pairs valid.once;
+  once = distinct_filter same_inheritance _ state.pairs valid.once;
   acyclic = acyclic_without state.pairs (pair_of senior junior) valid.acyclic;
   separate = λ set broken. valid.separate set (
     broken.0,

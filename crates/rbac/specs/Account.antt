@@ -7,6 +7,10 @@ use Rattle.rbac.specs.declared.role.Role.{Role}
 use Rattle.rbac.specs.declared.account.Account.{Account}
 use Rattle.rbac.specs.Role.{has}
 
+-- how many users there are at most
+abbrev pub most_users : ℕ
+most_users = 256
+
 -- a letter, a digit, `-` or `_`
 abbrev pub is_name_byte : ℕ → Bool
 is_name_byte b = is_ascii_alphanumeric b || nat_eq b 45 || nat_eq b 95
@@ -36,7 +40,10 @@ assigned_roles accounts name =
 -- the accounts with the assigned roles of one user changed
 abbrev pub with_change : (List Role → List Role) → List ℕ → List Account → List Account
 with_change change name accounts =
-    map (λ account. if same_name account.name name then record { name = account.name; assigned = change account.assigned } else account) accounts
+    map (λ account.
+    if same_name account.name name
+    then record { name = account.name; assigned = change account.assigned }
+    else account) accounts
 
 -- an account with no role
 abbrev pub new_account : List ℕ → Account

@@ -1,15 +1,16 @@
 -- Who is authorized for which role (AuthorizedRoles of INCITS 359-2012), and what that allows.
-use Rattle.std.specs.Prelude.{◌≡◌, ℕ, true, ◌&&◌, List, ◌≤◌, ◌≢◌, ◌↔◌, length, Option, option_map, All}
+use Rattle.std.specs.Prelude.{◌≡◌, ℕ, Bool, true, false, ◌&&◌, List, ◌≤◌, ◌≢◌, ◌↔◌, length, Option, option_map, All}
+use Rattle.std.specs.Option.{option_map_or}
 use Rattle.std.specs.List.{Any, AllPairs, IsDistinct, list_any}
 use Rattle.rbac.specs.declared.role.Role.{Role}
 use Rattle.rbac.specs.declared.inheritance.Inheritance.{Inheritance}
 use Rattle.rbac.specs.declared.operation.Operation.{Operation}
 use Rattle.rbac.specs.declared.separation_set.SeparationSet.{SeparationSet}
 use Rattle.rbac.specs.Role.{roles, roles_that, has, IsListed}
-use Rattle.rbac.specs.Inheritance.{Reaches, IsAcyclic, reaches, same_pair}
-use Rattle.rbac.specs.Operation.{holds}
+use Rattle.rbac.specs.Inheritance.{Reaches, IsAcyclic, reaches, same_inheritance}
+use Rattle.rbac.specs.Operation.{holds, are_allowed}
 use Rattle.rbac.specs.Separation.{apart}
-use Rattle.rbac.specs.Account.{is_user_name, assigned_roles}
+use Rattle.rbac.specs.Account.{most_users, is_user_name, assigned_roles}
 use Rattle.rbac.specs.RoleData.{RoleData}
 
 -- some assigned role reaches the role
@@ -39,7 +40,9 @@ RoleHasPermission pairs role operation =
 -- some user is authorized for both roles of a separation set
 abbrev pub IsBroken : RoleData → SeparationSet → Type 0
 IsBroken state set =
-    Any (λ account. IsReached state.pairs account.assigned (apart set).0 × IsReached state.pairs account.assigned (apart set).1) state.accounts
+    Any (λ account.
+    IsReached state.pairs account.assigned (apart set).0 × IsReached state.pairs account.assigned (apart set).1)
+    state.accounts
 
 -- nobody is
 abbrev pub KeepsSeparation : RoleData → Type 0
@@ -48,15 +51,16 @@ KeepsSeparation state = (set : SeparationSet) → ¬ IsBroken state set
 -- nobody has both roles of a separation set assigned, which says less
 abbrev pub KeepsAssignedApart : RoleData → Type 0
 KeepsAssignedApart state =
-    (set : SeparationSet) → ¬ Any (λ account. (has account.assigned (apart set).0 ≡ true) × (has account.assigned (apart set).1 ≡ true)) state.accounts
+    (set : SeparationSet) → ¬ Any (λ account.
+    (has account.assigned (apart set).0 ≡ true) × (has account.assigned (apart set).1 ≡ true)) state.accounts
 
 -- what is true of users and roles at all times
 pub record IsValid (state : RoleData) : Type 0 where
   pub named : All (λ account. is_user_name account.name ≡ true) state.accounts
   pub listed : All (λ account. IsListed account.assigned) state.accounts
   pub names : AllPairs (λ account other. account.name ≢ other.name) state.accounts
-  pub few : length state.accounts ≤ 256
-  pub once : IsDistinct same_pair state.pairs
+  pub few : length state.accounts ≤ most_users
+  pub once : IsDistinct same_inheritance state.pairs
   pub acyclic : IsAcyclic state.pairs
   pub separate : KeepsSeparation state
 
@@ -68,3 +72,8 @@ reached pairs assigned =
 -- the roles for which the user of this name is authorized, if there is one
 abbrev pub authorized_roles : RoleData → List ℕ → Option (List Role)
 authorized_roles state name = option_map (reached state.pairs) (assigned_roles state.accounts name)
+
+-- whether the user has the permission
+abbrev pub has_permission : RoleData → List ℕ → Operation → Bool
+has_permission state name operation =
+    option_map_or (λ set. are_allowed set operation) (authorized_roles state name) false

@@ -12,7 +12,8 @@ pair_of senior junior = record { senior = senior; junior = junior }
 -- a chain of so many pairs leads down from the senior to the junior
 abbrev pub Chain : List Inheritance → ℕ → Role → Role → Type 0
 Chain pairs zero senior junior = senior ≡ junior
-Chain pairs (suc n) senior junior = (middle : Role) × Contains pairs (pair_of senior middle) × Chain pairs n middle junior
+Chain pairs (suc n) senior junior =
+    (middle : Role) × Contains pairs (pair_of senior middle) × Chain pairs n middle junior
 
 -- a chain of zero or more pairs leads down from the senior to the junior
 abbrev pub Reaches : List Inheritance → Role → Role → Type 0
@@ -22,18 +23,28 @@ Reaches pairs senior junior = (n : ℕ) × Chain pairs n senior junior
 abbrev pub IsAcyclic : List Inheritance → Type 0
 IsAcyclic pairs = (role : Role) (n : ℕ) → ¬ Chain pairs (suc n) role role
 
+-- how many pairs there are at most: each role over each
+abbrev pub most_pairs : ℕ
+most_pairs = 36
+
 -- the pairs of a new session, in their order
 abbrev pub opening_pairs : List Inheritance
 opening_pairs =
-    pair_of Spectator Member ∷ pair_of Contestant Member ∷ pair_of Scorer Member ∷ pair_of Administrator Member ∷ pair_of Director Scorer ∷ pair_of Director Spectator ∷ []
+    pair_of Spectator Member
+    ∷ pair_of Contestant Member
+    ∷ pair_of Scorer Member
+    ∷ pair_of Administrator Member
+    ∷ pair_of Director Scorer
+    ∷ pair_of Director Spectator
+    ∷ []
 
 -- whether two pairs are one
-abbrev pub same_pair : Inheritance → Inheritance → Bool
-same_pair a b = same_role a.senior b.senior && same_role a.junior b.junior
+abbrev pub same_inheritance : Inheritance → Inheritance → Bool
+same_inheritance a b = same_role a.senior b.senior && same_role a.junior b.junior
 
 -- the pairs without one of them
 abbrev pub without_pair : List Inheritance → Inheritance → List Inheritance
-without_pair pairs pair = filter (λ other. not (same_pair other pair)) pairs
+without_pair pairs pair = filter (λ other. not (same_inheritance other pair)) pairs
 
 -- whether a chain leads down, pair by pair: it does without the first pair, or down to that pair and on from it
 unfoldable pub reaches : List Inheritance → Role → Role → Bool

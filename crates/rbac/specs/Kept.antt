@@ -2,6 +2,8 @@
 use Rattle.std.specs.Prelude.{◌≤◌, vec_capacity}
 use Rattle.rbac.specs.declared.roles.Roles.TheInside.{Inside}
 use Rattle.rbac.specs.Hierarchy.{IsClosure}
+use Rattle.rbac.specs.Account.{most_users}
+use Rattle.rbac.specs.Inheritance.{most_pairs}
 use Rattle.rbac.specs.RoleData.{RoleData}
 use Rattle.rbac.specs.Authorization.{IsValid}
 
@@ -13,5 +15,5 @@ data_of roles = record { accounts = roles.accounts.items; pairs = roles.pairs.it
 pub record IsKept (roles : Inside) : Type 0 where
   pub valid : IsValid (data_of roles)
   pub closure : IsClosure roles.pairs.items roles.hierarchy.reached
-  pub users : 256 ≤ vec_capacity roles.accounts
-  pub room : 36 ≤ vec_capacity roles.pairs
+  pub users : most_users ≤ vec_capacity roles.accounts
+  pub room : most_pairs ≤ vec_capacity roles.pairs

@@ -1,5 +1,5 @@
--- Why a change is refused: the causes of each function in their order, of which the first that holds is answered.
-use Rattle.std.specs.Prelude.{◌≡◌, ℕ, ◌+◌, ◌<◌, false, List, length, Contains}
+-- Why a change is refused: the causes of each function in their order, of which the first that holds is answered (`IsFirst`).
+use Rattle.std.specs.Prelude.{◌≡◌, ℕ, ◌+◌, false, List, length, Contains}
 use Rattle.rbac.specs.declared.role.Role.{Role}
 use Rattle.rbac.specs.declared.add_user_error.AddUserError.{AddUserError}
 use Rattle.rbac.specs.declared.add_user_error.AddUserError.TheVariants.{BadName, UserExists, TooManyUsers}
@@ -13,14 +13,9 @@ use Rattle.rbac.specs.declared.delete_inheritance_error.DeleteInheritanceError.{
 use Rattle.rbac.specs.declared.delete_inheritance_error.DeleteInheritanceError.TheVariants.{NotThere}
 use Rattle.rbac.specs.Inheritance.{Reaches, pair_of}
 use Rattle.rbac.specs.Separation.{set_number}
-use Rattle.rbac.specs.Account.{is_user_name, HasAccount, IsAssigned}
+use Rattle.rbac.specs.Account.{most_users, is_user_name, HasAccount, IsAssigned}
 use Rattle.rbac.specs.RoleData.{RoleData, assign_user, add_inheritance}
 use Rattle.rbac.specs.Authorization.{IsBroken}
-
--- the cause holds, and none before it does
-pub record IsFirst {Cause : Type 0} (place : Cause → ℕ) (Holds : Cause → Type 0) (cause : Cause) : Type 0 where
-  pub holds : Holds cause
-  pub least : (other : Cause) → place other < place cause → ¬ Holds other
 
 -- AddUser
 abbrev pub add_user_place : AddUserError → ℕ
@@ -31,7 +26,7 @@ add_user_place TooManyUsers = 2
 abbrev pub RefusesUser : RoleData → List ℕ → AddUserError → Type 0
 RefusesUser state name BadName = is_user_name name ≡ false
 RefusesUser state name UserExists = HasAccount state.accounts name
-RefusesUser state name TooManyUsers = length state.accounts ≡ 256
+RefusesUser state name TooManyUsers = length state.accounts ≡ most_users
 
 -- AssignUser; of the separation sets that would be broken, by whomever, the first in their order
 abbrev pub assign_place : AssignError → ℕ

@@ -8,13 +8,15 @@ ghost use Rattle.rbac.specs.Inheritance.{Reaches, pair_of};
 ghost use Rattle.rbac.specs.Separation.{apart};
 ghost use Rattle.rbac.specs.Account.{HasAccount, IsAssigned};
 ghost use Rattle.rbac.specs.RoleData.{RoleData, assign_user, deassign_user, delete_inheritance};
-ghost use Rattle.rbac.specs.Authorization.{IsAuthorized, AreAuthorized, RoleHasPermission, KeepsSeparation, KeepsAssignedApart, IsValid, authorized_roles};
+ghost use Rattle.rbac.specs.Authorization.{IsAuthorized, AreAuthorized, HasPermission, RoleHasPermission, KeepsSeparation, KeepsAssignedApart, IsValid, authorized_roles, has_permission};
+ghost use Rattle.std.specs.Bool.{Decides};
 
 /// A senior role's permissions contain its juniors', and who is authorized for a senior role is authorized for its
 /// juniors (hierarchical RBAC of INCITS 359-2012).
 pub fn seniors_inherit()
     ensures permissions { (pairs : List Inheritance) (senior junior : Role) (operation : Operation) →
-        Reaches pairs senior junior → RoleHasPermission pairs junior operation → RoleHasPermission pairs senior operation }
+        Reaches pairs senior junior →
+        RoleHasPermission pairs junior operation → RoleHasPermission pairs senior operation }
     ensures users { (state : RoleData) (name : List ℕ) (senior junior : Role) →
         Reaches state.pairs senior junior → IsAuthorized state name senior → IsAuthorized state name junior }
 {}
@@ -44,6 +46,12 @@ pub fn authorized_roles_are_exact()
         MatchOption (authorized_roles state name) (¬ HasAccount state.accounts name) (AreAuthorized state name) }
     ensures alone { (state : RoleData) (name : List ℕ) (set other : List Role) →
         AreAuthorized state name set → AreAuthorized state name other → set ≡ other }
+{}
+
+/// The test of a permission decides whether the user has it.
+pub fn permissions_are_exact()
+    ensures { (state : RoleData) (name : List ℕ) (operation : Operation) → IsValid state →
+        Decides (has_permission state name operation) (HasPermission state name operation) }
 {}
 
 /// To take away what is not there would change nothing.

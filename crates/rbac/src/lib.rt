@@ -1,4 +1,5 @@
-//! The users of a session and their roles: the core, the role hierarchy and the static separation of duty of ANSI INCITS 359-2012.
+//! The users of a session and their roles: the core, the role hierarchy and the static separation of duty of ANSI
+//! INCITS 359-2012.
 #![tactic(auto)]
 
 mod account;

@@ -73,13 +73,6 @@ impl RoleSet {
             bits: self.bits | other.bits,
         }
     }
-
-    #[tactic(auto, using(crate::proofs::RoleBitsLemmas::zero_iff_none))]
-    pub fn is_empty(self) -> bool
-        ensures { IsTrue result ↔ (self ≡ []) }
-    {
-        self.bits == 0
-    }
 }
 
 impl PartialEq for RoleSet {

@@ -7,8 +7,9 @@ ghost use Rattle.rbac.specs.declared.add_inheritance_error.AddInheritanceError.{
 ghost use Rattle.rbac.specs.declared.delete_inheritance_error.DeleteInheritanceError.{DeleteInheritanceError};
 ghost use Rattle.rbac.specs.Account.{HasAccount};
 ghost use Rattle.rbac.specs.RoleData.{opening_data, add_user, assign_user, deassign_user, add_inheritance, delete_inheritance, after};
-ghost use Rattle.rbac.specs.Authorization.{AreAuthorized, HasPermission, IsValid, authorized_roles};
-ghost use Rattle.rbac.specs.Refusals.{IsFirst, add_user_place, RefusesUser, assign_place, RefusesAssignment, deassign_place, RefusesDeassignment, inheritance_place, RefusesInheritance, RefusesDeletion};
+ghost use Rattle.rbac.specs.Authorization.{AreAuthorized, HasPermission, IsValid, authorized_roles, has_permission};
+ghost use Rattle.cards.specs.First.{IsFirst};
+ghost use Rattle.rbac.specs.Refusals.{add_user_place, RefusesUser, assign_place, RefusesAssignment, deassign_place, RefusesDeassignment, inheritance_place, RefusesInheritance, RefusesDeletion};
 
 use crate::account::Account;
 use crate::add_inheritance_error::AddInheritanceError;
@@ -31,9 +32,9 @@ use std::marker::Model;
 /// The users of a session, the roles that are assigned to them, and the role hierarchy. Clauses see the accounts and
 /// the inheritance pairs, each in the order of adding. After `new` no call takes memory, and a refusal changes nothing.
 ///
-/// A name is looked for among the accounts in turn, at most 256, and what each role reaches is kept as a table of six
-/// bytes. So `authorized` costs one scan of the names and at most six unions of a byte, `add_inheritance` that union for
-/// each account and separation set, and a deletion works the table out anew from the pairs.
+/// A name is looked for among the accounts in turn, and what each role reaches is kept as a table of six bytes. So
+/// `authorized` costs one scan of the names and at most six unions of a byte, `add_inheritance` that union for each account
+/// and separation set, and a deletion works the table out anew from the pairs.
 #[derive(Debug, Drop)]
 pub struct Roles {
     accounts: Vec<Account>,
@@ -202,7 +203,8 @@ impl Roles {
 
     /// CheckAccess of INCITS 359-2012: whether a user is authorized for a role that holds the operation.
     pub fn check_access(&self, name: &str, operation: Operation) -> bool
-        ensures { IsTrue result ↔ HasPermission self.now name.now operation }
+        ensures permission { IsTrue result ↔ HasPermission self.now name.now operation }
+        ensures test { result ≡ has_permission self.now name.now operation }
     {
         match self.authorized(name) {
             Some(roles) => operation.is_held_by(roles),
@@ -212,7 +214,10 @@ impl Roles {
 
     /// What `authorized` would answer after a change. A change that would be refused changes nothing.
     pub fn authorized_if(&self, name: &str, change: Change<'_>) -> Option<RoleSet>
-        ensures { result ≡ authorized_roles (after self.now change.entry) name.now }
+        ensures roles { result ≡ authorized_roles (after self.now change.entry) name.now }
+        ensures exact { IfSome result (AreAuthorized (after self.now change.entry) name.now) }
+        ensures some { OnSome result (HasAccount self.now.accounts name.now) }
+        ensures none { IfNone result (¬ HasAccount self.now.accounts name.now) }
     {
         match change {
             Change::Deassign(other, role) => self.authorized_without_role(name, other, role),
@@ -225,7 +230,8 @@ impl Roles {
 
     /// What `authorized` would answer if a role were not assigned to a user.
     fn authorized_without_role(&self, name: &str, other: &str, role: Role) -> Option<RoleSet>
-        ensures { result ≡ authorized_roles (deassign_user self.now other.now role) name.now }
+        ensures roles { result ≡ authorized_roles (deassign_user self.now other.now role) name.now }
+        ensures valid { IsValid self.now }
     {
         let place = place_of(&self.accounts, name)?;
         let assigned = self.accounts[place].assigned;
@@ -237,7 +243,8 @@ impl Roles {
 
     /// What `authorized` would answer if an inheritance pair were not there.
     fn authorized_without_pair(&self, name: &str, pair: Inheritance) -> Option<RoleSet>
-        ensures { result ≡ authorized_roles (delete_inheritance self.now pair.senior pair.junior) name.now }
+        ensures roles { result ≡ authorized_roles (delete_inheritance self.now pair.senior pair.junior) name.now }
+        ensures valid { IsValid self.now }
     {
         let place = place_of(&self.accounts, name)?;
         let hierarchy = Hierarchy::of_all_but(&self.pairs, pair);
@@ -246,7 +253,8 @@ impl Roles {
 
     /// The user at a place from 0 and the roles that are assigned to it, if there are so many users.
     pub fn user(&self, place: usize) -> Option<(Name, RoleSet)>
-        ensures user { result ≡ option_map (λ account. (account.name, account.assigned)) (slice_get self.now.accounts place) }
+        ensures user { result ≡
+            option_map (λ account. (account.name, account.assigned)) (slice_get self.now.accounts place) }
         ensures valid { IsValid self.now }
     {
         let account = self.accounts.get(place)?;

@@ -51,8 +51,6 @@ fn keeps_sets_of_roles(rt: HostRuntime) {
         set.union(set_of(&[Role::Scorer])),
         set_of(&[Role::Member, Role::Scorer, Role::Director])
     );
-    assert!(rt; !set.is_empty());
-    assert!(rt; RoleSet::new().is_empty());
 }
 
 #[test]

@@ -1,5 +1,5 @@
 use Rattle.std.proofs.Common.{◌≡◌, ◌≤◌, take, vec_capacity}
-use Rattle.rbac.specs.Inheritance.{opening_pairs}
+use Rattle.rbac.specs.Inheritance.{most_pairs, opening_pairs}
 use Rattle.rbac.specs.Hierarchy.{IsClosure}
 use Rattle.rbac.proofs.roles.Roles.new.Given as goal
 
@@ -7,6 +7,6 @@ abbrev pub invariant-loop-pair : goal.invariant-loop-pair
 invariant-loop-pair l =
     record {
       pairs : l.pairs.items ≡ take l.pair-index opening_pairs;
-      room : 36 ≤ vec_capacity l.pairs;
+      room : most_pairs ≤ vec_capacity l.pairs;
       closure : IsClosure l.pairs.items l.hierarchy.reached;
     }
