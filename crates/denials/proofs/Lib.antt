@@ -1,1 +1,2 @@
+pub mod EvidenceLemmas
 pub mod TableLemmas

@@ -14,7 +14,7 @@ use Rattle.movement.specs.Schedule.{plays}
 use Rattle.movement.proofs.ScheduleTests.{any_as, plays_decides, scheduled-cell}
 use Rattle.disclosure_rules.proofs.FirstLemmas.{find_place, find_none}
 use Rattle.disclosure_rules.proofs.SeatingLemmas.{plays_of, one_table}
-use Rattle.denials.specs.Evidence.{table_of_pair, is_open, open_table}
+use Rattle.denials.specs.Evidence.{table_of_pair, is_awaited, awaited_table}
 
 -- an element that is found: it is in the list, and it passes
 record IsFound {X : Type 0} (p : X → Bool) (xs : List X) : Type 0 where
@@ -58,24 +58,24 @@ no_table section pair board none = sym (ap (λ row. unwrap_or (option_map (λ (r
     nowhere (x ∷ xs) none' =
         find_none (plays section pair board) (x ∷ xs) x (λ j below. false_from_ne_true _ (λ test. none' j x below ((plays_decides section pair board _).0 test)))
 
--- a table that isn't scheduled isn't open
-pub not_open : (section : Section) (live : List (List ℕ)) (board table : ℕ) → ¬ IsCell section (record { table = table; board = board }) → false ≡ is_open section live board table
-not_open section live board table none = sym (and_left _ _ (false_from_ne_true _ (λ test. none (scheduled-cell section _ test))))
+-- from a table that isn't scheduled nothing is awaited
+pub not_awaited : (section : Section) (live : List (List ℕ)) (board table : ℕ) → ¬ IsCell section (record { table = table; board = board }) → false ≡ is_awaited section live board table
+not_awaited section live board table none = sym (and_left _ _ (false_from_ne_true _ (λ test. none (scheduled-cell section _ test))))
 
--- the first open table is the least
-pub first_open : (section : Section) (live : List (List ℕ)) (board k : ℕ) → k < section.tables → true ≡ is_open section live board (k + 1) →
-    ((j : ℕ) → j < k → is_open section live board (j + 1) ≡ false) → k + 1 ≡ open_table section live board
-unfolding open_table
-first_open section live board k below opens least =
+-- the first awaited table is the least
+pub first_awaited : (section : Section) (live : List (List ℕ)) (board k : ℕ) → k < section.tables → true ≡ is_awaited section live board (k + 1) →
+    ((j : ℕ) → j < k → is_awaited section live board (j + 1) ≡ false) → k + 1 ≡ awaited_table section live board
+unfolding awaited_table
+first_awaited section live board k below opens least =
     let n : ℕ = section.tables in
     let place : (j : ℕ) → j < n → get_or (range_with_len 1 n) j 0 ≡ j + 1 = λ j within. get_or-range_with_len 1 n j 0 within ∙ omega arith in
-    let is_first = find_place (is_open section live board) (range_with_len 1 n) k 0 (omega (arith, length-range_with_len 1 n)) (ap (is_open section live board) (place k below) ∙ sym opens) (λ j before. ap (is_open section live board) (place j (omega arith)) ∙ least j before) in
+    let is_first = find_place (is_awaited section live board) (range_with_len 1 n) k 0 (omega (arith, length-range_with_len 1 n)) (ap (is_awaited section live board) (place k below) ∙ sym opens) (λ j before. ap (is_awaited section live board) (place j (omega arith)) ∙ least j before) in
     sym (place k below) ∙ sym (ap (λ o. unwrap_or o 0) is_first)
 
--- and where no table is open, there is none
-pub none_open : (section : Section) (live : List (List ℕ)) (board : ℕ) → ((j : ℕ) → j < section.tables → is_open section live board (j + 1) ≡ false) → 0 ≡ open_table section live board
-unfolding open_table
-none_open section live board none =
+-- and where no table is awaited, there is none
+pub none_awaited : (section : Section) (live : List (List ℕ)) (board : ℕ) → ((j : ℕ) → j < section.tables → is_awaited section live board (j + 1) ≡ false) → 0 ≡ awaited_table section live board
+unfolding awaited_table
+none_awaited section live board none =
     let n : ℕ = section.tables in
     let place : (j : ℕ) → j < n → get_or (range_with_len 1 n) j 0 ≡ j + 1 = λ j within. get_or-range_with_len 1 n j 0 within ∙ omega arith in
-    sym (ap (λ o. unwrap_or o 0) (find_none (is_open section live board) (range_with_len 1 n) 0 (λ j below. ap (is_open section live board) (place j (omega (arith, length-range_with_len 1 n))) ∙ none j (omega (arith, length-range_with_len 1 n)))))
+    sym (ap (λ o. unwrap_or o 0) (find_none (is_awaited section live board) (range_with_len 1 n) 0 (λ j below. ap (is_awaited section live board) (place j (omega (arith, length-range_with_len 1 n))) ∙ none j (omega (arith, length-range_with_len 1 n)))))

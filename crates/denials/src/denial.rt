@@ -10,7 +10,7 @@ pub struct Denial {
     pub rule: Rule,
     /// The board that the fact is of, from 1, or 0 where the rule isn't about a board.
     pub board: u8,
-    /// A table at which everybody can see that the rule forbids, from 1, or 0 where the rule isn't about a table.
+    /// The table that the rule names, from 1, or 0 where it names none.
     pub table: u8,
 }
 

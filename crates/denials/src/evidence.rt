@@ -1,49 +1,36 @@
 ghost use Rattle.std.specs.Prelude.{◌≡◌, ◌↔◌, IsTrue, Some};
-ghost use Rattle.disclosure_rules.specs.Fact.{cell_of};
-ghost use Rattle.denials.specs.Evidence.{table_of_pair, own_table, is_open, open_table, table_of_cell, table_named, board_named, denial_by, denial_of};
+ghost use Rattle.denials.specs.Evidence.{table_of_pair, own_table, is_awaited, awaited_table, table_number};
+ghost use Rattle.denials.specs.Evidence.{table_named, board_named, denial_by, denial_of};
 
 use crate::denial::Denial;
 use cards::Pair;
-use disclosure_rules::{Fact, Public, Rule, Seat, decide};
+use disclosure_rules::{Fact, Public, Rule, Seat, Viewer, decide};
 use movement::Movement;
-use rbac::RoleSet;
 
-/// Why the fact is denied to a user with these roles (`None`: no account) and this seat, if it is.
+/// Why the fact is denied to the user, if it is.
 #[tactic(auto, unfolding(crate::specs::Evidence::denial_of))]
-pub fn deny(
-    public: &Public,
-    roles: Option<RoleSet>,
-    seat: Option<Seat>,
-    fact: Fact,
-) -> Option<Denial>
-    ensures { result ≡ denial_of public.now roles seat fact }
+pub fn deny(public: &Public, viewer: &Viewer, fact: Fact) -> Option<Denial>
+    ensures { result ≡ denial_of public.now viewer.now fact }
 {
-    let rule = decide(public, roles, seat, fact)?;
-    Some(denial_by(public, &seat, fact, rule))
+    let rule = decide(public, viewer, fact)?;
+    Some(denial_by(public, &viewer.seat, fact, rule))
 }
 
-/// Whether this is why the fact is denied to such a user.
-pub fn check(
-    public: &Public,
-    roles: Option<RoleSet>,
-    seat: Option<Seat>,
-    fact: Fact,
-    denial: Denial,
-) -> bool
-    ensures { IsTrue result ↔ (denial_of public.now roles seat fact ≡ Some denial) }
+/// Whether this is why the fact is denied to the user.
+pub fn check(public: &Public, viewer: &Viewer, fact: Fact, denial: Denial) -> bool
+    ensures { IsTrue result ↔ (denial_of public.now viewer.now fact ≡ Some denial) }
 {
-    deny(public, roles, seat, fact) == Some(denial)
+    deny(public, viewer, fact) == Some(denial)
 }
 
 /// The denial of a fact by a rule, with its evidence.
 fn denial_by(public: &Public, seat: &Option<Seat>, fact: Fact, rule: Rule) -> Denial
     ensures { result ≡ denial_by public.now seat.now fact rule }
 {
-    let board = board_named(rule, fact);
     Denial {
         rule,
-        board,
-        table: table_named(rule, public, seat, fact, board),
+        board: board_named(rule, fact),
+        table: table_named(rule, public, seat, fact),
     }
 }
 
@@ -58,17 +45,18 @@ fn board_named(rule: Rule, fact: Fact) -> u8
 }
 
 /// The table that the rule names.
-fn table_named(rule: Rule, public: &Public, seat: &Option<Seat>, fact: Fact, board: u8) -> u8
-    ensures { result ≡ table_named rule public.now seat.now fact board }
+fn table_named(rule: Rule, public: &Public, seat: &Option<Seat>, fact: Fact) -> u8
+    ensures { result ≡ table_named rule public.now seat.now fact }
 {
+    let board = fact.board().unwrap_or(0);
     match rule {
         Rule::NoAccount | Rule::NotAMember | Rule::AccountsAreClosed => 0,
         Rule::BoardIsHeld | Rule::NeitherContestantNorSpectator => 0,
         Rule::StillToPlay => own_table(public.movement, seat, board),
         Rule::OthersStillPlay | Rule::BoardIsIncomplete | Rule::AnalysisWaits => {
-            open_table(public, board)
+            awaited_table(public, board)
         }
-        Rule::PlayWaits | Rule::ReasonIsForThePairs | Rule::NoResult => table_of_cell(fact),
+        Rule::PlayWaits | Rule::ReasonIsForThePairs | Rule::NoResult => table_number(fact),
     }
 }
 
@@ -92,12 +80,12 @@ fn table_of_pair(movement: Movement, pair: Pair, board: u8) -> u8
     }
 }
 
-/// The least table that is scheduled to play the board and has no result on it, or 0 where there is none.
-fn open_table(public: &Public, board: u8) -> u8
-    ensures { result ≡ open_table public.now.movement public.now.live board }
+/// The least table from which a result on the board is awaited, or 0 where there is none.
+fn awaited_table(public: &Public, board: u8) -> u8
+    ensures { result ≡ awaited_table public.now.movement public.now.live board }
 {
     for below in 0..public.movement.tables() {
-        if is_open(public, below + 1, board) {
+        if is_awaited(public, below + 1, board) {
             return below + 1;
         }
     }
@@ -105,8 +93,8 @@ fn open_table(public: &Public, board: u8) -> u8
 }
 
 /// Whether the table is scheduled to play the board and has no result on it.
-fn is_open(public: &Public, table: u8, board: u8) -> bool
-    ensures { result ≡ is_open public.now.movement public.now.live board table }
+fn is_awaited(public: &Public, table: u8, board: u8) -> bool
+    ensures { result ≡ is_awaited public.now.movement public.now.live board table }
 {
     match public.movement.cell(table, board) {
         Some(cell) => !public.live.contains(cell),
@@ -114,9 +102,9 @@ fn is_open(public: &Public, table: u8, board: u8) -> bool
     }
 }
 
-/// The table that the fact is of, or 0 where it is of no single table.
-fn table_of_cell(fact: Fact) -> u8
-    ensures { result ≡ table_of_cell (cell_of fact) }
+/// The table that the fact belongs to, or 0.
+fn table_number(fact: Fact) -> u8
+    ensures { result ≡ table_number fact }
 {
     match fact.cell() {
         Some(cell) => cell.table,

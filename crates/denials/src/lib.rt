@@ -3,6 +3,7 @@
 
 mod denial;
 mod evidence;
+pub mod laws;
 #[cfg(test)]
 mod tests;
 

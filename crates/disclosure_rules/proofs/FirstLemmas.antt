@@ -1,21 +1,20 @@
--- The first rule that forbids a fact, as the one value that the tests find.
+-- The first rule that forbids a fact, as the one value that the list of the rules gives.
 use Rattle.std.proofs.Common.{◌≡◌, ℕ, zero, suc, ◌+◌, ◌-◌, ◌<◌, Bool, true, false, List, [], ◌∷◌, length, get_or, refl, sym, ap, ◌∙◌, subst, arith, inl, inr}
-use Rattle.std.specs.Prelude.{Option, Some, None, IfSome, IfNone, IsSomeAnd, cond, if◌then◌else◌}
+use Rattle.std.specs.Prelude.{Option, Some, None, cond, if◌then◌else◌}
 use Rattle.std.specs.Option.{unwrap_or}
 use Rattle.std.specs.List.{find}
-use Rattle.std.proofs.lemmas.Bool.{cases_Bool, false≢true, false_from_ne_true, both_ways}
-use Rattle.rbac.specs.declared.role.Role.{Role}
+use Rattle.std.proofs.lemmas.Bool.{cases_Bool}
 use Rattle.rbac.specs.declared.role.Role.TheVariants.{Director}
 use Rattle.disclosure_rules.specs.declared.fact.Fact.{Fact}
 use Rattle.disclosure_rules.specs.declared.fact.Fact.TheVariants.{Hands}
-use Rattle.disclosure_rules.specs.Fact.{board_of}
+use Rattle.disclosure_rules.specs.declared.fact.Fact.TheVariants as the_fact
 use Rattle.disclosure_rules.specs.declared.public.Public.{Public}
-use Rattle.disclosure_rules.specs.declared.seat.Seat.{Seat}
 use Rattle.disclosure_rules.specs.declared.rule.Rule.{Rule}
 use Rattle.disclosure_rules.specs.declared.rule.Rule.TheVariants.{NoAccount, NotAMember, AccountsAreClosed, BoardIsHeld, StillToPlay, OthersStillPlay, NeitherContestantNorSpectator, BoardIsIncomplete, AnalysisWaits, PlayWaits, ReasonIsForThePairs, NoResult}
-use Rattle.disclosure_rules.specs.Decision.{forbids, rules_in_order, first_rule}
-use Rattle.disclosure_rules.specs.Policy.{Forbids, ForbidsSecret, IsFirst, IsAllowed, number_of, is_authorized, guarded_board}
-use Rattle.disclosure_rules.proofs.DecisionLemmas.{forbids_decides}
+use Rattle.disclosure_rules.specs.declared.viewer.Viewer.{Viewer}
+use Rattle.disclosure_rules.specs.Fact.{board_of_fact}
+use Rattle.disclosure_rules.specs.Policy.{is_authorized, guarded, guarding, forbids, rules, rule_number, first_rule}
+use Rattle.disclosure_rules.specs.Seating.{some_that}
 use Rattle.disclosure_rules.proofs.RuleLemmas.{at_number, number_within, number_at}
 
 -- an element that passes a test where no element before it does is the one that is found
@@ -34,15 +33,15 @@ find_none p (x ∷ xs) d none =
     ap (λ b. cond b (Some x) (find p xs)) (none 0 (omega arith)) ∙ find_none p xs d (λ j below. none (suc j) (omega arith))
 
 -- where the found element stands, and that no element before it passes
-record IsFound {X : Type 0} (p : X → Bool) (xs : List X) (d x : X) : Type 0 where
-  place : ℕ
-  below : place < length xs
-  here : get_or xs place d ≡ x
-  passes : p x ≡ true
-  least : (j : ℕ) → j < place → p (get_or xs j d) ≡ false
+pub record IsFound {X : Type 0} (p : X → Bool) (xs : List X) (d x : X) : Type 0 where
+  pub place : ℕ
+  pub below : place < length xs
+  pub here : get_or xs place d ≡ x
+  pub passes : p x ≡ true
+  pub least : (j : ℕ) → j < place → p (get_or xs j d) ≡ false
 
 -- an element that is found has such a place
-found_at : {X : Type 0} (p : X → Bool) (xs : List X) (d x : X) → find p xs ≡ Some x → IsFound p xs d x
+pub found_at : {X : Type 0} (p : X → Bool) (xs : List X) (d x : X) → find p xs ≡ Some x → IsFound p xs d x
 found_at p [] d x found = absurd (cc)
 found_at p (y ∷ xs) d x found =
     elim (cases_Bool (p y)) [
@@ -73,7 +72,7 @@ found_is_not_none : {X : Type 0} (x : X) → ¬ (Some x ≡ None)
 found_is_not_none x same = absurd (cc)
 
 -- where none is found, no element passes
-none_found : {X : Type 0} (p : X → Bool) (xs : List X) (d : X) → find p xs ≡ None → (j : ℕ) → j < length xs → p (get_or xs j d) ≡ false
+pub none_found : {X : Type 0} (p : X → Bool) (xs : List X) (d : X) → find p xs ≡ None → (j : ℕ) → j < length xs → p (get_or xs j d) ≡ false
 none_found p [] d none j below = absurd (omega arith)
 none_found p (y ∷ xs) d none zero below =
     elim (cases_Bool (p y)) [
@@ -86,87 +85,106 @@ none_found p (y ∷ xs) d none (suc j) below =
       | inr fails ↦ none_found p xs d (sym (ap (λ b. cond b (Some y) (find p xs)) fails) ∙ none) j (omega arith)
     ]
 
--- what holds of the value, said in other words
-some_and_as : {A : Type 0} (o : Option A) (P Q : A → Type 0) → ((x : A) → P x → Q x) → IsSomeAnd o P → IsSomeAnd o Q
-some_and_as None P Q gives none = none
-some_and_as (Some x) P Q gives holds = gives x holds
+module _ (public : Public) (viewer : Viewer) (fact : Fact) where
+  -- whether a rule forbids the fact
+  abbrev test : Rule → Bool
+  test rule = forbids rule public viewer fact
 
-module _ (public : Public) (roles : Option (List Role)) (seat : Option Seat) (fact : Fact) where
-  -- the rule's test fails where the rule doesn't forbid the fact
-  not_forbidden : (rule : Rule) → ¬ Forbids rule public roles seat fact → forbids rule public roles seat fact ≡ false
-  not_forbidden rule allowed = false_from_ne_true _ (λ test. allowed ((forbids_decides rule public roles seat fact).0 test))
-
-  -- the first rule is what the tests find
-  pub first_from : (rule : Rule) → IsFirst public roles seat fact rule → first_rule public roles seat fact ≡ Some rule
+  -- a rule that forbids where none before it does is the first
+  pub first_at : (place : ℕ) → place < length rules → test (get_or rules place NoAccount) ≡ true →
+      ((k : ℕ) → k < place → test (get_or rules k NoAccount) ≡ false) → Some (get_or rules place NoAccount) ≡ first_rule public viewer fact
   unfolding first_rule
-  first_from rule first =
+  first_at place below forbidden least = sym (find_place test rules place NoAccount below forbidden least)
+
+  -- where no rule forbids, there is no first
+  pub no_first : ((rule : Rule) → test rule ≡ false) → first_rule public viewer fact ≡ None
+  unfolding first_rule
+  no_first allowed = find_none test rules NoAccount (λ k below. allowed _)
+
+  -- where each place has a rule that doesn't forbid, there is none either
+  pub no_first_at : ((k : ℕ) → k < length rules → test (get_or rules k NoAccount) ≡ false) → None ≡ first_rule public viewer fact
+  unfolding first_rule
+  no_first_at allowed = sym (find_none test rules NoAccount allowed)
+
+  -- the first rule forbids
+  pub first_forbids : (rule : Rule) → first_rule public viewer fact ≡ Some rule → test rule ≡ true
+  unfolding first_rule
+  first_forbids rule found = let first : IsFound test rules NoAccount rule = found_at test rules NoAccount rule found in first.passes
+
+  -- and no rule with a lower number does
+  pub none_before : (rule other : Rule) → first_rule public viewer fact ≡ Some rule → rule_number other < rule_number rule → test other ≡ false
+  unfolding first_rule
+  none_before rule other found less =
+      let first : IsFound test rules NoAccount rule = found_at test rules NoAccount rule found in
+      let within = number_within other in
+      let number : rule_number rule ≡ first.place + 1 = ap rule_number (sym first.here) ∙ number_at first.place NoAccount first.below in
+      subst (λ r. test r ≡ false) (at_number other) (first.least (rule_number other - 1) (omega arith))
+
+  -- where there is no first, no rule forbids
+  pub none_forbids : first_rule public viewer fact ≡ None → (rule : Rule) → test rule ≡ false
+  unfolding first_rule
+  none_forbids none rule =
       let within = number_within rule in
-      let at = at_number rule in
-      find_place (λ r. forbids r public roles seat fact) rules_in_order (number_of rule - 1) NoAccount (omega arith)
-      (subst (λ r. forbids r public roles seat fact ≡ true) (sym at) ((forbids_decides rule public roles seat fact).1 first.forbids))
-      (λ j before. not_forbidden _ (first.least _ (earlier j before within)))
-      ∙ ap Some at
+      subst (λ r. test r ≡ false) (at_number rule) (none_found test rules NoAccount none (rule_number rule - 1) (omega arith))
+
+  -- what belongs to no board or table is guarded from nobody
+  unguarded : {A : Type 0} (asked : A → Bool) → some_that (guarded viewer None) asked ≡ false
+  unguarded {A} asked = either (is_authorized viewer.roles Director)
     where
-      earlier : (j : ℕ) → j < number_of rule - 1 → (0 < number_of rule) × (number_of rule < 13) → number_of (get_or rules_in_order j NoAccount) < number_of rule
-      earlier j before within = omega (arith, number_at j NoAccount (omega arith))
+      nobody : Option A
+      nobody = None
 
-  -- where no rule forbids the fact, none is found
-  pub allowed_from : IsAllowed public roles seat fact → first_rule public roles seat fact ≡ None
+      either : (director : Bool) → some_that (if director then nobody else nobody) asked ≡ false
+      either true = refl
+      either false = refl
+
+  -- where some fact is allowed, so is what every member may see
+  pub public_allowed : first_rule public viewer fact ≡ None → first_rule public viewer the_fact.Public ≡ None
   unfolding first_rule
-  allowed_from allowed = find_none (λ r. forbids r public roles seat fact) rules_in_order NoAccount (λ j below. not_forbidden _ (allowed _))
-
-  -- a decision that meets both is what the tests find
-  pub decided : (found : Option Rule) → IfSome found (IsFirst public roles seat fact) → IfNone found (IsAllowed public roles seat fact) →
-      found ≡ first_rule public roles seat fact
-  decided (Some rule) first allowed = sym (first_from rule first)
-  decided None first allowed = sym (allowed_from allowed)
-
-  -- what the tests find is the first rule
-  pub is_first_from : (rule : Rule) → first_rule public roles seat fact ≡ Some rule → IsFirst public roles seat fact rule
-  unfolding first_rule
-  is_first_from rule found = record {
-    forbids = (forbids_decides rule public roles seat fact).0 first.passes;
-    least = λ other less forbidden. both_ways _ (fails other less) ((forbids_decides other public roles seat fact).1 forbidden);
-  }
+  public_allowed none = find_none (λ r. forbids r public viewer the_fact.Public) rules NoAccount (λ k below. of_public _)
     where
-      first : IsFound (λ r. forbids r public roles seat fact) rules_in_order NoAccount rule
-      first = found_at (λ r. forbids r public roles seat fact) rules_in_order NoAccount rule found
-
-      fails : (other : Rule) → number_of other < number_of rule → forbids other public roles seat fact ≡ false
-      fails other less =
-          let within = number_within other in
-          let number : number_of rule ≡ first.place + 1 = ap number_of (sym first.here) ∙ number_at first.place NoAccount first.below in
-          subst (λ r. forbids r public roles seat fact ≡ false) (at_number other) (first.least (number_of other - 1) (omega arith))
-
-  -- and where they find none, the fact is allowed
-  pub allowed_where_none : first_rule public roles seat fact ≡ None → IsAllowed public roles seat fact
-  unfolding first_rule
-  allowed_where_none none rule forbidden =
-      let within = number_within rule in
-      let fails = none_found (λ r. forbids r public roles seat fact) rules_in_order NoAccount none (number_of rule - 1) (omega arith) in
-      both_ways _ (subst (λ r. forbids r public roles seat fact ≡ false) (at_number rule) fails) ((forbids_decides rule public roles seat fact).1 forbidden)
+      of_public : (r : Rule) → forbids r public viewer the_fact.Public ≡ false
+      of_public NoAccount = none_forbids none NoAccount
+      of_public NotAMember = none_forbids none NotAMember
+      of_public AccountsAreClosed = refl
+      of_public BoardIsHeld = unguarded _
+      of_public StillToPlay = unguarded _
+      of_public OthersStillPlay = unguarded _
+      of_public NeitherContestantNorSpectator = unguarded _
+      of_public BoardIsIncomplete = unguarded _
+      of_public AnalysisWaits = unguarded _
+      of_public PlayWaits = unguarded _
+      of_public ReasonIsForThePairs = unguarded _
+      of_public NoResult = unguarded _
 
   -- where a fact of a board is allowed, so are its hands: they are forbidden by rules that look at the board alone
-  pub hands_allowed : (board : ℕ) → board_of fact ≡ Some board → IsAllowed public roles seat fact → IsAllowed public roles seat (Hands board)
-  hands_allowed board of_board allowed rule forbidden = allowed rule (of_hands rule forbidden)
+  pub hands_allowed : (board : ℕ) → board_of_fact fact ≡ Some board → first_rule public viewer fact ≡ None → first_rule public viewer (Hands board) ≡ None
+  unfolding first_rule
+  hands_allowed board of_board none = find_none (λ r. forbids r public viewer (Hands board)) rules NoAccount (λ k below. of_hands _)
     where
-      guarded : guarded_board roles (Hands board) ≡ guarded_board roles fact
-      guarded = ap (λ (o : Option ℕ). if is_authorized roles Director then None else o) (sym of_board)
+      guarded_same : (asked : ℕ → Bool) → guarding viewer (Hands board) asked ≡ guarding viewer fact asked
+      guarded_same asked = ap (λ (o : Option ℕ). some_that (guarded viewer o) asked) (sym of_board)
 
-      same : (r : Rule) → ((b : ℕ) → ForbidsSecret r public roles seat (Hands board) b → ForbidsSecret r public roles seat fact b) →
-          IsSomeAnd (guarded_board roles (Hands board)) (ForbidsSecret r public roles seat (Hands board)) → IsSomeAnd (guarded_board roles fact) (ForbidsSecret r public roles seat fact)
-      same r gives hands = subst (λ o. IsSomeAnd o (ForbidsSecret r public roles seat fact)) guarded (some_and_as (guarded_board roles (Hands board)) _ _ gives hands)
+      no_board : (asked : ℕ → Bool) → ((b : ℕ) → asked b ≡ false) → guarding viewer (Hands board) asked ≡ false
+      no_board asked never = either (is_authorized viewer.roles Director)
+        where
+          either : (director : Bool) → some_that (if director then None else Some board) asked ≡ false
+          either true = refl
+          either false = never board
 
-      of_hands : (r : Rule) → Forbids r public roles seat (Hands board) → Forbids r public roles seat fact
-      of_hands NoAccount hands = hands
-      of_hands NotAMember hands = hands
-      of_hands AccountsAreClosed hands = absurd (false≢true hands.0)
-      of_hands BoardIsHeld hands = same BoardIsHeld (λ b held. held) hands
-      of_hands StillToPlay hands = same StillToPlay (λ b still. still) hands
-      of_hands OthersStillPlay hands = same OthersStillPlay (λ b others. others) hands
-      of_hands NeitherContestantNorSpectator hands = same NeitherContestantNorSpectator (λ b neither. neither) hands
-      of_hands BoardIsIncomplete hands = same BoardIsIncomplete (λ b incomplete. incomplete) hands
-      of_hands AnalysisWaits hands = same AnalysisWaits (λ b waits. absurd (false≢true waits.0)) hands
-      of_hands PlayWaits hands = same PlayWaits (λ b none. absurd none) hands
-      of_hands ReasonIsForThePairs hands = same ReasonIsForThePairs (λ b none. absurd none) hands
-      of_hands NoResult hands = same NoResult (λ b none. absurd none) hands
+      allowed : (r : Rule) → test r ≡ false
+      allowed r = none_forbids none r
+
+      of_hands : (r : Rule) → forbids r public viewer (Hands board) ≡ false
+      of_hands NoAccount = allowed NoAccount
+      of_hands NotAMember = allowed NotAMember
+      of_hands AccountsAreClosed = refl
+      of_hands BoardIsHeld = guarded_same _ ∙ allowed BoardIsHeld
+      of_hands StillToPlay = guarded_same _ ∙ allowed StillToPlay
+      of_hands OthersStillPlay = guarded_same _ ∙ allowed OthersStillPlay
+      of_hands NeitherContestantNorSpectator = guarded_same _ ∙ allowed NeitherContestantNorSpectator
+      of_hands BoardIsIncomplete = guarded_same _ ∙ allowed BoardIsIncomplete
+      of_hands AnalysisWaits = no_board _ (λ b. refl)
+      of_hands PlayWaits = unguarded _
+      of_hands ReasonIsForThePairs = unguarded _
+      of_hands NoResult = unguarded _

@@ -1,6 +1,6 @@
-pub mod DecisionLemmas
 pub mod FirstLemmas
 pub mod LiveCellsLemmas
 pub mod NumbersLemmas
 pub mod RuleLemmas
 pub mod SeatingLemmas
+pub mod SeatingTests

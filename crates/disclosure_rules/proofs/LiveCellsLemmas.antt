@@ -4,11 +4,13 @@ use Rattle.std.specs.Int.{bit_at, bit_not, w16, IsBitSet}
 use Rattle.std.proofs.lemmas.Bool.{eqb-true, eq-eqb, cases_eq, cases_lt}
 use Rattle.std.proofs.lemmas.Nat.Bits.{and_pow, bit_at-lt, bit_at-zero, bit_at_and, bit_at_not, bit_at_above, same_from_bits}
 use Rattle.std.proofs.Math.Pow.{pow_pos}
-use Rattle.disclosure_rules.specs.Numbers.{holds, numbers_of_bits}
+use Rattle.disclosure_rules.specs.Numbers.{has_number, numbers_of_bits}
 use Rattle.movement.specs.declared.cell.Cell.{Cell}
-use Rattle.movement.specs.Movement.{Section, IsCell}
+use Rattle.movement.specs.Movement.{IsCell}
 use Rattle.movement.proofs.CellLemmas.{cell_in_range}
-use Rattle.disclosure_rules.specs.LiveCells.{tables_at, IsComplete}
+use Rattle.disclosure_rules.specs.declared.public.Public.{Public}
+use Rattle.disclosure_rules.specs.LiveCells.{tables_at}
+use Rattle.disclosure_rules.specs.Seating.{IsComplete}
 
 get_or-map_words : (f : ℕ → List ℕ) (words : List ℕ) (i : ℕ) → i < length words → get_or (map f words) i [] ≡ f (get_or words i 0)
 get_or-map_words f [] i below = absurd (omega arith)
@@ -61,29 +63,29 @@ from-bit_set n k test zero_and =
     omega (arith, pow_pos k)
 
 -- the scheduled tables that have no result are none exactly where the board is complete
-pub complete_from_bits : (section : Section) (live : List (List ℕ)) (board scheduled tables : ℕ) → scheduled < 2 ^ 16 →
-    ((t : ℕ) → (IsBitSet scheduled t ↔ IsCell section (record { table = t + 1; board = board }))) →
-    ((t : ℕ) → t < 16 → (IsBitSet tables t ↔ (holds (tables_at live board) (t + 1) ≡ true))) → tables < 2 ^ 16 →
-    bit_and scheduled (bit_not w16 tables) ≡ 0 → IsComplete section live board
-complete_from_bits section live board scheduled tables few is_scheduled is_live_at some none cell is_cell at_board =
-    let range = cell_in_range section cell is_cell in
+pub complete_from_bits : (public : Public) (board scheduled tables : ℕ) → scheduled < 2 ^ 16 →
+    ((t : ℕ) → (IsBitSet scheduled t ↔ IsCell public.movement (record { table = t + 1; board = board }))) →
+    ((t : ℕ) → t < 16 → (IsBitSet tables t ↔ (has_number (tables_at public.live board) (t + 1) ≡ true))) → tables < 2 ^ 16 →
+    bit_and scheduled (bit_not w16 tables) ≡ 0 → IsComplete public board
+complete_from_bits public board scheduled tables few is_scheduled is_live_at some none cell is_cell at_board =
+    let range = cell_in_range public.movement cell is_cell in
     let t = cell.table - 1 in
     let is_table : t + 1 ≡ cell.table = omega (arith, range.from_table) in
     let at_t : cell ≡ record { table = t + 1; board = board } = λ i. record { table = sym is_table i; board = at_board i } in
-    let is_set : IsBitSet scheduled t = (is_scheduled t).1 (subst (IsCell section) at_t is_cell) in
+    let is_set : IsBitSet scheduled t = (is_scheduled t).1 (subst (IsCell public.movement) at_t is_cell) in
     let one : bit_at scheduled t ≡ 1 = eqb-true _ _ (bit_set-from scheduled t is_set) in
     let below : t < 16 = below_width scheduled t one few in
     let clear : min (bit_at scheduled t) (bit_at (bit_not w16 tables) t) ≡ 0 = sym (bit_at_and scheduled (bit_not w16 tables) t) ∙ ap (λ n. bit_at n t) none ∙ bit_at-zero t in
     let other : bit_at (bit_not w16 tables) t ≡ 1 - bit_at tables t = bit_at_not w16 tables t some below in
     let live_bit : bit_at tables t ≡ 1 = omega (arith, bit_at-lt tables t) in
-    let held : holds (tables_at live board) (t + 1) ≡ true = (is_live_at t below).0 (from-bit_set tables t (eq-eqb _ _ live_bit)) in
-    ap (λ (c : Cell). holds (tables_at live c.board) c.table) at_t ∙ held
+    let held : has_number (tables_at public.live board) (t + 1) ≡ true = (is_live_at t below).0 (from-bit_set tables t (eq-eqb _ _ live_bit)) in
+    ap (λ (c : Cell). has_number (tables_at public.live c.board) c.table) at_t ∙ held
 
-pub bits_from_complete : (section : Section) (live : List (List ℕ)) (board scheduled tables : ℕ) → scheduled < 2 ^ 16 →
-    ((t : ℕ) → (IsBitSet scheduled t ↔ IsCell section (record { table = t + 1; board = board }))) →
-    ((t : ℕ) → t < 16 → (IsBitSet tables t ↔ (holds (tables_at live board) (t + 1) ≡ true))) → tables < 2 ^ 16 →
-    IsComplete section live board → bit_and scheduled (bit_not w16 tables) ≡ 0
-bits_from_complete section live board scheduled tables few is_scheduled is_live_at some complete =
+pub bits_from_complete : (public : Public) (board scheduled tables : ℕ) → scheduled < 2 ^ 16 →
+    ((t : ℕ) → (IsBitSet scheduled t ↔ IsCell public.movement (record { table = t + 1; board = board }))) →
+    ((t : ℕ) → t < 16 → (IsBitSet tables t ↔ (has_number (tables_at public.live board) (t + 1) ≡ true))) → tables < 2 ^ 16 →
+    IsComplete public board → bit_and scheduled (bit_not w16 tables) ≡ 0
+bits_from_complete public board scheduled tables few is_scheduled is_live_at some complete =
     same_from_bits _ 0 (λ t. bit_at_and scheduled (bit_not w16 tables) t ∙ none t ∙ sym (bit_at-zero t))
   where
     none : (t : ℕ) → min (bit_at scheduled t) (bit_at (bit_not w16 tables) t) ≡ 0
@@ -92,7 +94,7 @@ bits_from_complete section live board scheduled tables few is_scheduled is_live_
           | inl one ↦
               let below : t < 16 = below_width scheduled t one few in
               let is_cell = (is_scheduled t).0 (from-bit_set scheduled t (eq-eqb _ _ one)) in
-              let held : holds (tables_at live board) (t + 1) ≡ true = complete (record { table = t + 1; board = board }) is_cell refl in
+              let held : has_number (tables_at public.live board) (t + 1) ≡ true = complete (record { table = t + 1; board = board }) is_cell refl in
               let live_bit : bit_at tables t ≡ 1 = eqb-true _ _ (bit_set-from tables t ((is_live_at t below).1 held)) in
               let other : bit_at (bit_not w16 tables) t ≡ 1 - bit_at tables t = bit_at_not w16 tables t some below in
               omega arith

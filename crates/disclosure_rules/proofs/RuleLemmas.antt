@@ -3,11 +3,10 @@ use Rattle.std.proofs.Common.{◌≡◌, ℕ, ◌+◌, ◌-◌, ◌<◌, true, g
 use Rattle.std.proofs.lemmas.Bool.{agree_below_at, eqb-true}
 use Rattle.disclosure_rules.specs.declared.rule.Rule.{Rule}
 use Rattle.disclosure_rules.specs.declared.rule.Rule.TheVariants.{NoAccount, NotAMember, AccountsAreClosed, BoardIsHeld, StillToPlay, OthersStillPlay, NeitherContestantNorSpectator, BoardIsIncomplete, AnalysisWaits, PlayWaits, ReasonIsForThePairs, NoResult}
-use Rattle.disclosure_rules.specs.Decision.{rules_in_order}
-use Rattle.disclosure_rules.specs.Policy.{number_of}
+use Rattle.disclosure_rules.specs.Policy.{rules, rule_number}
 
 -- a rule stands at its number
-pub at_number : (rule : Rule) → get_or rules_in_order (number_of rule - 1) NoAccount ≡ rule
+pub at_number : (rule : Rule) → get_or rules (rule_number rule - 1) NoAccount ≡ rule
 at_number NoAccount = refl
 at_number NotAMember = refl
 at_number AccountsAreClosed = refl
@@ -21,7 +20,7 @@ at_number PlayWaits = refl
 at_number ReasonIsForThePairs = refl
 at_number NoResult = refl
 
-pub number_within : (rule : Rule) → (0 < number_of rule) × (number_of rule < 13)
+pub number_within : (rule : Rule) → (0 < rule_number rule) × (rule_number rule < 13)
 number_within NoAccount = (omega arith, omega arith)
 number_within NotAMember = (omega arith, omega arith)
 number_within AccountsAreClosed = (omega arith, omega arith)
@@ -36,5 +35,5 @@ number_within ReasonIsForThePairs = (omega arith, omega arith)
 number_within NoResult = (omega arith, omega arith)
 
 -- the rule that stands at a place has the next number
-pub number_at : (k : ℕ) (d : Rule) → k < 12 → number_of (get_or rules_in_order k d) ≡ k + 1
-number_at k d below = eqb-true _ _ (agree_below_at (λ n. nat_eq (number_of (get_or rules_in_order n d)) (n + 1)) (λ _. true) 12 k refl below)
+pub number_at : (k : ℕ) (d : Rule) → k < 12 → rule_number (get_or rules k d) ≡ k + 1
+number_at k d below = eqb-true _ _ (agree_below_at (λ n. nat_eq (rule_number (get_or rules n d)) (n + 1)) (λ _. true) 12 k refl below)

@@ -2,29 +2,30 @@
 use Rattle.std.specs.Prelude.{ℕ, Bool, true, false, Option, Some, None}
 use Rattle.movement.specs.declared.cell.Cell.{Cell}
 use Rattle.disclosure_rules.specs.declared.fact.Fact.{Fact}
-use Rattle.disclosure_rules.specs.declared.fact.Fact.TheVariants.{Public, Accounts, Hands, Analysis, Result, Play, Cost, Reason}
+use Rattle.disclosure_rules.specs.declared.fact.Fact.TheVariants.{Public, Accounts, Hands, Analysis, Result, Play, Cost}
+use Rattle.disclosure_rules.specs.declared.fact.Fact.TheVariants.{Reason}
 
 -- the board that the fact belongs to: it is secret where it belongs to one
-abbrev pub board_of : Fact → Option ℕ
-board_of Public = None
-board_of Accounts = None
-board_of (Hands board) = Some board
-board_of (Analysis board) = Some board
-board_of (Result cell) = Some cell.board
-board_of (Play cell) = Some cell.board
-board_of (Cost cell) = Some cell.board
-board_of (Reason cell) = Some cell.board
+abbrev pub board_of_fact : Fact → Option ℕ
+board_of_fact Public = None
+board_of_fact Accounts = None
+board_of_fact (Hands board) = Some board
+board_of_fact (Analysis board) = Some board
+board_of_fact (Result cell) = Some cell.board
+board_of_fact (Play cell) = Some cell.board
+board_of_fact (Cost cell) = Some cell.board
+board_of_fact (Reason cell) = Some cell.board
 
 -- the table and board that the fact belongs to, if it belongs to one table
-abbrev pub cell_of : Fact → Option Cell
-cell_of Public = None
-cell_of Accounts = None
-cell_of (Hands _) = None
-cell_of (Analysis _) = None
-cell_of (Result cell) = Some cell
-cell_of (Play cell) = Some cell
-cell_of (Cost cell) = Some cell
-cell_of (Reason cell) = Some cell
+abbrev pub cell_of_fact : Fact → Option Cell
+cell_of_fact Public = None
+cell_of_fact Accounts = None
+cell_of_fact (Hands _) = None
+cell_of_fact (Analysis _) = None
+cell_of_fact (Result cell) = Some cell
+cell_of_fact (Play cell) = Some cell
+cell_of_fact (Cost cell) = Some cell
+cell_of_fact (Reason cell) = Some cell
 
 -- whether the fact is the accounts
 abbrev pub is_accounts : Fact → Bool

@@ -1,5 +1,6 @@
-pub mod Decision
 pub mod Fact
 pub mod LiveCells
 pub mod Numbers
+pub mod Phase
 pub mod Policy
+pub mod Seating

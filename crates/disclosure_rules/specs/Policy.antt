@@ -1,110 +1,108 @@
 -- The policy: what each rule forbids, in the rules' order. The first rule that forbids a fact is the one that is named.
 --
--- own: the rules are this project's. They keep what Law 16 asks of a player (no information from elsewhere about a board that
--- is still to be played) and what Law 76 asks of those who watch.
-use Rattle.std.specs.Prelude.{◌≡◌, ℕ, ◌<◌, Bool, true, false, Option, Some, None, List, Any, IsSomeAnd, IsNone, if◌then◌else◌}
+-- own: the rules are this project's ("ours"). They keep what Law 16D asks of a player (no information from elsewhere
+-- about a board that is still to be played) and what Law 76 asks of those who watch.
+use Rattle.std.specs.Prelude.{ℕ, Bool, false, not, ◌&&◌, if◌then◌else◌, Option, Some, None, is_none, List, [], ◌∷◌}
+use Rattle.std.specs.List.{find}
 use Rattle.movement.specs.declared.cell.Cell.{Cell}
-use Rattle.movement.specs.Movement.{Section, rows, HasCell}
-use Rattle.movement.specs.Row.{Seats, Plays}
 use Rattle.rbac.specs.declared.role.Role.{Role}
 use Rattle.rbac.specs.declared.role.Role.TheVariants.{Member, Spectator, Contestant, Director, Administrator}
 use Rattle.rbac.specs.Role.{has}
 use Rattle.disclosure_rules.specs.declared.fact.Fact.{Fact}
-use Rattle.disclosure_rules.specs.declared.phase.Phase.TheVariants.{Running}
 use Rattle.disclosure_rules.specs.declared.public.Public.{Public}
-use Rattle.disclosure_rules.specs.declared.seat.Seat.{Seat}
 use Rattle.disclosure_rules.specs.declared.rule.Rule.{Rule}
-use Rattle.disclosure_rules.specs.declared.rule.Rule.TheVariants.{NoAccount, NotAMember, AccountsAreClosed, BoardIsHeld, StillToPlay, OthersStillPlay, NeitherContestantNorSpectator, BoardIsIncomplete, AnalysisWaits, PlayWaits, ReasonIsForThePairs, NoResult}
-use Rattle.disclosure_rules.specs.Fact.{board_of, cell_of, is_accounts, is_analysed, is_played, is_reason}
-use Rattle.disclosure_rules.specs.LiveCells.{is_live, IsComplete}
-use Rattle.disclosure_rules.specs.Numbers.{holds}
+use Rattle.disclosure_rules.specs.declared.rule.Rule.TheVariants.{NoAccount, NotAMember, AccountsAreClosed, BoardIsHeld}
+use Rattle.disclosure_rules.specs.declared.rule.Rule.TheVariants.{StillToPlay, OthersStillPlay}
+use Rattle.disclosure_rules.specs.declared.rule.Rule.TheVariants.{NeitherContestantNorSpectator, BoardIsIncomplete}
+use Rattle.disclosure_rules.specs.declared.rule.Rule.TheVariants.{AnalysisWaits, PlayWaits, ReasonIsForThePairs}
+use Rattle.disclosure_rules.specs.declared.rule.Rule.TheVariants.{NoResult}
+use Rattle.disclosure_rules.specs.declared.viewer.Viewer.{Viewer}
+use Rattle.disclosure_rules.specs.Fact.{board_of_fact, cell_of_fact, is_accounts, is_analysed, is_played, is_reason}
+use Rattle.disclosure_rules.specs.LiveCells.{is_live}
+use Rattle.disclosure_rules.specs.Numbers.{has_number}
+use Rattle.disclosure_rules.specs.Phase.{is_running}
+use Rattle.disclosure_rules.specs.Seating.{some_that, is_complete, plays_board, has_still_to_play, is_seated_at}
 
 -- whether a user with these roles, or with no account, is authorized for a role
 abbrev pub is_authorized : Option (List Role) → Role → Bool
 is_authorized None role = false
 is_authorized (Some roles) role = has roles role
 
--- the board whose secret the fact is, for everybody but a director
-abbrev pub guarded_board : Option (List Role) → Fact → Option ℕ
-guarded_board roles fact = if is_authorized roles Director then None else board_of fact
+-- whether the user is authorized for Contestant
+abbrev pub is_contestant : Viewer → Bool
+is_contestant viewer = is_authorized viewer.roles Contestant
 
--- the user sits in a pair that plays the board
-abbrev pub IsScheduled : Section → Option Seat → ℕ → Type 0
-IsScheduled section seat board = IsSomeAnd seat (λ s. Any (λ row. Plays section row s.pair board) (rows section))
+-- what is guarded, from everybody but a director
+abbrev pub guarded : {A : Type 0} → Viewer → Option A → Option A
+guarded viewer secret = if is_authorized viewer.roles Director then None else secret
 
--- the user sits in a pair that plays the board, and has no result on it yet
-abbrev pub HasStillToPlay : Public → Option Seat → ℕ → Type 0
-HasStillToPlay public seat board =
-    IsSomeAnd seat (λ s. Any (λ row. Plays public.movement row s.pair board × (is_live public.live (record { table = row.table; board = board }) ≡ false)) (rows public.movement))
+-- whether the fact belongs to a board that passes the test, and the user is no director
+abbrev pub guarding : Viewer → Fact → (ℕ → Bool) → Bool
+guarding viewer fact test = some_that (guarded viewer (board_of_fact fact)) test
 
--- the user sits in one of the two pairs of the table on the board
-abbrev pub IsSeatedAt : Section → Option Seat → Cell → Type 0
-IsSeatedAt section seat cell = IsSomeAnd seat (λ s. Any (λ row. Seats row s.pair × HasCell section row cell) (rows section))
+-- whether the fact belongs to a table on a board that pass the test, and the user is no director
+abbrev pub guarding_cell : Viewer → Fact → (Cell → Bool) → Bool
+guarding_cell viewer fact test = some_that (guarded viewer (cell_of_fact fact)) test
 
--- what the rules forbid of what belongs to one table on a board
-abbrev pub ForbidsOfCell : Rule → Public → Option Seat → Fact → Cell → Type 0
--- 10: how the cards were played at another table, until the session is closed
-ForbidsOfCell PlayWaits public seat fact cell = (is_played fact ≡ true) × (¬ IsSeatedAt public.movement seat cell) × (public.phase ≡ Running)
--- 11: the reason of a ruling at another table
-ForbidsOfCell ReasonIsForThePairs public seat fact cell = (is_reason fact ≡ true) × (¬ IsSeatedAt public.movement seat cell)
--- 12: anything of a table that has no result
-ForbidsOfCell NoResult public seat fact cell = is_live public.live cell ≡ false
-ForbidsOfCell _ public seat fact cell = ⊥
+-- whether a rule forbids the fact to the user
+abbrev pub forbids : Rule → Public → Viewer → Fact → Bool
+-- 1, ours: everything, where there is no such account
+forbids NoAccount public viewer fact = is_none viewer.roles
+-- 2, ours: everything, to who is not authorized for Member
+forbids NotAMember public viewer fact = not (is_authorized viewer.roles Member)
+-- 3, ours: the accounts, to who is neither an administrator nor a director
+forbids AccountsAreClosed public viewer fact =
+    is_accounts fact && (not (is_authorized viewer.roles Administrator) && not (is_authorized viewer.roles Director))
+-- 4, ours: what belongs to a board that the director holds
+forbids BoardIsHeld public viewer fact = guarding viewer fact (λ board. has_number public.held board)
+-- 5, Law 16D: what belongs to a board, to a contestant whose pair has still to play it
+forbids StillToPlay public viewer fact =
+    guarding viewer fact (λ board. is_contestant viewer && has_still_to_play public viewer board)
+-- 6, ours: what belongs to an incomplete board, to a contestant who doesn't play it, or has no seat
+forbids OthersStillPlay public viewer fact =
+    guarding viewer fact (λ board.
+    is_contestant viewer && (not (plays_board public viewer board) && not (is_complete public board)))
+-- 7, ours: what belongs to a board, to who is neither a contestant nor a spectator
+forbids NeitherContestantNorSpectator public viewer fact =
+    guarding viewer fact (λ _. not (is_contestant viewer) && not (is_authorized viewer.roles Spectator))
+-- 8, Law 76: what belongs to an incomplete board, to who is no contestant
+forbids BoardIsIncomplete public viewer fact =
+    guarding viewer fact (λ board. not (is_contestant viewer) && not (is_complete public board))
+-- 9, ours: the double-dummy value of an incomplete board
+forbids AnalysisWaits public viewer fact =
+    guarding viewer fact (λ board. is_analysed fact && not (is_complete public board))
+-- 10, ours: how the cards were played at another table, while boards are being played
+forbids PlayWaits public viewer fact =
+    guarding_cell viewer fact (λ cell.
+    is_played fact && (not (is_seated_at public viewer cell) && is_running public.phase))
+-- 11, ours: the reason of a ruling at another table
+forbids ReasonIsForThePairs public viewer fact =
+    guarding_cell viewer fact (λ cell. is_reason fact && not (is_seated_at public viewer cell))
+-- 12, ours: what belongs to a table that has no result
+forbids NoResult public viewer fact = guarding_cell viewer fact (λ cell. not (is_live public.live cell))
 
--- what the rules forbid of what belongs to a board, to all but a director
-abbrev pub ForbidsSecret : Rule → Public → Option (List Role) → Option Seat → Fact → ℕ → Type 0
--- 4: anything of a board that the director holds
-ForbidsSecret BoardIsHeld public roles seat fact board = holds public.held board ≡ true
--- 5: anything of a board to a seated contestant who has still to play it (Law 16)
-ForbidsSecret StillToPlay public roles seat fact board = (is_authorized roles Contestant ≡ true) × HasStillToPlay public seat board
--- 6: anything of an incomplete board to a contestant who doesn't play it, or has no seat
-ForbidsSecret OthersStillPlay public roles seat fact board =
-    (is_authorized roles Contestant ≡ true) × (¬ IsScheduled public.movement seat board) × (¬ IsComplete public.movement public.live board)
--- 7: anything of a board to who is neither contestant nor spectator
-ForbidsSecret NeitherContestantNorSpectator public roles seat fact board =
-    (is_authorized roles Contestant ≡ false) × (is_authorized roles Spectator ≡ false)
--- 8: anything of an incomplete board to who is no contestant (Law 76)
-ForbidsSecret BoardIsIncomplete public roles seat fact board =
-    (is_authorized roles Contestant ≡ false) × (¬ IsComplete public.movement public.live board)
--- 9: the double-dummy value of an incomplete board
-ForbidsSecret AnalysisWaits public roles seat fact board = (is_analysed fact ≡ true) × (¬ IsComplete public.movement public.live board)
-ForbidsSecret PlayWaits public roles seat fact board = IsSomeAnd (cell_of fact) (ForbidsOfCell PlayWaits public seat fact)
-ForbidsSecret ReasonIsForThePairs public roles seat fact board = IsSomeAnd (cell_of fact) (ForbidsOfCell ReasonIsForThePairs public seat fact)
-ForbidsSecret NoResult public roles seat fact board = IsSomeAnd (cell_of fact) (ForbidsOfCell NoResult public seat fact)
-ForbidsSecret _ public roles seat fact board = ⊥
+-- the rules in their order
+abbrev pub rules : List Rule
+rules =
+    NoAccount ∷ NotAMember ∷ AccountsAreClosed ∷ BoardIsHeld ∷ StillToPlay ∷ OthersStillPlay
+    ∷ NeitherContestantNorSpectator ∷ BoardIsIncomplete ∷ AnalysisWaits ∷ PlayWaits
+    ∷ ReasonIsForThePairs ∷ NoResult ∷ []
 
--- what each rule forbids
-abbrev pub Forbids : Rule → Public → Option (List Role) → Option Seat → Fact → Type 0
--- 1: everything to who has no account
-Forbids NoAccount public roles seat fact = IsNone roles
--- 2: everything to who is not authorized for Member
-Forbids NotAMember public roles seat fact = is_authorized roles Member ≡ false
--- 3: the accounts to all but administrators and directors
-Forbids AccountsAreClosed public roles seat fact =
-    (is_accounts fact ≡ true) × (is_authorized roles Administrator ≡ false) × (is_authorized roles Director ≡ false)
--- the others what belongs to a board, to all but a director
-Forbids rule public roles seat fact = IsSomeAnd (guarded_board roles fact) (ForbidsSecret rule public roles seat fact)
+-- the rules' numbers: their places in this order, from 1
+abbrev pub rule_number : Rule → ℕ
+rule_number NoAccount = 1
+rule_number NotAMember = 2
+rule_number AccountsAreClosed = 3
+rule_number BoardIsHeld = 4
+rule_number StillToPlay = 5
+rule_number OthersStillPlay = 6
+rule_number NeitherContestantNorSpectator = 7
+rule_number BoardIsIncomplete = 8
+rule_number AnalysisWaits = 9
+rule_number PlayWaits = 10
+rule_number ReasonIsForThePairs = 11
+rule_number NoResult = 12
 
--- the rules' numbers
-abbrev pub number_of : Rule → ℕ
-number_of NoAccount = 1
-number_of NotAMember = 2
-number_of AccountsAreClosed = 3
-number_of BoardIsHeld = 4
-number_of StillToPlay = 5
-number_of OthersStillPlay = 6
-number_of NeitherContestantNorSpectator = 7
-number_of BoardIsIncomplete = 8
-number_of AnalysisWaits = 9
-number_of PlayWaits = 10
-number_of ReasonIsForThePairs = 11
-number_of NoResult = 12
-
--- the rule forbids the fact, and no rule before it does
-pub record IsFirst (public : Public) (roles : Option (List Role)) (seat : Option Seat) (fact : Fact) (rule : Rule) : Type 0 where
-  pub forbids : Forbids rule public roles seat fact
-  pub least : (other : Rule) → number_of other < number_of rule → ¬ Forbids other public roles seat fact
-
--- no rule forbids the fact
-abbrev pub IsAllowed : Public → Option (List Role) → Option Seat → Fact → Type 0
-IsAllowed public roles seat fact = (rule : Rule) → ¬ Forbids rule public roles seat fact
+-- the first rule that forbids the fact, if one does
+unfoldable pub first_rule : Public → Viewer → Fact → Option Rule
+first_rule public viewer fact = find (λ rule. forbids rule public viewer fact) rules

@@ -1,6 +1,8 @@
 ghost use Rattle.std.specs.Prelude.{◌≡◌, [], ◌≤◌};
-ghost use Rattle.disclosure_rules.specs.Numbers.{holds, with_number, without_number};
+ghost use Rattle.movement.specs.Movement.{most_boards};
+ghost use Rattle.disclosure_rules.specs.Numbers.{has_number, with_number, without_number};
 
+use movement::Movement;
 use std::marker::Model;
 
 /// Some boards of a session, as those that are held: clauses see the list of their numbers, ascending.
@@ -11,11 +13,12 @@ pub struct Boards {
 
 impl Model for Boards {
     ghost use Rattle.std.specs.Prelude.{ℕ, List};
+    ghost use Rattle.movement.specs.Movement.{most_boards};
     ghost use Rattle.disclosure_rules.specs.Numbers.{numbers_of_bits};
 
     ghost Value = { List ℕ };
 
-    ghost view = { λ boards. numbers_of_bits 64 boards.bits };
+    ghost view = { λ boards. numbers_of_bits most_boards boards.bits };
 }
 
 impl Boards {
@@ -26,12 +29,12 @@ impl Boards {
         Boards { bits: 0 }
     }
 
-    /// Whether the board is among them; no board has the number 0, or one above 64.
+    /// Whether the board is among them; no board has the number 0, or one above the most that are played.
     pub fn contains(&self, board: u8) -> bool
-        ensures { result ≡ holds self.now board }
+        ensures { result ≡ has_number self.now board }
     {
         let bits = self.bits;
-        if board < 1 || board > 64 {
+        if board < 1 || board > Movement::MOST_BOARDS {
             return false;
         }
         bits >> (board - 1) & 1 == 1
@@ -39,24 +42,17 @@ impl Boards {
 
     pub fn insert(&mut self, board: u8)
         requires from { 1 ≤ board }
-        requires to { board ≤ 64 }
-        ensures { self.new ≡ with_number 64 self.old board }
+        requires to { board ≤ most_boards }
+        ensures { self.new ≡ with_number most_boards self.old board }
     {
         self.bits |= 1 << (board - 1);
     }
 
     pub fn remove(&mut self, board: u8)
         requires from { 1 ≤ board }
-        requires to { board ≤ 64 }
-        ensures { self.new ≡ without_number 64 self.old board }
+        requires to { board ≤ most_boards }
+        ensures { self.new ≡ without_number most_boards self.old board }
     {
         self.bits &= !(1 << (board - 1));
-    }
-
-    /// The same boards once more.
-    pub fn copy(&self) -> Boards
-        ensures { result ≡ self.now }
-    {
-        Boards { bits: self.bits }
     }
 }

@@ -1,5 +1,6 @@
 ghost use Rattle.std.specs.Prelude.{◌≡◌};
-ghost use Rattle.disclosure_rules.specs.Fact.{board_of, cell_of, is_accounts, is_analysed, is_played, is_reason};
+ghost use Rattle.disclosure_rules.specs.Fact.{board_of_fact, cell_of_fact, is_accounts, is_analysed, is_played};
+ghost use Rattle.disclosure_rules.specs.Fact.{is_reason};
 
 use movement::Cell;
 
@@ -27,7 +28,7 @@ pub enum Fact {
 impl Fact {
     /// The board whose secret the fact is, if it is secret.
     pub fn board(self) -> Option<u8>
-        ensures { result ≡ board_of self }
+        ensures { result ≡ board_of_fact self }
     {
         match self {
             Fact::Public | Fact::Accounts => None,
@@ -40,7 +41,7 @@ impl Fact {
 
     /// The table and the board that the fact is of, if it is of one table.
     pub fn cell(self) -> Option<Cell>
-        ensures { result ≡ cell_of self }
+        ensures { result ≡ cell_of_fact self }
     {
         match self {
             Fact::Public | Fact::Accounts | Fact::Hands(_) | Fact::Analysis(_) => None,

@@ -1,7 +1,6 @@
-//! Who may see what while a session is played: the facts, the public ones among them, and the table of rules that forbid them.
+//! Who may see what while a session is played: the facts, and the rules that forbid them, of which the first is named.
 #![tactic(auto)]
 
-mod authorized;
 mod boards;
 mod fact;
 pub mod laws;
@@ -15,13 +14,15 @@ mod seat;
 mod seating;
 #[cfg(test)]
 mod tests;
+mod viewer;
 
 pub use boards::Boards;
 pub use fact::Fact;
 pub use live_cells::LiveCells;
 pub use marks::Marks;
 pub use phase::Phase;
-pub use policy::{decide, forbids};
-pub use public::{MOST_BOARDS, Public};
+pub use policy::decide;
+pub use public::Public;
 pub use rule::Rule;
 pub use seat::Seat;
+pub use viewer::Viewer;

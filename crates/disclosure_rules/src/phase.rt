@@ -1,3 +1,6 @@
+ghost use Rattle.std.specs.Prelude.{◌≡◌};
+ghost use Rattle.disclosure_rules.specs.Phase.{is_running};
+
 /// How far the session has come.
 #[derive(Clone, Copy, Debug, PartialEq, Eq, Hash)]
 pub enum Phase {
@@ -7,4 +10,13 @@ pub enum Phase {
     Closed,
     /// Nothing changes any more.
     Final,
+}
+
+impl Phase {
+    /// Whether boards are being played.
+    pub fn is_running(self) -> bool
+        ensures { result ≡ is_running self }
+    {
+        matches!(self, Phase::Running)
+    }
 }

@@ -1,115 +1,73 @@
-ghost use Rattle.std.specs.Prelude.{◌≡◌, ◌↔◌, IsTrue, IfSome, IfNone};
-ghost use Rattle.disclosure_rules.specs.Decision.{first_rule};
-ghost use Rattle.disclosure_rules.specs.Policy.{Forbids, ForbidsSecret, ForbidsOfCell, IsFirst, IsAllowed};
+ghost use Rattle.std.specs.Prelude.{◌≡◌};
+ghost use Rattle.disclosure_rules.specs.Policy.{forbids, guarded, first_rule};
 
-use crate::authorized::{guarded_board, is_authorized};
 use crate::fact::Fact;
-use crate::phase::Phase;
 use crate::public::Public;
 use crate::rule::Rule;
-use crate::seat::Seat;
-use crate::seating::{has_still_to_play, is_scheduled, is_seated_at};
-use movement::Cell;
-use rbac::{Role, RoleSet};
+use crate::seating::{has_still_to_play, is_seated_at, plays_board};
+use crate::viewer::Viewer;
+use rbac::Role;
 
-/// The first rule that forbids the fact to a user with these roles (`None`: no account) and this seat, if one does.
-pub fn decide(
-    public: &Public,
-    roles: Option<RoleSet>,
-    seat: Option<Seat>,
-    fact: Fact,
-) -> Option<Rule>
-    ensures first { IfSome result (IsFirst public.now roles seat fact) }
-    ensures allowed { IfNone result (IsAllowed public.now roles seat fact) }
-    ensures which { result ≡ first_rule public.now roles seat fact }
-{
-    first_of(public, &roles, &seat, fact)
-}
-
-/// The first rule that forbids the fact.
-fn first_of(
-    public: &Public,
-    roles: &Option<RoleSet>,
-    seat: &Option<Seat>,
-    fact: Fact,
-) -> Option<Rule>
-    ensures first { IfSome result (IsFirst public.now roles.now seat.now fact) }
-    ensures allowed { IfNone result (IsAllowed public.now roles.now seat.now fact) }
+/// The first rule that forbids the fact to the user, if one does.
+pub fn decide(public: &Public, viewer: &Viewer, fact: Fact) -> Option<Rule>
+    ensures { result ≡ first_rule public.now viewer.now fact }
 {
     for rule in Rule::ALL {
-        if forbids(rule, public, *roles, *seat, fact) {
+        if forbids(rule, public, viewer, fact) {
             return Some(rule);
         }
     }
     None
 }
 
-/// Whether a rule forbids the fact to such a user.
-pub fn forbids(
-    rule: Rule,
-    public: &Public,
-    roles: Option<RoleSet>,
-    seat: Option<Seat>,
-    fact: Fact,
-) -> bool
-    ensures { IsTrue result ↔ Forbids rule public.now roles seat fact }
+/// Whether a rule forbids the fact to the user.
+fn forbids(rule: Rule, public: &Public, viewer: &Viewer, fact: Fact) -> bool
+    ensures { result ≡ forbids rule public.now viewer.now fact }
 {
+    let board = guarded(viewer, fact.board());
+    let cell = guarded(viewer, fact.cell());
+    let contestant = viewer.is_authorized(Role::Contestant);
     match rule {
-        Rule::NoAccount => roles.is_none(),
-        Rule::NotAMember => !is_authorized(&roles, Role::Member),
+        Rule::NoAccount => viewer.roles.is_none(),
+        Rule::NotAMember => !viewer.is_authorized(Role::Member),
         Rule::AccountsAreClosed => {
             fact.is_accounts()
-                && !is_authorized(&roles, Role::Administrator)
-                && !is_authorized(&roles, Role::Director)
+                && !viewer.is_authorized(Role::Administrator)
+                && !viewer.is_authorized(Role::Director)
         }
-        _ => match guarded_board(&roles, fact) {
-            Some(board) => forbids_secret(rule, public, &roles, &seat, fact, board),
-            None => false,
-        },
-    }
-}
-
-/// Whether a rule forbids what belongs to a board to such a user, who is no director.
-fn forbids_secret(
-    rule: Rule,
-    public: &Public,
-    roles: &Option<RoleSet>,
-    seat: &Option<Seat>,
-    fact: Fact,
-    board: u8,
-) -> bool
-    ensures { IsTrue result ↔ ForbidsSecret rule public.now roles.now seat.now fact board }
-{
-    let contestant = is_authorized(roles, Role::Contestant);
-    match rule {
-        Rule::NoAccount | Rule::NotAMember | Rule::AccountsAreClosed => false,
-        Rule::BoardIsHeld => public.held.contains(board),
-        Rule::StillToPlay => { contestant && has_still_to_play(public, seat, board) }
-        Rule::OthersStillPlay => {
-            contestant && !is_scheduled(public, seat, board) && !public.is_complete(board)
+        Rule::BoardIsHeld => board.is_some_and(|board| public.held.contains(board)),
+        Rule::StillToPlay => {
+            board.is_some_and(|board| contestant && has_still_to_play(public, viewer, board))
         }
+        Rule::OthersStillPlay => board.is_some_and(|board| {
+            contestant && !plays_board(public, viewer, board) && !public.is_complete(board)
+        }),
         Rule::NeitherContestantNorSpectator => {
-            !contestant && !is_authorized(roles, Role::Spectator)
+            board.is_some() && !contestant && !viewer.is_authorized(Role::Spectator)
         }
-        Rule::BoardIsIncomplete => { !contestant && !public.is_complete(board) }
-        Rule::AnalysisWaits => fact.is_analysed() && !public.is_complete(board),
-        Rule::PlayWaits | Rule::ReasonIsForThePairs | Rule::NoResult => match fact.cell() {
-            Some(cell) => forbids_cell(rule, public, seat, fact, cell),
-            None => false,
-        },
+        Rule::BoardIsIncomplete => {
+            board.is_some_and(|board| !contestant && !public.is_complete(board))
+        }
+        Rule::AnalysisWaits => {
+            board.is_some_and(|board| fact.is_analysed() && !public.is_complete(board))
+        }
+        Rule::PlayWaits => cell.is_some_and(|cell| {
+            fact.is_played() && !is_seated_at(public, viewer, cell) && public.phase.is_running()
+        }),
+        Rule::ReasonIsForThePairs => {
+            cell.is_some_and(|cell| fact.is_reason() && !is_seated_at(public, viewer, cell))
+        }
+        Rule::NoResult => cell.is_some_and(|cell| !public.live.contains(cell)),
     }
 }
 
-/// Whether a rule forbids what belongs to one table on a board to such a user.
-fn forbids_cell(rule: Rule, public: &Public, seat: &Option<Seat>, fact: Fact, cell: Cell) -> bool
-    ensures { IsTrue result ↔ ForbidsOfCell rule public.now seat.now fact cell }
+/// What is guarded, from everybody but a director.
+fn guarded<T: Copy>(viewer: &Viewer, secret: Option<T>) -> Option<T>
+    ensures { result ≡ guarded viewer.now secret }
 {
-    match rule {
-        Rule::PlayWaits => {
-            fact.is_played() && !is_seated_at(public, seat, cell) && public.phase == Phase::Running
-        }
-        Rule::ReasonIsForThePairs => { fact.is_reason() && !is_seated_at(public, seat, cell) }
-        Rule::NoResult => !public.live.contains(cell),
-        _ => false,
+    if viewer.is_authorized(Role::Director) {
+        None
+    } else {
+        secret
     }
 }

@@ -1,14 +1,11 @@
-ghost use Rattle.std.specs.Prelude.{◌↔◌, IsTrue};
-ghost use Rattle.disclosure_rules.specs.LiveCells.{IsComplete};
+ghost use Rattle.std.specs.Prelude.{◌≡◌};
+ghost use Rattle.disclosure_rules.specs.Seating.{is_complete};
 
 use crate::boards::Boards;
 use crate::live_cells::LiveCells;
 use crate::marks::Marks;
 use crate::phase::Phase;
 use movement::Movement;
-
-/// How many boards a session has at most.
-pub const MOST_BOARDS: usize = 64;
 
 /// What every member of a session may see, beside the seats.
 #[derive(Debug, Drop)]
@@ -27,7 +24,7 @@ pub struct Public {
 impl Public {
     /// Whether every table that is scheduled to play the board has a result on it.
     pub fn is_complete(&self, board: u8) -> bool
-        ensures { IsTrue result ↔ IsComplete self.now.movement self.now.live board }
+        ensures { result ≡ is_complete self.now board }
     {
         let scheduled = self.movement.scheduled(board);
         scheduled & !self.live.tables(board) == 0

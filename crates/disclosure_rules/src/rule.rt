@@ -1,5 +1,5 @@
 ghost use Rattle.std.specs.Prelude.{◌≡◌};
-ghost use Rattle.disclosure_rules.specs.Policy.{number_of};
+ghost use Rattle.disclosure_rules.specs.Policy.{rule_number};
 
 /// The rules of the policy, in their order. Each forbids a fact to some users.
 #[derive(Clone, Copy, Debug, PartialEq, Eq, Hash)]
@@ -37,7 +37,7 @@ impl Rule {
 
     /// The rule's number in the policy, from 1.
     pub fn number(self) -> u8
-        ensures { result ≡ number_of self }
+        ensures { result ≡ rule_number self }
     {
         self as u8 + 1
     }

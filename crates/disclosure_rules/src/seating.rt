@@ -1,42 +1,45 @@
-ghost use Rattle.std.specs.Prelude.{◌↔◌, IsTrue};
-ghost use Rattle.disclosure_rules.specs.Policy.{IsScheduled, HasStillToPlay, IsSeatedAt};
+ghost use Rattle.std.specs.Prelude.{◌≡◌, IfSome, IfNone};
+ghost use Rattle.movement.specs.Movement.{IsSection};
+ghost use Rattle.disclosure_rules.specs.Seating.{plays_board, has_still_to_play, is_seated_at, PlaysBoard, IsSeatedAt};
 
 use crate::public::Public;
-use crate::seat::Seat;
+use crate::viewer::Viewer;
 use movement::Cell;
 
-/// Whether a user in this seat plays the board.
-pub fn is_scheduled(public: &Public, seat: &Option<Seat>, board: u8) -> bool
-    ensures { IsTrue result ↔ IsScheduled public.now.movement seat.now board }
+/// Whether the user sits in a pair that plays the board.
+pub fn plays_board(public: &Public, viewer: &Viewer, board: u8) -> bool
+    ensures { result ≡ plays_board public.now viewer.now board }
 {
-    match seat {
-        Some(seat) => public.movement.cell_of(seat.pair, board).is_some(),
+    own_cell(public, viewer, board).is_some()
+}
+
+/// Whether the user sits in a pair that plays the board, and has no result on it yet (Law 16D).
+pub fn has_still_to_play(public: &Public, viewer: &Viewer, board: u8) -> bool
+    ensures { result ≡ has_still_to_play public.now viewer.now board }
+{
+    match own_cell(public, viewer, board) {
+        Some(cell) => !public.live.contains(cell),
         None => false,
     }
 }
 
-/// Whether a user in this seat plays the board, and has no result on it yet (Law 16).
-pub fn has_still_to_play(public: &Public, seat: &Option<Seat>, board: u8) -> bool
-    ensures { IsTrue result ↔ HasStillToPlay public.now seat.now board }
+/// Whether the user sits in one of the two pairs that play the board at the table.
+pub fn is_seated_at(public: &Public, viewer: &Viewer, cell: Cell) -> bool
+    ensures { result ≡ is_seated_at public.now viewer.now cell }
 {
-    match seat {
-        Some(seat) => match public.movement.cell_of(seat.pair, board) {
-            Some(cell) => !public.live.contains(cell),
-            None => false,
-        },
+    match own_cell(public, viewer, cell.board) {
+        Some(own) => own.table == cell.table,
         None => false,
     }
 }
 
-/// Whether a user in this seat is one of the four who play the board at the table.
-pub fn is_seated_at(public: &Public, seat: &Option<Seat>, cell: Cell) -> bool
-    ensures { IsTrue result ↔ IsSeatedAt public.now.movement seat.now cell }
+/// The table where the user plays the board, if the user sits in a pair that plays it.
+fn own_cell(public: &Public, viewer: &Viewer, board: u8) -> Option<Cell>
+    ensures seated { IfSome result (IsSeatedAt public.now viewer.now) }
+    ensures board { IfSome result (λ cell. cell.board ≡ board) }
+    ensures none { IfNone result (¬ PlaysBoard public.now viewer.now board) }
+    ensures section { IfSome result (λ _. IsSection public.now.movement) }
 {
-    match seat {
-        Some(seat) => match public.movement.cell_of(seat.pair, cell.board) {
-            Some(own) => own.table == cell.table,
-            None => false,
-        },
-        None => false,
-    }
+    let seat = viewer.seat?;
+    public.movement.cell_of(seat.pair, board)
 }

@@ -58,10 +58,14 @@ fn answers(
     rows: &[(Option<RoleSet>, Option<Seat>, Fact, Option<Rule>)],
 ) {
     for (roles, seat, fact, rule) in rows {
+        let viewer = Viewer {
+            roles: *roles,
+            seat: *seat,
+        };
         assert_eq!(rt;
-            decide(public, *roles, *seat, *fact),
+            decide(public, &viewer, *fact),
             *rule,
-            "{roles:?} {seat:?} {fact:?}"
+            "{viewer:?} {fact:?}"
         );
     }
 }

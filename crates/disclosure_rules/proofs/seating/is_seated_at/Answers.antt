@@ -1,11 +1,11 @@
-use Rattle.std.proofs.lemmas.Bool.{eqb-true, eq-eqb}
-use Rattle.disclosure_rules.proofs.SeatingLemmas.{seated_of_table, table_of_seated}
+use Rattle.std.proofs.Common.{refl}
+use Rattle.disclosure_rules.proofs.SeatingLemmas.{seated_at_one, seated_not}
 use Rattle.disclosure_rules.proofs.seating.is_seated_at.Goals as goal
 
-pub returns-in-Some-cell_of : goal.returns-in-Some-cell_of
-returns-in-Some-cell_of c =
-    let section = c.args.public.now.movement in
-    let own = c.in-Some-cell_of.ensures in (
-      λ same. rw c.in-Some.is (seated_of_table section c.in-Some.seat.pair c.in-Some-cell_of.own c.args.cell own.board own.seat (eqb-true _ _ same)),
-      λ seated. eq-eqb _ _ (table_of_seated section c.in-Some.seat.pair c.in-Some-cell_of.own c.args.cell own.section own.board own.seat (rw c.in-Some.is at seated)),
-    )
+pub returns-in-Some : goal.returns-in-Some
+returns-in-Some c =
+    let own = c.in-Some.ensures in
+    seated_at_one c.args.public.now c.args.viewer.now c.in-Some.own own.seated c.args.cell own.board own.section
+
+pub returns-in-None : goal.returns-in-None
+returns-in-None c = seated_not c.args.public.now c.args.viewer.now c.args.cell.board c.in-None.ensures.none c.args.cell refl

@@ -1,7 +1,0 @@
-use Rattle.std.proofs.Common.{◌≡◌, ℕ, ◌+◌, ◌<◌, false}
-use Rattle.denials.specs.Evidence.{is_open}
-use Rattle.denials.proofs.evidence.open_table.Given as goal
-
--- no table so far is open
-abbrev pub invariant-loop-below : goal.invariant-loop-below
-invariant-loop-below l = (k : ℕ) → k < l.below → is_open l.public.movement l.public.live l.board (k + 1) ≡ false
