@@ -1,5 +1,6 @@
 pub mod HindranceLemmas
 pub mod JournalLemmas
+pub mod LiveLemmas
 pub mod NewAccountLemmas
 pub mod OpeningLemmas
 pub mod PlayLemmas

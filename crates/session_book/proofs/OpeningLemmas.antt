@@ -8,7 +8,8 @@ use Rattle.std.proofs.lemmas.Bool.{cases_eq}
 use Rattle.std.proofs.lemmas.List.{take_more, get_or-set_same, get_or-set_other, map-append}
 use Rattle.cards.specs.Cards.{Cards, AreDisjoint, cards_of_bits}
 use Rattle.cards.specs.Card.{pack}
-use Rattle.cards.specs.CardBits.{len-cards_of_bits, disjoint_of_bits, card_cmp-IsAntisymmetric, card_cmp_total}
+use Rattle.cards.specs.CardBits.{card_cmp_total}
+use Rattle.cards.proofs.CardBitsLemmas.{len-cards_of_bits, disjoint_of_bits, card_cmp-IsAntisymmetric}
 use Rattle.cards.specs.Hands.{IsDeal}
 use Rattle.cards.proofs.HandsLemmas.{deal_from_parts}
 use Rattle.cards.specs.Law2.{IsDealer, IsMarked}

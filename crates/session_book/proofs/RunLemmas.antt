@@ -1,7 +1,6 @@
 -- A batch of one command more.
-use Rattle.std.proofs.Common.{◌≡◌, ℕ, ◌+◌, ◌<◌, Bool, true, false, List, [], ◌∷◌, ◌++◌, map, length, refl, sym, ap, ◌∙◌, subst, append_assoc, ◌⊎◌, inl, inr, take, get_or}
+use Rattle.std.proofs.Common.{◌≡◌, ℕ, Bool, true, false, List, [], ◌∷◌, ◌++◌, map, length, refl, sym, ap, ◌∙◌, subst, append_assoc, ◌⊎◌, inl, inr}
 use Rattle.std.specs.Prelude.{Option, Some, None}
-use Rattle.std.proofs.lemmas.List.{take_more}
 use Rattle.std.proofs.lemmas.List.Sums.{fold-append}
 use Rattle.session_book.specs.declared.answer.Answer.{Answer}
 use Rattle.session_book.specs.declared.answer.Answer.TheVariants.{Accepted, Refused}
@@ -105,9 +104,3 @@ runs_refused opening before actor tried command journal answers stopped after ca
     let P : Bool → List Entry → Refusal → Type 0 = λ b entries other. Runs b opening before actor (tried ++ command ∷ []) (record { journal = entries; answers = answers ++ Refused other ∷ [] }) in
     subst (λ b. P b after cause) (sym stopped') (subst (λ entries. P true entries cause) (sym same) (subst (λ other. P true journal other) (sym memory)
     (runs_stopped opening before actor tried command (record { journal = journal; answers = answers }) ran' accepted)))
-
--- one command more of the batch
-pub runs_more : (stopped : Bool) (opening : SessionState) (before : List Entry) (actor : List ℕ) (batch : List Command) (i : ℕ) (d : Command) (so_far : Progress) → i < length batch →
-    Runs stopped opening before actor (take i batch ++ get_or batch i d ∷ []) so_far → Runs stopped opening before actor (take (i + 1) batch) so_far
-runs_more stopped opening before actor batch i d so_far below ran =
-    subst (λ tried. Runs stopped opening before actor tried so_far) (sym (take_more batch i d below)) ran

@@ -7,15 +7,15 @@ use Rattle.movement.specs.Movement.{Section, IsSection, IsCell}
 use Rattle.movement.specs.Row.{IsCellInRange}
 use Rattle.movement.specs.Schedule.{is_scheduled}
 use Rattle.movement.proofs.ScheduleTests.{scheduled-cell, cell-scheduled}
-use Rattle.session_book.specs.Open.{IsPlaced}
+use Rattle.session_book.specs.SessionState.{IsPlaced}
 
 -- a cell that is found passes the test, and one that isn't doesn't
-pub found-scheduled : (section : Section) (table board : ℕ) (found : Option Cell) →
+pub found_scheduled : (section : Section) (table board : ℕ) (found : Option Cell) →
     IfSome found (λ cell. cell ≡ record { table = table; board = board }) → IfSome found (IsCell section) →
     IfNone found (¬ IsCell section (record { table = table; board = board })) →
     is_some found ≡ is_scheduled section (record { table = table; board = board })
-found-scheduled section table board (Some cell) own is_cell none = sym (cell-scheduled section _ (subst (IsCell section) own is_cell))
-found-scheduled section table board None own is_cell none = sym (false_from_ne_true _ (λ test. none (scheduled-cell section _ test)))
+found_scheduled section table board (Some cell) own is_cell none = sym (cell-scheduled section _ (subst (IsCell section) own is_cell))
+found_scheduled section table board None own is_cell none = sym (false_from_ne_true _ (λ test. none (scheduled-cell section _ test)))
 
 -- a cell of a section has a place
 pub placed : (section : Section) (cell : Cell) → IsSection section → IsCellInRange section cell → IsPlaced cell

@@ -14,16 +14,18 @@ use Rattle.session_book.specs.SessionState.{SessionState, cell_at, with_cell}
 abbrev pub with_result : SessionState → Cell → SessionState
 with_result state cell = record state { public = record state.public { live = with_live state.public.live cell } }
 
--- what is entered is confirmed, with its play
+-- what is entered, if anything is, becomes the result, with its play
 abbrev pub confirmed : SessionState → Cell → CellState → SessionState
 confirmed state cell Empty = state
 confirmed state cell (Entered outcome play) = with_result (with_cell state cell (Confirmed outcome play)) cell
 confirmed state cell (Confirmed outcome play) = state
 
--- what a command does: to enter is to set what is entered, or to replace it; to confirm makes it the result
+-- what each command does: to enter is to set what is entered, or to replace it; to confirm makes it the result
 abbrev pub effect : SessionState → Command → SessionState
-effect state (Enter table board outcome play) = with_cell state (record { table = table; board = board }) (Entered outcome play)
-effect state (Confirm table board outcome) = confirmed state (record { table = table; board = board }) (cell_at state (record { table = table; board = board }))
+effect state (Enter table board outcome play) =
+    with_cell state (record { table = table; board = board }) (Entered outcome play)
+effect state (Confirm table board outcome) =
+    let cell : Cell = record { table = table; board = board } in confirmed state cell (cell_at state cell)
 
 -- what an entry does: nothing where the state hinders it
 abbrev pub apply : SessionState → Entry → SessionState

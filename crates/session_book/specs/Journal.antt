@@ -39,7 +39,8 @@ pub record Ledger : Type 0 where
 
 abbrev pub ledger_code : Coded Ledger
 ledger_code =
-    code_by (SessionState × (List Entry × ℕ)) (coded× session_code (coded× (coded_list the_entry.the_row.coded) coded_ℕ))
+    code_by (SessionState × (List Entry × ℕ))
+    (coded× session_code (coded× (coded_list the_entry.the_row.coded) coded_ℕ))
     (λ l. (l.opening, (l.journal, l.spare)))
     (λ p. record { opening = p.0; journal = p.1.0; spare = p.1.1 })
     (λ _. refl)

@@ -1,13 +1,13 @@
 pub mod Apply
+pub mod CellState
+pub mod Command
 pub mod Journal
 pub mod KeptBook
+pub mod KeptState
 pub mod NewAccount
-pub mod Open
 pub mod Opening
-pub mod Outcome
 pub mod Play
 pub mod PlayPlaces
 pub mod Refusal
 pub mod Run
 pub mod SessionState
-pub mod StateRoom

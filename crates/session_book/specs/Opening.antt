@@ -1,4 +1,5 @@
--- The session that a book opens with, until a session can be read: three tables play three rounds, with one board in a set.
+-- The session that a book opens with, until a session can be read: three tables play three rounds, with one board in a
+-- set.
 use Rattle.std.specs.Prelude.{◌≡◌, ℕ, ◌+◌, ◌<◌, List, [], ◌∷◌, map, replicate, codes, slice_index_or}
 use Rattle.std.specs.FinSet as set
 use Rattle.cards.specs.Cards.{Cards}
@@ -14,7 +15,7 @@ use Rattle.rbac.specs.Inheritance.{opening_pairs}
 use Rattle.rbac.specs.RoleData.{RoleData}
 use Rattle.rbac.specs.declared.account.Account.{Account}
 use Rattle.rbac.specs.declared.role.Role.TheVariants.{Spectator, Contestant, Scorer, Director, Administrator}
-use Rattle.movement.specs.Movement.{Section}
+use Rattle.movement.specs.Movement.{Section, most_boards}
 use Rattle.disclosure_rules.specs.declared.marks.Marks.{Marks}
 use Rattle.disclosure_rules.specs.declared.phase.Phase.TheVariants.{Running}
 use Rattle.disclosure_rules.specs.declared.public.Public.{Public}
@@ -52,7 +53,15 @@ opening_section = record { tables = 3; rounds = 3; per_set = 1 }
 
 -- what every member may see before the first board is played
 abbrev pub opening_public : List Marks → Public
-opening_public marks = record { movement = opening_section; marks = marks; round = 1; phase = Running; held = []; live = replicate 64 [] }
+opening_public marks =
+    record {
+      movement = opening_section;
+      marks = marks;
+      round = 1;
+      phase = Running;
+      held = [];
+      live = replicate most_boards [];
+    }
 
 -- a card of a suit
 abbrev pub of_suit : Suit → List Card
@@ -62,26 +71,39 @@ of_suit suit = map (λ rank. record { suit = suit; rank = rank }) ranks_up
 unfoldable pub whole_suit : Suit → Cards
 whole_suit suit = set.from_list (of_suit suit)
 
+-- each player holds a whole suit, from North on
+abbrev pub suits_from : Suit → Suit → Suit → Suit → Hands
+suits_from north east south west =
+    record { north = whole_suit north; east = whole_suit east; south = whole_suit south; west = whole_suit west }
+
 -- each player holds a whole suit: on board 1 from North on, on board 2 from East on, on board 3 from South on
 abbrev pub opening_deals : List Hands
 opening_deals =
-    record { north = whole_suit Spades; east = whole_suit Hearts; south = whole_suit Diamonds; west = whole_suit Clubs }
-    ∷ record { north = whole_suit Clubs; east = whole_suit Spades; south = whole_suit Hearts; west = whole_suit Diamonds }
-    ∷ record { north = whole_suit Diamonds; east = whole_suit Clubs; south = whole_suit Spades; west = whole_suit Hearts }
+    suits_from Spades Hearts Diamonds Clubs
+    ∷ suits_from Clubs Spades Hearts Diamonds
+    ∷ suits_from Diamonds Clubs Spades Hearts
     ∷ []
 
 -- the opening state, with the markings of its boards
 abbrev pub opening_state : List Marks → SessionState
 opening_state marks =
-    record { roles = opening_roles; seats = opening_seats; public = opening_public marks; cells = replicate most_cells Empty; deals = opening_deals }
+    record {
+      roles = opening_roles;
+      seats = opening_seats;
+      public = opening_public marks;
+      cells = replicate most_cells Empty;
+      deals = opening_deals;
+    }
 
 -- each board is marked by Law 2
 abbrev pub AreMarked : List Marks → ℕ → Type 0
 AreMarked marks boards =
-    (k : ℕ) (other : Marks) → k < boards → IsDealer (k + 1) (slice_index_or marks k other).dealer × IsMarked (k + 1) (slice_index_or marks k other).vulnerability
+    (k : ℕ) (other : Marks) → k < boards →
+    IsDealer (k + 1) (slice_index_or marks k other).dealer
+    × IsMarked (k + 1) (slice_index_or marks k other).vulnerability
 
 -- the state that a book opens with
 pub record IsOpening (state : SessionState) : Type 0 where
   pub marks : List Marks
-  pub marked : AreMarked marks 64
+  pub marked : AreMarked marks most_boards
   pub opening : state ≡ opening_state marks

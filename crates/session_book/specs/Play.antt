@@ -1,8 +1,13 @@
 -- The cards of a board as they were played.
-use Rattle.std.specs.Prelude.{Bool, false, ◌||◌, nat_eq, List, [], ◌∷◌}
+use Rattle.std.specs.Prelude.{Bool, true, false, ◌||◌, nat_eq, List, [], ◌∷◌}
 use Rattle.std.specs.List.{list_any}
 use Rattle.cards.specs.declared.card.Card.{Card}
 use Rattle.cards.specs.Card.{number_in_pack}
+
+-- whether some card was noted
+abbrev pub has_card : List Card → Bool
+has_card [] = false
+has_card (card ∷ cards) = true
 
 -- whether two cards are one
 abbrev pub same_card : Card → Card → Bool

@@ -28,5 +28,8 @@ places_of cards = record { cards = cards ++ replicate (52 - length cards) no_car
 pub places_of-cards_of : (play : Inside) → IsPlay play → places_of (cards_of play) ≡ play
 places_of-cards_of play kept =
     let len = length-take-le play.len play.cards (subst (λ n. play.len ≤ n) (sym kept.places) kept.short) in
-    let cards = ap (λ n. take play.len play.cards ++ replicate (52 - n) no_card) len ∙ ap (λ rest. take play.len play.cards ++ rest) (sym kept.rest) ∙ take-append-drop play.len play.cards in
+    let cards =
+    ap (λ n. take play.len play.cards ++ replicate (52 - n) no_card) len
+    ∙ ap (λ rest. take play.len play.cards ++ rest) (sym kept.rest)
+    ∙ take-append-drop play.len play.cards in
     λ i. record { cards = cards i; len = len i }

@@ -10,6 +10,10 @@ use Rattle.session_book.specs.declared.refusal.Refusal.TheVariants.{OutOfMemory,
 use Rattle.session_book.specs.Journal.{refusal_after}
 use Rattle.session_book.specs.SessionState.{SessionState}
 
+-- how many commands a batch has at most
+abbrev pub most_commands : ℕ
+most_commands = 64
+
 -- a journal, and the answers to the commands so far
 pub record Progress : Type 0 where
   pub journal : List Entry
@@ -18,8 +22,12 @@ pub record Progress : Type 0 where
 -- a command that nothing refuses joins the journal; another is answered why it is refused
 abbrev pub answered : Progress → List ℕ → Command → Option Refusal → Progress
 answered so_far actor command None =
-    record { journal = so_far.journal ++ record { actor = actor; command = command } ∷ []; answers = so_far.answers ++ Accepted ∷ [] }
-answered so_far actor command (Some cause) = record { journal = so_far.journal; answers = so_far.answers ++ Refused cause ∷ [] }
+    record {
+      journal = so_far.journal ++ record { actor = actor; command = command } ∷ [];
+      answers = so_far.answers ++ Accepted ∷ [];
+    }
+answered so_far actor command (Some cause) =
+    record { journal = so_far.journal; answers = so_far.answers ++ Refused cause ∷ [] }
 
 -- one command more
 abbrev pub step : SessionState → List ℕ → Progress → Command → Progress
@@ -30,21 +38,24 @@ unfoldable pub run : SessionState → List Entry → List ℕ → List Command �
 run opening journal actor batch = fold (step opening actor) (record { journal = journal; answers = [] }) batch
 
 -- memory is refused at a command that nothing else refuses: those before it stand, and those after it are not tried
-pub record RunsUntil (opening : SessionState) (before : List Entry) (actor : List ℕ) (batch : List Command) (after : Progress) : Type 0 where
+pub record RunsUntil (opening : SessionState) (before : List Entry) (actor : List ℕ) (batch : List Command)
+    (after : Progress) : Type 0 where
   pub tried : List Command
   pub command : Command
   pub later : List Command
   pub split : batch ≡ tried ++ command ∷ later
   pub accepted : refusal_after opening (run opening before actor tried).journal actor command ≡ None
   pub journal : after.journal ≡ (run opening before actor tried).journal
-  pub answers : after.answers ≡ (run opening before actor tried).answers ++ Refused OutOfMemory ∷ map (λ _. Refused NotTried) later
+  pub answers :
+      after.answers ≡ (run opening before actor tried).answers ++ Refused OutOfMemory ∷ map (λ _. Refused NotTried) later
 
 -- what becomes of a batch: all its commands are run, or memory is refused at one of them
 abbrev pub Runs : Bool → SessionState → List Entry → List ℕ → List Command → Progress → Type 0
 Runs false opening journal actor batch after = after ≡ run opening journal actor batch
 Runs true opening journal actor batch after = RunsUntil opening journal actor batch after
 
--- the numbers of the first and the last entry that joined a journal, or 0 where none did, from its lengths before and after
+-- the numbers of the first and the last entry that joined a journal, or 0 where none did, from its lengths before and
+-- after
 abbrev pub first_number : ℕ → ℕ → ℕ
 first_number before after = if nat_lt before after then before + 1 else 0
 

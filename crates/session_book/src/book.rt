@@ -2,18 +2,20 @@ ghost use Rattle.std.specs.Prelude.{◌≡◌, ℕ, ◌+◌, ◌-◌, ◌≤◌,
 ghost use Rattle.std.specs.Option.{option_copied};
 ghost use Rattle.session_book.specs.Journal.{IsAccepted, MayFollow, refusal_at, state_of, entry_of};
 ghost use Rattle.session_book.specs.Opening.{IsOpening};
-ghost use Rattle.session_book.specs.Run.{Runs, first_number, last_number};
+ghost use Rattle.session_book.specs.Refusal.{most_entries};
+ghost use Rattle.session_book.specs.Run.{Runs, first_number, last_number, most_commands};
 ghost use Rattle.session_book.specs.declared.command.Command.{Command};
 ghost use Rattle.session_book.specs.declared.answer.Answer.{Answer};
 ghost use Rattle.session_book.specs.declared.entry.Entry.{Entry};
 ghost use Rattle.session_book.specs.declared.refusal.Refusal.TheVariants.{OutOfMemory};
 
+use crate::acceptance::refusal;
 use crate::answer::Answer;
 use crate::command::Command;
 use crate::entry::Entry;
 use crate::opening::{opening_marks, opening_state};
 use crate::refusal::Refusal;
-use crate::room::push_within;
+use crate::room::{push_copy, push_within};
 use crate::state::State;
 use crate::submission::Submission;
 use cards::Name;
@@ -42,12 +44,19 @@ impl Model for Book {
 
     ghost use Rattle.session_book.specs.KeptBook.{IsKept};
 
-    ghost view = { λ b. record { opening = b.opening; journal = b.journal.items; spare = vec_capacity b.journal - vec_len b.journal } };
+    ghost view = { λ b. record {
+      opening = b.opening;
+      journal = b.journal.items;
+      spare = vec_capacity b.journal - vec_len b.journal;
+    } };
 
     ghost invariant = { IsKept };
 }
 
 impl Book {
+    /// How many commands a batch has at most.
+    pub const MOST_COMMANDS: usize = 64;
+
     /// The book of a new session: its journal is empty.
     pub fn open(alloc: Global) -> Result<Book, AllocError>
         ensures journal { IfOk result (λ book. book.journal ≡ []) }
@@ -67,7 +76,8 @@ impl Book {
 
     /// How many entries were accepted.
     pub fn version(&self) -> usize
-        ensures { result ≡ length self.now.journal }
+        ensures version { result ≡ length self.now.journal }
+        ensures few { result ≤ most_entries }
     {
         self.journal.len()
     }
@@ -90,8 +100,8 @@ impl Book {
         self.journal.get(number - 1)
     }
 
-    /// Whether a command of a user is accepted now: then its entry, for which there is room. This changes nothing but the
-    /// room.
+    /// Whether a command of a user is accepted now: then its entry, for which there is room. This changes nothing but
+    /// the room.
     pub fn check(&mut self, actor: Name, command: &Command) -> Result<Entry, Refusal>
         ensures ok { IfOk result (λ entry. entry ≡ record { actor = actor; command = command.now }) }
         ensures accepted { IfOk result (λ entry. refusal_at self.old actor command.now ≡ None) }
@@ -116,7 +126,7 @@ impl Book {
     fn refusal(&self, actor: Name, command: &Command) -> Option<Refusal>
         ensures { result ≡ refusal_at self.now actor command.now }
     {
-        self.state.refusal(actor, command, self.journal.len())
+        refusal(&self.state, actor, command, self.journal.len())
     }
 
     /// Adds an entry that is accepted, and for which there is room.
@@ -126,17 +136,15 @@ impl Book {
         ensures journal { self.new.journal ≡ self.old.journal ++ entry ∷ [] }
         ensures opening { self.new.opening ≡ self.old.opening }
     {
-        // The prover knows of the type of an outcome only where a value of it stands.
-        let _outcome = entry.command.outcome();
         self.state.absorb(&entry);
-        push_within(&mut self.journal, entry);
+        push_copy(&mut self.journal, &entry);
     }
 
-    /// Tries the commands of a user, one after another: each that is accepted joins the journal. Where memory is refused at
-    /// one of them, those before it stand, and those after it are not tried. Where there is no memory for the answers,
-    /// nothing is tried.
+    /// Tries the commands of a user, one after another: each that is accepted joins the journal. Where memory is refused
+    /// at one of them, those before it stand, and those after it are not tried. Where there is no memory for the
+    /// answers, nothing is tried.
     pub fn submit(&mut self, actor: Name, batch: &[Command]) -> Result<Submission, AllocError>
-        requires { length batch.now ≤ 64 }
+        requires { length batch.now ≤ most_commands }
         ensures ran { IfOk result (λ submission. (stopped : Bool)
             × Runs stopped self.old.opening self.old.journal actor batch.now
             (record { journal = self.new.journal; answers = submission.answers.items })) }
@@ -160,7 +168,8 @@ impl Book {
     // The answer to one command of a batch: none is tried once memory was refused.
     fn answer(&mut self, actor: Name, command: &Command, stopped: &mut bool) -> Answer
         ensures runs { (before : List Entry) (tried : List Command) (answers : List Answer) →
-            Runs stopped.old self.old.opening before actor tried (record { journal = self.old.journal; answers = answers }) →
+            Runs stopped.old self.old.opening before actor tried
+            (record { journal = self.old.journal; answers = answers }) →
             Runs stopped.new self.old.opening before actor (tried ++ command.now ∷ [])
             (record { journal = self.new.journal; answers = answers ++ result ∷ [] }) }
         ensures opening { self.new.opening ≡ self.old.opening }

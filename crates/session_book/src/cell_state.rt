@@ -11,3 +11,35 @@ pub enum CellState {
     /// It is confirmed: there is a result.
     Confirmed { outcome: Outcome, play: Play },
 }
+
+impl CellState {
+    ghost use Rattle.std.specs.Prelude.{◌≡◌};
+    ghost use Rattle.session_book.specs.CellState.{has_result, is_empty, is_entered_otherwise};
+
+    /// Whether there is a result.
+    pub fn has_result(&self) -> bool
+        ensures { result ≡ has_result self.now }
+    {
+        matches!(self, CellState::Confirmed { .. })
+    }
+
+    /// Whether nothing is known.
+    pub fn is_empty(&self) -> bool
+        ensures { result ≡ is_empty self.now }
+    {
+        matches!(self, CellState::Empty)
+    }
+
+    /// Whether another outcome is entered.
+    pub fn is_entered_otherwise(&self, outcome: Outcome) -> bool
+        ensures { result ≡ is_entered_otherwise self.now outcome }
+    {
+        match self {
+            CellState::Entered {
+                outcome: entered,
+                ..
+            } => outcome != *entered,
+            _ => false,
+        }
+    }
+}

@@ -1,11 +1,7 @@
-ghost use Rattle.std.specs.Prelude.{◌≡◌, if◌then◌else◌, None, Some};
-ghost use Rattle.session_book.specs.Outcome.{same_outcome};
-ghost use Rattle.session_book.specs.declared.refusal.Refusal.TheVariants as refusal;
-
-use crate::cell_state::CellState;
-use crate::outcome::{is_passed_out, same_outcome};
 use crate::play::Play;
-use crate::refusal::Refusal;
+use disclosure_rules::Phase;
+use movement::Cell;
+use rbac::Operation;
 use scoring::Outcome;
 
 /// What a user wants done.
@@ -27,72 +23,43 @@ pub enum Command {
 }
 
 impl Command {
-    ghost use Rattle.session_book.specs.Refusal.{cell_of, outcome_of, is_bad_result, hindrance_by};
+    ghost use Rattle.std.specs.Prelude.{◌≡◌};
+    ghost use Rattle.session_book.specs.Command.{operation_of, phases_of, target_of, is_among};
 
-    pub fn table(&self) -> u8
-        ensures { result ≡ (cell_of self.now).table }
+    /// The operation for which the user needs the permission.
+    pub fn operation(&self) -> Operation
+        ensures { result ≡ operation_of self.now }
     {
         match self {
-            Command::Enter { table, .. } | Command::Confirm { table, .. } => *table,
+            Command::Enter { .. } => Operation::Enter,
+            Command::Confirm { .. } => Operation::Confirm,
         }
     }
 
-    pub fn board(&self) -> u8
-        ensures { result ≡ (cell_of self.now).board }
+    /// The phases in which it is taken.
+    pub fn phases(&self) -> &'static [Phase]
+        ensures { result.now ≡ phases_of self.now }
     {
         match self {
-            Command::Enter { board, .. } | Command::Confirm { board, .. } => *board,
+            Command::Enter { .. } => &[Phase::Running],
+            Command::Confirm { .. } => &[Phase::Running],
         }
     }
 
-    pub fn outcome(&self) -> Outcome
-        ensures { result ≡ outcome_of self.now }
+    /// Whether it is taken in a phase.
+    pub fn is_taken_in(&self, phase: Phase) -> bool
+        ensures { result ≡ is_among (phases_of self.now) phase }
     {
-        match self {
-            Command::Enter { outcome, .. } | Command::Confirm { outcome, .. } => *outcome,
-        }
+        self.phases().contains(&phase)
     }
 
-    /// Whether what is to be entered can't be: it has a card twice, or cards that were played on a passed-out board.
-    pub fn is_bad_result(&self) -> bool
-        ensures { result ≡ is_bad_result self.now }
+    /// The cell that it is about.
+    pub fn target(&self) -> Cell
+        ensures { result ≡ target_of self.now }
     {
-        match self {
-            Command::Enter { outcome, play, .. } => {
-                play.has_repeat() || is_passed_out(*outcome) && !play.is_empty()
-            }
-            Command::Confirm { .. } => false,
+        match *self {
+            Command::Enter { table, board, .. } => Cell { table, board },
+            Command::Confirm { table, board, .. } => Cell { table, board },
         }
-    }
-
-    /// The first cause to refuse the command that lies in what is known of its cell, if there is one.
-    pub fn hindered_by(&self, known: &CellState) -> Option<Refusal>
-        ensures { result ≡ hindrance_by self.now known.now }
-    {
-        match self {
-            Command::Enter { .. } => match known {
-                CellState::Empty | CellState::Entered { .. } => None,
-                CellState::Confirmed { .. } => Some(Refusal::AlreadyLive),
-            },
-            Command::Confirm { outcome, .. } => match known {
-                CellState::Empty => Some(Refusal::NothingEntered),
-                CellState::Entered {
-                    outcome: entered,
-                    ..
-                } => mismatch(*outcome, *entered),
-                CellState::Confirmed { .. } => Some(Refusal::AlreadyLive),
-            },
-        }
-    }
-}
-
-// The refusal of an outcome that differs from the one that is entered.
-fn mismatch(outcome: Outcome, entered: Outcome) -> Option<Refusal>
-    ensures { result ≡ (if same_outcome outcome entered then None else Some refusal.Mismatch) }
-{
-    if same_outcome(outcome, entered) {
-        None
-    } else {
-        Some(Refusal::Mismatch)
     }
 }

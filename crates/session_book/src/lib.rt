@@ -1,13 +1,14 @@
 //! The book of a session: the commands that were accepted, in their order, and the state that they lead to.
 #![tactic(auto)]
 
+mod acceptance;
 mod answer;
 mod book;
 mod cell_state;
 mod command;
 mod entry;
+pub mod laws;
 mod opening;
-mod outcome;
 mod play;
 mod refusal;
 mod room;
@@ -26,5 +27,5 @@ pub use entry::Entry;
 pub use play::Play;
 pub use refusal::Refusal;
 pub use seated::Seated;
-pub use state::{MOST_ENTRIES, State};
+pub use state::State;
 pub use submission::Submission;

@@ -1,7 +1,7 @@
 //! The session that a book opens with, until a session can be read.
 
 ghost use Rattle.std.specs.Prelude.{◌≡◌, ◌≤◌, length, vec_capacity, IfOk};
-ghost use Rattle.session_book.specs.StateRoom.{most_users};
+ghost use Rattle.rbac.specs.Account.{most_users};
 ghost use Rattle.cards.specs.Hands.{IsDeal};
 ghost use Rattle.cards.specs.declared.place.Place.TheVariants.{North};
 ghost use Rattle.cards.specs.declared.side.Side.TheVariants.{NorthSouth};
@@ -11,7 +11,7 @@ ghost use Rattle.session_book.specs.Opening.{opening_roles, opening_seats, openi
 
 use crate::room::with_room;
 use crate::seated::Seated;
-use crate::state::{MOST_USERS, State};
+use crate::state::State;
 use cards::{Card, Deal, Hand, Name, Pair, Place, Rank, Side, Suit, dealer_of, vulnerability_of};
 use disclosure_rules::{Boards, LiveCells, Marks, Phase, Public, Seat};
 use movement::Movement;
@@ -129,7 +129,7 @@ fn seats(alloc: Global) -> Result<Vec<Seated>, AllocError>
     ensures room { IfOk result (λ seats. most_users ≤ vec_capacity seats) }
 {
     let seats = [north("n1", 1), north("n2", 2)];
-    with_room(alloc, &seats, MOST_USERS)
+    with_room(alloc, &seats, Roles::MOST_USERS)
 }
 
 fn north(text: &str, number: u8) -> Seated

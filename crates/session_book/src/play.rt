@@ -68,24 +68,11 @@ impl Play {
         })
     }
 
-    pub fn len(&self) -> usize
-        ensures len { result ≡ length self.now }
-        ensures short { result ≤ 52 }
-    {
-        self.as_slice().len()
-    }
-
+    /// Whether no card was noted.
     pub fn is_empty(&self) -> bool
         ensures { IsTrue result ↔ (self.now ≡ []) }
     {
         self.as_slice().is_empty()
-    }
-
-    /// The card at a place, from 0.
-    pub fn get(&self, place: usize) -> Option<Card>
-        ensures { result ≡ slice_get self.now place }
-    {
-        self.as_slice().get(place).copied()
     }
 
     /// Whether some card stands twice in the play.

@@ -3,7 +3,7 @@ use thiserror::Error;
 /// Why a command is refused, in the order in which the causes are looked at.
 #[derive(Clone, Copy, Debug, PartialEq, Eq, Error)]
 pub enum Refusal {
-    #[error("the user is not authorized for the command")]
+    #[error("the user has no permission for the command")]
     NotPermitted,
     #[error("the table is not scheduled to play the board")]
     NoSuchCell,

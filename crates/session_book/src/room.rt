@@ -14,6 +14,16 @@ pub fn push_within<T: Drop>(items: &mut Vec<T>, item: T)
     };
 }
 
+/// Adds a copy of an item for which there is room.
+pub fn push_copy<T: Copy + Drop>(items: &mut Vec<T>, item: &T)
+    requires { vec_len items.old < vec_capacity items.old }
+    ensures items { items.new.items ≡ items.old.items ++ item.now ∷ [] }
+    ensures len { vec_len items.new ≡ vec_len items.old + 1 }
+    ensures capacity { vec_capacity items.old ≤ vec_capacity items.new }
+{
+    push_within(items, *item);
+}
+
 /// So many copies of an item.
 pub fn filled<T: Copy>(alloc: Global, item: T, count: usize) -> Result<Vec<T>, AllocError>
     ensures items { IfOk result (λ copies. copies.items ≡ replicate count item) }

@@ -1,37 +1,25 @@
-ghost use Rattle.std.specs.Prelude.{◌≡◌, IfSome, is_some};
+ghost use Rattle.std.specs.Prelude.{◌≡◌, true};
 ghost use Rattle.movement.specs.Movement.{IsCell};
-ghost use Rattle.session_book.specs.Open.{IsPlaced};
-ghost use Rattle.session_book.specs.Refusal.{is_running};
 ghost use Rattle.movement.specs.Schedule.{is_scheduled, is_later};
+ghost use Rattle.session_book.specs.SessionState.{IsPlaced};
 
-use disclosure_rules::Phase;
 use movement::{Cell, Movement};
 
-/// The cell of a table and a board, if the table is scheduled to play the board.
-pub fn scheduled(movement: Movement, table: u8, board: u8) -> Option<Cell>
-    ensures cell { IfSome result (λ cell. cell ≡ record { table = table; board = board }) }
-    ensures is_cell { IfSome result (IsCell movement) }
-    ensures placed { IfSome result IsPlaced }
-    ensures scheduled { is_some result ≡ is_scheduled movement (record { table = table; board = board }) }
+/// Whether the cell's table is scheduled to play its board.
+#[tactic(auto, using(crate::proofs::ScheduleLemmas::found_scheduled))]
+pub fn is_scheduled(movement: Movement, cell: Cell) -> bool
+    ensures test { result ≡ is_scheduled movement cell }
+    ensures cell { result ≡ true → IsCell movement cell }
+    ensures placed { result ≡ true → IsPlaced cell }
 {
-    // The clauses of `tables` say how many tables and boards there are at most.
-    let _tables = movement.tables();
-    movement.cell(table, board)
+    movement.cell(cell.table, cell.board).is_some()
 }
 
 /// Whether a cell is played after a round.
+#[tactic(auto, using(movement::proofs::ScheduleTests::later_than))]
 pub fn is_later(movement: Movement, cell: Cell, round: u8) -> bool
     requires { IsCell movement cell }
     ensures { result ≡ is_later movement cell round }
 {
-    // The clauses of `tables` say that each cell is played in one round.
-    let _tables = movement.tables();
     round < movement.round_of(cell)
-}
-
-/// Whether boards are being played.
-pub fn is_running(phase: Phase) -> bool
-    ensures { result ≡ is_running phase }
-{
-    matches!(phase, Phase::Running)
 }

@@ -1,10 +1,12 @@
+ghost use Rattle.std.specs.Prelude.{◌≤◌, length};
+
 use super::*;
 use cards::{Card, Name, Place, Rank, Strain, Suit};
 use disclosure_rules::{Fact, Rule};
 use movement::Cell;
 use rbac::{Role, RoleSet};
 use scoring::{Contract, Doubling, Level, Outcome, Tricks};
-use std::alloc::Global;
+use std::alloc::{AllocError, Global};
 use std::process::Abort;
 use std::test::Fail;
 
@@ -172,8 +174,27 @@ fn each_refusal_has_its_cause(rt: HostRuntime) -> Result<(), Fail> {
         ("k", confirm(2, 2, made), Refusal::NothingEntered),
     ];
     for (actor, command, cause) in rows {
+        assert_eq!(rt;
+            book.check(name(actor)?, &command).err(),
+            Some(cause),
+            "{cause}"
+        );
         submits(&rt, &mut book, actor, command, Answer::Refused(cause), 0)?;
     }
+    Ok(())
+}
+
+#[test]
+fn a_command_that_is_accepted_is_an_entry(rt: HostRuntime) -> Result<(), Fail> {
+    let mut book = Book::open(rt.alloc())?;
+    let entry = book.check(name("k")?, &enter(2, 2)?)?;
+    assert_eq!(rt; book.version(), 0);
+    book.commit(entry);
+    assert_eq!(rt; book.version(), 1);
+    let kept = book.entry(1).ok_or("an entry")?;
+    assert_eq!(rt; kept.actor, name("k")?);
+    assert_eq!(rt; kept.command.target(), Cell { table: 2, board: 2 });
+    assert!(rt; book.entry(0).is_none() && book.entry(2).is_none());
     Ok(())
 }
 
@@ -200,41 +221,99 @@ fn a_batch_is_answered_command_by_command(rt: HostRuntime) -> Result<(), Fail> {
     Ok(())
 }
 
-#[test]
-fn a_book_keeps_its_entries(rt: HostRuntime) -> Result<(), Fail> {
-    let mut book = Book::open(rt.alloc())?;
-    assert!(rt; book.entry(1).is_none());
-    submits(&rt, &mut book, "d", enter(2, 2)?, Answer::Accepted, 1)?;
-    let entry = book.entry(1).ok_or("an entry")?;
-    assert_eq!(rt; entry.actor, name("d")?);
-    assert_eq!(rt; (entry.command.table(), entry.command.board()), (2, 2));
-    assert!(rt; book.entry(0).is_none() && book.entry(2).is_none());
-    let cell = Cell { table: 2, board: 2 };
-    assert!(rt; matches!(book.state().cell(cell), CellState::Entered { .. }));
+/// Enters the result of one cell as often as a batch has commands, and compares the answers.
+fn enters(rt: &impl Abort, book: &mut Book, batch: &[Command]) -> Result<(), Fail>
+    requires { length batch.now ≤ 64 }
+{
+    let submission = book.submit(name("k")?, batch)?;
+    assert_eq!(rt; submission.answers.len(), batch.len());
+    for answer in &submission.answers {
+        assert_eq!(rt; *answer, Answer::Accepted);
+    }
+    assert_eq!(rt; submission.last, book.version());
     Ok(())
 }
 
-/// Where memory is refused at a command, it is answered so, and the later ones of its batch are not tried.
+/// With memory to spare nothing is refused before the journal is full.
 #[test]
-fn a_journal_grows_or_says_so(rt: HostRuntime) -> Result<(), Fail> {
+fn a_journal_takes_60000_entries(rt: HostRuntime) -> Result<(), Fail> {
     let mut book = Book::open(rt.alloc())?;
-    let scorer = name("k")?;
     let batch = [enter(1, 1)?; 64];
-    let mut accepted = 0;
-    for _round in 0..5 {
-        let submission = book.submit(scorer, &batch)?;
-        let mut expected = Answer::Accepted;
-        for answer in &submission.answers {
-            if expected == Answer::Accepted && *answer == Answer::Refused(Refusal::OutOfMemory) {
-                expected = Answer::Refused(Refusal::NotTried);
-            } else {
-                assert_eq!(rt; *answer, expected);
-            }
-            if *answer == Answer::Accepted && accepted < 320 {
-                accepted += 1;
-            }
+    for number in 1..=937 {
+        enters(&rt, &mut book, &batch)?;
+        assert_eq!(rt; book.version(), number * 64);
+    }
+    enters(&rt, &mut book, &batch[..32])?;
+    assert!(rt; book.entry(60000).is_some() && book.entry(60001).is_none());
+    let full = Refusal::JournalFull;
+    assert_eq!(rt; book.check(name("k")?, &batch[0]).err(), Some(full));
+    submits(&rt, &mut book, "k", batch[0], Answer::Refused(full), 60000)
+}
+
+#[test]
+fn a_batch_has_4_commands_or_64(rt: HostRuntime) -> Result<(), Fail> {
+    let mut book = Book::open(rt.alloc())?;
+    let batch = [enter(3, 3)?; 64];
+    enters(&rt, &mut book, &batch[..4])?;
+    assert_eq!(rt; book.version(), 4);
+    enters(&rt, &mut book, &batch)?;
+    assert_eq!(rt; book.version(), 68);
+    Ok(())
+}
+
+/// The pack, from the ace of spades down to the two of clubs.
+fn pack(alloc: Global) -> Result<Vec<Card>, AllocError> {
+    let mut cards = Vec::new(alloc);
+    for suit in [Suit::Spades, Suit::Hearts, Suit::Diamonds, Suit::Clubs] {
+        for rank in Rank::DOWN {
+            cards.push(Card { suit, rank })?;
         }
     }
-    assert_eq!(rt; book.version(), accepted);
+    Ok(cards)
+}
+
+fn with_play(cards: &[Card]) -> Result<Command, Fail> {
+    let play = Play::new(cards).ok_or("a play")?;
+    Ok(Command::Enter {
+        table: 1,
+        board: 1,
+        outcome: four_spades(10)?,
+        play,
+    })
+}
+
+/// Compares the cards of a result.
+fn has_cards(rt: &impl Abort, known: &CellState, cards: &[Card]) -> Result<(), Fail> {
+    match known {
+        CellState::Confirmed { play, .. } => {
+            assert_eq!(rt; play.as_slice(), cards);
+            Ok(())
+        }
+        _ => Err("not confirmed".into()),
+    }
+}
+
+#[test]
+fn a_play_has_up_to_52_cards(rt: HostRuntime) -> Result<(), Fail> {
+    let mut cards = pack(rt.alloc())?;
+    let made = four_spades(10)?;
+    let mut book = Book::open(rt.alloc())?;
+    let entered = with_play(cards.as_slice())?;
+    submits(&rt, &mut book, "k", entered, Answer::Accepted, 1)?;
+    submits(
+        &rt,
+        &mut book,
+        "k",
+        confirm(1, 1, made),
+        Answer::Accepted,
+        2,
+    )?;
+    let known = book.state().cell(Cell { table: 1, board: 1 });
+    has_cards(&rt, &known, cards.as_slice())?;
+    cards.push(Card {
+        suit: Suit::Clubs,
+        rank: Rank::Ace,
+    })?;
+    assert!(rt; Play::new(cards.as_slice()).is_none());
     Ok(())
 }

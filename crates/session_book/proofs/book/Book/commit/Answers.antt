@@ -12,8 +12,8 @@ invariant_of-self c =
       replayed =
           c.absorb.ensures
           ∙ (ap (λ state. apply state c.args.entry) c.self.invariant.replayed
-          ∙ (sym (replayed_more opening journal c.args.entry) ∙ ap (replay opening) (sym c.push_within.ensures.items)));
+          ∙ (sym (replayed_more opening journal c.args.entry) ∙ ap (replay opening) (sym c.push_copy.ensures.items)));
       accepted =
-          subst (IsAccepted opening) (sym c.push_within.ensures.items)
+          subst (IsAccepted opening) (sym c.push_copy.ensures.items)
           (accepted_more opening journal c.args.entry c.self.invariant.accepted (subst (λ ledger. MayFollow ledger.opening ledger.journal c.args.entry) (sym c.self.view_is) c.requires.accepted));
     }

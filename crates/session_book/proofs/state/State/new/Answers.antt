@@ -1,4 +1,17 @@
+use Rattle.std.proofs.Common.{ℕ, List, [], ap, ◌∙◌, arith, length}
+use Rattle.std.proofs.lemmas.List.{length-replicate}
+use Rattle.session_book.proofs.LiveLemmas.{none_live}
 use Rattle.session_book.proofs.state.State.new.Goals as goal
+
+pub invariant_of-result : goal.invariant_of-result
+invariant_of-result c = record {
+  cells = c.in_ok-cells.ensures.len;
+  marks = c.requires.marks;
+  boards = ap length c.requires.live ∙ length-replicate {A = List ℕ} 64 [];
+  deals = omega (arith, c.args.deals.ok.0, c.requires.deals);
+  seats = c.requires.seats;
+  live = none_live _ _ c.requires.live c.in_ok-cells.ensures.items;
+}
 
 pub returns : goal.returns
 returns c =
