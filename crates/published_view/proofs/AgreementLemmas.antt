@@ -1,8 +1,8 @@
 -- Two states that agree for a user show the user the same, and so give the same replies.
-use Rattle.std.proofs.Common.{◌≡◌, ℕ, suc, ◌+◌, ◌-◌, ◌≤◌, Bool, true, false, not, List, [], ◌∷◌, ◌++◌, length, refl, sym, ap, ◌∙◌, arith, inl, inr}
-use Rattle.std.specs.Prelude.{Option, Some, None, map, filter_map, cond, if◌then◌else◌, is_some, nat_lt, filter, slice_get}
+use Rattle.std.proofs.Common.{◌≡◌, ℕ, suc, ◌+◌, ◌-◌, ◌≤◌, Bool, true, false, List, [], ◌∷◌, ◌++◌, length, refl, sym, ap, ◌∙◌, arith, inl, inr}
+use Rattle.std.specs.Prelude.{Option, Some, None, map, filter_map, cond, if◌then◌else◌, filter, slice_get}
 use Rattle.std.specs.List.{range_with_len, cons_option}
-use Rattle.std.specs.Option.{option_map}
+use Rattle.std.specs.Option.{option_map, unwrap_or}
 use Rattle.std.proofs.lemmas.Bool.{cases_Bool}
 use Rattle.std.proofs.lemmas.List.Elements.{filter-append}
 use Rattle.cards.specs.Hands.{Hands}
@@ -12,15 +12,12 @@ use Rattle.movement.specs.Schedule.{is_scheduled}
 use Rattle.scoring.specs.declared.outcome.Outcome.{Outcome}
 use Rattle.disclosure_rules.specs.declared.fact.Fact.{Fact}
 use Rattle.disclosure_rules.specs.declared.fact.Fact.TheVariants as fact
-use Rattle.disclosure_rules.specs.Decision.{first_rule}
-use Rattle.denials.specs.Evidence.{denial_of}
-use Rattle.session_book.specs.SessionState.{SessionState}
+use Rattle.disclosure_rules.specs.declared.viewer.Viewer.{Viewer}
+use Rattle.session_book.specs.SessionState.{SessionState, viewer_of}
 use Rattle.published_view.specs.Shown.{Shown, public_facts, hands_of, result_of, fact_of, result_at, result_with, result_in, results_to, shown_as, boards_from, contents, is_allowed, shown}
 use Rattle.published_view.specs.declared.table_result.TableResult.{TableResult}
 use Rattle.published_view.specs.Agreement.{Agree}
-use Rattle.published_view.specs.Answers.{has_board, denied_or, reply_or, board_answer, board_reply, traveller_answer, traveller_reply}
-use Rattle.published_view.specs.declared.reply.Reply.{Reply}
-use Rattle.published_view.specs.declared.reply.Reply.TheVariants as reply
+use Rattle.published_view.specs.Answers.{preface, board_preface, board_answer, board_reply, traveller_answer, traveller_reply}
 
 module _ (keeps : Fact → Bool) (section : Section) (ones others : Cell → Option Outcome)
     (agree : (cell : Cell) → keeps (fact.Result cell) ≡ true → ones cell ≡ others cell) where
@@ -116,40 +113,35 @@ module _ (keeps : Fact → Bool) (section : Section) (ones others : Cell → Opt
       passed hands items denied = ap (λ b. cond b (hands_of first hands ∷ items) items) denied
 
 module _ (one other : SessionState) (user : List ℕ) (agree : Agree one other user) where
-  -- the same facts are allowed to the user
-  same_allowed : (asked : Fact) → is_allowed one user asked ≡ is_allowed other user asked
-  same_allowed asked = λ i. not (is_some (first_rule (agree.public i) (agree.roles i) (agree.seat i) asked))
+  -- the user, as the policy sees one in either state
+  abbrev viewer : Viewer
+  viewer = viewer_of one user
 
   -- the user is shown the same
-  same_shown : shown one user ≡ shown other user
+  same_shown : shown one viewer ≡ shown other (viewer_of other user)
   unfolding shown
   same_shown =
-      (λ i. cond (is_allowed one user fact.Public) (public_facts (agree.public i) ∷ same_items i) (same_items i))
-      ∙ (λ i. filter (λ item. same_allowed (fact_of item) i) (contents other))
+      (λ i. cond (is_allowed one.public viewer fact.Public) (public_facts (agree.public i) ∷ same_items i) (same_items i))
+      ∙ (λ i. filter (λ item. is_allowed (agree.public i) (agree.viewer i) (fact_of item)) (contents other))
     where
-      same_items : filter (λ item. is_allowed one user (fact_of item)) (boards_from one.public.movement (result_at one) 1 one.deals)
-          ≡ filter (λ item. is_allowed one user (fact_of item)) (boards_from other.public.movement (result_at other) 1 other.deals)
+      same_items : filter (λ item. is_allowed one.public viewer (fact_of item)) (boards_from one.public.movement (result_at one) 1 one.deals)
+          ≡ filter (λ item. is_allowed one.public viewer (fact_of item)) (boards_from other.public.movement (result_at other) 1 other.deals)
       same_items =
-          same_kept (is_allowed one user) one.public.movement (result_at one) (result_at other) agree.results 1 one.deals other.deals agree.deals agree.hands
-          ∙ (λ i. filter (λ item. is_allowed one user (fact_of item)) (boards_from (agree.public i).movement (result_at other) 1 other.deals))
+          same_kept (is_allowed one.public viewer) one.public.movement (result_at one) (result_at other) agree.results 1 one.deals other.deals agree.deals agree.hands
+          ∙ (λ i. filter (λ item. is_allowed one.public viewer (fact_of item)) (boards_from (agree.public i).movement (result_at other) 1 other.deals))
 
-  -- what comes before the same answer is the same
-  same_reply_or : (version board since : ℕ) (answer : Reply) → reply_or one version user board since answer ≡ reply_or other version user board since answer
-  same_reply_or version board since answer =
-      λ i. if not (has_board (agree.public i).movement board) then reply.NoSuchBoard version
-      else if nat_lt version since then reply.Behind version
-      else denied_or (denial_of (agree.public i) (agree.roles i) (agree.seat i) (fact.Hands board)) version answer
+  -- what comes before an answer is the same
+  same_preface : (version board since : ℕ) → board_preface one version user board since ≡ board_preface other version user board since
+  same_preface version board since = λ i. preface (agree.public i) version (agree.viewer i) (fact.Hands board) board since
 
   -- two states that agree for a user give the user the same replies to a query of a board
   pub same_board_replies : (version board since : ℕ) → board_reply one version user board since ≡ board_reply other version user board since
   unfolding board_reply
   same_board_replies version board since =
-      ap (λ items. reply_or one version user board since (board_answer board version items)) same_shown
-      ∙ same_reply_or version board since (board_answer board version (shown other user))
+      λ i. unwrap_or (same_preface version board since i) (board_answer board version (same_shown i))
 
   -- and to a query of its traveller
   pub same_traveller_replies : (version board since : ℕ) → traveller_reply one version user board since ≡ traveller_reply other version user board since
   unfolding traveller_reply
   same_traveller_replies version board since =
-      ap (λ items. reply_or one version user board since (traveller_answer board version items)) same_shown
-      ∙ same_reply_or version board since (traveller_answer board version (shown other user))
+      λ i. unwrap_or (same_preface version board since i) (traveller_answer board version (same_shown i))

@@ -2,16 +2,16 @@
 use Rattle.std.proofs.Common.{◌≡◌, ℕ, suc, Bool, true, false, List, [], ◌∷◌, Any, Contains, refl, sym, ap, ◌∙◌, arith, inl, inr}
 use Rattle.std.specs.Prelude.{Some, None, cond, find, ◌||◌}
 use Rattle.std.specs.List.{list_any}
-use Rattle.std.proofs.lemmas.Bool.{cases_Bool, false≢true, false_from_ne_true}
+use Rattle.std.proofs.lemmas.Bool.{cases_Bool, false≢true}
 use Rattle.cards.specs.declared.pair.Pair.{Pair}
-use Rattle.cards.specs.declared.side.Side.TheVariants.{NorthSouth, EastWest}
+use Rattle.cards.specs.declared.side.Side.TheVariants.{NorthSouth}
 use Rattle.movement.specs.declared.cell.Cell.{Cell}
 use Rattle.movement.specs.Movement.{Section, Row, IsSection, HasCell, IsCell, rows}
 use Rattle.movement.specs.Row.{IsAt}
 use Rattle.movement.specs.Schedule.{stands_in, is_scheduled}
 use Rattle.movement.proofs.MovementLemmas.{same_at_table, same_cell}
 use Rattle.movement.proofs.RowLemmas.{in_range}
-use Rattle.movement.proofs.ScheduleTests.{stands-has, cell-scheduled, scheduled-cell}
+use Rattle.movement.proofs.ScheduleTests.{stands-has, cell-scheduled}
 use Rattle.published_view.specs.Traveller.{row_of_cell, north_south_by, east_west_by}
 
 -- an element that is found: it is in the list, and it passes
@@ -47,10 +47,6 @@ none_found p (x ∷ xs) none =
       | inr fails ↦ ap (λ b. cond b (Some x) (find p xs)) fails ∙ none_found p xs (sym (ap (λ b. b || list_any p xs) fails) ∙ none)
     ]
 
--- a table that isn't scheduled to play a board has no row of it
-no_row : (section : Section) (cell : Cell) → ¬ IsCell section cell → row_of_cell section cell ≡ None
-no_row section cell none = none_found (stands_in section cell) (rows section) (false_from_ne_true _ (λ test. none (scheduled-cell section cell test)))
-
 -- a row of a cell that is found is in the movement, and has the cell
 record IsRowOf (section : Section) (cell : Cell) : Type 0 where
   row : Row
@@ -62,10 +58,6 @@ row_of : (section : Section) (cell : Cell) → is_scheduled section cell ≡ tru
 row_of section cell scheduled =
     let own = found (stands_in section cell) (rows section) scheduled in
     record { row = own.it; is = own.is; listed = own.listed; has = stands-has section cell own.it own.passes }
-
--- without a row there is no East-West pair
-pub no_east_west : (section : Section) (cell : Cell) → ¬ IsCell section cell → ◌≡◌ {A = Pair} (record { side = EastWest; number = 0 }) (east_west_by (row_of_cell section cell))
-no_east_west section cell none = sym (ap east_west_by (no_row section cell none))
 
 -- the East-West pair of a cell is the one at its table in its round
 pub east_west_at : (section : Section) (cell : Cell) (round : ℕ) (pair : Pair) → IsSection section → IsCell section cell →

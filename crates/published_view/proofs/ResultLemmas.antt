@@ -11,6 +11,7 @@ use Rattle.movement.specs.declared.cell.Cell.{Cell}
 use Rattle.movement.specs.Schedule.{is_scheduled}
 use Rattle.scoring.specs.declared.outcome.Outcome.{Outcome}
 use Rattle.disclosure_rules.specs.declared.fact.Fact.TheVariants as fact
+use Rattle.disclosure_rules.specs.declared.viewer.Viewer.{Viewer}
 use Rattle.session_book.specs.SessionState.{SessionState}
 use Rattle.published_view.specs.declared.table_result.TableResult.{TableResult}
 use Rattle.published_view.specs.Shown.{Shown, public_facts, hands_of, result_of, fact_of, result_at, result_with, result_in, results_to, shown_as, boards_from, is_allowed, shown, shown_results, allowed_one, allowed_result, allowed_results}
@@ -28,9 +29,9 @@ results_append (result_of cell outcome ∷ xs) ys board = either (nat_eq cell.bo
     either true same = ap (λ rest. result_with cell outcome ∷ rest) same
     either false same = same
 
-module _ (state : SessionState) (user : List ℕ) where
+module _ (state : SessionState) (viewer : Viewer) where
   abbrev keeps : Shown → Bool
-  keeps item = is_allowed state user (fact_of item)
+  keeps item = is_allowed state.public viewer (fact_of item)
 
   -- what is shown of the results at some tables on a board
   abbrev kept : ℕ → List ℕ → List Shown
@@ -45,7 +46,7 @@ module _ (state : SessionState) (user : List ℕ) where
   at_cell cell scheduled outcome = if scheduled then option_map (result_with cell) outcome else None
 
   -- of the results on a board those are shown that the user may see
-  own_results : (board : ℕ) (tables : List ℕ) → shown_results (kept board tables) board ≡ filter_map (allowed_result state user board) tables
+  own_results : (board : ℕ) (tables : List ℕ) → shown_results (kept board tables) board ≡ filter_map (allowed_result state viewer board) tables
   own_results board [] = refl
   own_results board (table ∷ tables) = either (is_scheduled state.public.movement cell) (result_at state cell) (own_results board tables)
     where
@@ -53,24 +54,24 @@ module _ (state : SessionState) (user : List ℕ) where
       cell = record { table = table; board = board }
 
       same_rest : Type 0
-      same_rest = shown_results (kept board tables) board ≡ filter_map (allowed_result state user board) tables
+      same_rest = shown_results (kept board tables) board ≡ filter_map (allowed_result state viewer board) tables
 
       here : Bool → Option Outcome → List Shown
       here scheduled outcome = filter keeps (map shown_as (cons_option (at_cell cell scheduled outcome) (filter_map (result_in state.public.movement (result_at state) board) tables)))
 
       inner : (outcome : Outcome) (allowed : Bool) → same_rest →
           shown_results (cond allowed (result_of cell outcome ∷ kept board tables) (kept board tables)) board
-          ≡ cons_option (if allowed then Some (result_with cell outcome) else None) (filter_map (allowed_result state user board) tables)
+          ≡ cons_option (if allowed then Some (result_with cell outcome) else None) (filter_map (allowed_result state viewer board) tables)
       inner outcome false same = same
       inner outcome true same =
           ap (λ b. cond b (result_with cell outcome ∷ shown_results (kept board tables) board) (shown_results (kept board tables) board)) (eq-eqb board board refl)
           ∙ ap (λ rest. result_with cell outcome ∷ rest) same
 
       either : (scheduled : Bool) (outcome : Option Outcome) → same_rest →
-          shown_results (here scheduled outcome) board ≡ cons_option (allowed_one state user (at_cell cell scheduled outcome)) (filter_map (allowed_result state user board) tables)
+          shown_results (here scheduled outcome) board ≡ cons_option (allowed_one state.public viewer (at_cell cell scheduled outcome)) (filter_map (allowed_result state viewer board) tables)
       either false outcome same = same
       either true None same = same
-      either true (Some outcome) same = inner outcome (is_allowed state user (fact.Result cell)) same
+      either true (Some outcome) same = inner outcome (is_allowed state.public viewer (fact.Result cell)) same
 
   -- the results on another board are none of this one
   other_results : (own board : ℕ) (tables : List ℕ) → ¬ (own ≡ board) → shown_results (kept own tables) board ≡ []
@@ -92,7 +93,7 @@ module _ (state : SessionState) (user : List ℕ) where
       either : (scheduled : Bool) (outcome : Option Outcome) → shown_results (kept own tables) board ≡ [] → shown_results (here scheduled outcome) board ≡ []
       either false outcome none = none
       either true None none = none
-      either true (Some outcome) none = inner outcome (is_allowed state user (fact.Result cell)) none
+      either true (Some outcome) none = inner outcome (is_allowed state.public viewer (fact.Result cell)) none
 
   -- the results on a board are those of the first board from which one looks on, and then those of the boards after it
   first_and_later : (first : ℕ) (own : Hands) (deals : List Hands) (board : ℕ) →
@@ -123,13 +124,13 @@ module _ (state : SessionState) (user : List ℕ) where
 
   -- of a board that is dealt those results are shown that the user may see
   dealt_results : (deals : List Hands) (first board : ℕ) (hands : Hands) → first ≤ board → slice_get deals (board - first) ≡ Some hands →
-      shown_results (filter keeps (from_board first deals)) board ≡ filter_map (allowed_result state user board) (range_with_len 1 state.public.movement.tables)
+      shown_results (filter keeps (from_board first deals)) board ≡ filter_map (allowed_result state viewer board) (range_with_len 1 state.public.movement.tables)
   dealt_results [] first board hands from there = absurd (cc)
   dealt_results (own ∷ deals) first board hands from there =
       elim (cases_eq first board) [
         | inl same ↦
             let none : shown_results (filter keeps (from_board (first + 1) deals)) board ≡ [] = later_results deals (first + 1) board (omega arith) in
-            let here : shown_results (kept first (range_with_len 1 state.public.movement.tables)) board ≡ filter_map (allowed_result state user board) (range_with_len 1 state.public.movement.tables) =
+            let here : shown_results (kept first (range_with_len 1 state.public.movement.tables)) board ≡ filter_map (allowed_result state viewer board) (range_with_len 1 state.public.movement.tables) =
             ap (λ n. shown_results (kept n (range_with_len 1 state.public.movement.tables)) board) same ∙ own_results board (range_with_len 1 state.public.movement.tables) in
             first_and_later first own deals board ∙ ((λ i. here i ++ none i) ∙ append-nil _)
         | inr other ↦
@@ -142,7 +143,7 @@ module _ (state : SessionState) (user : List ℕ) where
 
   -- what is shown of the results on a board that is dealt is what the user may see of them
   pub results_shown : (board : ℕ) (hands : Hands) → 1 ≤ board → slice_get state.deals (board - 1) ≡ Some hands →
-      shown_results (shown state user) board ≡ allowed_results state user board state.public.movement.tables
+      shown_results (shown state viewer) board ≡ allowed_results state viewer board state.public.movement.tables
   unfolding shown allowed_results
   results_shown board hands from there = either (keeps (public_facts state.public)) ∙ dealt_results state.deals 1 board hands from there
     where

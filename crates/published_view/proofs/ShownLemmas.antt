@@ -1,65 +1,25 @@
 -- What is shown of a board whose hands no rule forbids.
-use Rattle.std.proofs.Common.{◌≡◌, ℕ, suc, ◌+◌, ◌-◌, ◌≤◌, Bool, true, false, List, [], ◌∷◌, ◌++◌, nat_eq, nat_lt, refl, sym, ap, ◌∙◌, subst, arith, inl, inr}
-use Rattle.std.specs.Prelude.{Option, Some, None, cond, if◌then◌else◌, not, is_some, map, filter, slice_get, IsSomeAnd}
-use Rattle.std.specs.Option.{option_map}
-use Rattle.std.proofs.lemmas.Bool.{cases_eq, ne_eqb, eq-eqb, false≢true, and_from, le-leb}
+use Rattle.std.proofs.Common.{◌≡◌, ℕ, suc, ◌+◌, ◌-◌, ◌<◌, ◌≤◌, Bool, true, false, List, [], ◌∷◌, ◌++◌, length, nat_eq, refl, sym, ap, ◌∙◌, arith, inl, inr}
+use Rattle.std.specs.Prelude.{Option, Some, None, cond, not, is_some, map, filter, slice_get}
+use Rattle.std.specs.Option.{option_map, unwrap_or}
+use Rattle.std.proofs.lemmas.Bool.{cases_eq, ne_eqb, eq-eqb}
+use Rattle.std.proofs.lemmas.Option.{slice_get_cases}
 use Rattle.cards.specs.Hands.{Hands}
-use Rattle.rbac.specs.declared.role.Role.{Role}
-use Rattle.rbac.specs.declared.role.Role.TheVariants.{Director}
 use Rattle.disclosure_rules.specs.declared.fact.Fact.TheVariants as fact
 use Rattle.disclosure_rules.specs.declared.marks.Marks.{Marks}
-use Rattle.disclosure_rules.specs.declared.public.Public.{Public}
-use Rattle.disclosure_rules.specs.declared.seat.Seat.{Seat}
-use Rattle.disclosure_rules.specs.declared.rule.Rule.{Rule}
-use Rattle.disclosure_rules.specs.declared.rule.Rule.TheVariants.{NoAccount, NotAMember, AccountsAreClosed, BoardIsHeld, StillToPlay, OthersStillPlay, NeitherContestantNorSpectator, BoardIsIncomplete, AnalysisWaits, PlayWaits, ReasonIsForThePairs, NoResult}
-use Rattle.disclosure_rules.specs.Policy.{is_authorized, guarded_board, IsAllowed, Forbids, ForbidsSecret}
-use Rattle.disclosure_rules.specs.Decision.{first_rule}
-use Rattle.disclosure_rules.proofs.FirstLemmas.{allowed_from, allowed_where_none}
+use Rattle.disclosure_rules.specs.declared.viewer.Viewer.{Viewer}
+use Rattle.disclosure_rules.specs.Policy.{first_rule}
+use Rattle.disclosure_rules.proofs.FirstLemmas.{public_allowed}
 use Rattle.movement.specs.declared.cell.Cell.{Cell}
 use Rattle.movement.specs.Movement.{Section, boards_of}
 use Rattle.scoring.specs.declared.outcome.Outcome.{Outcome}
-use Rattle.denials.specs.Evidence.{denial_of}
-use Rattle.session_book.specs.SessionState.{SessionState, authorized_of, seat_of}
-use Rattle.published_view.specs.Shown.{Shown, public_facts, hands_of, fact_of, result_at, results_to, shown_as, boards_from, is_allowed, shown, shown_hands, shown_public, shown_marks, allowed_results}
+use Rattle.session_book.specs.SessionState.{SessionState, viewer_of}
+use Rattle.published_view.specs.Shown.{Shown, public_facts, hands_of, fact_of, result_at, results_to, shown_as, boards_from, is_allowed, shown, shown_hands, shown_public, shown_marks, shown_results, allowed_results}
 use Rattle.published_view.specs.declared.table_result.TableResult.{TableResult}
-use Rattle.published_view.specs.Answers.{board_by, board_answer, traveller_by, traveller_answer, denied_or, reply_or, board_reply, traveller_reply}
+use Rattle.published_view.specs.Answers.{board_by, board_answer, traveller_by, traveller_answer, board_preface, board_reply, traveller_reply}
 use Rattle.published_view.specs.Traveller.{traveller_rows}
 use Rattle.published_view.proofs.ResultLemmas.{results_shown}
-use Rattle.published_view.specs.declared.reply.Reply.{Reply}
 use Rattle.published_view.specs.declared.reply.Reply.TheVariants as reply
-
--- what belongs to no board is guarded for nobody
-unguarded : (roles : Option (List Role)) → guarded_board roles fact.Public ≡ None
-unguarded roles = either (is_authorized roles Director)
-  where
-    nobody : Option ℕ
-    nobody = None
-
-    either : (director : Bool) → (if director then nobody else nobody) ≡ nobody
-    either true = refl
-    either false = refl
-
--- who may see the hands of some board may see what every member may
-public_allowed : (public : Public) (roles : Option (List Role)) (seat : Option Seat) (board : ℕ) →
-    IsAllowed public roles seat (fact.Hands board) → IsAllowed public roles seat fact.Public
-public_allowed public roles seat board allowed = by
-  where
-    guarded : (rule : Rule) → ¬ IsSomeAnd (guarded_board roles fact.Public) (ForbidsSecret rule public roles seat fact.Public)
-    guarded rule forbidden = subst (λ o. IsSomeAnd o (ForbidsSecret rule public roles seat fact.Public)) (unguarded roles) forbidden
-
-    by : (rule : Rule) → ¬ Forbids rule public roles seat fact.Public
-    by NoAccount = allowed NoAccount
-    by NotAMember = allowed NotAMember
-    by AccountsAreClosed = λ forbidden. absurd (false≢true forbidden.0)
-    by BoardIsHeld = guarded BoardIsHeld
-    by StillToPlay = guarded StillToPlay
-    by OthersStillPlay = guarded OthersStillPlay
-    by NeitherContestantNorSpectator = guarded NeitherContestantNorSpectator
-    by BoardIsIncomplete = guarded BoardIsIncomplete
-    by AnalysisWaits = guarded AnalysisWaits
-    by PlayWaits = guarded PlayWaits
-    by ReasonIsForThePairs = guarded ReasonIsForThePairs
-    by NoResult = guarded NoResult
 
 module _ (keeps : Shown → Bool) (section : Section) (results : Cell → Option Outcome) where
   -- the results on a board, and what there is to show after it
@@ -112,78 +72,70 @@ module _ (keeps : Shown → Bool) (section : Section) (results : Cell → Option
       passed_over true differs = ap (λ b. cond b (Some own) (shown_hands rest board)) differs
       passed_over false differs = refl
 
-module _ (state : SessionState) (user : List ℕ) (board : ℕ) (none : first_rule state.public (authorized_of state user) (seat_of state user) (fact.Hands board) ≡ None) where
+module _ (state : SessionState) (viewer : Viewer) (board : ℕ) (none : first_rule state.public viewer (fact.Hands board) ≡ None) where
   abbrev keeps : Shown → Bool
-  keeps item = is_allowed state user (fact_of item)
+  keeps item = is_allowed state.public viewer (fact_of item)
 
   abbrev boards : List Shown
   boards = boards_from state.public.movement (result_at state) 1 state.deals
 
-  board_allowed : IsAllowed state.public (authorized_of state user) (seat_of state user) (fact.Hands board)
-  board_allowed = allowed_where_none state.public (authorized_of state user) (seat_of state user) (fact.Hands board) none
-
-  keeps_public : keeps (public_facts state.public) ≡ true
-  keeps_public =
-      ap (λ o. not (is_some o)) (allowed_from state.public (authorized_of state user) (seat_of state user) fact.Public
-      (public_allowed state.public (authorized_of state user) (seat_of state user) board board_allowed))
-
-  shown_after_public : shown state user ≡ public_facts state.public ∷ filter keeps boards
+  -- who may see the hands of a board is shown what every member may see
+  shown_after_public : shown state viewer ≡ public_facts state.public ∷ filter keeps boards
   unfolding shown
   shown_after_public =
-      ap (λ b. cond b (public_facts state.public ∷ filter keeps boards) (filter keeps boards)) keeps_public
+      ap (λ o. cond (not (is_some o)) (public_facts state.public ∷ filter keeps boards) (filter keeps boards))
+      (public_allowed state.public viewer (fact.Hands board) none)
 
-  -- who may see the hands of a board is shown what every member may see
-  public_shown : shown_public (shown state user) ≡ Some state.public
+  public_shown : shown_public (shown state viewer) ≡ Some state.public
   public_shown = ap shown_public shown_after_public
 
   -- a board that no rule forbids is shown with its hands
-  pub hands_shown : (hands : Hands) → 1 ≤ board → slice_get state.deals (board - 1) ≡ Some hands → shown_hands (shown state user) board ≡ Some hands
+  hands_shown : (hands : Hands) → 1 ≤ board → slice_get state.deals (board - 1) ≡ Some hands → shown_hands (shown state viewer) board ≡ Some hands
   hands_shown hands from there =
       ap (λ items. shown_hands items board) shown_after_public
       ∙ hands_kept keeps state.public.movement (result_at state) state.deals 1 board hands from there (ap (λ o. not (is_some o)) none)
 
   -- and with its marks
-  pub marks_shown : (marks : Marks) → slice_get state.public.marks (board - 1) ≡ Some marks → shown_marks (shown state user) board ≡ Some marks
+  marks_shown : (marks : Marks) → slice_get state.public.marks (board - 1) ≡ Some marks → shown_marks (shown state viewer) board ≡ Some marks
   marks_shown marks there = ap (λ items. shown_marks items board) shown_after_public ∙ there
 
-none_of_none : {A B : Type 0} (f : A → B) (o : Option A) → option_map f o ≡ None → o ≡ None
+module _ (state : SessionState) (version : ℕ) (user : List ℕ) (board since : ℕ) (marks : Marks) (from : 1 ≤ board)
+    (first : board_preface state version user board since ≡ None)
+    (none : first_rule state.public (viewer_of state user) (fact.Hands board) ≡ None)
+    (marked : slice_get state.public.marks (board - 1) ≡ Some marks) where
+  abbrev viewer : Viewer
+  viewer = viewer_of state user
+
+  -- the query of such a board is answered by its hands and marks
+  pub board_answered : (hands : Hands) → slice_get state.deals (board - 1) ≡ Some hands →
+      reply.Board board hands marks version ≡ board_reply state version user board since
+  unfolding board_reply
+  board_answered hands there =
+      sym (ap (λ before. unwrap_or before (board_answer board version (shown state viewer))) first
+      ∙ (λ i. board_by board version (hands_shown state viewer board none hands from there i) (marks_shown state viewer board none marks marked i)))
+
+  -- the query of its traveller is answered by the rows of the results that the user may see
+  pub traveller_answered : board ≤ boards_of state.public.movement → boards_of state.public.movement ≤ length state.deals →
+      reply.Traveller board (traveller_rows state.public.movement marks.vulnerability (allowed_results state viewer board state.public.movement.tables)) version
+      ≡ traveller_reply state version user board since
+  unfolding traveller_reply
+  traveller_answered to dealt =
+      let results = dealt_results_shown (to_deal to dealt) in
+      sym (ap (λ before. unwrap_or before (traveller_answer board version (shown state viewer))) first
+      ∙ (λ i. traveller_by board version (results i) (public_shown state viewer board none i) (marks_shown state viewer board none marks marked i)))
+    where
+      to_deal : board ≤ boards_of state.public.movement → boards_of state.public.movement ≤ length state.deals → board - 1 < length state.deals
+      to_deal to dealt = omega (arith, from, to, dealt)
+
+      dealt_results_shown : board - 1 < length state.deals →
+          shown_results (shown state viewer) board ≡ allowed_results state viewer board state.public.movement.tables
+      dealt_results_shown below =
+          elim (slice_get_cases state.deals (board - 1)).1 [
+            | inl found ↦ results_shown state viewer board found.0 from found.2
+            | inr past ↦ absurd (omega (arith, past.0, below))
+          ]
+
+-- what is made of nothing alone is nothing
+pub none_of_none : {A B : Type 0} (f : A → B) (o : Option A) → option_map f o ≡ None → o ≡ None
 none_of_none f None none = refl
 none_of_none f (Some x) none = absurd (cc)
-
--- a board that is there, at a version that is new enough, and that nothing denies, is answered
-pub answered : (state : SessionState) (version : ℕ) (user : List ℕ) (board since : ℕ) → 1 ≤ board → board ≤ boards_of state.public.movement → since ≤ version →
-    denial_of state.public (authorized_of state user) (seat_of state user) (fact.Hands board) ≡ None → (answer : Reply) → answer ≡ reply_or state version user board since answer
-answered state version user board since from to new undenied answer =
-    sym (ap (λ b. if not b then reply.NoSuchBoard version else since_or) (and_from _ _ (le-leb 1 board from) (le-leb board _ to))
-    ∙ (ap (λ b. if b then reply.Behind version else denied) (not_below version since new)
-    ∙ ap (λ o. denied_or o version answer) undenied))
-  where
-    denied : Reply
-    denied = denied_or (denial_of state.public (authorized_of state user) (seat_of state user) (fact.Hands board)) version answer
-
-    since_or : Reply
-    since_or = if nat_lt version since then reply.Behind version else denied
-
-    not_below : (m n : ℕ) → n ≤ m → nat_lt m n ≡ false
-    not_below m n above = grind arith
-
--- the query of such a board is answered by its hands and marks
-pub board_answered : (state : SessionState) (version : ℕ) (user : List ℕ) (board since : ℕ) (hands : Hands) (marks : Marks) → 1 ≤ board → board ≤ boards_of state.public.movement →
-    since ≤ version → denial_of state.public (authorized_of state user) (seat_of state user) (fact.Hands board) ≡ None →
-    slice_get state.deals (board - 1) ≡ Some hands → slice_get state.public.marks (board - 1) ≡ Some marks → reply.Board board hands marks version ≡ board_reply state version user board since
-unfolding board_reply denial_of
-board_answered state version user board since hands marks from to new undenied there marked =
-    let none = none_of_none _ (first_rule state.public (authorized_of state user) (seat_of state user) (fact.Hands board)) undenied in
-    sym (λ i. board_by board version (hands_shown state user board none hands from there i) (marks_shown state user board none marks marked i))
-    ∙ answered state version user board since from to new undenied (board_answer board version (shown state user))
-
--- the query of its traveller is answered by the rows of the results that the user may see
-pub traveller_answered : (state : SessionState) (version : ℕ) (user : List ℕ) (board since : ℕ) (hands : Hands) (marks : Marks) → 1 ≤ board → board ≤ boards_of state.public.movement →
-    since ≤ version → denial_of state.public (authorized_of state user) (seat_of state user) (fact.Hands board) ≡ None →
-    slice_get state.deals (board - 1) ≡ Some hands → slice_get state.public.marks (board - 1) ≡ Some marks →
-    reply.Traveller board (traveller_rows state.public.movement marks.vulnerability (allowed_results state user board state.public.movement.tables)) version ≡ traveller_reply state version user board since
-unfolding traveller_reply denial_of
-traveller_answered state version user board since hands marks from to new undenied there marked =
-    let none = none_of_none _ (first_rule state.public (authorized_of state user) (seat_of state user) (fact.Hands board)) undenied in
-    sym (λ i. traveller_by board version (results_shown state user board hands from there i) (public_shown state user board none i) (marks_shown state user board none marks marked i))
-    ∙ answered state version user board since from to new undenied (traveller_answer board version (shown state user))

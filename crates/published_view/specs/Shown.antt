@@ -1,5 +1,6 @@
 -- What a user is shown of a state: those facts that no rule of the policy forbids, with what they say.
-use Rattle.std.specs.Prelude.{ℕ, ◌+◌, ◌-◌, Bool, not, is_some, if◌then◌else◌, Option, Some, None, List, [], ◌∷◌, ◌++◌, map, filter, filter_map, nat_eq, slice_get}
+use Rattle.std.specs.Prelude.{ℕ, ◌+◌, ◌-◌, Bool, not, is_some, if◌then◌else◌, Option, Some, None, nat_eq}
+use Rattle.std.specs.Prelude.{List, [], ◌∷◌, ◌++◌, map, filter, filter_map, slice_get}
 use Rattle.std.specs.List.{range_with_len}
 use Rattle.std.specs.Option.{option_and_then, option_map}
 use Rattle.cards.specs.Hands.{Hands}
@@ -11,10 +12,11 @@ use Rattle.disclosure_rules.specs.declared.fact.Fact.{Fact}
 use Rattle.disclosure_rules.specs.declared.fact.Fact.TheVariants as fact
 use Rattle.disclosure_rules.specs.declared.marks.Marks.{Marks}
 use Rattle.disclosure_rules.specs.declared.public.Public.{Public}
-use Rattle.disclosure_rules.specs.Decision.{first_rule}
+use Rattle.disclosure_rules.specs.declared.viewer.Viewer.{Viewer}
+use Rattle.disclosure_rules.specs.Policy.{first_rule}
 use Rattle.session_book.specs.declared.cell_state.CellState.{CellState}
 use Rattle.session_book.specs.declared.cell_state.CellState.TheVariants.{Empty, Entered, Confirmed}
-use Rattle.session_book.specs.SessionState.{SessionState, authorized_of, seat_of, cell_at}
+use Rattle.session_book.specs.SessionState.{SessionState, cell_at}
 use Rattle.published_view.specs.declared.table_result.TableResult.{TableResult}
 
 -- something to show, with what it says: what every member may see, the hands of a board, or the result of a cell
@@ -61,19 +63,20 @@ shown_as result = result_of result.cell result.outcome
 abbrev pub boards_from : Section → (Cell → Option Outcome) → ℕ → List Hands → List Shown
 boards_from section results board [] = []
 boards_from section results board (hands ∷ deals) =
-    hands_of board hands ∷ (map shown_as (results_to section results board section.tables) ++ boards_from section results (board + 1) deals)
+    hands_of board hands
+    ∷ (map shown_as (results_to section results board section.tables) ++ boards_from section results (board + 1) deals)
 
 -- all that there is to show of a state, board by board
 abbrev pub contents : SessionState → List Shown
 contents state = public_facts state.public ∷ boards_from state.public.movement (result_at state) 1 state.deals
 
 -- whether no rule forbids the user a fact
-abbrev pub is_allowed : SessionState → List ℕ → Fact → Bool
-is_allowed state user asked = not (is_some (first_rule state.public (authorized_of state user) (seat_of state user) asked))
+abbrev pub is_allowed : Public → Viewer → Fact → Bool
+is_allowed public viewer asked = not (is_some (first_rule public viewer asked))
 
 -- what a user is shown of a state
-unfoldable pub shown : SessionState → List ℕ → List Shown
-shown state user = filter (λ item. is_allowed state user (fact_of item)) (contents state)
+unfoldable pub shown : SessionState → Viewer → List Shown
+shown state viewer = filter (λ item. is_allowed state.public viewer (fact_of item)) (contents state)
 
 -- the hands of a board, where they are shown
 abbrev pub shown_hands : List Shown → ℕ → Option Hands
@@ -102,14 +105,16 @@ shown_results (result_of cell outcome ∷ items) board =
     if nat_eq cell.board board then result_with cell outcome ∷ shown_results items board else shown_results items board
 
 -- the result, where the user may see it
-abbrev pub allowed_one : SessionState → List ℕ → Option TableResult → Option TableResult
-allowed_one state user None = None
-allowed_one state user (Some result) = if is_allowed state user (fact.Result result.cell) then Some result else None
+abbrev pub allowed_one : Public → Viewer → Option TableResult → Option TableResult
+allowed_one public viewer None = None
+allowed_one public viewer (Some result) =
+    if is_allowed public viewer (fact.Result result.cell) then Some result else None
 
 -- the result of a table on a board, where there is one and the user may see it
-abbrev pub allowed_result : SessionState → List ℕ → ℕ → ℕ → Option TableResult
-allowed_result state user board table = allowed_one state user (result_in state.public.movement (result_at state) board table)
+abbrev pub allowed_result : SessionState → Viewer → ℕ → ℕ → Option TableResult
+allowed_result state viewer board table =
+    allowed_one state.public viewer (result_in state.public.movement (result_at state) board table)
 
 -- the results on a board of so many tables that the user may see, table by table
-unfoldable pub allowed_results : SessionState → List ℕ → ℕ → ℕ → List TableResult
-allowed_results state user board tables = filter_map (allowed_result state user board) (range_with_len 1 tables)
+unfoldable pub allowed_results : SessionState → Viewer → ℕ → ℕ → List TableResult
+allowed_results state viewer board tables = filter_map (allowed_result state viewer board) (range_with_len 1 tables)

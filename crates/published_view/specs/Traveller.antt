@@ -1,4 +1,5 @@
--- A board's traveller: its results, each with what it scores by Law 77 and the units that this earns among the others by Law 78A.
+-- A board's traveller: its results, each with what it scores by Law 77 and the units that this earns among the others
+-- by Law 78A.
 use Rattle.std.specs.Prelude.{ℕ, ◌+◌, ℤ, Option, Some, None, List, [], ◌∷◌, map, find}
 use Rattle.cards.specs.declared.pair.Pair.{Pair}
 use Rattle.cards.specs.declared.side.Side.TheVariants.{NorthSouth, EastWest}
@@ -30,13 +31,13 @@ abbrev pub scores_of : Vulnerability → List TableResult → List ℤ
 scores_of vulnerability results = map (λ (result : TableResult). ns_score_of result.outcome vulnerability) results
 
 -- a result with its pairs, its score and its units
-abbrev pub traveller_row : Section → Vulnerability → TableResult → ℕ → TravellerRow
-traveller_row section vulnerability result points = record {
+abbrev pub traveller_row : Section → TableResult → ℤ → ℕ → TravellerRow
+traveller_row section result score points = record {
   table = result.cell.table;
   north_south = north_south_by result.cell (row_of_cell section result.cell);
   east_west = east_west_by (row_of_cell section result.cell);
   outcome = result.outcome;
-  score = ns_score_of result.outcome vulnerability;
+  score = score;
   points = points;
 }
 
@@ -44,8 +45,10 @@ traveller_row section vulnerability result points = record {
 abbrev pub rows_from : Section → Vulnerability → List ℤ → ℕ → List TableResult → List TravellerRow
 rows_from section vulnerability scores place [] = []
 rows_from section vulnerability scores place (result ∷ results) =
-    traveller_row section vulnerability result (units scores place) ∷ rows_from section vulnerability scores (place + 1) results
+    traveller_row section result (ns_score_of result.outcome vulnerability) (units scores place)
+    ∷ rows_from section vulnerability scores (place + 1) results
 
 -- the rows of a traveller: a row for each result, in their order
 abbrev pub traveller_rows : Section → Vulnerability → List TableResult → List TravellerRow
-traveller_rows section vulnerability results = rows_from section vulnerability (scores_of vulnerability results) 0 results
+traveller_rows section vulnerability results =
+    rows_from section vulnerability (scores_of vulnerability results) 0 results

@@ -1,7 +1,10 @@
+ghost use Rattle.std.specs.Prelude.{IfOk};
+ghost use Rattle.movement.specs.Movement.{IsCell};
+
 use super::*;
 use crate::traveller::traveller_rows;
 use cards::{Name, Place, Strain, Vulnerability};
-use movement::{Cell, Movement};
+use movement::Movement;
 use scoring::{Contract, Doubling, Level, Outcome, Tricks};
 use session_book::{Answer, Book, Command, Play};
 use std::alloc::Global;
@@ -61,61 +64,37 @@ fn rows_text(alloc: Global, rows: &[TravellerRow]) -> Result<String, Fail> {
     Ok(text)
 }
 
-/// Compares the replies to some users' queries of a board, each with the version that the user wants.
+/// Compares the replies to some users' queries, each with the version that the user wants.
 fn replies(
     rt: &impl Abort,
     alloc: Global,
     book: &Book,
-    rows: &[(&str, u8, u64, &str)],
+    rows: &[(&str, Query, u64, &str)],
 ) -> Result<(), Fail> {
-    for (user, board, since, expected) in rows {
-        let reply = board_reply(book.state(), book.version(), name(user)?, *board, *since);
-        let found = line(alloc, &reply)?;
-        assert_eq!(rt; found.as_str(), *expected, "{user} {board} {since}");
-    }
-    Ok(())
-}
-
-/// Compares the replies to some users' queries of a board's traveller, each with the version that the user wants.
-fn travellers(
-    rt: &impl Abort,
-    alloc: Global,
-    book: &Book,
-    rows: &[(&str, u8, u64, &str)],
-) -> Result<(), Fail> {
-    for (user, board, since, expected) in rows {
+    for (user, query, since, expected) in rows {
         let user_name = name(user)?;
-        let reply = traveller_reply(
-            alloc,
-            book.state(),
-            book.version(),
-            user_name,
-            *board,
-            *since,
-        )?;
+        let reply = match *query {
+            Query::Board(board) => {
+                board_reply(book.state(), book.version(), user_name, board, *since)
+            }
+            Query::Traveller(board) => traveller_reply(
+                alloc,
+                book.state(),
+                book.version(),
+                user_name,
+                board,
+                *since,
+            )?,
+        };
         let found = line(alloc, &reply)?;
-        assert_eq!(rt; found.as_str(), *expected, "{user} {board} {since}");
+        assert_eq!(rt; found.as_str(), *expected, "{user} {query:?} {since}");
     }
     Ok(())
-}
-
-/// Four spades by North, and so many tricks.
-fn four_spades(tricks: u8) -> Result<Outcome, Fail> {
-    let contract = Contract {
-        level: Level::new(4).ok_or("a level")?,
-        strain: Strain::Spades,
-        declarer: Place::North,
-        doubling: Doubling::Undoubled,
-    };
-    Ok(Outcome::Played {
-        contract,
-        tricks: Tricks::new(tricks).ok_or("tricks")?,
-    })
 }
 
 /// Four spades by North, ten tricks, on board 1 at table 1: entered and confirmed.
 fn play_the_first_board(rt: &impl Abort, book: &mut Book) -> Result<(), Fail> {
-    let outcome = four_spades(10)?;
+    let outcome = four_spades(Doubling::Undoubled, 10)?;
     let enter = Command::Enter {
         table: 1,
         board: 1,
@@ -137,29 +116,39 @@ fn play_the_first_board(rt: &impl Abort, book: &mut Book) -> Result<(), Fail> {
 fn before_any_result(rt: HostRuntime) -> Result<(), Fail> {
     let alloc = rt.alloc();
     let book = Book::open(alloc)?;
-    let watches_nothing = "0: NeitherContestantNorSpectator, board 1, table 0";
     replies(
         &rt,
         alloc,
         &book,
         &[
-            ("n1", 1, 0, "0: StillToPlay, board 1, table 1"),
-            ("n2", 1, 0, "0: StillToPlay, board 1, table 2"),
-            ("n1", 2, 0, "0: StillToPlay, board 2, table 1"),
-            ("s", 1, 0, "0: BoardIsIncomplete, board 1, table 1"),
-            ("k", 1, 0, watches_nothing),
-            ("a", 1, 0, watches_nothing),
-            ("zz", 1, 0, "0: NoAccount, board 0, table 0"),
-            ("d", 0, 0, "0: no such board"),
-            ("d", 4, 0, "0: no such board"),
-            ("n1", 4, 0, "0: no such board"),
-            ("zz", 255, 0, "0: no such board"),
+            ("n1", Query::Board(1), 0, "0: StillToPlay, board 1, table 1"),
+            ("n2", Query::Board(1), 0, "0: StillToPlay, board 1, table 2"),
+            (
+                "s",
+                Query::Board(2),
+                0,
+                "0: BoardIsIncomplete, board 2, table 1",
+            ),
+            ("zz", Query::Board(1), 0, "0: NoAccount, board 0, table 0"),
+            (
+                "n1",
+                Query::Traveller(1),
+                0,
+                "0: StillToPlay, board 1, table 1",
+            ),
+            (
+                "zz",
+                Query::Traveller(1),
+                0,
+                "0: NoAccount, board 0, table 0",
+            ),
+            ("d", Query::Traveller(1), 0, "0: traveller 1"),
         ],
     )
 }
 
 #[test]
-fn a_version_that_is_not_there_yet(rt: HostRuntime) -> Result<(), Fail> {
+fn what_comes_before_a_denial(rt: HostRuntime) -> Result<(), Fail> {
     let alloc = rt.alloc();
     let book = Book::open(alloc)?;
     replies(
@@ -167,12 +156,14 @@ fn a_version_that_is_not_there_yet(rt: HostRuntime) -> Result<(), Fail> {
         alloc,
         &book,
         &[
-            ("d", 1, 1, "0: behind"),
-            ("n1", 1, 1, "0: behind"),
-            ("zz", 1, 1, "0: behind"),
-            ("s", 3, u64::MAX, "0: behind"),
-            ("d", 4, 1, "0: no such board"),
-            ("zz", 0, 1, "0: no such board"),
+            ("zz", Query::Board(0), 1, "0: no such board"),
+            ("n1", Query::Board(4), 0, "0: no such board"),
+            ("d", Query::Board(255), 0, "0: no such board"),
+            ("zz", Query::Board(1), 1, "0: behind"),
+            ("s", Query::Board(3), u64::MAX, "0: behind"),
+            ("d", Query::Traveller(0), 0, "0: no such board"),
+            ("zz", Query::Traveller(4), 1, "0: no such board"),
+            ("zz", Query::Traveller(1), 1, "0: behind"),
         ],
     )
 }
@@ -192,10 +183,9 @@ fn a_director_sees_each_board(rt: HostRuntime) -> Result<(), Fail> {
         alloc,
         &book,
         &[
-            ("d", 1, 0, first),
-            ("d2", 1, 0, first),
-            ("d", 2, 0, second),
-            ("d", 3, 0, third),
+            ("d", Query::Board(1), 0, first),
+            ("d2", Query::Board(2), 0, second),
+            ("d", Query::Board(3), 0, third),
         ],
     )
 }
@@ -205,73 +195,33 @@ fn after_the_first_table(rt: HostRuntime) -> Result<(), Fail> {
     let alloc = rt.alloc();
     let mut book = Book::open(alloc)?;
     play_the_first_board(&rt, &mut book)?;
-    let first =
+    let board =
         "2: board 1, North, Neither, N:AKQJT98765432... .AKQJT98765432.. ..AKQJT98765432. ...AKQJT98765432";
+    let traveller = "2: traveller 1; table 1: NS1 EW1 420 0";
     replies(
         &rt,
         alloc,
         &book,
         &[
-            ("n1", 1, 0, first),
-            ("n1", 1, 2, first),
-            ("n1", 1, 3, "2: behind"),
-            ("n1", 2, 2, "2: StillToPlay, board 2, table 1"),
-            ("n2", 1, 2, "2: StillToPlay, board 1, table 2"),
-            ("s", 1, 2, "2: BoardIsIncomplete, board 1, table 2"),
-            ("zz", 1, 2, "2: NoAccount, board 0, table 0"),
-            ("d", 1, 2, first),
-            ("d", 4, 3, "2: no such board"),
-        ],
-    )
-}
-
-#[test]
-fn travellers_before_any_result(rt: HostRuntime) -> Result<(), Fail> {
-    let alloc = rt.alloc();
-    let book = Book::open(alloc)?;
-    travellers(
-        &rt,
-        alloc,
-        &book,
-        &[
-            ("d", 1, 0, "0: traveller 1"),
-            ("n1", 1, 0, "0: StillToPlay, board 1, table 1"),
-            ("s", 1, 0, "0: BoardIsIncomplete, board 1, table 1"),
+            ("n1", Query::Board(1), 2, board),
+            ("n1", Query::Board(1), 3, "2: behind"),
+            ("n2", Query::Board(1), 2, "2: StillToPlay, board 1, table 2"),
             (
-                "k",
-                1,
-                0,
-                "0: NeitherContestantNorSpectator, board 1, table 0",
+                "s",
+                Query::Board(1),
+                2,
+                "2: BoardIsIncomplete, board 1, table 2",
             ),
-            ("zz", 1, 0, "0: NoAccount, board 0, table 0"),
-            ("d", 0, 0, "0: no such board"),
-            ("d", 4, 1, "0: no such board"),
-            ("d", 1, 1, "0: behind"),
-            ("zz", 1, 1, "0: behind"),
-        ],
-    )
-}
-
-#[test]
-fn travellers_after_the_first_table(rt: HostRuntime) -> Result<(), Fail> {
-    let alloc = rt.alloc();
-    let mut book = Book::open(alloc)?;
-    play_the_first_board(&rt, &mut book)?;
-    let first = "2: traveller 1; table 1: NS1 EW1 420 0";
-    travellers(
-        &rt,
-        alloc,
-        &book,
-        &[
-            ("n1", 1, 2, first),
-            ("d", 1, 0, first),
-            ("d2", 1, 2, first),
-            ("d", 2, 2, "2: traveller 2"),
-            ("n1", 1, 3, "2: behind"),
-            ("n1", 2, 2, "2: StillToPlay, board 2, table 1"),
-            ("n2", 1, 2, "2: StillToPlay, board 1, table 2"),
-            ("s", 1, 2, "2: BoardIsIncomplete, board 1, table 2"),
-            ("zz", 1, 2, "2: NoAccount, board 0, table 0"),
+            ("d", Query::Board(1), 0, board),
+            ("n1", Query::Traveller(1), 2, traveller),
+            ("d", Query::Traveller(1), 0, traveller),
+            ("d", Query::Traveller(2), 2, "2: traveller 2"),
+            (
+                "n2",
+                Query::Traveller(1),
+                2,
+                "2: StillToPlay, board 1, table 2",
+            ),
         ],
     )
 }
@@ -283,7 +233,7 @@ fn an_entered_outcome_is_no_result_yet(rt: HostRuntime) -> Result<(), Fail> {
     let enter = Command::Enter {
         table: 1,
         board: 1,
-        outcome: four_spades(10)?,
+        outcome: four_spades(Doubling::Undoubled, 10)?,
         play: Play::none(),
     };
     let submission = book.submit(name("k")?, &[enter])?;
@@ -291,14 +241,33 @@ fn an_entered_outcome_is_no_result_yet(rt: HostRuntime) -> Result<(), Fail> {
         submission.answers.as_slice(),
         [Answer::Accepted].as_slice()
     );
-    travellers(&rt, alloc, &book, &[("d", 1, 1, "1: traveller 1")])
+    replies(
+        &rt,
+        alloc,
+        &book,
+        &[("d", Query::Traveller(1), 1, "1: traveller 1")],
+    )
 }
 
-/// The result of a table on board 1: four spades by North, and so many tricks.
-fn result(table: u8, tricks: u8) -> Result<TableResult, Fail> {
-    Ok(TableResult {
-        cell: Cell { table, board: 1 },
-        outcome: four_spades(tricks)?,
+/// The result of a table on a board.
+fn result(movement: Movement, table: u8, board: u8, outcome: Outcome) -> Result<TableResult, Fail>
+    ensures { IfOk result (λ found. IsCell movement found.cell) }
+{
+    let cell = movement.cell(table, board).ok_or("a cell")?;
+    Ok(TableResult { cell, outcome })
+}
+
+/// Four spades by North with a doubling, and so many tricks.
+fn four_spades(doubling: Doubling, tricks: u8) -> Result<Outcome, Fail> {
+    let contract = Contract {
+        level: Level::new(4).ok_or("a level")?,
+        strain: Strain::Spades,
+        declarer: Place::North,
+        doubling,
+    };
+    Ok(Outcome::Played {
+        contract,
+        tricks: Tricks::new(tricks).ok_or("tricks")?,
     })
 }
 
@@ -306,17 +275,41 @@ fn result(table: u8, tricks: u8) -> Result<TableResult, Fail> {
 fn rows_of_three_tables(rt: HostRuntime) -> Result<(), Fail> {
     let alloc = rt.alloc();
     let movement = Movement::new(3, 3, 1)?;
-    let results = [result(1, 10)?, result(2, 11)?, result(3, 10)?];
+    let ten = four_spades(Doubling::Undoubled, 10)?;
+    let eleven = four_spades(Doubling::Undoubled, 11)?;
+    let results = [
+        result(movement, 1, 1, ten)?,
+        result(movement, 2, 1, eleven)?,
+        result(movement, 3, 1, ten)?,
+    ];
     let rows = traveller_rows(alloc, movement, Vulnerability::Neither, &results)?;
     let rows = TravellerRows::new(rows);
     let found = rows_text(alloc, rows.as_slice())?;
     let expected = "; table 1: NS1 EW1 420 1; table 2: NS2 EW3 450 4; table 3: NS3 EW2 420 1";
     assert_eq!(rt; found.as_str(), expected);
-    let rows = rows.into_vec();
-    assert_eq!(rt; rows.len(), 3);
     let vulnerable = traveller_rows(alloc, movement, Vulnerability::NorthSouth, &results)?;
     let found = rows_text(alloc, vulnerable.as_slice())?;
     let expected = "; table 1: NS1 EW1 620 1; table 2: NS2 EW3 650 4; table 3: NS3 EW2 620 1";
+    assert_eq!(rt; found.as_str(), expected);
+    Ok(())
+}
+
+/// Four spades by North, one down, with each doubling: 50, 100 and 200 to East-West (Law 77). At the fourth table all
+/// pass.
+#[test]
+fn each_doubling_and_a_passed_out_board(rt: HostRuntime) -> Result<(), Fail> {
+    let alloc = rt.alloc();
+    let movement = Movement::new(5, 5, 1)?;
+    let results = [
+        result(movement, 1, 1, four_spades(Doubling::Redoubled, 9)?)?,
+        result(movement, 2, 1, four_spades(Doubling::Doubled, 9)?)?,
+        result(movement, 3, 1, four_spades(Doubling::Undoubled, 9)?)?,
+        result(movement, 4, 1, Outcome::PassedOut)?,
+    ];
+    let rows = traveller_rows(alloc, movement, Vulnerability::Neither, &results)?;
+    let found = rows_text(alloc, rows.as_slice())?;
+    let expected =
+        "; table 1: NS1 EW1 -200 0; table 2: NS2 EW3 -100 2; table 3: NS3 EW5 -50 4; table 4: NS4 EW2 0 6";
     assert_eq!(rt; found.as_str(), expected);
     Ok(())
 }

@@ -1,18 +1,18 @@
-ghost use Rattle.std.specs.Prelude.{◌≡◌, ◌≤◌, ◌+◌, [], ◌++◌, length, IfOk, IfErr, OnOk, vec_len};
+ghost use Rattle.std.specs.Prelude.{◌≡◌, ◌≤◌, ◌+◌, [], ◌++◌, length, All, None, IfOk, IfErr, OnOk, vec_len};
 ghost use Rattle.std.specs.List.{cons_option};
-ghost use Rattle.published_view.specs.Answers.{reply_or, traveller_reply};
-ghost use Rattle.published_view.specs.declared.reply.Reply.{Reply};
+ghost use Rattle.movement.specs.Movement.{IsCell};
+ghost use Rattle.published_view.specs.Answers.{board_preface, traveller_reply};
 ghost use Rattle.published_view.specs.Shown.{confirmed_outcome, allowed_result, allowed_results};
-ghost use Rattle.published_view.specs.Traveller.{row_of_cell, east_west_by, scores_of, traveller_row, traveller_rows};
+ghost use Rattle.published_view.specs.Traveller.{scores_of, traveller_row, traveller_rows};
 
+use crate::answer::preface;
 use crate::reply::Reply;
 use crate::table_result::TableResult;
 use crate::traveller_row::TravellerRow;
 use crate::traveller_rows::TravellerRows;
 use cards::{Name, Pair, Side, Vulnerability};
-use denials::deny;
-use disclosure_rules::Fact;
-use movement::{Cell, Movement};
+use disclosure_rules::{Fact, Viewer, decide};
+use movement::Movement;
 use scoring::{Outcome, matchpoints, ns_score};
 use session_book::{CellState, State};
 use std::alloc::{AllocError, Global};
@@ -29,24 +29,15 @@ pub fn traveller_reply(
     since: u64,
 ) -> Result<Reply, AllocError>
     ensures reply { IfOk result (λ reply. reply ≡ traveller_reply state.now version user board since) }
-    ensures memory { IfErr result (λ _. (answer : Reply) → answer ≡ reply_or state.now version user board since answer) }
+    ensures memory { IfErr result (λ _. board_preface state.now version user board since ≡ None) }
 {
     let public = state.public();
-    if board < 1 || board > public.movement.boards() {
-        return Ok(Reply::NoSuchBoard { version });
+    let viewer = state.viewer(user);
+    if let Some(reply) = preface(public, version, &viewer, Fact::Hands(board), board, since) {
+        return Ok(reply);
     }
-    if (version as u64) < since {
-        return Ok(Reply::Behind { version });
-    }
-    let roles = state.authorized(user);
-    let seat = state.seat(user);
-    if let Some(denial) = deny(public, roles, seat, Fact::Hands(board)) {
-        return Ok(Reply::Denied { denial, version });
-    }
-    // The clauses of `deal` say that the board is dealt, so that its results are among what there is to show.
-    let _deal = state.deal(board);
     let vulnerability = state.marks(board).vulnerability;
-    let results = allowed_results(alloc, state, user, board)?;
+    let results = allowed_results(alloc, state, &viewer, board)?;
     let rows = traveller_rows(alloc, public.movement, vulnerability, &results)?;
     Ok(Reply::Traveller {
         number: board,
@@ -59,17 +50,20 @@ pub fn traveller_reply(
 fn allowed_results(
     alloc: Global,
     state: &State,
-    user: Name,
+    viewer: &Viewer,
     board: u8,
 ) -> Result<Vec<TableResult>, AllocError>
     ensures results { IfOk result (λ results.
-        results.items ≡ allowed_results state.now user board state.now.public.movement.tables) }
+        results.items ≡ allowed_results state.now viewer.now board state.now.public.movement.tables) }
     ensures few { IfOk result (λ results. vec_len results ≤ 255) }
 {
     let tables = state.public().movement.tables();
     let mut results = Vec::with_capacity(alloc, tables as usize)?;
     for below in 0..tables {
-        push_found(&mut results, allowed_result(state, user, below + 1, board))?;
+        push_found(
+            &mut results,
+            allowed_result(state, viewer, below + 1, board),
+        )?;
     }
     Ok(results)
 }
@@ -86,14 +80,12 @@ fn push_found<T: Copy>(items: &mut Vec<T>, found: Option<T>) -> Result<(), Alloc
 }
 
 /// The result of a table on a board, where there is one and the user may see it.
-fn allowed_result(state: &State, user: Name, table: u8, board: u8) -> Option<TableResult>
-    ensures { result ≡ allowed_result state.now user board table }
+fn allowed_result(state: &State, viewer: &Viewer, table: u8, board: u8) -> Option<TableResult>
+    ensures { result ≡ allowed_result state.now viewer.now board table }
 {
-    let movement = state.public().movement;
-    // The clauses of `tables` say how many tables and boards there are at most.
-    let _tables = movement.tables();
-    let cell = movement.cell(table, board)?;
-    if state.decide(user, Fact::Result(cell)).is_some() {
+    let public = state.public();
+    let cell = public.movement.cell(table, board)?;
+    if decide(public, viewer, Fact::Result(cell)).is_some() {
         return None;
     }
     let outcome = confirmed_outcome(&state.cell(cell))?;
@@ -117,14 +109,15 @@ pub(crate) fn traveller_rows(
     vulnerability: Vulnerability,
     results: &[TableResult],
 ) -> Result<Vec<TravellerRow>, AllocError>
-    requires { length results.now ≤ 255 }
+    requires few { length results.now ≤ 255 }
+    requires cells { All (λ found. IsCell movement found.cell) results.now }
     ensures { IfOk result (λ rows. rows.items ≡ traveller_rows movement vulnerability results.now) }
 {
     let scores = scores_of(alloc, vulnerability, results)?;
     let points = matchpoints(alloc, &scores)?;
     let mut rows = Vec::with_capacity(alloc, results.len())?;
     for (place, found) in results.iter().enumerate() {
-        rows.push(traveller_row(movement, vulnerability, found, points[place]))?;
+        rows.push(traveller_row(movement, found, scores[place], points[place]))?;
     }
     Ok(rows)
 }
@@ -145,13 +138,9 @@ fn scores_of(
 }
 
 /// A result with its pairs, its score and its units.
-fn traveller_row(
-    movement: Movement,
-    vulnerability: Vulnerability,
-    found: &TableResult,
-    points: u32,
-) -> TravellerRow
-    ensures { result ≡ traveller_row movement vulnerability found.now points }
+fn traveller_row(movement: Movement, found: &TableResult, score: i32, points: u32) -> TravellerRow
+    requires { IsCell movement found.now.cell }
+    ensures { result ≡ traveller_row movement found.now score points }
 {
     let cell = found.cell;
     TravellerRow {
@@ -160,24 +149,9 @@ fn traveller_row(
             side: Side::NorthSouth,
             number: cell.table,
         },
-        east_west: east_west(movement, cell),
+        east_west: movement.ew_at(cell.table, movement.round_of(cell)),
         outcome: found.outcome,
-        score: ns_score(found.outcome, vulnerability),
+        score,
         points,
-    }
-}
-
-/// The East-West pair of a cell.
-fn east_west(movement: Movement, cell: Cell) -> Pair
-    ensures { result ≡ east_west_by (row_of_cell movement cell) }
-{
-    // The clauses of `tables` say that each cell is played in one round.
-    let _tables = movement.tables();
-    match movement.cell(cell.table, cell.board) {
-        Some(cell) => movement.ew_at(cell.table, movement.round_of(cell)),
-        None => Pair {
-            side: Side::EastWest,
-            number: 0,
-        },
     }
 }

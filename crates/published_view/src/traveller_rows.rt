@@ -3,11 +3,9 @@ ghost use Rattle.std.specs.Prelude.{◌≡◌};
 use crate::traveller_row::TravellerRow;
 use std::marker::Model;
 
-/// The rows of a traveller, in the order of the tables.
+/// The rows of a traveller, the least table first: clauses see their list.
 #[derive(Debug, Drop)]
-pub struct TravellerRows {
-    rows: Vec<TravellerRow>,
-}
+pub struct TravellerRows(Vec<TravellerRow>);
 
 impl Model for TravellerRows {
     ghost use Rattle.std.specs.Prelude.{List};
@@ -15,29 +13,19 @@ impl Model for TravellerRows {
 
     ghost Value = { List TravellerRow };
 
-    ghost view = { λ traveller. traveller.rows.items };
+    ghost view = { λ traveller. traveller.0.items };
 }
 
 impl TravellerRows {
-    /// The rows of a list, in its order.
     pub fn new(rows: Vec<TravellerRow>) -> TravellerRows
         ensures { result ≡ rows.items }
     {
-        Self { rows }
+        TravellerRows(rows)
     }
 
-    /// The rows, the least table first.
     pub fn as_slice(&self) -> &[TravellerRow]
         ensures { result.now ≡ self.now }
     {
-        self.rows.as_slice()
-    }
-
-    /// The rows as a list of one's own.
-    pub fn into_vec(self) -> Vec<TravellerRow>
-        ensures { result.items ≡ self }
-    {
-        let TravellerRows { rows } = self;
-        rows
+        self.0.as_slice()
     }
 }
