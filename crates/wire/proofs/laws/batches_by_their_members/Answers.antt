@@ -1,0 +1,5 @@
+use Rattle.wire.proofs.LineLemmas.{batch_line}
+use Rattle.wire.proofs.laws.batches_by_their_members.Goals as goal
+
+pub returns : goal.returns
+returns c = batch_line

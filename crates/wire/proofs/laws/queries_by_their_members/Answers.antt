@@ -1,0 +1,5 @@
+use Rattle.wire.proofs.LineLemmas.{query_line}
+use Rattle.wire.proofs.laws.queries_by_their_members.Goals as goal
+
+pub returns : goal.returns
+returns c = query_line

@@ -1,0 +1,63 @@
+-- What a message is, said of its members alone: nothing here knows an order of reading.
+use Rattle.std.specs.Prelude.{◌≡◌, ◌≢◌, ◌⊎◌, ℕ, ◌≤◌, ◌==◌, List, [], ◌∷◌, length, count_by, All, true, is_some, IsSome, codes, Some, option_and_then}
+use Rattle.std.specs.Str.Lossy.{utf8_valid_len}
+use Rattle.serde_json.specs.Data.{Data, Items}
+use Rattle.serde_json.specs.Read.{read}
+use Rattle.serde_json.specs.Find.{get, as_array, as_object}
+use Rattle.session_book.specs.declared.command.Command.{Command}
+use Rattle.published_view.specs.declared.query.Query.{Query}
+use Rattle.wire.specs.Form.{has_only, words, HasFormOf, AreEach}
+use Rattle.wire.specs.Field.{text_at, user, since}
+use Rattle.wire.specs.Command.{has_unknown, IsCommand}
+use Rattle.wire.specs.Query.{queries, asking}
+use Rattle.wire.specs.Request.{doing}
+use Rattle.session_book.specs.Run.{most_commands}
+
+-- the line is a text, and the text is this object
+pub record IsObject (line : List ℕ) (d : Data) : Type 0 where
+  pub utf8 : (utf8_valid_len line == length line) ≡ true
+  pub reads : read line ≡ Some d
+  pub members : IsSome (as_object d)
+
+-- how many of the members that make a request are there
+abbrev pub request_count : Data → ℕ
+request_count d =
+    count_by (λ member. is_some member)
+    (get (codes "ask") d ∷ get (codes "do") d ∷ get (codes "audit") d ∷ get (codes "hello") d ∷ [])
+
+-- it asks by a text that no query is called by
+abbrev pub AsksAnother : Data → Type 0
+AsksAnother d =
+    (word : List ℕ) × (text_at (codes "ask") d ≡ Some word) × All (λ other. word ≢ other) (words queries)
+
+-- somewhere in its list a word names no command
+abbrev pub WantsAnother : Data → Type 0
+WantsAnother d =
+    (elements : Items) × (option_and_then as_array (get (codes "do") d) ≡ Some elements) × (has_unknown elements ≡ true)
+
+-- not exactly one member makes a request, or that one isn't `ask` or `do`, or a word in it names nothing
+abbrev pub IsUnknownRequest : Data → Type 0
+IsUnknownRequest d =
+    (request_count d ≢ 1)
+    ⊎ (IsSome (get (codes "audit") d) ⊎ (IsSome (get (codes "hello") d) ⊎ (AsksAnother d ⊎ WantsAnother d)))
+
+-- it asks for this, in this name and from this version on, and nothing else stands in it
+pub record IsQuery (d : Data) (name : List ℕ) (query : Query) (version : ℕ) : Type 0 where
+  pub one : request_count d ≡ 1
+  pub asked : (word : List ℕ) × (text_at (codes "ask") d ≡ Some word) × HasFormOf asking queries word d query
+  pub user : user.Is (get user.name d) name
+  pub since : since.Is (get since.name d) version
+
+-- it wants these commands done, in this name, and nothing else stands in it
+pub record IsBatch (d : Data) (name : List ℕ) (commands : List Command) : Type 0 where
+  pub one : request_count d ≡ 1
+  pub list : (elements : Items) × (option_and_then as_array (get (codes "do") d) ≡ Some elements)
+      × AreEach IsCommand elements commands
+  pub few : length commands ≤ most_commands
+  pub listed : has_only doing d ≡ true
+  pub user : user.Is (get user.name d) name
+
+-- it is no query and no batch
+pub record IsNoRequest (d : Data) : Type 0 where
+  pub no_query : (name : List ℕ) (query : Query) (version : ℕ) → ¬ IsQuery d name query version
+  pub no_batch : (name : List ℕ) (commands : List Command) → ¬ IsBatch d name commands

@@ -1,0 +1,12 @@
+pub mod Reading
+pub mod Form
+pub mod Field
+pub mod Result
+pub mod Play
+pub mod Command
+pub mod Query
+pub mod Request
+pub mod Grammar
+pub mod TravellerText
+pub mod ReplyText
+pub mod ReceiptText

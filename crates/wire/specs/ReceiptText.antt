@@ -1,0 +1,67 @@
+-- What is written of a batch that was tried, and of a line that no message was read from: JSON texts with no space.
+use Rattle.std.specs.Prelude.{ℕ, List, map, codes}
+use Rattle.serde_json.specs.Data.{Data, string, number, unsigned, array, object, Items, member, no_members}
+use Rattle.serde_json.specs.View.{items_of}
+use Rattle.serde_json.specs.Written.{compact_text}
+use Rattle.session_book.specs.declared.answer.Answer.{Answer}
+use Rattle.session_book.specs.declared.answer.Answer.TheVariants.{Accepted, Refused}
+use Rattle.session_book.specs.declared.refusal.Refusal.{Refusal}
+use Rattle.session_book.specs.declared.refusal.Refusal.TheVariants as refusal
+use Rattle.wire.specs.declared.request_fault.RequestFault.{RequestFault}
+use Rattle.wire.specs.declared.request_fault.RequestFault.TheVariants as fault
+
+-- ---- receipts
+
+-- how a cause of refusal is called
+abbrev pub refusal_name : Refusal → List ℕ
+refusal_name refusal.NotPermitted = codes "NotPermitted"
+refusal_name refusal.NoSuchCell = codes "NoSuchCell"
+refusal_name refusal.WrongPhase = codes "WrongPhase"
+refusal_name refusal.RoundNotStarted = codes "RoundNotStarted"
+refusal_name refusal.BadResult = codes "BadResult"
+refusal_name refusal.AlreadyLive = codes "AlreadyLive"
+refusal_name refusal.NothingEntered = codes "NothingEntered"
+refusal_name refusal.Mismatch = codes "Mismatch"
+refusal_name refusal.JournalFull = codes "JournalFull"
+refusal_name refusal.OutOfMemory = codes "OutOfMemory"
+refusal_name refusal.NotTried = codes "NotTried"
+
+-- how an answer is called: `ok`, or by its cause of refusal
+abbrev pub answer_name : Answer → List ℕ
+answer_name Accepted = codes "ok"
+answer_name (Refused refusal) = refusal_name refusal
+
+abbrev pub answer_data : Answer → Data
+answer_data answer = string (answer_name answer)
+
+-- a text for each answer
+abbrev pub answers_data : List Answer → Items
+answers_data answers = items_of (map answer_data answers)
+
+-- the answers, the numbers of the first and the last entry that joined the journal, and the version after the batch
+abbrev pub receipt_data : List Answer → ℕ → ℕ → ℕ → Data
+receipt_data answers first last version =
+    object (member (codes "answers") (array (answers_data answers))
+    (member (codes "first") (number (unsigned first))
+    (member (codes "last") (number (unsigned last))
+    (member (codes "version") (number (unsigned version)) no_members))))
+
+-- the receipt as it is written
+unfoldable pub receipt_text : List Answer → ℕ → ℕ → ℕ → List ℕ
+receipt_text answers first last version = compact_text (receipt_data answers first last version)
+
+-- ---- faults
+
+-- how a fault is called
+abbrev pub fault_name : RequestFault → List ℕ
+fault_name fault.Malformed = codes "Malformed"
+fault_name fault.UnknownRequest = codes "UnknownRequest"
+fault_name fault.BadField = codes "BadField"
+fault_name fault.OutOfMemory = codes "OutOfMemory"
+
+abbrev pub fault_data : RequestFault → Data
+fault_data fault = object (member (codes "error") (string (fault_name fault)) no_members)
+
+-- the fault as it is written
+unfoldable pub fault_text : RequestFault → List ℕ
+fault_text fault = compact_text (fault_data fault)

@@ -1,0 +1,35 @@
+ghost use Rattle.std.specs.Prelude.{◌≡◌};
+
+use session_book::Command;
+use std::marker::Model;
+
+/// The commands of a batch, in their order.
+#[derive(Drop)]
+pub struct Commands {
+    commands: Vec<Command>,
+}
+
+impl Model for Commands {
+    ghost use Rattle.std.specs.Prelude.{List};
+    ghost use Rattle.session_book.specs.declared.command.Command.{Command};
+
+    ghost Value = { List Command };
+
+    ghost view = { λ batch. batch.commands.items };
+}
+
+impl Commands {
+    /// The commands of a list, in its order.
+    pub fn new(commands: Vec<Command>) -> Commands
+        ensures { result ≡ commands.items }
+    {
+        Self { commands }
+    }
+
+    /// The commands, the first one to be done first.
+    pub fn as_slice(&self) -> &[Command]
+        ensures { result.now ≡ self.now }
+    {
+        self.commands.as_slice()
+    }
+}

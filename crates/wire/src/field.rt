@@ -1,0 +1,97 @@
+//! The members of a JSON object, by their names.
+
+ghost use Rattle.std.specs.Prelude.{◌≡◌, map, option_map};
+ghost use Rattle.std.specs.List.{list_any};
+ghost use Rattle.std.specs.Str.{bytes_eq};
+ghost use Rattle.serde_json.specs.Find.{get};
+ghost use Rattle.serde_json.specs.View.{view, members_view};
+ghost use Rattle.wire.specs.Reading.{wanted};
+ghost use Rattle.wire.specs.Form.{names_are, has_only};
+ghost use Rattle.wire.specs.Field.{text_at, number, small, user, since};
+
+use crate::request_fault::RequestFault;
+use cards::Name;
+use serde_json::{Map, Value};
+
+// Whether the value is an object and each of its members is listed.
+pub(crate) fn has_only(value: &Value, listed: &[&str]) -> bool
+    ensures { result ≡ has_only (map (λ name. name.now) listed.now) (view value.now) }
+{
+    match value.as_object() {
+        Some(members) => names_are(members, listed),
+        None => false,
+    }
+}
+
+fn names_are(members: &Map<String, Value>, listed: &[&str]) -> bool
+    ensures { result ≡ names_are (map (λ name. name.now) listed.now) (members_view members.now.entries) }
+{
+    for (name, _) in members.iter() {
+        if !is_listed(listed, name.as_str()) {
+            return false;
+        }
+    }
+    true
+}
+
+fn is_listed(listed: &[&str], name: &str) -> bool
+    ensures { result ≡ list_any (λ other. bytes_eq other name.now) (map (λ other. other.now) listed.now) }
+{
+    for other in listed {
+        if *other == name {
+            return true;
+        }
+    }
+    false
+}
+
+pub(crate) fn text_at<'v>(value: &'v Value, name: &str) -> Option<&'v str>
+    ensures { option_map (λ text. text.now) result ≡ text_at name.now (view value.now) }
+{
+    match value.get(name) {
+        Some(member) => member.as_str(),
+        None => None,
+    }
+}
+
+fn whole_at(value: &Value, name: &str) -> Option<u64>
+    ensures { result ≡ number (get name.now (view value.now)) }
+{
+    match value.get(name) {
+        Some(member) => member.as_u64(),
+        None => None,
+    }
+}
+
+pub(crate) fn small_at(value: &Value, name: &str) -> Result<u8, RequestFault>
+    ensures { result ≡ wanted (small (get name.now (view value.now))) }
+{
+    match whole_at(value, name) {
+        Some(number) if number < 256 => Ok(number as u8),
+        _ => Err(RequestFault::BadField),
+    }
+}
+
+pub(crate) fn user_of(value: &Value) -> Result<Name, RequestFault>
+    ensures { result ≡ wanted (user.value (get user.name (view value.now))) }
+{
+    match text_at(value, "as") {
+        Some(text) => match Name::new(text) {
+            Ok(name) => Ok(name),
+            Err(_) => Err(RequestFault::BadField),
+        },
+        None => Err(RequestFault::BadField),
+    }
+}
+
+pub(crate) fn since_of(value: &Value) -> Result<u64, RequestFault>
+    ensures { result ≡ wanted (since.value (get since.name (view value.now))) }
+{
+    match value.get("since") {
+        Some(member) => match member.as_u64() {
+            Some(number) => Ok(number),
+            None => Err(RequestFault::BadField),
+        },
+        None => Ok(0),
+    }
+}
