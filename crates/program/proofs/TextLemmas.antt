@@ -5,33 +5,33 @@ use Rattle.std.proofs.lemmas.List.Elements.{All-head, All-tail}
 use Rattle.std.proofs.lemmas.List.Sums.{fold-append}
 use Rattle.script_lines.specs.Lines.{lines_of}
 use Rattle.session_book.specs.SessionState.{SessionState}
-use Rattle.program.specs.Script.{Heard, found, heard_whole, Told, tell, told, told_line, messages_among, script_text}
+use Rattle.program.specs.Script.{Received, ample, with_ample_memory, Response, respond, responses_to, response_to_line, messages_among, script_text}
 
-abbrev is_found : Heard → Type 0
-is_found heard = heard.memory ≡ found
+abbrev is_ample : Received → Type 0
+is_ample received = received.memory ≡ ample
 
--- messages for which memory was found are their lines, heard whole
-all_whole : (heard : List Heard) → All is_found heard → heard ≡ map heard_whole (map (λ (h : Heard). h.line) heard)
+-- messages for which memory was ample are their lines, with ample memory
+all_whole : (received : List Received) → All is_ample received → received ≡ map with_ample_memory (map (λ (h : Received). h.line) received)
 all_whole [] whole = refl
-all_whole (first ∷ heard) whole =
-    λ i. record { line = first.line; memory = All-head is_found first heard whole i } ∷ all_whole heard (All-tail is_found first heard whole) i
+all_whole (first ∷ received) whole =
+    λ i. record { line = first.line; memory = All-head is_ample first received whole i } ∷ all_whole received (All-tail is_ample first received whole) i
 
-pub one_text : (opening : SessionState) (input : List ℕ) (heard : List Heard) → map (λ (h : Heard). h.line) heard ≡ messages_among (lines_of input) → All is_found heard →
-    (told opening heard).text ≡ script_text opening input
+pub one_text : (opening : SessionState) (input : List ℕ) (received : List Received) → map (λ (h : Received). h.line) received ≡ messages_among (lines_of input) → All is_ample received →
+    (responses_to opening received).text ≡ script_text opening input
 unfolding script_text
-one_text opening input heard each whole =
-    ap (λ messages. (told opening messages).text) (all_whole heard whole ∙ ap (map heard_whole) each)
+one_text opening input received each whole =
+    ap (λ messages. (responses_to opening messages).text) (all_whole received whole ∙ ap (map with_ample_memory) each)
 
 -- a text that more messages go on from
-goes_on_from : (opening : SessionState) (so_far : Told) (later : List Heard) → (more : List ℕ) × ((fold (tell opening) so_far later).text ≡ so_far.text ++ more)
+goes_on_from : (opening : SessionState) (so_far : Response) (later : List Received) → (more : List ℕ) × ((fold (respond opening) so_far later).text ≡ so_far.text ++ more)
 goes_on_from opening so_far [] = ([], sym (append-nil so_far.text))
 goes_on_from opening so_far (next ∷ later) =
-    let answer : List ℕ = (told_line opening so_far.journal next).text ++ 10 ∷ [] in
-    let rest = goes_on_from opening (tell opening so_far next) later in
-    (answer ++ rest.0, rest.1 ∙ append_assoc so_far.text answer rest.0)
+    let response : List ℕ = (response_to_line opening so_far.journal next).text ++ 10 ∷ [] in
+    let rest = goes_on_from opening (respond opening so_far next) later in
+    (response ++ rest.0, rest.1 ∙ append_assoc so_far.text response rest.0)
 
-pub goes_on : (opening : SessionState) (heard later : List Heard) → (more : List ℕ) × ((told opening (heard ++ later)).text ≡ (told opening heard).text ++ more)
-unfolding told
-goes_on opening heard later =
-    let rest = goes_on_from opening (told opening heard) later in
-    (rest.0, ap (λ (t : Told). t.text) (fold-append (tell opening) (record { journal = []; text = [] }) heard later) ∙ rest.1)
+pub goes_on : (opening : SessionState) (received later : List Received) → (more : List ℕ) × ((responses_to opening (received ++ later)).text ≡ (responses_to opening received).text ++ more)
+unfolding responses_to
+goes_on opening received later =
+    let rest = goes_on_from opening (responses_to opening received) later in
+    (rest.0, ap (λ (t : Response). t.text) (fold-append (respond opening) (record { journal = []; text = [] }) received later) ∙ rest.1)

@@ -1,14 +1,5 @@
-pub mod Reading
-pub mod Field
-pub mod Result
-pub mod Play
-pub mod Command
-pub mod Message
-pub mod Requests
-pub mod Grammar
-pub mod TravellerText
-pub mod ReplyText
 pub mod Script
 pub mod Writes
 pub mod Standing
-pub mod ReceiptText
+pub mod Status
+pub mod Words

@@ -3,41 +3,31 @@ use Rattle.std.specs.Prelude.{◌≡◌, ℕ, ◌+◌, ◌≤◌, Option, Result
 use Rattle.std.specs.Io.KnownBytes.{Consumes, Appends, IsAtEnd}
 use Rattle.script_lines.specs.declared.line_end.LineEnd.{LineEnd}
 use Rattle.script_lines.specs.declared.line_end.LineEnd.TheVariants.{LineFeed, EndOfInput}
+use Rattle.script_lines.specs.declared.reading.ReadFault.{ReadFault}
+use Rattle.script_lines.specs.declared.reading.ReadFault.TheVariants as read
 use Rattle.script_lines.specs.Lines.{pieces_of, ended_lines, lines_of}
-use Rattle.session_book.specs.declared.entry.Entry.{Entry}
 use Rattle.session_book.specs.Journal.{Ledger}
 use Rattle.session_book.specs.Opening.{IsOpening}
-use Rattle.session_book.specs.SessionState.{SessionState}
-use Rattle.program.specs.declared.message_fault.MessageFault.{MessageFault}
-use Rattle.program.specs.declared.message.Message.{Message}
-use Rattle.program.specs.declared.message.Message.TheVariants.{Query, Batch}
-use Rattle.program.specs.ReceiptText.{fault_text}
-use Rattle.program.specs.Script.{Memory, told_line, messages_among}
-use Rattle.program.specs.Writes.{script_limit, Answers}
+use Rattle.wire.specs.declared.request_fault.RequestFault.{RequestFault}
+use Rattle.wire.specs.ReceiptText.{fault_text}
+use Rattle.program.specs.declared.fault.Fault.{Fault}
+use Rattle.program.specs.declared.fault.Fault.TheVariants.{Input, OutOfMemory}
+use Rattle.program.specs.Script.{messages_among}
+use Rattle.program.specs.Writes.{script_limit, RespondsToEach}
 
--- a batch has at most 64 commands
-abbrev pub HasFew : Message → Type 0
-HasFew (Query user query since) = Unit {0}
-HasFew (Batch user commands) = length commands ≤ 64
-
--- the line that answers: the text, or the fault's own
-abbrev pub line_of : {S : Type 0} → (S → List ℕ) → Result S MessageFault → List ℕ
+-- the line that responds: the text, or the fault's own
+abbrev pub line_of : {S : Type 0} → (S → List ℕ) → Result S RequestFault → List ℕ
 line_of bytes (Ok text) = bytes text
 line_of bytes (Err fault) = fault_text fault ++ 10 ∷ []
 
--- a message leads from a journal to another, and is answered by this text with its LF
-pub record Tells (opening : SessionState) (journal : List Entry) (line : List ℕ) (after : List Entry) (text : List ℕ) : Type 0 where
-  pub memory : Memory
-  pub journal_is : (told_line opening journal (record { line = line; memory = memory })).journal ≡ after
-  pub text_is : (told_line opening journal (record { line = line; memory = memory })).text ++ 10 ∷ [] ≡ text
-
--- so many bytes were taken from the reader, and the messages among them are answered
-pub record Stands (input before reader writer : Option (List ℕ)) (ledger : Ledger) (left : ℕ) (taken : List ℕ) (messages : List (List ℕ)) : Type 0 where
+-- so many bytes were taken from the reader, and the messages among them have their responses
+pub record Stands (input before reader writer : Option (List ℕ)) (ledger : Ledger) (left : ℕ) (taken : List ℕ)
+    (messages : List (List ℕ)) : Type 0 where
   pub consumed : Consumes input reader taken
   pub counted : left + length taken ≡ script_limit
   pub opened : IsOpening ledger.opening
   pub text : List ℕ
-  pub answers : Answers ledger.opening messages ledger.journal text
+  pub responses : RespondsToEach ledger.opening messages ledger.journal text
   pub appended : Appends before writer text
 
 -- after a line that an LF ended
@@ -53,7 +43,9 @@ pub record StandsAtEnd (input before reader writer : Option (List ℕ)) (ledger 
   pub at_end : IsAtEnd reader
   pub stands : Stands input before reader writer ledger left taken (messages_among (lines_of taken))
 
-abbrev pub StandsAfter : LineEnd → Option (List ℕ) → Option (List ℕ) → Option (List ℕ) → Option (List ℕ) → Ledger → ℕ → Type 0
+-- after a line that ended so
+abbrev pub StandsAfter : LineEnd → Option (List ℕ) → Option (List ℕ) → Option (List ℕ) → Option (List ℕ) → Ledger → ℕ
+    → Type 0
 StandsAfter LineFeed input before reader writer ledger left = StandsAtLine input before reader writer ledger left
 StandsAfter EndOfInput input before reader writer ledger left = StandsAtEnd input before reader writer ledger left
 
@@ -61,3 +53,8 @@ StandsAfter EndOfInput input before reader writer ledger left = StandsAtEnd inpu
 abbrev pub line_feeds : LineEnd → ℕ
 line_feeds LineFeed = 1
 line_feeds EndOfInput = 0
+
+-- the fault of a script whose next line wasn't read
+abbrev pub fault_of_read : ReadFault → Fault
+fault_of_read read.Input = Input
+fault_of_read read.OutOfMemory = OutOfMemory

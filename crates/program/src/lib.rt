@@ -1,27 +1,15 @@
-//! A results server's messages and its script: what a line says, read from its JSON text, and the line that answers it.
+//! A results server's script, with a line that responds to each of its messages, and the program that is called with words.
 #![tactic(auto)]
 
-mod answer_line;
-mod command;
-mod commands;
+mod calling;
 mod fault;
-mod field;
 pub mod laws;
-mod message;
-mod message_fault;
-mod play;
-mod reading;
-mod receipt_text;
-mod reply_text;
-mod result;
+mod response;
 mod script;
 #[cfg(test)]
 mod tests;
-mod traveller_text;
+mod words;
 
-pub use commands::Commands;
+pub use calling::{run_program, run_words};
 pub use fault::Fault;
-pub use message::Message;
-pub use message_fault::MessageFault;
-pub use reading::read_message;
 pub use script::{SCRIPT_LIMIT, run_script};

@@ -2,11 +2,11 @@
 
 ghost use Rattle.std.specs.Prelude.{◌≡◌, ◌+◌, ◌≤◌, [], List, ℕ, Option, Some, IfSome, IfOk, IfErr, OnOk};
 ghost use Rattle.session_book.specs.Opening.{IsOpening};
-ghost use Rattle.program.specs.Writes.{script_limit, IsDone, EndsWith, fault_of_read};
-ghost use Rattle.program.specs.Standing.{StandsAtLine, StandsAtEnd, StandsAfter, line_feeds};
+ghost use Rattle.program.specs.Writes.{script_limit, IsDone, EndsWith};
+ghost use Rattle.program.specs.Standing.{StandsAtLine, StandsAtEnd, StandsAfter, line_feeds, fault_of_read};
 
-use crate::answer_line::answer;
 use crate::fault::Fault;
+use crate::response::respond;
 use script_lines::{LineEnd, ReadFault, read_line};
 use session_book::Book;
 use std::alloc::{AllocError, Global};
@@ -15,8 +15,8 @@ use std::io::{Read, Write};
 /// How many bytes a script has at most.
 pub const SCRIPT_LIMIT: usize = 1_073_741_824;
 
-/// Reads a script and writes its answers, a line for each message. The first line is the session's: it is read and not looked at,
-/// until a session can be read.
+/// Reads a script and responds to each message with a line, which is written before the next line is read. The first line
+/// is the session's: it is read and not looked at, until a session can be read.
 pub fn run_script<R: Read, W: Write>(
     alloc: Global,
     reader: &mut R,
@@ -31,7 +31,7 @@ pub fn run_script<R: Read, W: Write>(
         return Err(Fault::OutOfMemory);
     };
     match read_line(reader, &mut run.line, &mut run.left) {
-        Ok(end) => run.answer_after(end, reader, writer),
+        Ok(end) => run.respond_after(end, reader, writer),
         Err(fault) => Err(fault_of_read(fault)),
     }
 }
@@ -61,8 +61,8 @@ impl ScriptRun {
         })
     }
 
-    // Answers the lines that come after one that ended so.
-    fn answer_after<R: Read, W: Write>(
+    // Responds to the lines that come after one that ended so.
+    fn respond_after<R: Read, W: Write>(
         &mut self,
         end: LineEnd,
         reader: &mut R,
@@ -70,16 +70,18 @@ impl ScriptRun {
     ) -> Result<(), Fault>
         ensures done { (input before : Option (List ℕ)) →
             StandsAfter end input before (R.remaining reader.old) (W.contents writer.old) self.old.book self.old.left →
-            OnOk result (StandsAtEnd input before (R.remaining reader.new) (W.contents writer.new) self.new.book self.new.left) }
+            OnOk result
+            (StandsAtEnd input before (R.remaining reader.new) (W.contents writer.new) self.new.book self.new.left) }
         ensures ends { (input : List ℕ) (before : Option (List ℕ)) →
-            StandsAfter end (Some input) before (R.remaining reader.old) (W.contents writer.old) self.old.book self.old.left →
+            StandsAfter end (Some input) before
+            (R.remaining reader.old) (W.contents writer.old) self.old.book self.old.left →
             IfErr result (λ fault. EndsWith fault input (R.remaining reader.new) before (W.contents writer.new)) }
     {
         let mut last = end;
         loop {
             match last {
                 LineEnd::EndOfInput => return Ok(()),
-                LineEnd::LineFeed => match self.answer_next(reader, writer) {
+                LineEnd::LineFeed => match self.respond_next(reader, writer) {
                     Ok(next) => last = next,
                     Err(fault) => return Err(fault),
                 },
@@ -87,17 +89,19 @@ impl ScriptRun {
         }
     }
 
-    // Reads the next line, and answers it unless it is empty.
-    fn answer_next<R: Read, W: Write>(
+    // Reads the next line, and responds to it unless it is empty.
+    fn respond_next<R: Read, W: Write>(
         &mut self,
         reader: &mut R,
         writer: &mut W,
     ) -> Result<LineEnd, Fault>
         ensures goes_on { (input before : Option (List ℕ)) →
             StandsAtLine input before (R.remaining reader.old) (W.contents writer.old) self.old.book self.old.left →
-            IfOk result (λ end. StandsAfter end input before (R.remaining reader.new) (W.contents writer.new) self.new.book self.new.left) }
+            IfOk result (λ end. StandsAfter end input before
+            (R.remaining reader.new) (W.contents writer.new) self.new.book self.new.left) }
         ensures ends { (input : List ℕ) (before : Option (List ℕ)) →
-            StandsAtLine (Some input) before (R.remaining reader.old) (W.contents writer.old) self.old.book self.old.left →
+            StandsAtLine (Some input) before
+            (R.remaining reader.old) (W.contents writer.old) self.old.book self.old.left →
             IfErr result (λ fault. EndsWith fault input (R.remaining reader.new) before (W.contents writer.new)) }
         ensures fewer { IfOk result (λ end. self.new.left + line_feeds end ≤ self.old.left) }
     {
@@ -106,7 +110,7 @@ impl ScriptRun {
                 if self.line.is_empty() {
                     return Ok(end);
                 }
-                match answer(self.alloc, &mut self.book, self.line.as_slice(), writer) {
+                match respond(self.alloc, &mut self.book, self.line.as_slice(), writer) {
                     Ok(()) => Ok(end),
                     Err(_) => Err(Fault::Output),
                 }

@@ -1,4 +1,5 @@
+mod calling;
+mod devices;
 mod endings;
-mod reading;
+mod limits;
 mod script;
-mod texts;

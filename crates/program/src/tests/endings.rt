@@ -1,55 +1,9 @@
+use super::devices::{Arriving, FailingReader, FailingWriter, Waiting};
 use crate::*;
 use std::alloc::{AllocError, Global};
-use std::io;
-use std::io::{ErrorKind, Read, Write};
+use std::cell::Cell;
+use std::io::{BufWriter, ErrorKind};
 use std::test::Fail;
-
-/// A reader of these bytes that fails after so many of them.
-#[derive(Drop)]
-struct Failing<'b> {
-    bytes: &'b [u8],
-    good: usize,
-}
-
-impl Read for Failing<'_> {
-    fn read(&mut self, buf: &mut [u8]) -> io::Result<usize> {
-        if self.good == 0 {
-            return Err(io::Error::from(ErrorKind::Interrupted));
-        }
-        let count = self.bytes.read(buf)?;
-        self.good = self.good.saturating_sub(count);
-        Ok(count)
-    }
-}
-
-/// A writer that takes at most so many bytes a call, and fails once it is full.
-#[derive(Drop)]
-struct Narrow {
-    held: Vec<u8>,
-    room: usize,
-    at_once: usize,
-}
-
-impl Write for Narrow {
-    fn write(&mut self, buf: &[u8]) -> io::Result<usize> {
-        if self.room == 0 {
-            return Err(io::Error::from(ErrorKind::Interrupted));
-        }
-        let most = if self.room < self.at_once {
-            self.room
-        } else {
-            self.at_once
-        };
-        let count = if buf.len() < most { buf.len() } else { most };
-        self.held.extend_from_slice(&buf[..count])?;
-        self.room -= count;
-        Ok(count)
-    }
-
-    fn flush(&mut self) -> io::Result<()> {
-        Ok(())
-    }
-}
 
 /// A script's lines with what ends each, and what answers each.
 const LINES: [(&str, &str); 8] = [
@@ -100,13 +54,28 @@ fn answers_within(alloc: Global, good: usize) -> Result<String, AllocError> {
     Ok(answers)
 }
 
+/// How many bytes of the script are unread after the line whose answer found so much room, and no more.
+fn unread_after(script: usize, room: usize) -> usize {
+    let mut unread = script;
+    let mut left = room;
+    for (line, answer) in LINES {
+        unread = unread.saturating_sub(line.len());
+        if left < answer.len() {
+            break;
+        }
+        left -= answer.len();
+    }
+    unread
+}
+
+/// A read that failed isn't tried again, though it would succeed.
 #[test]
 fn answers_what_it_read_before_a_read_failed(rt: HostRuntime) -> Result<(), Fail> {
     let (script, _) = whole(rt.alloc())?;
     for good in 0..=script.len() {
-        let mut reader = Failing {
+        let mut reader = FailingReader {
             bytes: script.as_bytes(),
-            good,
+            good: Some(good),
         };
         let mut writer = Vec::new(rt.alloc());
         let ended = run_script(rt.alloc(), &mut reader, &mut writer);
@@ -117,31 +86,82 @@ fn answers_what_it_read_before_a_read_failed(rt: HostRuntime) -> Result<(), Fail
     Ok(())
 }
 
+/// A write that failed isn't tried again, though it would succeed, and nothing is read after it.
 #[test]
 fn writes_a_first_part_where_a_write_fails(rt: HostRuntime) -> Result<(), Fail> {
     let (script, answers) = whole(rt.alloc())?;
-    for at_once in [1, 7, 1000] {
-        for room in 0..=answers.len() {
-            let mut reader = script.as_bytes();
-            let mut writer = Narrow {
-                held: Vec::new(rt.alloc()),
-                room,
-                at_once,
-            };
-            let ended = run_script(rt.alloc(), &mut reader, &mut writer);
-            let expected = if room == answers.len() {
-                Ok(())
-            } else {
-                Err(Fault::Output)
-            };
-            assert_eq!(rt; ended, expected, "{room} bytes of room");
-            assert_eq!(rt;
-                Some(writer.held.as_slice()),
-                answers.as_bytes().get(..room),
-                "{room} bytes of room"
-            );
-        }
+    for room in 0..answers.len() {
+        let mut reader = script.as_bytes();
+        let mut writer = FailingWriter {
+            held: Vec::new(rt.alloc()),
+            room: Some(room),
+            at_once: 1000,
+            fault: ErrorKind::Interrupted,
+        };
+        let ended = run_script(rt.alloc(), &mut reader, &mut writer);
+        assert_eq!(rt; ended, Err(Fault::Output), "{room} bytes of room");
+        assert_eq!(rt;
+            Some(writer.held.as_slice()),
+            answers.as_bytes().get(..room),
+            "{room} bytes of room"
+        );
+        assert_eq!(rt;
+            reader.len(),
+            unread_after(script.len(), room),
+            "{room} bytes of room"
+        );
     }
+    Ok(())
+}
+
+#[test]
+fn writes_a_byte_at_a_time_where_a_writer_takes_no_more(rt: HostRuntime) -> Result<(), Fail> {
+    let (script, answers) = whole(rt.alloc())?;
+    let mut reader = script.as_bytes();
+    let mut writer = FailingWriter {
+        held: Vec::new(rt.alloc()),
+        room: None,
+        at_once: 1,
+        fault: ErrorKind::BrokenPipe,
+    };
+    run_script(rt.alloc(), &mut reader, &mut writer)?;
+    assert_eq!(rt; writer.held.as_slice(), answers.as_bytes());
+    Ok(())
+}
+
+/// Also through a writer that keeps small writes back until it is flushed.
+#[test]
+fn writes_each_response_before_it_reads_the_next_line(rt: HostRuntime) -> Result<(), Fail> {
+    let arrived = Cell::new(0usize);
+    let mut reader = Waiting {
+        lines: &LINES,
+        line: 0,
+        at: 0,
+        due: 0,
+        arrived: &arrived,
+    };
+    let mut writer = BufWriter::new(rt.alloc(), Arriving { arrived: &arrived })?;
+    run_script(rt.alloc(), &mut reader, &mut writer)?;
+    assert_eq!(rt; reader.line, LINES.len());
+    assert_eq!(rt; arrived.get(), whole(rt.alloc())?.1.len());
+    Ok(())
+}
+
+/// The fault of the last write is told, also where a writer keeps small writes back.
+#[test]
+fn tells_the_fault_of_a_write_that_was_kept_back(rt: HostRuntime) -> Result<(), Fail> {
+    let (script, answers) = whole(rt.alloc())?;
+    let mut reader = script.as_bytes();
+    let held = Vec::new(rt.alloc());
+    let inner = FailingWriter {
+        held,
+        room: Some(answers.len().saturating_sub(1)),
+        at_once: 1000,
+        fault: ErrorKind::BrokenPipe,
+    };
+    let mut writer = BufWriter::new(rt.alloc(), inner)?;
+    let ended = run_script(rt.alloc(), &mut reader, &mut writer);
+    assert_eq!(rt; ended, Err(Fault::Output));
     Ok(())
 }
 
@@ -166,8 +186,8 @@ const APART: [(&str, &str); 5] = [
     ),
 ];
 
-/// Each answer is the one that it should be, or says that there was no memory for it, and a script that ends for want of memory has answered
-/// its first messages. This holds under every memory: `rt try --test --fail-alloc N` refuses the Nth growth.
+/// Each answer is the one that it should be, or says that there was no memory for it, and a script that ends for want of
+/// memory has answered its first messages. This holds under every memory: `rt try --test --fail-alloc N` refuses the Nth growth.
 #[test]
 fn says_where_memory_was_refused(rt: HostRuntime) -> Result<(), Fail> {
     let Ok(mut script) = String::from_str(rt.alloc(), "{}\n") else {
@@ -202,5 +222,18 @@ fn says_where_memory_was_refused(rt: HostRuntime) -> Result<(), Fail> {
         );
     }
     assert_eq!(rt; answers.next().map(<[u8]>::len), Some(0));
+    Ok(())
+}
+
+#[test]
+fn names_why_a_script_ended(rt: HostRuntime) -> Result<(), Fail> {
+    let rows = [
+        (Fault::Input, "the script can't be read"),
+        (Fault::Output, "the answers can't be written"),
+        (Fault::OutOfMemory, "out of memory"),
+    ];
+    for (fault, text) in rows {
+        assert_eq!(rt; fault.to_string(rt.alloc())?.as_str(), text);
+    }
     Ok(())
 }

@@ -3,7 +3,7 @@ use std::alloc::Global;
 use std::test::Fail;
 
 /// What a script's run writes where nothing fails.
-fn answers_to(alloc: Global, script: &str) -> Result<String, Fail> {
+pub(crate) fn answers_to(alloc: Global, script: &str) -> Result<String, Fail> {
     let mut reader = script.as_bytes();
     let mut writer = Vec::new(alloc);
     run_script(alloc, &mut reader, &mut writer)?;
@@ -11,53 +11,16 @@ fn answers_to(alloc: Global, script: &str) -> Result<String, Fail> {
 }
 
 #[test]
-fn shows_a_board_to_those_who_may_see_it(rt: HostRuntime) -> Result<(), Fail> {
+fn shows_each_board_with_its_marks(rt: HostRuntime) -> Result<(), Fail> {
     let script = r#"{}
-{"as":"n1","ask":"board","board":1}
-{"as":"s","ask":"board","board":1}
-{"as":"k","ask":"board","board":1}
-{"as":"zz","ask":"board","board":1}
-{"as":"d","ask":"board","board":1}
 {"as":"d2","ask":"board","board":2}
 {"as":"d","ask":"board","board":3}
 {"as":"a","ask":"board","board":3}
 "#;
     let answers =
-        r#"{"denied":{"board":1,"rule":5,"table":1,"why":"your pair has still to play this board"},"version":0}
-{"denied":{"board":1,"rule":8,"table":1,"why":"the board isn't complete"},"version":0}
-{"denied":{"board":1,"rule":7,"table":0,"why":"neither a contestant nor a spectator"},"version":0}
-{"denied":{"board":0,"rule":1,"table":0,"why":"no such account"},"version":0}
-{"board":{"deal":"N:AKQJT98765432... .AKQJT98765432.. ..AKQJT98765432. ...AKQJT98765432","dealer":"N","number":1,"vul":"none"},"version":0}
-{"board":{"deal":"N:...AKQJT98765432 AKQJT98765432... .AKQJT98765432.. ..AKQJT98765432.","dealer":"E","number":2,"vul":"ns"},"version":0}
+        r#"{"board":{"deal":"N:...AKQJT98765432 AKQJT98765432... .AKQJT98765432.. ..AKQJT98765432.","dealer":"E","number":2,"vul":"ns"},"version":0}
 {"board":{"deal":"N:..AKQJT98765432. ...AKQJT98765432 AKQJT98765432... .AKQJT98765432..","dealer":"S","number":3,"vul":"ew"},"version":0}
 {"denied":{"board":3,"rule":7,"table":0,"why":"neither a contestant nor a spectator"},"version":0}
-"#;
-    assert_eq!(rt; answers_to(rt.alloc(), script)?.as_str(), answers);
-    Ok(())
-}
-
-#[test]
-fn shows_a_board_once_its_result_is_confirmed(rt: HostRuntime) -> Result<(), Fail> {
-    let script = r#"{}
-{"as":"k","do":[{"board":1,"cmd":"Enter","result":{"by":"N","doubled":0,"level":4,"strain":"S","tricks":10},"table":1}]}
-{"as":"n1","ask":"board","board":1}
-{"as":"k","do":[{"board":1,"cmd":"Confirm","result":{"by":"N","doubled":0,"level":4,"strain":"S","tricks":10},"table":1}]}
-{"as":"n1","ask":"board","board":1}
-{"as":"n1","ask":"board","board":1,"since":2}
-{"as":"n2","ask":"board","board":1}
-{"as":"s","ask":"board","board":1}
-{"as":"n1","ask":"analysis","board":1}
-{"as":"n1","ask":"traveller","board":1}
-"#;
-    let answers = r#"{"answers":["ok"],"first":1,"last":1,"version":1}
-{"denied":{"board":1,"rule":5,"table":1,"why":"your pair has still to play this board"},"version":1}
-{"answers":["ok"],"first":2,"last":2,"version":2}
-{"board":{"deal":"N:AKQJT98765432... .AKQJT98765432.. ..AKQJT98765432. ...AKQJT98765432","dealer":"N","number":1,"vul":"none"},"version":2}
-{"board":{"deal":"N:AKQJT98765432... .AKQJT98765432.. ..AKQJT98765432. ...AKQJT98765432","dealer":"N","number":1,"vul":"none"},"version":2}
-{"denied":{"board":1,"rule":5,"table":2,"why":"your pair has still to play this board"},"version":2}
-{"denied":{"board":1,"rule":8,"table":2,"why":"the board isn't complete"},"version":2}
-{"error":"UnknownRequest"}
-{"traveller":{"board":1,"rows":[{"ew":"EW1","ns":"NS1","points":0,"result":{"by":"N","doubled":0,"level":4,"strain":"S","tricks":10},"score":420,"table":1}]},"version":2}
 "#;
     assert_eq!(rt; answers_to(rt.alloc(), script)?.as_str(), answers);
     Ok(())
@@ -163,74 +126,32 @@ fn goes_on_after_a_message_that_it_refuses(rt: HostRuntime) -> Result<(), Fail> 
     Ok(())
 }
 
-#[test]
-fn names_a_missing_board_before_a_missing_version_before_a_denial(
-    rt: HostRuntime,
-) -> Result<(), Fail> {
-    let script = r#"{}
-{"as":"d","ask":"board","board":0}
-{"as":"d","ask":"board","board":4}
-{"as":"zz","ask":"board","board":255}
-{"as":"d","ask":"board","board":4,"since":3}
-{"as":"zz","ask":"board","board":0,"since":18446744073709551615}
-{"as":"d","ask":"board","board":1,"since":3}
-{"as":"d","ask":"board","board":1,"since":1}
-{"as":"zz","ask":"board","board":3,"since":18446744073709551615}
-{"as":"zz","ask":"board","board":3,"since":0}
-"#;
-    let answers = r#"{"error":"NoSuchBoard","version":0}
-{"error":"NoSuchBoard","version":0}
-{"error":"NoSuchBoard","version":0}
-{"error":"NoSuchBoard","version":0}
-{"error":"NoSuchBoard","version":0}
-{"error":"Behind","version":0}
-{"error":"Behind","version":0}
-{"error":"Behind","version":0}
-{"denied":{"board":0,"rule":1,"table":0,"why":"no such account"},"version":0}
-"#;
-    assert_eq!(rt; answers_to(rt.alloc(), script)?.as_str(), answers);
-    Ok(())
-}
-
 /// Each message here is answered by an error; how many there are, and which, shows how the script was cut.
 #[test]
 fn cuts_a_script_into_its_lines(rt: HostRuntime) -> Result<(), Fail> {
     let rows = [
         ("", ""),
         ("\n", ""),
-        ("{}", ""),
-        ("{}\n", ""),
         ("{\"ask\":\"x\"}", ""),
         ("{\"ask\":\"x\"}\r\n", ""),
         ("\n{\"ask\":\"x\"}\n", "{\"error\":\"UnknownRequest\"}\n"),
-        ("\r\n{\"ask\":\"x\"}\n", "{\"error\":\"UnknownRequest\"}\n"),
-        ("{}\n{\"ask\":\"x\"}", "{\"error\":\"UnknownRequest\"}\n"),
-        ("{}\n{\"ask\":\"x\"}\n", "{\"error\":\"UnknownRequest\"}\n"),
-        (
-            "{}\n{\"ask\":\"x\"}\r\n",
-            "{\"error\":\"UnknownRequest\"}\n",
-        ),
+        ("\r\n{\"ask\":\"x\"}", "{\"error\":\"UnknownRequest\"}\n"),
         // In a last line that no LF ends, a CR is a byte of the line.
         ("{}\n{\"ask\":\"x\"}\r", "{\"error\":\"UnknownRequest\"}\n"),
         ("{}\n\r", "{\"error\":\"Malformed\"}\n"),
-        ("{}\n\n\r\n\n", ""),
         (
-            "{}\n\n\r\n{\"ask\":\"x\"}\n\n\r\n",
+            "{}\n\n\r\n{\"ask\":\"x\"}\r\n\n\r\n",
             "{\"error\":\"UnknownRequest\"}\n",
         ),
-        // Of several CRs the last alone belongs to the line's end.
+        // Of several CRs the last alone belongs to the line's end, and a CR alone ends no line.
         ("{}\n\r\r\n", "{\"error\":\"Malformed\"}\n"),
+        ("{}\r{\"ask\":\"x\"}\n", ""),
+        ("{}\n{\"ask\":\"x\"}\r{}\n", "{\"error\":\"Malformed\"}\n"),
+        // A line of blanks isn't empty.
         (
             "{}\n \n\t\r\n",
             "{\"error\":\"Malformed\"}\n{\"error\":\"Malformed\"}\n",
         ),
-        (
-            "{}\n {\"ask\":\"x\"} \n",
-            "{\"error\":\"UnknownRequest\"}\n",
-        ),
-        // A CR alone ends no line.
-        ("{}\r{\"ask\":\"x\"}\n", ""),
-        ("{}\n{\"ask\":\"x\"}\r{}\n", "{\"error\":\"Malformed\"}\n"),
         (
             "{}\n{\"ask\":\n\"x\"}",
             "{\"error\":\"Malformed\"}\n{\"error\":\"Malformed\"}\n",

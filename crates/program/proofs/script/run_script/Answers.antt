@@ -9,7 +9,7 @@ returns-in-Ok-read_line-clause-done g c =
     let writer = g.W.Write.contents c.args.writer.now in
     let begun = begins reader (g.R.Read.remaining c.read_line.new.reader) writer c.in-Ok.run'.book c.in-Ok.run'.left c.read_line.new.left c.read_line.new.line.items c.in-Ok-read_line.end
     c.in-Ok.ensures.opening c.in-Ok.ensures.journal c.in-Ok.ensures.left c.in-Ok-read_line.ensures.line in
-    done_from reader writer _ _ _ _ c.answer_after.result (c.answer_after.ensures.done reader writer begun)
+    done_from reader writer _ _ _ _ c.respond_after.result (c.respond_after.ensures.done reader writer begun)
 
 pub returns-in-Ok-read_line-clause-ended : goal.returns-in-Ok-read_line-clause-ended
 returns-in-Ok-read_line-clause-ended g c =
@@ -17,10 +17,10 @@ returns-in-Ok-read_line-clause-ended g c =
     let writer = g.W.Write.contents c.args.writer.now in
     let begun = begins reader (g.R.Read.remaining c.read_line.new.reader) writer c.in-Ok.run'.book c.in-Ok.run'.left c.read_line.new.left c.read_line.new.line.items c.in-Ok-read_line.end
     c.in-Ok.ensures.opening c.in-Ok.ensures.journal c.in-Ok.ensures.left c.in-Ok-read_line.ensures.line in
-    ended_from reader writer _ _ c.answer_after.result (λ input known. c.answer_after.ensures.ends input writer
+    ended_from reader writer _ _ c.respond_after.result (λ input known. c.respond_after.ensures.ends input writer
     (subst (λ o. StandsAfter c.in-Ok-read_line.end o writer (g.R.Read.remaining c.read_line.new.reader) writer c.in-Ok.run'.book c.read_line.new.left) known begun))
 
 pub returns-clause-ended : goal.returns-clause-ended
 returns-clause-ended g c =
-    first_ended_from (g.R.Read.remaining c.args.reader.now) (g.R.Read.remaining c.read_line.new.reader) (g.W.Write.contents c.args.writer.now) c.in-Ok.run'.book c.in-Ok.run'.left c.in-Err.fault _
-    c.fault_of_read.ensures c.in-Ok.ensures.opening c.in-Ok.ensures.journal c.in-Ok.ensures.left c.in-Err.ensures.fault
+    first_ended_from (g.R.Read.remaining c.args.reader.now) (g.R.Read.remaining c.read_line.new.reader) (g.W.Write.contents c.args.writer.now) c.in-Ok.run'.book c.in-Ok.run'.left
+    c.read_line.new.left c.read_line.new.line.items c.in-Err.fault _ c.fault_of_read.ensures c.in-Ok.ensures.opening c.in-Ok.ensures.journal c.in-Ok.ensures.left c.in-Err.ensures.which

@@ -1,5 +1,0 @@
-use Rattle.program.proofs.TextLemmas.{one_text}
-use Rattle.program.proofs.laws.one_text_where_memory_is_found.Goals as goal
-
-pub returns : goal.returns
-returns c opening input heard each whole = one_text opening input heard each whole

@@ -1,0 +1,153 @@
+//! The line that responds to a message.
+
+ghost use Rattle.std.specs.Prelude.{◌≡◌, ◌++◌, ◌∷◌, [], ◌≤◌, ℕ, List, Ok, IfOk, IfErr, OnOk, OnErr, length, string_bytes};
+ghost use Rattle.std.specs.Io.KnownBytes.{Appends};
+ghost use Rattle.script_lines.specs.Writing.{WritesPart};
+ghost use Rattle.wire.specs.declared.request_fault.RequestFault.TheVariants.{OutOfMemory};
+ghost use Rattle.wire.specs.declared.request.Request.TheVariants as request;
+ghost use Rattle.session_book.specs.Run.{most_commands};
+ghost use Rattle.wire.specs.Request.{meaning, HasFew};
+ghost use Rattle.program.specs.Script.{reply_to};
+ghost use Rattle.program.specs.Standing.{line_of};
+ghost use Rattle.program.specs.Writes.{Responds};
+
+use cards::Name;
+use published_view::{Query, Reply, board_reply, traveller_reply};
+use script_lines::{WriteFault, write_text};
+use session_book::{Book, State};
+use std::alloc::{AllocError, Global};
+use std::io::Write;
+use wire::{Commands, Request, RequestFault, fault_line, read_request, receipt_text, reply_text};
+
+/// Responds to a message: its effect joins the book, and the line that responds is written.
+pub(crate) fn respond<W: Write>(
+    alloc: Global,
+    book: &mut Book,
+    line: &[u8],
+    writer: &mut W,
+) -> Result<(), WriteFault>
+    ensures response { (text : List ℕ) × Responds book.old.opening book.old.journal line.now book.new.journal text
+        × OnOk result (Appends (W.contents writer.old) (W.contents writer.new) text)
+        × OnErr result (WritesPart (W.contents writer.old) (W.contents writer.new) text) }
+    ensures opening { book.new.opening ≡ book.old.opening }
+{
+    match response_to(alloc, book, line) {
+        Ok(text) => send(writer, text.as_bytes()),
+        Err(fault) => send(writer, fault_line(fault).as_bytes()),
+    }
+}
+
+// Writes a line, and has the writer pass it on: one that held lines back would keep its reader waiting, and its fault hidden.
+fn send<W: Write>(writer: &mut W, line: &[u8]) -> Result<(), WriteFault>
+    ensures whole { OnOk result (Appends (W.contents writer.old) (W.contents writer.new) line.now) }
+    ensures part { OnErr result (WritesPart (W.contents writer.old) (W.contents writer.new) line.now) }
+{
+    match write_text(writer, line) {
+        Ok(()) => match writer.flush() {
+            Ok(()) => Ok(()),
+            Err(_) => Err(WriteFault),
+        },
+        Err(fault) => Err(fault),
+    }
+}
+
+// The line that responds to a message, or the fault whose line does.
+#[tactic(auto, using(crate::proofs::ResponseLemmas::responds_fault))]
+fn response_to(alloc: Global, book: &mut Book, line: &[u8]) -> Result<String, RequestFault>
+    ensures response { Responds book.old.opening book.old.journal line.now book.new.journal (line_of string_bytes result) }
+    ensures opening { book.new.opening ≡ book.old.opening }
+{
+    match read_request(alloc, line) {
+        Ok(message) => response_to_request(alloc, book, &message),
+        Err(fault) => Err(fault),
+    }
+}
+
+// The line that responds to what was read.
+fn response_to_request(
+    alloc: Global,
+    book: &mut Book,
+    message: &Request,
+) -> Result<String, RequestFault>
+    requires { HasFew message.now }
+    ensures response { (line : List ℕ) → meaning line ≡ Ok message.now →
+        Responds book.old.opening book.old.journal line book.new.journal (line_of string_bytes result) }
+    ensures opening { book.new.opening ≡ book.old.opening }
+{
+    match message {
+        Request::Query { user, query, since } => response_to_query(
+            alloc, book, *user, *query, *since,
+        ),
+        Request::Batch { user, commands } => response_to_batch(alloc, book, *user, commands),
+    }
+}
+
+// The line that responds to a query. The book stays as it is.
+fn response_to_query(
+    alloc: Global,
+    book: &Book,
+    user: Name,
+    query: Query,
+    since: u64,
+) -> Result<String, RequestFault>
+    ensures response { (line : List ℕ) → meaning line ≡ Ok (request.Query user query since) →
+        Responds book.now.opening book.now.journal line book.now.journal (line_of string_bytes result) }
+{
+    let Ok(reply) = reply_to(alloc, book.state(), book.version(), user, query, since) else {
+        return Err(RequestFault::OutOfMemory);
+    };
+    match reply_text(alloc, &reply) {
+        Ok(text) => with_line_feed(text),
+        Err(_) => Err(RequestFault::OutOfMemory),
+    }
+}
+
+// The reply to a query, at a state and its version.
+fn reply_to(
+    alloc: Global,
+    state: &State,
+    version: usize,
+    user: Name,
+    query: Query,
+    since: u64,
+) -> Result<Reply, AllocError>
+    ensures { IfOk result (λ reply. reply ≡ reply_to state.now version user query since) }
+{
+    match query {
+        Query::Board(board) => Ok(board_reply(state, version, user, board, since)),
+        Query::Traveller(board) => traveller_reply(alloc, state, version, user, board, since),
+    }
+}
+
+// The line that responds to a batch, whose commands are tried.
+fn response_to_batch(
+    alloc: Global,
+    book: &mut Book,
+    user: Name,
+    commands: &Commands,
+) -> Result<String, RequestFault>
+    requires { length commands.now ≤ most_commands }
+    ensures response { (line : List ℕ) → meaning line ≡ Ok (request.Batch user commands.now) →
+        Responds book.old.opening book.old.journal line book.new.journal (line_of string_bytes result) }
+    ensures opening { book.new.opening ≡ book.old.opening }
+{
+    let Ok(submission) = book.submit(user, commands.as_slice()) else {
+        return Err(RequestFault::OutOfMemory);
+    };
+    match receipt_text(alloc, &submission, book.version()) {
+        Ok(text) => with_line_feed(text),
+        Err(_) => Err(RequestFault::OutOfMemory),
+    }
+}
+
+// The text with the LF that ends its line.
+fn with_line_feed(text: String) -> Result<String, RequestFault>
+    ensures line { IfOk result (λ line. string_bytes line ≡ string_bytes text ++ 10 ∷ []) }
+    ensures err { IfErr result (λ fault. fault ≡ OutOfMemory) }
+{
+    let mut line = text;
+    match line.push('\n') {
+        Ok(()) => Ok(line),
+        Err(_) => Err(RequestFault::OutOfMemory),
+    }
+}
