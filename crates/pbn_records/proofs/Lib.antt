@@ -1,0 +1,13 @@
+pub mod DealValueLemmas
+pub mod EscapeLemmas
+pub mod FaultLemmas
+pub mod FreeLemmas
+pub mod InTextLemmas
+pub mod KnownLemmas
+pub mod LawLemmas
+pub mod NumberLemmas
+pub mod PartsLemmas
+pub mod ReaderLemmas
+pub mod ReadsLemmas
+pub mod RisingLemmas
+pub mod StateLemmas

@@ -1,0 +1,32 @@
+use Rattle.std.proofs.Common.{false, ap, refl, ◌∙◌, sym}
+use Rattle.pbn_records.specs.Shown.{as_read, values_read}
+use Rattle.pbn_records.specs.declared.state.State.{State}
+use Rattle.pbn_records.proofs.StateLemmas.{values_at, end_at, fault_ends, ok_of, err_of}
+use Rattle.pbn_records.proofs.state.State.end_game.Goals as goal
+
+pub returns-clause-ended : goal.returns-clause-ended
+returns-clause-ended c =
+    let old = c.args.self.now in
+    let new : State = record {
+      boards = c.args.self.now.boards;
+      started = false;
+      tags = c.new-self.result;
+      before = c.inheriting-values.result;
+      known = c.add_game.new.known;
+    } in
+    ok_of c.add_game.result
+    (λ known faultless walk at.
+    end_at old new walk (values_read c.inheriting-values.result) refl refl c.new-self.ensures (λ used. refl)
+    (sym at.started ∙ c.if-not-self.false)
+    (values_at old walk (values_read c.inheriting-values.result) at (λ used. ap as_read (c.inheriting-values.ensures used)))
+    known faultless at)
+    c.add_game.ensures.known c.add_game.ensures.faultless
+
+pub returns-clause-fault : goal.returns-clause-fault
+returns-clause-fault c =
+    err_of c.add_game.result
+    (λ error faults walk at.
+    fault_ends c.args.self.now walk (values_read c.inheriting-values.result) error
+    (values_at c.args.self.now walk (values_read c.inheriting-values.result) at (λ used. ap as_read (c.inheriting-values.ensures used)))
+    (sym at.started ∙ c.if-not-self.false) (faults walk.done at.known))
+    c.add_game.ensures.fault

@@ -1,0 +1,12 @@
+pub mod At
+pub mod Boards
+pub mod DealValue
+pub mod Each
+pub mod Faults
+pub mod InText
+pub mod Kept
+pub mod MarkValue
+pub mod Reads
+pub mod Shown
+pub mod Tags
+pub mod Values

@@ -1,0 +1,9 @@
+use cards::{Deal, Place, Vulnerability};
+
+/// A board: its deal and its marks.
+#[derive(Clone, Copy, Debug)]
+pub struct Board {
+    pub deal: Deal,
+    pub dealer: Place,
+    pub vulnerability: Vulnerability,
+}

@@ -1,0 +1,123 @@
+ghost use Rattle.std.specs.Prelude.{◌≡◌, ◌≢◌, ◌⊎◌, ℕ, List, [], Some, None, OnOk, IfErr};
+ghost use Rattle.pbn_records.specs.declared.deals_error.DealsError.TheVariants.{OutOfMemory};
+ghost use Rattle.pbn_records.specs.Tags.{Named, used_of, tag_in};
+ghost use Rattle.pbn_records.specs.Kept.{Walk, end_of, step, add_to};
+ghost use Rattle.pbn_records.specs.Values.{no_values};
+ghost use Rattle.pbn_records.specs.At.{IsAt, EndsInFault, EndsInBadTag, walk_on};
+ghost use Rattle.pbn_pieces.specs.declared.piece.Found.TheVariants as found_as;
+
+use crate::board::Board;
+use crate::deals_error::DealsError;
+use crate::game::{TagAt, UsedTags};
+use crate::known::add_game;
+use crate::used::Used;
+use indexmap::IndexMap;
+use pbn_pieces::Found;
+use std::alloc::Global;
+
+/// Where a reader is in a text: the game that it is in, the values of the game before, and the boards of the games so
+/// far.
+#[derive(Drop)]
+pub(crate) struct State<'t> {
+    pub(crate) boards: u8,
+    pub(crate) started: bool,
+    pub(crate) tags: UsedTags<'t>,
+    pub(crate) before: UsedTags<'t>,
+    pub(crate) known: IndexMap<u8, Board>,
+}
+
+impl<'t> State<'t> {
+    /// At the start of a text.
+    pub(crate) fn new(alloc: Global, boards: u8) -> State<'t>
+        ensures boards { result.boards ≡ boards }
+        ensures at { IsAt result (record { done = []; before = no_values; game = [] }) }
+    {
+        State {
+            boards,
+            started: false,
+            tags: UsedTags::new(),
+            before: UsedTags::new(),
+            known: IndexMap::new(alloc),
+        }
+    }
+
+    /// Ends the game, if it has a tag.
+    pub(crate) fn end_game(&mut self) -> Result<(), DealsError>
+        ensures boards { self.new.boards ≡ self.old.boards }
+        ensures ended { OnOk result ((walk : Walk) → IsAt self.old walk → IsAt self.new (end_of walk)) }
+        ensures fault { IfErr result (λ error. (walk : Walk) → IsAt self.old walk →
+            (error ≡ OutOfMemory) ⊎ EndsInFault self.old.boards walk (end_of walk) error) }
+    {
+        if !self.started {
+            return Ok(());
+        }
+        let values = self.tags.inheriting(self.before);
+        self.started = false;
+        self.tags = UsedTags::new();
+        self.before = values;
+        add_game(&mut self.known, &values, self.boards)
+    }
+
+    /// Goes over a piece that stands at an offset.
+    pub(crate) fn take(&mut self, found: Found<'t>, offset: usize) -> Result<(), DealsError>
+        ensures boards { self.new.boards ≡ self.old.boards }
+        ensures good { OnOk result (found.entry ≢ found_as.BadTag) }
+        ensures taken { OnOk result ((walk : Walk) → IsAt self.old walk →
+            IsAt self.new (walk_on walk offset found.entry)) }
+        ensures fault { IfErr result (λ error. (walk : Walk) → IsAt self.old walk → (error ≡ OutOfMemory)
+            ⊎ EndsInFault self.old.boards walk (walk_on walk offset found.entry) error
+            ⊎ EndsInBadTag self.old.boards walk found.entry offset error) }
+    {
+        match found {
+            Found::Tag { name, value } => self.add(offset, name, value),
+            Found::BlankLine => self.end_game(),
+            Found::BadTag => match self.end_game() {
+                Ok(()) => Err(DealsError::BadTag(offset)),
+                Err(error) => Err(error),
+            },
+            Found::Skipped(_) => Ok(()),
+        }
+    }
+
+    /// Adds a tag, with which a game ends that has it already.
+    pub(crate) fn add(
+        &mut self,
+        offset: usize,
+        name: &[u8],
+        value: &'t [u8],
+    ) -> Result<(), DealsError>
+        ensures boards { self.new.boards ≡ self.old.boards }
+        ensures added { OnOk result ((walk : Walk) → IsAt self.old walk →
+            IsAt self.new (step walk (Named (record { offset = offset; name = name.now; value = value.now })))) }
+        ensures fault { IfErr result (λ error. (walk : Walk) → IsAt self.old walk → (error ≡ OutOfMemory)
+            ⊎ EndsInFault self.old.boards walk (step walk (Named (record { offset = offset; name = name.now; value = value.now }))) error) }
+    {
+        let Some(used) = Used::of(name) else {
+            self.started = true;
+            return Ok(());
+        };
+        let tag = TagAt { offset, value };
+        if !self.tags.has(used) {
+            self.put(used, tag);
+            return Ok(());
+        }
+        match self.end_game() {
+            Ok(()) => {
+                self.put(used, tag);
+                Ok(())
+            }
+            Err(error) => Err(error),
+        }
+    }
+
+    /// Adds a used tag that the game doesn't have.
+    fn put(&mut self, used: Used, tag: TagAt<'t>)
+        ensures boards { self.new.boards ≡ self.old.boards }
+        ensures put { (walk : Walk) (name : List ℕ) → IsAt self.old walk → used_of name ≡ Some used →
+            tag_in used walk.game ≡ None →
+            IsAt self.new (add_to walk (record { offset = tag.entry.offset; name = name; value = tag.entry.value.now })) }
+    {
+        self.tags = self.tags.with(used, tag);
+        self.started = true;
+    }
+}
