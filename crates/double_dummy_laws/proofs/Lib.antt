@@ -1,0 +1,13 @@
+pub mod AlikeLemmas
+pub mod BestLemmas
+pub mod CountLemmas
+pub mod DoubleDummyLemmas
+pub mod EqualCardsLemmas
+pub mod HandLemmas
+pub mod NeighbourLemmas
+pub mod OwnerLemmas
+pub mod OwnershipLemmas
+pub mod PairingLemmas
+pub mod PatternLemmas
+pub mod RenamingLemmas
+pub mod WinnerLemmas

@@ -1,0 +1,41 @@
+-- What is found out of a position, and of every other one that is like it as far as the known cards go.
+use Rattle.std.specs.Prelude.{◌≡◌, ℕ, Bool, true, false, nat_le}
+use Rattle.std.specs.FinSet as set
+use Rattle.cards.specs.declared.card.Card.{Card}
+use Rattle.cards.specs.declared.place.Place.{Place}
+use Rattle.cards.specs.declared.side.Side.{Side}
+use Rattle.cards.specs.declared.side.Side.TheVariants.{NorthSouth, EastWest}
+use Rattle.cards.specs.Cards.{Cards}
+use Rattle.cards.specs.Hands.{Hands, hand_of}
+use Rattle.cards.specs.Play.{Position, cards_left}
+use Rattle.double_dummy_laws.specs.DoubleDummy.{tricks}
+use Rattle.double_dummy_laws.specs.Neighbours.{IsInPlay}
+use Rattle.double_dummy_laws.specs.Renaming.{Ownership, IsRenaming, HasNames, renamed, ArePlayed, knowing}
+
+-- the cards in the hands are live and their holders', and those on the table are live and the players' in turn
+pub record IsOwned (ownership : Ownership) (position : Position) : Type 0 where
+  pub held : (place : Place) (card : Card) → set.contains (hand_of position.hands place) card ≡ true →
+      (ownership.is_live card ≡ true) × (ownership.owner card ≡ place)
+  pub on_table : ArePlayed ownership position.leader position.table
+
+-- only cards in the hands and on the table are live
+abbrev pub IsTight : Ownership → Position → Type 0
+IsTight ownership position = (card : Card) → ownership.is_live card ≡ true → IsInPlay position card
+
+-- the answer to whether North and South take so many tricks, with so many cards left in the hands: the same in the
+-- position and wherever its cards have other names
+abbrev pub Claims : Ownership → ℕ → Position → ℕ → Bool → Type 0
+Claims ownership left position target answer =
+    (name : Card → Card) (hands : Hands) → IsRenaming ownership name → HasNames ownership name position.hands hands →
+    nat_le target (tricks left (renamed name position hands)) ≡ answer
+
+-- what was found out: the answer to whether North and South take so many tricks, where just these cards had to be known
+abbrev pub IsFound : Position → ℕ → Cards → Bool → Type 0
+IsFound position target known answer =
+    (ownership : Ownership) → IsOwned ownership position → IsTight ownership position →
+    Claims (knowing ownership known) (cards_left position) position target answer
+
+-- the answer that a side would rather have
+abbrev pub wanted : Side → Bool
+wanted NorthSouth = true
+wanted EastWest = false

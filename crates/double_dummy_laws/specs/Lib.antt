@@ -1,0 +1,6 @@
+pub mod DoubleDummy
+pub mod Found
+pub mod Known
+pub mod Neighbours
+pub mod Pattern
+pub mod Renaming

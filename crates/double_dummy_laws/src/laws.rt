@@ -1,0 +1,69 @@
+//! What follows from the definitions alone: each function here has nothing to do, and its clauses are the theorem.
+ghost use Rattle.std.specs.Prelude.{◌≡◌, ◌<◌, ◌≤◌, ℕ, ◌+◌, Bool, true, [], ◌∷◌, List, All, map};
+ghost use Rattle.std.specs.FinSet as set;
+ghost use Rattle.cards.specs.declared.card.Card.{Card};
+ghost use Rattle.cards.specs.declared.place.Place.{Place};
+ghost use Rattle.cards.specs.declared.side.Side.TheVariants.{NorthSouth, EastWest};
+ghost use Rattle.cards.specs.declared.suit.Suit.{Suit};
+ghost use Rattle.cards.specs.Cards.{Cards};
+ghost use Rattle.cards.specs.Hands.{Hands, hand_of};
+ghost use Rattle.cards.specs.Place.{side_of};
+ghost use Rattle.cards.specs.Play.{Position, IsPosition, IsApart, legal, to_play, cards_left};
+ghost use Rattle.double_dummy_laws.specs.DoubleDummy.{best, tricks, double_dummy, worth};
+ghost use Rattle.double_dummy_laws.specs.Found.{IsFound};
+ghost use Rattle.double_dummy_laws.specs.Neighbours.{AreNeighbours, IsRun};
+ghost use Rattle.double_dummy_laws.specs.Pattern.{IsOfPattern, IsTop, holding};
+ghost use Rattle.double_dummy_laws.specs.Renaming.{Ownership, IsRenaming, HasNames, ArePlayed, AllKnown, renamed};
+
+/// With cards left, a position is worth the best that the side to play gets by a legal card: the trick that the card
+/// completes and what the position after it is worth. With none left it is worth no trick.
+pub fn best_card_decides()
+    ensures some { (position : Position) → IsPosition position → 0 < cards_left position →
+        double_dummy position ≡ best (side_of (to_play position)) (map (worth position) (set.items (legal position))) }
+    ensures none { (position : Position) → cards_left position ≡ 0 → double_dummy position ≡ 0 }
+{}
+
+/// No legal card gains a trick for the side that plays it, so a card costs the whole difference.
+pub fn no_card_gains()
+    ensures north_south { (position : Position) (card : Card) → IsPosition position →
+        set.contains (legal position) card ≡ true → side_of (to_play position) ≡ NorthSouth →
+        worth position card ≤ double_dummy position }
+    ensures east_west { (position : Position) (card : Card) → IsPosition position →
+        set.contains (legal position) card ≡ true → side_of (to_play position) ≡ EastWest →
+        double_dummy position ≤ worth position card }
+{}
+
+/// The names of cards do not matter: a position is worth the same where each player's cards get other names of their
+/// suits, and of two players' cards of a suit the higher stays the higher.
+pub fn other_names()
+    ensures { (left : ℕ) (ownership : Ownership) (name : Card → Card) (position : Position) (hands : Hands) →
+        IsRenaming ownership name → AllKnown ownership → HasNames ownership name position.hands hands →
+        ArePlayed ownership position.leader position.table →
+        tricks left (renamed name position hands) ≡ tricks left position }
+{}
+
+/// Two legal cards of one suit with no card between them, in any hand or on the table, are worth the same, and so are all
+/// cards of a run of such neighbours.
+pub fn equal_cards()
+    ensures neighbours { (position : Position) (a b : Card) → IsPosition position → AreNeighbours position a b →
+        worth position a ≡ worth position b }
+    ensures run { (position : Position) (card : Card) (run : List Card) → IsPosition position →
+        IsRun position (card ∷ run) → All (λ other. worth position other ≡ worth position card) run }
+{}
+
+/// What was found out at the beginning of a trick, where no card mattered below so many top cards of each suit, holds of
+/// every position of the same leader and strain in which each player has as many cards of each suit and the same players
+/// hold those top cards.
+pub fn partition()
+    ensures { (tops : Suit → ℕ) (position other : Position) (known more : Cards) (target : ℕ) (answer : Bool) →
+        IsApart position.hands → IsApart other.hands → IsOfPattern tops position.hands other.hands →
+        other.strain ≡ position.strain → other.leader ≡ position.leader → position.table ≡ [] → other.table ≡ [] →
+        cards_left position ≡ cards_left other →
+        ((card : Card) → set.contains known card ≡ true →
+        IsTop (tops card.suit) (holding position.hands card.suit) card) →
+        ((card : Card) → IsTop (tops card.suit) (holding other.hands card.suit) card →
+        set.contains more card ≡ true) →
+        ((card : Card) → set.contains known card ≡ true →
+        (place : Place) × (set.contains (hand_of position.hands place) card ≡ true)) →
+        IsFound position target known answer → IsFound other target more answer }
+{}
