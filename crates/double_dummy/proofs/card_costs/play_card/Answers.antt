@@ -1,0 +1,21 @@
+use Rattle.std.proofs.Common.{subst, sym, arith}
+use Rattle.double_dummy.proofs.LeftLemmas.{left_without}
+use Rattle.double_dummy.proofs.PlayedLemmas.{thirteen_next}
+use Rattle.double_dummy.specs.Left.{IsLeftOf}
+use Rattle.double_dummy.proofs.card_costs.play_card.Goals as goal
+
+pub value-requires : goal.value-requires
+value-requires c =
+    let whole = c.args.lefts.now.whole in
+    record {
+      dealt =
+          subst (λ q. IsLeftOf whole q.hands) (sym c.after-next.ensures)
+          (left_without whole c.args.position.now.hands c.args.card c.requires.dealt);
+    }
+
+pub overflow_add-with_card : goal.overflow_add-with_card
+overflow_add-with_card c =
+    let bound = thirteen_next c.args.position.now c.after-next.result c.args.card c.after-next.ensures c.requires.valid
+    c.requires.legal c.requires.few c.value.ensures.valid in
+    let is = c.in_ok-tricks.ensures.tricks in
+    omega (arith, c.point.ensures.small)

@@ -1,0 +1,10 @@
+use Rattle.std.proofs.Common.{subst}
+use Rattle.double_dummy.specs.Left.{IsPartOf}
+use Rattle.double_dummy.proofs.LeftLemmas.{parts_of, still_held}
+use Rattle.double_dummy.proofs.holders.Holders.part.Goals as goal
+
+pub returns : goal.returns
+returns c =
+    subst (IsPartOf _) c.self.view_is
+    (parts_of _ _ (still_held _ _ _ c.difference-2.ensures) (still_held _ _ _ c.difference-4.ensures)
+    (still_held _ _ _ c.difference-6.ensures) (still_held _ _ _ c.difference-8.ensures))

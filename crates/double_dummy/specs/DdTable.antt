@@ -1,0 +1,27 @@
+-- A double-dummy table: the tricks of each declarer in each strain.
+use Rattle.std.specs.Prelude.{◌≡◌, ℕ}
+use Rattle.cards.specs.declared.place.Place.{Place}
+use Rattle.cards.specs.declared.place.Place.TheVariants.{North, East, South, West}
+use Rattle.cards.specs.declared.strain.Strain.{Strain}
+use Rattle.cards.specs.Hands.{Hands}
+use Rattle.double_dummy.specs.declared.dd_table.DeclarerTricks.{DeclarerTricks}
+use Rattle.double_dummy_laws.specs.DoubleDummy.{declarer_tricks}
+
+-- the number of a declarer
+abbrev pub tricks_of : DeclarerTricks → Place → ℕ
+tricks_of tricks North = tricks.north
+tricks_of tricks East = tricks.east
+tricks_of tricks South = tricks.south
+tricks_of tricks West = tricks.west
+
+-- the tricks of the four declarers in a strain
+abbrev pub tricks_in : Hands → Strain → DeclarerTricks
+tricks_in hands strain = record {
+  north = declarer_tricks hands strain North;
+  east = declarer_tricks hands strain East;
+  south = declarer_tricks hands strain South;
+  west = declarer_tricks hands strain West;
+}
+
+abbrev pub IsTricksIn : Hands → Strain → DeclarerTricks → Type 0
+IsTricksIn hands strain tricks = tricks ≡ tricks_in hands strain

@@ -1,0 +1,36 @@
+-- What a search keeps from card to card.
+use Rattle.std.specs.Prelude.{◌≡◌, ◌≢◌, ℕ, suc, ◌⊎◌, Bool, true, false, nat_le}
+use Rattle.cards.specs.Cards.{Cards}
+use Rattle.cards.specs.declared.card.Card.{Card}
+use Rattle.cards.specs.Hands.{Hands}
+use Rattle.std.specs.FinSet as set
+use Rattle.cards.specs.Play.{Position, cards_left, legal, to_play}
+use Rattle.double_dummy_laws.proofs.RenamingLemmas.{worth_in}
+use Rattle.double_dummy_laws.specs.Found.{IsOwned, IsTight}
+use Rattle.double_dummy_laws.specs.Known.{IsLike}
+use Rattle.double_dummy_laws.specs.Renaming.{HasNames, IsRenaming, Ownership, knowing, renamed}
+
+-- a set that has all live cards of the other players
+abbrev pub HasOthers : Position → Cards → Type 0
+HasOthers position others = (ownership : Ownership) (card : Card) → IsOwned ownership position → IsTight ownership position →
+    ownership.is_live card ≡ true → ownership.owner card ≢ to_play position →
+    set.contains others card ≡ true
+
+-- legal cards that are like this one
+abbrev pub IsRunOf : Position → Card → Cards → Type 0
+IsRunOf position card run = (ownership : Ownership) (other : Card) → IsOwned ownership position → IsTight ownership position →
+    set.contains run other ≡ true →
+    (set.contains (legal position) other ≡ true) × ((card ≡ other) ⊎ IsLike ownership card other)
+
+-- the answer to whether North and South take so many tricks with this card, wherever the cards have other names
+abbrev pub CardClaims : Ownership → ℕ → Position → ℕ → Card → Bool → Type 0
+CardClaims ownership left position target card answer =
+    (name : Card → Card) (hands : Hands) → IsRenaming ownership name → HasNames ownership name position.hands hands →
+    nat_le target (worth_in left (renamed name position hands) (name card)) ≡ answer
+
+-- each legal card that is not among these was tried, and gives the player the other answer
+abbrev pub IsRefused : Position → ℕ → Cards → Cards → Bool → Type 0
+IsRefused position target untried known answer =
+    (ownership : Ownership) (left : ℕ) → IsOwned ownership position → IsTight ownership position → cards_left position ≡ suc left →
+    (card : Card) → set.contains (legal position) card ≡ true → set.contains untried card ≡ false →
+    CardClaims (knowing ownership known) left position target card answer

@@ -1,0 +1,61 @@
+ghost use Rattle.std.specs.Prelude.{◌≡◌, ◌≤◌, [], length};
+
+use std::marker::Model;
+
+/// What each card of a play costs the side that plays it, in tricks: at most 52 numbers, which lie in the value itself.
+#[derive(Clone, Copy, Debug)]
+pub struct Costs {
+    numbers: [u8; 52],
+    len: u8,
+}
+
+impl Model for Costs {
+    ghost use Rattle.std.specs.Prelude.{List, ℕ};
+
+    ghost Value = { List ℕ };
+
+    ghost use Rattle.double_dummy.specs.CostPlaces.{IsCosts, numbers_of, places_of, places_of-numbers_of};
+
+    ghost view = { numbers_of };
+
+    ghost invariant = { IsCosts };
+
+    ghost inverse = { places_of };
+
+    ghost inverse_ok = { places_of-numbers_of };
+}
+
+impl Costs {
+    /// The costs of a play without cards.
+    #[tactic(auto, using(crate::proofs::CostsLemmas::no_places))]
+    pub(crate) fn none() -> Costs
+        ensures { result ≡ [] }
+    {
+        Costs {
+            numbers: [0; 52],
+            len: 0,
+        }
+    }
+
+    /// These numbers.
+    pub(crate) fn of(numbers: &[u8]) -> Costs
+        requires { length numbers.now ≤ 52 }
+        ensures { result ≡ numbers.now }
+    {
+        let len = numbers.len();
+        let mut places = [0; 52];
+        places[..len].copy_from_slice(numbers);
+        Costs {
+            numbers: places,
+            len: len as u8,
+        }
+    }
+
+    /// The numbers, in the order of the cards.
+    pub fn as_slice(&self) -> &[u8]
+        ensures numbers { result.now ≡ self.now }
+        ensures few { length result.now ≤ 52 }
+    {
+        &self.numbers[..self.len as usize]
+    }
+}

@@ -1,0 +1,26 @@
+use thiserror::Error;
+
+/// Why a position or a deal was not solved.
+#[derive(Clone, Copy, Debug, PartialEq, Eq, Error)]
+pub enum SolveError {
+    /// The visits of the budget are spent.
+    #[error("out of budget")]
+    OutOfBudget,
+    /// What the search remembers found no memory.
+    #[error("out of memory")]
+    OutOfMemory,
+}
+
+/// Why the cards of a play have no costs.
+#[derive(Clone, Copy, Debug, PartialEq, Eq, Error)]
+pub enum CostsError {
+    /// The card of this number, from 1, is the first that is not legal.
+    #[error("card {0} is not legal")]
+    NotAPlay(usize),
+    /// The visits of the budget are spent.
+    #[error("out of budget")]
+    OutOfBudget,
+    /// What the search remembers found no memory.
+    #[error("out of memory")]
+    OutOfMemory,
+}

@@ -1,0 +1,10 @@
+use crate::cost_numbers::Costs;
+
+/// What is found of a play.
+#[derive(Clone, Copy, Debug)]
+pub enum PlayAnswer {
+    /// What each card costs the side that plays it.
+    Costs(Costs),
+    /// The card of this number, from 1, is the first that is not legal.
+    NotAPlay(usize),
+}

@@ -1,0 +1,143 @@
+ghost use Rattle.cards.specs.Place.{side_of};
+ghost use Rattle.cards.specs.Play.{to_play};
+ghost use Rattle.double_dummy_laws.specs.Found.{wanted};
+ghost use Rattle.cards.specs.Play.{cards_left};
+ghost use Rattle.double_dummy.specs.Left.{IsLeftOf};
+ghost use Rattle.double_dummy_laws.specs.Found.{Claims, IsFound, IsOwned, IsTight};
+ghost use Rattle.double_dummy_laws.specs.Renaming.{Ownership, knowing};
+ghost use Rattle.std.specs.Prelude.{◌≡◌, ◌<◌, ◌≤◌, true, IfOk, OnErr};
+ghost use Rattle.std.specs.FinSet as set;
+ghost use Rattle.cards.specs.declared.card.Card.{Card};
+
+use crate::budget::{Budget, BudgetSpent};
+use crate::holders::Holders;
+use crate::left::Lefts;
+use crate::memory::Memory;
+use crate::order::Order;
+use crate::{run, trick};
+use cards::{Hand, Position, Side, Trick};
+
+/// Whether North and South take so many tricks, and the cards whose rank mattered.
+#[derive(Clone, Copy, Debug)]
+pub struct Finding {
+    pub holds: bool,
+    pub known: Hand,
+}
+
+/// The known cards with those that decided, and the whole run of a card of them.
+fn learnt(known: Hand, decisive: Hand, run: Hand) -> Hand
+    ensures known { (card : Card) → set.contains known card ≡ true → set.contains result card ≡ true }
+    ensures decisive { (card : Card) → set.contains decisive card ≡ true → set.contains result card ≡ true }
+    ensures run { (one other : Card) → set.contains decisive one ≡ true → set.contains run one ≡ true →
+        set.contains run other ≡ true → set.contains result other ≡ true }
+{
+    let all = known.union(decisive);
+    if decisive.is_disjoint(run) {
+        all
+    } else {
+        all.union(run)
+    }
+}
+
+/// Whether North and South take so many tricks, from the memory where it is remembered.
+#[cycle(search)]
+pub fn search(
+    position: &Position,
+    target: u8,
+    lefts: &Lefts,
+    memory: &mut Memory,
+    budget: &mut Budget,
+) -> Result<Finding, BudgetSpent>
+    requires { IsLeftOf lefts.now.whole position.now.hands }
+    ensures found { IfOk result (λ found. IsFound position.now target found.known found.holds) }
+    ensures err { OnErr result (budget.new.left ≡ 0) }
+    ensures spent { budget.new.left ≤ budget.old.left }
+{
+    if target == 0 {
+        return Ok(Finding {
+            holds: true,
+            known: Hand::new(),
+        });
+    }
+    if position.trick() != Trick::Empty {
+        return explore(position, target, lefts, memory, budget);
+    }
+    let tricks_left = position.tricks_left();
+    if tricks_left < target {
+        return Ok(Finding {
+            holds: false,
+            known: Hand::new(),
+        });
+    }
+    // two tricks are searched sooner than they are remembered
+    if tricks_left <= 2 {
+        return explore(position, target, lefts, memory, budget);
+    }
+    let holders = Holders::of(position);
+    let pattern = lefts.pattern(&holders);
+    if let Some(found) = memory.find(position, &holders, &pattern, target) {
+        return Ok(found);
+    }
+    let found = explore(position, target, lefts, memory, budget)?;
+    memory.store(position, &holders, &pattern, target, &found);
+    Ok(found)
+}
+
+/// The same, by trying the cards.
+#[cycle(search)]
+fn explore(
+    position: &Position,
+    target: u8,
+    lefts: &Lefts,
+    memory: &mut Memory,
+    budget: &mut Budget,
+) -> Result<Finding, BudgetSpent>
+    requires target { 0 < target }
+    requires left { IsLeftOf lefts.now.whole position.now.hands }
+    ensures found { IfOk result (λ found. IsFound position.now target found.known found.holds) }
+    ensures err { OnErr result (budget.new.left ≡ 0) }
+    ensures spent { budget.new.left ≤ budget.old.left }
+{
+    let playable = position.legal_cards();
+    let mut untried = playable;
+    if untried.is_empty() {
+        return Ok(Finding {
+            holds: false,
+            known: Hand::new(),
+        });
+    }
+    budget.visit()?;
+    let wanted = wants(position);
+    let others = run::others(position);
+    let order = Order::of(position, others, playable);
+    let mut known = Hand::new();
+    while let Some(card) = order.best(untried) {
+        let rest = target - position.point(card);
+        let next = position.after(card);
+        let found = search(&next, rest, lefts, memory, budget)?;
+        let decisive = found.known.union(trick::decisive(position, card));
+        if found.holds == wanted {
+            return Ok(Finding {
+                holds: wanted,
+                known: decisive,
+            });
+        }
+        let run = run::run_of(position, others, playable, card);
+        known = learnt(known, decisive, run);
+        untried = untried.difference(run);
+    }
+    Ok(Finding {
+        holds: !wanted,
+        known,
+    })
+}
+
+/// The answer that the player in turn would rather have to whether North and South take so many tricks.
+fn wants(position: &Position) -> bool
+    ensures { result ≡ wanted (side_of (to_play position.now)) }
+{
+    match position.trick().turn(position.leader()).side() {
+        Side::NorthSouth => true,
+        Side::EastWest => false,
+    }
+}
