@@ -2,8 +2,6 @@
 #![tactic(auto)]
 
 mod line;
-#[cfg(test)]
-mod tests;
 
 use crate::line::board_line;
 use pbn_records::{BoardSet, DealsError, read_deals};

@@ -1,7 +1,7 @@
 -- What begins a text is its first piece, where it may stand there.
-use Rattle.std.proofs.Common.{ℕ, Bool, true, false, List, [], ◌∷◌, ◌++◌, refl, sym, ap, subst, ◌∙◌, arith}
+use Rattle.std.proofs.Common.{ℕ, Bool, true, false, List, [], ◌∷◌, ◌++◌, refl, sym, ap, subst, ◌∙◌, arith, append-nil}
 use Rattle.std.proofs.lemmas.Bool.{true≢false}
-use Rattle.pbn_pieces.specs.Pieces.{is_other_than, Each, IsWithinQuotes, Quotes, Piece, Comment, LineComment, EscapeLine, Quoted, Plain, spelled, Stands, starts_line, Joins, Begins}
+use Rattle.pbn_pieces.specs.Pieces.{is_other_than, Each, IsWithinQuotes, Quotes, Tag, tag_text, IsTag, HasTag, AtLineEnd, Piece, Comment, OpenComment, LineComment, EscapeLine, Quoted, Tagged, Broken, Plain, spelled, Stands, starts_line, Joins, Begins}
 use Rattle.pbn_pieces.specs.Cutting.{first_piece}
 use Rattle.pbn_pieces.proofs.CutLemmas.{none_some, some_same, first_is, no_blank_line}
 use Rattle.pbn_pieces.proofs.FirstPieceLemmas.{no_line}
@@ -19,13 +19,29 @@ pub comment : (starting : Bool) (inside rest : List ℕ) (pieces : List Piece) �
     Joins starting pieces (123 ∷ (inside ++ 125 ∷ rest)) → Begins pieces (Comment inside) rest
 comment starting inside rest pieces each = begins starting (Comment inside) rest pieces each
 
-pub line_comment : (starting : Bool) (inside rest : List ℕ) (pieces : List Piece) → Each (is_other_than 10) inside →
-    Joins starting pieces (59 ∷ (inside ++ 10 ∷ rest)) → Begins pieces (LineComment inside) (10 ∷ rest)
-line_comment starting inside rest pieces each = begins starting (LineComment inside) (10 ∷ rest) pieces (each, refl)
+pub open_comment : (starting : Bool) (inside : List ℕ) (pieces : List Piece) → Each (is_other_than 125) inside →
+    Joins starting pieces (123 ∷ inside) → Begins pieces (OpenComment inside) []
+open_comment starting inside pieces each joins =
+    begins starting (OpenComment inside) [] pieces (each, refl)
+    (subst (λ bytes. Joins starting pieces (123 ∷ bytes)) (sym (append-nil inside)) joins)
 
-pub escape_line : (inside rest : List ℕ) (pieces : List Piece) → Each (is_other_than 10) inside →
-    Joins true pieces (37 ∷ (inside ++ 10 ∷ rest)) → Begins pieces (EscapeLine inside) (10 ∷ rest)
-escape_line inside rest pieces each = begins true (EscapeLine inside) (10 ∷ rest) pieces (refl, each, refl)
+pub line_comment : (starting : Bool) (inside rest : List ℕ) (pieces : List Piece) → Each (is_other_than 10) inside → AtLineEnd rest →
+    Joins starting pieces (59 ∷ (inside ++ rest)) → Begins pieces (LineComment inside) rest
+line_comment starting inside rest pieces each ends = begins starting (LineComment inside) rest pieces (each, ends)
+
+pub escape_line : (inside rest : List ℕ) (pieces : List Piece) → Each (is_other_than 10) inside → AtLineEnd rest →
+    Joins true pieces (37 ∷ (inside ++ rest)) → Begins pieces (EscapeLine inside) rest
+escape_line inside rest pieces each ends = begins true (EscapeLine inside) rest pieces (refl, each, ends)
+
+pub whole_tag : (starting : Bool) (found : Tag) (rest : List ℕ) (pieces : List Piece) → IsTag found →
+    Joins starting pieces (91 ∷ tag_text found rest) → Begins pieces (Tagged found) rest
+whole_tag starting found rest pieces is = begins starting (Tagged found) rest pieces is
+
+pub broken : (starting : Bool) (after : List ℕ) (pieces : List Piece) → (¬ HasTag after) →
+    Joins starting pieces (91 ∷ after) → Begins pieces (Broken after) []
+broken starting after pieces none joins =
+    begins starting (Broken after) [] pieces (refl, none)
+    (subst (λ bytes. Joins starting pieces (91 ∷ bytes)) (sym (append-nil after)) joins)
 
 pub percent_within : (rest : List ℕ) (pieces : List Piece) → Joins false pieces (37 ∷ rest) → Begins pieces (Plain 37) rest
 percent_within rest pieces =

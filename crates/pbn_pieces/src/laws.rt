@@ -1,7 +1,7 @@
 //! What is known of every text: each function here has nothing to do, and its clauses are the theorem.
 
-ghost use Rattle.std.specs.Prelude.{◌≡◌, ◌∷◌, ◌++◌, ℕ, List, Bool, true, false};
-ghost use Rattle.pbn_pieces.specs.Pieces.{Piece, Comment, LineComment, EscapeLine, Quoted, Plain, Each, is_other_than, IsWithinQuotes, Quotes, Joins, Begins};
+ghost use Rattle.std.specs.Prelude.{◌≡◌, [], ◌∷◌, ◌++◌, ℕ, List, Bool, true, false};
+ghost use Rattle.pbn_pieces.specs.Pieces.{Piece, Comment, OpenComment, LineComment, EscapeLine, Quoted, Tagged, Broken, Plain, Each, is_other_than, IsWithinQuotes, Quotes, Tag, tag_text, IsTag, HasTag, AtLineEnd, Joins, Begins};
 
 /// A text is cut in one way alone.
 #[tactic(auto, using(crate::proofs::CutLemmas::cut_once))]
@@ -23,18 +23,25 @@ pub fn a_comment_ends_with_the_next_brace()
         Joins starting pieces (123 ∷ (inside ++ 125 ∷ rest)) → Begins pieces (Comment inside) rest }
 {}
 
+/// `{` with no `}` after it opens a comment up to the text's end.
+#[tactic(auto, using(crate::proofs::LawLemmas::open_comment))]
+pub fn an_open_comment_ends_with_the_text()
+    ensures { (starting : Bool) (inside : List ℕ) (pieces : List Piece) → Each (is_other_than 125) inside →
+        Joins starting pieces (123 ∷ inside) → Begins pieces (OpenComment inside) [] }
+{}
+
 /// `;` opens a comment that ends with its line.
 #[tactic(auto, using(crate::proofs::LawLemmas::line_comment))]
 pub fn a_line_comment_ends_with_its_line()
     ensures { (starting : Bool) (inside rest : List ℕ) (pieces : List Piece) → Each (is_other_than 10) inside →
-        Joins starting pieces (59 ∷ (inside ++ 10 ∷ rest)) → Begins pieces (LineComment inside) (10 ∷ rest) }
+        AtLineEnd rest → Joins starting pieces (59 ∷ (inside ++ rest)) → Begins pieces (LineComment inside) rest }
 {}
 
 /// A line that begins with `%` is skipped whole.
 #[tactic(auto, using(crate::proofs::LawLemmas::escape_line))]
 pub fn an_escape_line_is_skipped()
-    ensures { (inside rest : List ℕ) (pieces : List Piece) → Each (is_other_than 10) inside →
-        Joins true pieces (37 ∷ (inside ++ 10 ∷ rest)) → Begins pieces (EscapeLine inside) (10 ∷ rest) }
+    ensures { (inside rest : List ℕ) (pieces : List Piece) → Each (is_other_than 10) inside → AtLineEnd rest →
+        Joins true pieces (37 ∷ (inside ++ rest)) → Begins pieces (EscapeLine inside) rest }
 {}
 
 /// `%` within a line is a byte as any other.
@@ -55,4 +62,18 @@ pub fn a_quoted_text_is_skipped()
 pub fn an_unclosed_quote_is_plain()
     ensures { (starting : Bool) (rest : List ℕ) (pieces : List Piece) → (¬ Quotes rest) →
         Joins starting pieces (34 ∷ rest) → Begins pieces (Plain 34) rest }
+{}
+
+/// `[`, a name, a value in quotes and `]`, with blanks between them, is a tag.
+#[tactic(auto, using(crate::proofs::LawLemmas::whole_tag))]
+pub fn a_tag_is_told()
+    ensures { (starting : Bool) (tag : Tag) (rest : List ℕ) (pieces : List Piece) → IsTag tag →
+        Joins starting pieces (91 ∷ tag_text tag rest) → Begins pieces (Tagged tag) rest }
+{}
+
+/// `[` that begins no tag ends the text: nothing after it is read.
+#[tactic(auto, using(crate::proofs::LawLemmas::broken))]
+pub fn a_broken_tag_ends_the_text()
+    ensures { (starting : Bool) (after : List ℕ) (pieces : List Piece) → (¬ HasTag after) →
+        Joins starting pieces (91 ∷ after) → Begins pieces (Broken after) [] }
 {}

@@ -8,8 +8,6 @@ mod piece;
 mod pieces;
 mod spans;
 mod tag_text;
-#[cfg(test)]
-mod tests;
 
 pub use piece::Found;
 pub use pieces::Pieces;

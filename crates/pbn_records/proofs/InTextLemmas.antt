@@ -15,7 +15,6 @@ use Rattle.pbn_records.specs.declared.fault.Fault.{Fault}
 use Rattle.pbn_records.specs.declared.fault.Fault.TheVariants as kind
 use Rattle.pbn_records.specs.declared.state.State.{State}
 use Rattle.pbn_records.specs.declared.deals_error.DealsError.{DealsError}
-use Rattle.pbn_records.specs.declared.deals_error.DealsError.TheVariants.{OutOfMemory}
 use Rattle.pbn_records.specs.Tags.{without_mark, Placed, Mark, Named, Break, mark_of, marks_from, bad_at, bad_from, used_of, has_already, ended, games_from}
 use Rattle.pbn_records.specs.Values.{Values, no_values, values_of, all_values}
 use Rattle.pbn_records.specs.Faults.{HasFault}
@@ -293,22 +292,20 @@ refused_bad text boards old new walk seen error at takes ends =
 
 pub refused_taken : (text : List ℕ) (boards offset : ℕ) (old new : Uncut) (state : State) (seen : Found) (error : DealsError) →
     (stands : StandsInText text old boards state) → offset ≡ length text - length old.rest → Takes old seen new →
-    (error ≡ OutOfMemory) ⊎ EndsInFault state.boards stands.walk (walk_on stands.walk offset seen) error ⊎ EndsInBadTag state.boards stands.walk seen offset error →
+    EndsInFault state.boards stands.walk (walk_on stands.walk offset seen) error ⊎ EndsInBadTag state.boards stands.walk seen offset error →
     IsRefused error text boards
-refused_taken text boards offset old new state seen error stands place takes (inl e) = subst (λ e. IsRefused e text boards) (sym e) tt
-refused_taken text boards offset old new state seen error stands place takes (inr (inl ends)) =
+refused_taken text boards offset old new state seen error stands place takes (inl ends) =
     let moved = subst (λ n. EndsInFault state.boards stands.walk (walk_on stands.walk n seen) error) place ends in
     subst (λ b. IsRefused error text b) stands.same
     (refused_fault text state.boards old new stands.walk seen error stands.in_text takes stands.at.faultless moved)
-refused_taken text boards offset old new state seen error stands place takes (inr (inr ends)) =
+refused_taken text boards offset old new state seen error stands place takes (inr ends) =
     subst (λ b. IsRefused error text b) stands.same
     (refused_bad text state.boards old new stands.walk seen error stands.in_text takes
     (subst (λ n. EndsInBadTag state.boards stands.walk seen n error) place ends))
 
 pub refused_at_end : (text : List ℕ) (boards : ℕ) (uncut : Uncut) (state : State) (error : DealsError) → (stands : StandsInText text uncut boards state) →
-    uncut.rest ≡ [] → (error ≡ OutOfMemory) ⊎ EndsInFault state.boards stands.walk (end_of stands.walk) error → IsRefused error text boards
-refused_at_end text boards uncut state error stands none (inl e) = subst (λ e. IsRefused e text boards) (sym e) tt
-refused_at_end text boards uncut state error stands none (inr ends) =
+    uncut.rest ≡ [] → EndsInFault state.boards stands.walk (end_of stands.walk) error → IsRefused error text boards
+refused_at_end text boards uncut state error stands none ends =
     subst (λ b. IsRefused error text b) stands.same
     (refused_ending text state.boards (length text - length uncut.rest) stands.walk error None (ends_here text uncut stands.walk stands.in_text none)
     (λ place e. absurd (true≢false (ap is_some (sym e)))) stands.in_text.below stands.at.faultless ends)

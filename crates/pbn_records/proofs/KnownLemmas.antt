@@ -1,10 +1,11 @@
 -- What is known of the boards of some games, and of one game more.
-use Rattle.std.proofs.Common.{◌≡◌, ℕ, ◌≤◌, Bool, true, false, inl, inr, List, [], ◌∷◌, ◌++◌, refl, sym, ap, subst, ◌∙◌}
-use Rattle.std.specs.Prelude.{Option, Some, None, nat_eq, nat_le, ◌&&◌, if◌then◌else◌, cond}
+use Rattle.std.proofs.Common.{◌≡◌, ◌≢◌, ℕ, ◌≤◌, get_or, replicate, arith, Bool, true, false, inl, inr, List, [], ◌∷◌, ◌++◌, refl, sym, ap, subst, ◌∙◌}
+use Rattle.std.specs.Prelude.{Option, Some, None, nat_eq, nat_lt, nat_le, ◌&&◌, if◌then◌else◌}
 use Rattle.std.specs.Option.{is_some, option_or}
-use Rattle.std.proofs.lemmas.Bool.{true≢false, cases_Bool, eqb-true, eq-eqb, leb-true, and_parts}
+use Rattle.std.proofs.lemmas.Bool.{true≢false, cases_Bool, eqb-true, eq-eqb, leb-true, ltb-true, ltb-false, and_parts}
+use Rattle.std.proofs.lemmas.List.{get_or-replicate, get_or_past, length-replicate}
 use Rattle.std.proofs.lemmas.List.Folds.{find-append}
-use Rattle.indexmap.specs.IndexMap.{IndexMap, get, Updates}
+use Rattle.pbn_records.specs.declared.known_boards.KnownBoards.{KnownBoards}
 use Rattle.pbn_records.specs.declared.board.Board.{Board}
 use Rattle.pbn_records.specs.declared.fault.FaultAt.{FaultAt}
 use Rattle.pbn_records.specs.declared.fault.Fault.{Fault}
@@ -15,7 +16,15 @@ use Rattle.pbn_records.specs.Tags.{Valued}
 use Rattle.pbn_records.specs.Values.{Values}
 use Rattle.pbn_records.specs.Boards.{are_digits, number_of, is_there, number_in, is_board, board_of, first_game, IsRead}
 use Rattle.pbn_records.specs.Faults.{first_of, IsFaultOf}
-use Rattle.pbn_records.specs.Kept.{KnowsDeal, KnowsBoard, Knows, Finds, HasTagFault, IsGameFault, error_of}
+use Rattle.pbn_records.specs.Kept.{KnowsDeal, KnowsBoard, board_at, Knows, Finds, HasTagFault, IsGameFault, error_of}
+
+-- no board is known yet
+pub none_yet : (places number : ℕ) (none : Option Board) → get_or (replicate places none) number none ≡ none
+none_yet places number none = elim (cases_Bool (nat_lt number places)) [
+  | inl within ↦ get_or-replicate places number none none (ltb-true number places within)
+  | inr past ↦ get_or_past (replicate places none) number none
+      (let long = length-replicate places none in let after = ltb-false number places past in omega (arith, long, after))
+]
 
 knows_deal_of : (number : ℕ) (first : Option Values) (known : Option Board) → KnowsBoard number first known → KnowsDeal first known
 knows_deal_of number None None knows = tt
@@ -24,22 +33,22 @@ knows_deal_of number (Some values) None knows = knows
 knows_deal_of number (Some values) (Some board) knows = knows.deal
 
 -- what is known of a game's board
-pub knows_first : {S : Type 0} (boards : ℕ) (games : List Values) (map : IndexMap ℕ Board S) (board : Option ℕ) (earlier : Option Board) →
-    ((number : ℕ) → board ≡ Some number → earlier ≡ get nat_eq map number) → (board ≡ None → earlier ≡ None) →
-    Knows boards games map → KnowsDeal (first_of boards games board) earlier
-knows_first boards games map None earlier some none knows = subst (KnowsDeal None) (sym (none refl)) tt
-knows_first boards games map (Some number) earlier some none knows =
+pub knows_first : (boards : ℕ) (games : List Values) (known : KnownBoards) (board : Option ℕ) (earlier : Option Board) →
+    ((number : ℕ) → board ≡ Some number → earlier ≡ board_at known number) → (board ≡ None → earlier ≡ None) →
+    Knows boards games known → KnowsDeal (first_of boards games board) earlier
+knows_first boards games known None earlier some none knows = subst (KnowsDeal None) (sym (none refl)) tt
+knows_first boards games known (Some number) earlier some none knows =
     subst (KnowsDeal (first_game boards number games)) (sym (some number refl)) (knows_deal_of number _ _ (knows number))
 
 -- the first fault of a game
-pub game_finds : {S : Type 0} (boards : ℕ) (games : List Values) (map : IndexMap ℕ Board S) (values : Values) (board : Option ℕ)
+pub game_finds : (boards : ℕ) (games : List Values) (known : KnownBoards) (values : Values) (board : Option ℕ)
     (earlier : Option Board) (found : Option FaultAt) → board ≡ board_of boards values →
-    ((number : ℕ) → board ≡ Some number → earlier ≡ get nat_eq map number) → (board ≡ None → earlier ≡ None) →
+    ((number : ℕ) → board ≡ Some number → earlier ≡ board_at known number) → (board ≡ None → earlier ≡ None) →
     ((first : Option Values) → KnowsDeal first earlier → Finds found (HasTagFault board first values)) →
-    Knows boards games map → Finds found (IsFaultOf boards games values)
-game_finds boards games map values board earlier found is some none finds knows =
+    Knows boards games known → Finds found (IsFaultOf boards games values)
+game_finds boards games known values board earlier found is some none finds knows =
     subst (λ board. Finds found (HasTagFault board (first_of boards games board) values)) is
-    (finds (first_of boards games board) (knows_first boards games map board earlier some none knows))
+    (finds (first_of boards games board) (knows_first boards games known board earlier some none knows))
 
 pub game_fault : (boards : ℕ) (games : List Values) (values : Values) (found : FaultAt) (error : DealsError) →
     error ≡ error_of found.fault found.offset → Finds (Some found) (IsFaultOf boards games values) → IsGameFault boards games values error
@@ -73,10 +82,10 @@ first_kept boards number games values known =
     ]
 
 -- a game that is ignored
-pub knows_ignored : {S : Type 0} (boards : ℕ) (games : List Values) (map : IndexMap ℕ Board S) (values : Values) →
-    board_of boards values ≡ None → Knows boards games map → Knows boards (games ++ values ∷ []) map
-knows_ignored boards games map values none knows number =
-    subst (λ first. KnowsBoard number first (get nat_eq map number))
+pub knows_ignored : (boards : ℕ) (games : List Values) (known : KnownBoards) (values : Values) →
+    board_of boards values ≡ None → Knows boards games known → Knows boards (games ++ values ∷ []) known
+knows_ignored boards games known values none knows number =
+    subst (λ first. KnowsBoard number first (board_at known number))
     (sym (first_kept boards number games values (λ is. absurd (true≢false (sym is ∙ ap (is_board number) none)))))
     (knows number)
 
@@ -86,11 +95,11 @@ some_known number None (Some board) knows e = absurd knows
 some_known number (Some values) known knows e = refl
 
 -- a game of a board that has an earlier one
-pub knows_again : {S : Type 0} (boards : ℕ) (games : List Values) (map : IndexMap ℕ Board S) (values : Values) (number : ℕ) (earlier : Option Board) →
-    Some number ≡ board_of boards values → earlier ≡ get nat_eq map number → is_some earlier ≡ true →
-    Knows boards games map → Knows boards (games ++ values ∷ []) map
-knows_again boards games map values number earlier is at some knows other =
-    subst (λ first. KnowsBoard other first (get nat_eq map other))
+pub knows_again : (boards : ℕ) (games : List Values) (known : KnownBoards) (values : Values) (number : ℕ) (earlier : Option Board) →
+    Some number ≡ board_of boards values → earlier ≡ board_at known number → is_some earlier ≡ true →
+    Knows boards games known → Knows boards (games ++ values ∷ []) known
+knows_again boards games known values number earlier is at some knows other =
+    subst (λ first. KnowsBoard other first (board_at known other))
     (sym (first_kept boards other games values (λ e.
     let same = eqb-true number other (ap (is_board other) is ∙ e) in
     subst (λ n. is_some (first_game boards n games) ≡ true) same
@@ -103,16 +112,16 @@ none_known number (Some values) None knows e = absurd knows
 none_known number (Some values) (Some board) knows e = absurd (true≢false (ap is_some e))
 
 -- a board's first game
-pub knows_new : {S : Type 0} (boards : ℕ) (games : List Values) (old new : IndexMap ℕ Board S) (values : Values) (number : ℕ) (earlier : Option Board) (read : Board) →
-    Some number ≡ board_of boards values → earlier ≡ get nat_eq old number → earlier ≡ None → IsRead number values read →
-    Updates nat_eq old new number (Some read) → Knows boards games old → Knows boards (games ++ values ∷ []) new
-knows_new boards games old new values number earlier read is at none reads updates knows other =
+pub knows_new : (boards : ℕ) (games : List Values) (old new : KnownBoards) (values : Values) (number : ℕ) (earlier : Option Board) (read : Board) →
+    Some number ≡ board_of boards values → earlier ≡ board_at old number → earlier ≡ None → IsRead number values read →
+    board_at new number ≡ Some read → ((other : ℕ) → other ≢ number → board_at new other ≡ board_at old other) → Knows boards games old → Knows boards (games ++ values ∷ []) new
+knows_new boards games old new values number earlier read is at none reads added_so others knows other =
     elim (cases_Bool (nat_eq number other)) [
       | inl same ↦
           let e = eqb-true number other same in
-          subst (λ n. KnowsBoard n (first_game boards n (games ++ values ∷ [])) (get nat_eq new n)) e
-          (subst (λ known. KnowsBoard number (first_game boards number (games ++ values ∷ [])) known)
-          (sym (updates.0 number ∙ ap (λ (b : Bool). cond b (Some read) (get nat_eq old number)) (eq-eqb number number refl)))
+          subst (λ n. KnowsBoard n (first_game boards n (games ++ values ∷ [])) (board_at new n)) e
+          (subst (λ found. KnowsBoard number (first_game boards number (games ++ values ∷ [])) found)
+          (sym added_so)
           (subst (λ first. KnowsBoard number first (Some read))
           (sym (added boards number games values
           ∙ ap (λ first. option_or first (if is_board number (board_of boards values) then Some values else None))
@@ -121,9 +130,9 @@ knows_new boards games old new values number earlier read is at none reads updat
           ∙ ap (λ (b : Bool). if b then Some values else None) (eq-eqb number number refl)))
           reads))
       | inr apart ↦
-          subst (λ known. KnowsBoard other (first_game boards other (games ++ values ∷ [])) known)
-          (sym (updates.2 other apart))
-          (subst (λ first. KnowsBoard other first (get nat_eq old other))
+          subst (λ found. KnowsBoard other (first_game boards other (games ++ values ∷ [])) found)
+          (sym (others other (λ e. true≢false (sym (eq-eqb number other (sym e)) ∙ apart))))
+          (subst (λ first. KnowsBoard other first (board_at old other))
           (sym (first_kept boards other games values (λ e. absurd (true≢false (sym (ap (is_board other) is ∙ e) ∙ apart)))))
           (knows other))
     ]

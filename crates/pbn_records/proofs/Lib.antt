@@ -6,8 +6,10 @@ pub mod InTextLemmas
 pub mod KnownLemmas
 pub mod LawLemmas
 pub mod NumberLemmas
+pub mod OneFaultLemmas
 pub mod PartsLemmas
 pub mod ReaderLemmas
 pub mod ReadsLemmas
+pub mod RefusalLemmas
 pub mod RisingLemmas
 pub mod StateLemmas

@@ -21,7 +21,7 @@ abbrev pub StandAt : (ℕ → Type 0) → Option Valued → Type 0
 StandAt P None = Unit {0}
 StandAt P (Some tag) = P tag.offset
 
-tag_stands : (P : ℕ → Type 0) (used : Used) (game : List Placed) → Stand P game → StandAt P (tag_in used game)
+pub tag_stands : (P : ℕ → Type 0) (used : Used) (game : List Placed) → Stand P game → StandAt P (tag_in used game)
 tag_stands P used [] all = tt
 tag_stands P used (tag ∷ game) all =
     cond_both (bytes_eq tag.name (name_of used)) (Some (record { offset = tag.offset; value = tag.value })) (tag_in used game) (StandAt P)
@@ -59,11 +59,11 @@ faults_stand P boards before [] fault offset all has = absurd has
 faults_stand P boards before (values ∷ games) fault offset all (inl is) = fault_stands P boards before values fault offset all.0 is
 faults_stand P boards before (values ∷ games) fault offset all (inr has) = faults_stand P boards (before ++ values ∷ []) games fault offset all.1 has
 
-all_stand : (P : ℕ → Type 0) (before : Values) (games : List (List Placed)) → AllByRecursion (Stand P) games → AllByRecursion (ValuesStand P) (all_values before games)
+pub all_stand : (P : ℕ → Type 0) (before : Values) (games : List (List Placed)) → AllByRecursion (Stand P) games → AllByRecursion (ValuesStand P) (all_values before games)
 all_stand P before [] all = tt
 all_stand P before (game ∷ games) all = (values_stand P before game all.0, all_stand P (values_of before game) games all.1)
 
-abbrev MarkStands : (ℕ → Type 0) → Mark → Type 0
+abbrev pub MarkStands : (ℕ → Type 0) → Mark → Type 0
 MarkStands P (Named tag) = P tag.offset
 MarkStands P Break = Unit {0}
 
@@ -75,7 +75,7 @@ stand_more : (P : ℕ → Type 0) (game : List Placed) (tag : Placed) → Stand 
 stand_more P [] tag all is = (is, tt)
 stand_more P (first ∷ game) tag all is = (all.0, stand_more P game tag all.1 is)
 
-games_stand : (P : ℕ → Type 0) (game : List Placed) (marks : List Mark) → Stand P game → AllByRecursion (MarkStands P) marks → AllByRecursion (Stand P) (games_from game marks)
+pub games_stand : (P : ℕ → Type 0) (game : List Placed) (marks : List Mark) → Stand P game → AllByRecursion (MarkStands P) marks → AllByRecursion (Stand P) (games_from game marks)
 games_stand P game [] one all = ended_stand P game [] one tt
 games_stand P game (Break ∷ marks) one all = ended_stand P game (games_from [] marks) one (games_stand P [] marks tt all.1)
 games_stand P game (Named tag ∷ marks) one all =
@@ -83,12 +83,12 @@ games_stand P game (Named tag ∷ marks) one all =
     (λ e. ended_stand P game (games_from (tag ∷ []) marks) one (games_stand P (tag ∷ []) marks (all.0, tt) all.1))
     (λ e. games_stand P (game ++ tag ∷ []) marks (stand_more P game tag one all.0) all.1)
 
-lower : (least offset : ℕ) (marks : List Mark) → least ≤ offset → AllByRecursion (MarkStands (λ n. offset ≤ n)) marks → AllByRecursion (MarkStands (λ n. least ≤ n)) marks
+pub lower : (least offset : ℕ) (marks : List Mark) → least ≤ offset → AllByRecursion (MarkStands (λ n. offset ≤ n)) marks → AllByRecursion (MarkStands (λ n. least ≤ n)) marks
 lower least offset [] within all = tt
 lower least offset (Named tag ∷ marks) within all = (omega (arith, within, all.0), lower least offset marks within all.1)
 lower least offset (Break ∷ marks) within all = (tt, lower least offset marks within all.1)
 
-piece_stands : (offset : ℕ) (marks : List Mark) (piece : Piece) → AllByRecursion (MarkStands (λ n. offset ≤ n)) marks →
+pub piece_stands : (offset : ℕ) (marks : List Mark) (piece : Piece) → AllByRecursion (MarkStands (λ n. offset ≤ n)) marks →
     AllByRecursion (MarkStands (λ n. offset ≤ n)) (mark_of offset piece ++ marks)
 piece_stands offset marks (Comment inside) all = all
 piece_stands offset marks (OpenComment inside) all = all
@@ -100,7 +100,7 @@ piece_stands offset marks (Tagged tag) all = (omega arith, all)
 piece_stands offset marks (Broken after) all = all
 piece_stands offset marks (Plain byte) all = all
 
-marks_stand : (offset : ℕ) (pieces : List Piece) → AllByRecursion (MarkStands (λ n. offset ≤ n)) (marks_from offset pieces)
+pub marks_stand : (offset : ℕ) (pieces : List Piece) → AllByRecursion (MarkStands (λ n. offset ≤ n)) (marks_from offset pieces)
 marks_stand offset [] = tt
 marks_stand offset (piece ∷ pieces) =
     piece_stands offset (marks_from (offset + size piece) pieces) piece

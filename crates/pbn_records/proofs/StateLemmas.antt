@@ -11,7 +11,6 @@ use Rattle.pbn_records.specs.declared.game.TagAt.{TagAt}
 use Rattle.pbn_records.specs.declared.fault.Fault.{Fault}
 use Rattle.pbn_records.specs.declared.state.State.{State}
 use Rattle.pbn_records.specs.declared.deals_error.DealsError.{DealsError}
-use Rattle.pbn_records.specs.declared.deals_error.DealsError.TheVariants.{OutOfMemory}
 use Rattle.pbn_records.specs.Tags.{Placed, Valued, Named, name_of, used_of, tag_in, has_already}
 use Rattle.pbn_records.specs.Values.{Values, inherited, read_value, valued, values_of}
 use Rattle.pbn_records.specs.Faults.{IsFaultOf, HasFault}
@@ -26,7 +25,7 @@ named_again Dealer = refl
 named_again Vulnerable = refl
 named_again Deal = refl
 
-used_by_name : (name : List ℕ) (used : Used) → bytes_eq name (name_of used) ≡ true → used_of name ≡ Some used
+pub used_by_name : (name : List ℕ) (used : Used) → bytes_eq name (name_of used) ≡ true → used_of name ≡ Some used
 used_by_name name used e = ap used_of (bytes_are name (name_of used) e) ∙ named_again used
   where
     bytes_are : (some other : List ℕ) → bytes_eq some other ≡ true → some ≡ other
@@ -231,13 +230,7 @@ pub err_of : {X E : Type 0} {P Q : E → Type 0} (result : Result X E) → ((err
 err_of (Ok x) f is = is
 err_of (Err e) f is = f e is
 
-pub fault_of_step : (boards : ℕ) (walk : Walk) (tag : Placed) (error other : DealsError) → has_already walk.game (used_of tag.name) ≡ true →
-    (error ≡ other) ⊎ EndsInFault boards walk (end_of walk) error → (error ≡ other) ⊎ EndsInFault boards walk (step walk (Named tag)) error
-fault_of_step boards walk tag error other is (inl e) = inl e
-fault_of_step boards walk tag error other is (inr ends) =
-    inr (subst (λ (next : Walk). EndsInFault boards walk next error) (sym (step_begins walk tag is)) (record { ended = ends.ended; fault = ends.fault }))
-
-pub fault_ends : (old : State) (walk : Walk) (read : Values) (error : DealsError) → read ≡ values_of walk.before walk.game → has_tags walk.game ≡ true →
-    (error ≡ OutOfMemory) ⊎ IsGameFault old.boards walk.done read error → (error ≡ OutOfMemory) ⊎ EndsInFault old.boards walk (end_of walk) error
-fault_ends old walk read error is some (inl e) = inl e
-fault_ends old walk read error is some (inr fault) = inr (end_fault old walk read error is some fault)
+pub fault_of_step : (boards : ℕ) (walk : Walk) (tag : Placed) (error : DealsError) → has_already walk.game (used_of tag.name) ≡ true →
+    EndsInFault boards walk (end_of walk) error → EndsInFault boards walk (step walk (Named tag)) error
+fault_of_step boards walk tag error is ends =
+    subst (λ (next : Walk). EndsInFault boards walk next error) (sym (step_begins walk tag is)) (record { ended = ends.ended; fault = ends.fault })

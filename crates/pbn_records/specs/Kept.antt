@@ -1,6 +1,6 @@
 -- What the reader knows while it goes through a text.
-use Rattle.std.specs.Prelude.{◌≡◌, ◌≢◌, ◌≤◌, ℕ, if◌then◌else◌, nat_eq, nat_le, List, [], ◌∷◌, ◌++◌, Option, Some, None}
-use Rattle.indexmap.specs.IndexMap.{IndexMap, get}
+use Rattle.std.specs.Prelude.{◌≡◌, ◌≢◌, ◌≤◌, ℕ, if◌then◌else◌, nat_le, slice_index_or, List, [], ◌∷◌, ◌++◌, Option, Some, None}
+use Rattle.pbn_records.specs.declared.known_boards.KnownBoards.{KnownBoards}
 use Rattle.cards.specs.Hands.{Hands}
 use Rattle.pbn_records.specs.declared.used.Used.{Used}
 use Rattle.pbn_records.specs.declared.used.Used.TheVariants as used
@@ -35,9 +35,13 @@ KnowsBoard number None (Some board) = ⊥
 KnowsBoard number (Some values) None = ⊥
 KnowsBoard number (Some values) (Some board) = IsRead number values board
 
+-- what is known of a board
+abbrev pub board_at : KnownBoards → ℕ → Option Board
+board_at known number = slice_index_or known.places number None
+
 -- the boards of these games are known
-abbrev pub Knows : {S : Type 0} → ℕ → List Values → IndexMap ℕ Board S → Type 0
-Knows boards games known = (number : ℕ) → KnowsBoard number (first_game boards number games) (get nat_eq known number)
+abbrev pub Knows : ℕ → List Values → KnownBoards → Type 0
+Knows boards games known = (number : ℕ) → KnowsBoard number (first_game boards number games) (board_at known number)
 
 -- the earlier of two faults
 abbrev pub earlier_of : Option FaultAt → Option FaultAt → Option FaultAt

@@ -62,7 +62,8 @@ pub record Reads (text : List ℕ) (boards : ℕ) (set : List Board) : Type 0 wh
       Some values) ×
       (slice_get set (number - 1) ≡ Some board) × IsRead number values board
 
--- why a text is refused: the fault of least offset, else the least board without a deal, else want of memory
+-- why a text is refused: the fault of least offset, else the least board without a deal, else, where there is a set to
+-- give, want of memory
 abbrev pub IsRefused : DealsError → List ℕ → ℕ → Type 0
 IsRefused (BadTag offset) text boards = IsFirstFault text boards kind.BadTag offset
 IsRefused (BadDeal offset) text boards = IsFirstFault text boards kind.BadDeal offset
@@ -71,4 +72,4 @@ IsRefused (BadMark offset) text boards = IsFirstFault text boards kind.BadMark o
 IsRefused (DealConflict offset) text boards = IsFirstFault text boards kind.DealConflict offset
 IsRefused (InheritedForm offset) text boards = IsFirstFault text boards kind.InheritedForm offset
 IsRefused (MissingBoard board) text boards = IsLeastMissing text boards board
-IsRefused OutOfMemory text boards = Unit {0}
+IsRefused OutOfMemory text boards = (set : List Board) × Reads text boards set

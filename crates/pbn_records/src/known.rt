@@ -1,22 +1,19 @@
-ghost use Rattle.std.specs.Prelude.{◌≡◌, ◌++◌, ◌∷◌, [], ℕ, List, nat_eq, Option, Some, None, OnOk, IfErr, ◌⊎◌};
-ghost use Rattle.std.specs.Option.{option_copied};
-ghost use Rattle.indexmap.specs.IndexMap.{get};
+ghost use Rattle.std.specs.Prelude.{◌≡◌, ◌++◌, ◌∷◌, [], ℕ, List, Some, None, OnOk, IfErr};
 ghost use Rattle.pbn_records.specs.declared.fault.Fault.{Fault};
-ghost use Rattle.pbn_records.specs.declared.deals_error.DealsError.TheVariants.{OutOfMemory};
 ghost use Rattle.pbn_records.specs.Values.{Values};
 ghost use Rattle.pbn_records.specs.Faults.{IsFaultOf};
 ghost use Rattle.pbn_records.specs.Shown.{values_read};
-ghost use Rattle.pbn_records.specs.Kept.{Knows, IsGameFault};
+ghost use Rattle.pbn_records.specs.Kept.{board_at, Knows, IsGameFault};
 
 use crate::board::Board;
 use crate::deals_error::DealsError;
 use crate::game::UsedTags;
+use crate::known_boards::KnownBoards;
 use crate::reader::{board_in, board_of, first_fault};
-use indexmap::IndexMap;
 
 /// Adds the board of a game, unless the game is ignored or the board has an earlier game.
 pub(crate) fn add_game(
-    known: &mut IndexMap<u8, Board>,
+    known: &mut KnownBoards,
     values: &UsedTags<'_>,
     boards: u8,
 ) -> Result<(), DealsError>
@@ -25,10 +22,10 @@ pub(crate) fn add_game(
     ensures faultless { OnOk result ((games : List Values) → Knows boards games known.old →
         (fault : Fault) (offset : ℕ) → ¬ IsFaultOf boards games (values_read values.now) fault offset) }
     ensures fault { IfErr result (λ error. (games : List Values) → Knows boards games known.old →
-        (error ≡ OutOfMemory) ⊎ IsGameFault boards games (values_read values.now) error) }
+        IsGameFault boards games (values_read values.now) error) }
 {
     let board = board_of(values, boards);
-    let earlier = board_at(known, board);
+    let earlier = known_board(known, board);
     if let Some(fault) = first_fault(values, board, &earlier) {
         return Err(fault.error());
     }
@@ -41,19 +38,17 @@ pub(crate) fn add_game(
     let Some(read) = board_in(values, number) else {
         return Ok(());
     };
-    match known.insert(number, read) {
-        Ok(_) => Ok(()),
-        Err(_) => Err(DealsError::OutOfMemory),
-    }
+    known.add(number, read);
+    Ok(())
 }
 
 /// What is known of a board, if it is one's number.
-fn board_at(known: &IndexMap<u8, Board>, board: Option<u8>) -> Option<Board>
-    ensures some { (number : ℕ) → board ≡ Some number → result ≡ get nat_eq known.now number }
+fn known_board(known: &KnownBoards, board: Option<u8>) -> Option<Board>
+    ensures some { (number : ℕ) → board ≡ Some number → result ≡ board_at known.now number }
     ensures none { board ≡ None → result ≡ None }
 {
     let Some(number) = board else {
         return None;
     };
-    known.get(&number).copied()
+    known.get(number)
 }

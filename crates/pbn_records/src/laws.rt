@@ -3,18 +3,28 @@
 ghost use Rattle.std.specs.Prelude.{◌≡◌, ◌-◌, ◌≤◌, ℕ, List, Option, Some, None, true, codes, slice_get};
 ghost use Rattle.cards.specs.Hands.{IsDeal};
 ghost use Rattle.pbn_records.specs.declared.board.Board.{Board};
+ghost use Rattle.pbn_records.specs.declared.deals_error.DealsError.{DealsError};
+ghost use Rattle.pbn_records.specs.declared.deals_error.DealsError.TheVariants.{OutOfMemory};
 ghost use Rattle.pbn_records.specs.declared.used.Used.{Used};
 ghost use Rattle.pbn_records.specs.declared.fault.Fault.{Fault};
 ghost use Rattle.pbn_records.specs.declared.fault.Fault.TheVariants.{InheritedForm};
 ghost use Rattle.pbn_records.specs.Tags.{Valued};
 ghost use Rattle.pbn_records.specs.Values.{Values, valued, is_inherited_form};
 ghost use Rattle.pbn_records.specs.Faults.{FaultAtTag};
-ghost use Rattle.pbn_records.specs.Reads.{Reads};
+ghost use Rattle.pbn_records.specs.Reads.{Reads, IsRefused};
 
 /// A text gives one set of boards at most.
 pub fn a_text_is_read_in_one_way()
     ensures { (text : List ℕ) (boards : ℕ) (one other : List Board) → Reads text boards one →
         Reads text boards other → one ≡ other }
+{}
+
+/// A text is refused for one reason at most, and one that can be read for none but want of memory.
+pub fn a_text_is_refused_for_one_reason()
+    ensures one { (text : List ℕ) (boards : ℕ) (one other : DealsError) → IsRefused one text boards →
+        IsRefused other text boards → one ≡ other }
+    ensures read { (text : List ℕ) (boards : ℕ) (set : List Board) (error : DealsError) → Reads text boards set →
+        IsRefused error text boards → error ≡ OutOfMemory }
 {}
 
 /// Each board that is read is a deal: thirteen cards to each player, and no card to two.

@@ -8,6 +8,7 @@ mod deals_error;
 mod fault;
 mod game;
 mod known;
+mod known_boards;
 pub mod laws;
 mod mark_value;
 mod number;
@@ -15,8 +16,6 @@ mod parts;
 mod reader;
 mod reading;
 mod state;
-#[cfg(test)]
-mod tests;
 mod used;
 
 pub use board::Board;

@@ -1,34 +1,40 @@
-ghost use Rattle.std.specs.Prelude.{◌≡◌, IfOk, IfErr};
+ghost use Rattle.std.specs.Prelude.{◌≡◌, IfOk, IfErr, IfSome, IfNone};
 ghost use Rattle.pbn_records.specs.Tags as tags;
 ghost use Rattle.pbn_records.specs.Reads.{Reads, IsRefused};
 ghost use Rattle.pbn_records.specs.InText.{HasRead};
-ghost use Rattle.pbn_records.specs.Each.{HasEach, IsMissing};
+ghost use Rattle.pbn_records.specs.Each.{KnowsFirst, IsUnknown, HasFirst};
 
-use crate::board::Board;
 use crate::board_set::BoardSet;
 use crate::deals_error::DealsError;
+use crate::known_boards::KnownBoards;
 use crate::state::State;
-use indexmap::IndexMap;
 use pbn_pieces::Pieces;
-use std::alloc::Global;
+use std::alloc::{AllocError, Global};
 
-/// Reads the boards from 1 to `boards`.
+/// Reads the boards from 1 to `boards`. Only the set takes memory: what is wrong with a text is said without.
 pub fn read_deals(alloc: Global, text: &[u8], boards: u8) -> Result<BoardSet, DealsError>
     ensures set { IfOk result (Reads text.now boards) }
     ensures refused { IfErr result (λ error. IsRefused error text.now boards) }
 {
-    match read_games(alloc, text, boards) {
-        Ok(state) => board_set(alloc, &state.known, boards),
-        Err(error) => Err(error),
+    let state = match read_games(text, boards) {
+        Ok(state) => state,
+        Err(error) => return Err(error),
+    };
+    if let Some(number) = unknown_board(&state.known, boards) {
+        return Err(DealsError::MissingBoard(number));
+    }
+    match board_set(alloc, &state.known, boards) {
+        Ok(set) => Ok(set),
+        Err(_) => Err(DealsError::OutOfMemory),
     }
 }
 
 /// Goes over all games of a text.
-fn read_games(alloc: Global, text: &[u8], boards: u8) -> Result<State<'_>, DealsError>
+fn read_games(text: &[u8], boards: u8) -> Result<State<'_>, DealsError>
     ensures read { IfOk result (HasRead text.now boards) }
     ensures refused { IfErr result (λ error. IsRefused error text.now boards) }
 {
-    let mut state = State::new(alloc, boards);
+    let mut state = State::new(boards);
     let mut pieces = Pieces::new(without_mark(text));
     let mut offset = text.len() - pieces.left();
     while let Some(found) = pieces.next_piece() {
@@ -54,22 +60,28 @@ fn without_mark(text: &[u8]) -> &[u8]
     }
 }
 
-/// The boards from 1, if each is known.
-fn board_set(alloc: Global, known: &IndexMap<u8, Board>, boards: u8) -> Result<BoardSet, DealsError>
-    ensures set { IfOk result (HasEach known.now boards) }
-    ensures missing { IfErr result (IsMissing known.now boards) }
+/// The least board that isn't known.
+fn unknown_board(known: &KnownBoards, boards: u8) -> Option<u8>
+    ensures some { IfSome result (IsUnknown known.now boards) }
+    ensures none { IfNone result (KnowsFirst known.now boards) }
 {
-    let mut set = match Vec::with_capacity(alloc, usize::from(boards)) {
-        Ok(set) => set,
-        Err(_) => return Err(DealsError::OutOfMemory),
-    };
     for index in 0..boards {
-        let Some(board) = known.get(&(index + 1)) else {
-            return Err(DealsError::MissingBoard(index + 1));
-        };
-        match set.push(*board) {
-            Ok(()) => {}
-            Err(_) => return Err(DealsError::OutOfMemory),
+        if known.get(index + 1).is_none() {
+            return Some(index + 1);
+        }
+    }
+    None
+}
+
+/// The boards from 1, each of which is known.
+fn board_set(alloc: Global, known: &KnownBoards, boards: u8) -> Result<BoardSet, AllocError>
+    requires { KnowsFirst known.now boards }
+    ensures { IfOk result (HasFirst known.now boards) }
+{
+    let mut set = Vec::with_capacity(alloc, usize::from(boards))?;
+    for index in 0..boards {
+        if let Some(board) = known.get(index + 1) {
+            set.push(board)?;
         }
     }
     Ok(BoardSet::new(set))

@@ -1,19 +1,16 @@
 ghost use Rattle.std.specs.Prelude.{◌≡◌, ◌≢◌, ◌⊎◌, ℕ, List, [], Some, None, OnOk, IfErr};
-ghost use Rattle.pbn_records.specs.declared.deals_error.DealsError.TheVariants.{OutOfMemory};
 ghost use Rattle.pbn_records.specs.Tags.{Named, used_of, tag_in};
 ghost use Rattle.pbn_records.specs.Kept.{Walk, end_of, step, add_to};
 ghost use Rattle.pbn_records.specs.Values.{no_values};
 ghost use Rattle.pbn_records.specs.At.{IsAt, EndsInFault, EndsInBadTag, walk_on};
 ghost use Rattle.pbn_pieces.specs.declared.piece.Found.TheVariants as found_as;
 
-use crate::board::Board;
 use crate::deals_error::DealsError;
 use crate::game::{TagAt, UsedTags};
 use crate::known::add_game;
+use crate::known_boards::KnownBoards;
 use crate::used::Used;
-use indexmap::IndexMap;
 use pbn_pieces::Found;
-use std::alloc::Global;
 
 /// Where a reader is in a text: the game that it is in, the values of the game before, and the boards of the games so
 /// far.
@@ -23,12 +20,12 @@ pub(crate) struct State<'t> {
     pub(crate) started: bool,
     pub(crate) tags: UsedTags<'t>,
     pub(crate) before: UsedTags<'t>,
-    pub(crate) known: IndexMap<u8, Board>,
+    pub(crate) known: KnownBoards,
 }
 
 impl<'t> State<'t> {
     /// At the start of a text.
-    pub(crate) fn new(alloc: Global, boards: u8) -> State<'t>
+    pub(crate) fn new(boards: u8) -> State<'t>
         ensures boards { result.boards ≡ boards }
         ensures at { IsAt result (record { done = []; before = no_values; game = [] }) }
     {
@@ -37,7 +34,7 @@ impl<'t> State<'t> {
             started: false,
             tags: UsedTags::new(),
             before: UsedTags::new(),
-            known: IndexMap::new(alloc),
+            known: KnownBoards::new(),
         }
     }
 
@@ -46,7 +43,7 @@ impl<'t> State<'t> {
         ensures boards { self.new.boards ≡ self.old.boards }
         ensures ended { OnOk result ((walk : Walk) → IsAt self.old walk → IsAt self.new (end_of walk)) }
         ensures fault { IfErr result (λ error. (walk : Walk) → IsAt self.old walk →
-            (error ≡ OutOfMemory) ⊎ EndsInFault self.old.boards walk (end_of walk) error) }
+            EndsInFault self.old.boards walk (end_of walk) error) }
     {
         if !self.started {
             return Ok(());
@@ -64,8 +61,8 @@ impl<'t> State<'t> {
         ensures good { OnOk result (found.entry ≢ found_as.BadTag) }
         ensures taken { OnOk result ((walk : Walk) → IsAt self.old walk →
             IsAt self.new (walk_on walk offset found.entry)) }
-        ensures fault { IfErr result (λ error. (walk : Walk) → IsAt self.old walk → (error ≡ OutOfMemory)
-            ⊎ EndsInFault self.old.boards walk (walk_on walk offset found.entry) error
+        ensures fault { IfErr result (λ error. (walk : Walk) → IsAt self.old walk →
+            EndsInFault self.old.boards walk (walk_on walk offset found.entry) error
             ⊎ EndsInBadTag self.old.boards walk found.entry offset error) }
     {
         match found {
@@ -89,8 +86,8 @@ impl<'t> State<'t> {
         ensures boards { self.new.boards ≡ self.old.boards }
         ensures added { OnOk result ((walk : Walk) → IsAt self.old walk →
             IsAt self.new (step walk (Named (record { offset = offset; name = name.now; value = value.now })))) }
-        ensures fault { IfErr result (λ error. (walk : Walk) → IsAt self.old walk → (error ≡ OutOfMemory)
-            ⊎ EndsInFault self.old.boards walk (step walk (Named (record { offset = offset; name = name.now; value = value.now }))) error) }
+        ensures fault { IfErr result (λ error. (walk : Walk) → IsAt self.old walk →
+            EndsInFault self.old.boards walk (step walk (Named (record { offset = offset; name = name.now; value = value.now }))) error) }
     {
         let Some(used) = Used::of(name) else {
             self.started = true;

@@ -1,8 +1,12 @@
-use Rattle.pbn_records.proofs.ReadsLemmas.{sets_of, errors_of}
+use Rattle.pbn_records.proofs.ReadsLemmas.{reads_of, missing_of, readable}
 use Rattle.pbn_records.proofs.reading.read_deals.Goals as goal
 
-pub returns-in-Ok-clause-set : goal.returns-in-Ok-clause-set
-returns-in-Ok-clause-set c = sets_of _ _ c.in-Ok.state c.board_set.result c.in-Ok.ensures.read c.board_set.ensures.set
+pub returns-in-Some-clause-refused : goal.returns-in-Some-clause-refused
+returns-in-Some-clause-refused c = missing_of _ _ _ c.in-Ok.state c.in-Ok.ensures.read c.in-Some.ensures.some
 
-pub returns-in-Ok-clause-refused : goal.returns-in-Ok-clause-refused
-returns-in-Ok-clause-refused c = errors_of _ _ c.in-Ok.state c.board_set.result c.in-Ok.ensures.read c.board_set.ensures.missing
+pub returns-in-Ok-board_set-clause-set : goal.returns-in-Ok-board_set-clause-set
+returns-in-Ok-board_set-clause-set c =
+    reads_of _ _ c.in-Ok.state _ c.in-Ok.ensures.read c.in_default.ensures.none c.in-Ok-board_set.ensures
+
+pub returns-in-Err-board_set-clause-refused : goal.returns-in-Err-board_set-clause-refused
+returns-in-Err-board_set-clause-refused c = readable _ _ c.in-Ok.state c.in-Ok.ensures.read c.in_default.ensures.none

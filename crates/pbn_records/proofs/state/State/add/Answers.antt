@@ -11,6 +11,6 @@ returns-in_default-clause-added c = λ walk at.
 
 pub returns-in-Err-clause-fault : goal.returns-in-Err-clause-fault
 returns-in-Err-clause-fault c = λ walk at.
-    fault_of_step c.args.self.now.boards walk (record { offset = c.args.offset; name = c.args.name.now; value = c.args.value.now }) c.in-Err.error _
+    fault_of_step c.args.self.now.boards walk (record { offset = c.args.offset; name = c.args.name.now; value = c.args.value.now }) c.in-Err.error
     (has_it c.args.self.now walk c.in-Some.used c.args.name.now at (sym c.in-Some.ensures) ∙ sym c.has.ensures ∙ c.if-not-has.false)
     (c.in-Err.ensures.fault walk at)

@@ -1,7 +1,7 @@
 use Rattle.std.proofs.Common.{false, ap, refl, ◌∙◌, sym}
 use Rattle.pbn_records.specs.Shown.{as_read, values_read}
 use Rattle.pbn_records.specs.declared.state.State.{State}
-use Rattle.pbn_records.proofs.StateLemmas.{values_at, end_at, fault_ends, ok_of, err_of}
+use Rattle.pbn_records.proofs.StateLemmas.{values_at, end_at, end_fault, ok_of, err_of}
 use Rattle.pbn_records.proofs.state.State.end_game.Goals as goal
 
 pub returns-clause-ended : goal.returns-clause-ended
@@ -26,7 +26,7 @@ pub returns-clause-fault : goal.returns-clause-fault
 returns-clause-fault c =
     err_of c.add_game.result
     (λ error faults walk at.
-    fault_ends c.args.self.now walk (values_read c.inheriting-values.result) error
+    end_fault c.args.self.now walk (values_read c.inheriting-values.result) error
     (values_at c.args.self.now walk (values_read c.inheriting-values.result) at (λ used. ap as_read (c.inheriting-values.ensures used)))
     (sym at.started ∙ c.if-not-self.false) (faults walk.done at.known))
     c.add_game.ensures.fault

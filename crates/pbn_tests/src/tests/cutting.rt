@@ -1,5 +1,4 @@
-use super::*;
-use std::test::Fail;
+use pbn_pieces::{Found, Pieces};
 
 /// Cuts a text, and counts the pieces.
 fn count(text: &[u8]) -> usize {
