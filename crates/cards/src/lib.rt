@@ -15,15 +15,11 @@ mod pack;
 mod pair;
 mod pair_reading;
 mod place;
-#[cfg(test)]
-mod play_tests;
 mod position;
 mod rank;
 mod side;
 mod strain;
 mod suit;
-#[cfg(test)]
-mod tests;
 mod trick;
 mod vulnerability;
 

@@ -4,8 +4,6 @@
 mod denial;
 mod evidence;
 pub mod laws;
-#[cfg(test)]
-mod tests;
 
 pub use denial::{Denial, explain};
 pub use evidence::{check, deny};

@@ -29,6 +29,12 @@ impl Boards {
         Boards { bits: 0 }
     }
 
+    pub fn copy(&self) -> Boards
+        ensures { result ≡ self.now }
+    {
+        Boards { bits: self.bits }
+    }
+
     /// Whether the board is among them; no board has the number 0, or one above the most that are played.
     pub fn contains(&self, board: u8) -> bool
         ensures { result ≡ has_number self.now board }

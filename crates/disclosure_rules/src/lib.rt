@@ -12,8 +12,6 @@ mod public;
 mod rule;
 mod seat;
 mod seating;
-#[cfg(test)]
-mod tests;
 mod viewer;
 
 pub use boards::Boards;
@@ -25,4 +23,5 @@ pub use policy::decide;
 pub use public::Public;
 pub use rule::Rule;
 pub use seat::Seat;
+pub use seating::is_seated_at;
 pub use viewer::Viewer;

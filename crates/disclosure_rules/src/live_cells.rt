@@ -30,6 +30,12 @@ impl LiveCells {
         LiveCells { words: [0; 64] }
     }
 
+    pub fn copy(&self) -> LiveCells
+        ensures { result ≡ self.now }
+    {
+        LiveCells { words: self.words }
+    }
+
     /// The tables that have a result on a board: bit `t` stands for table `t + 1`.
     pub fn tables(&self, board: u8) -> u16
         ensures bits { (t : ℕ) → t < most_tables →

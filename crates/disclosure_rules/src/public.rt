@@ -22,6 +22,19 @@ pub struct Public {
 }
 
 impl Public {
+    pub fn copy(&self) -> Public
+        ensures { result ≡ self.now }
+    {
+        Public {
+            movement: self.movement,
+            marks: self.marks,
+            round: self.round,
+            phase: self.phase,
+            held: self.held.copy(),
+            live: self.live.copy(),
+        }
+    }
+
     /// Whether every table that is scheduled to play the board has a result on it.
     pub fn is_complete(&self, board: u8) -> bool
         ensures { result ≡ is_complete self.now board }

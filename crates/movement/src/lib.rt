@@ -6,8 +6,6 @@ pub mod laws;
 mod mitchell;
 mod movement;
 mod movement_error;
-#[cfg(test)]
-mod tests;
 
 pub use cell::Cell;
 pub use movement::Movement;

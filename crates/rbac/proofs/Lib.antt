@@ -6,6 +6,7 @@ pub mod LawLemmas
 pub mod ListLemmas
 pub mod PairLemmas
 pub mod RefusalLemmas
+pub mod ReviewLemmas
 pub mod RoleBitsLemmas
 pub mod RoleLemmas
 pub mod SeparationLemmas

@@ -5,6 +5,7 @@ pub mod Inheritance
 pub mod Kept
 pub mod Operation
 pub mod Refusals
+pub mod Review
 pub mod Role
 pub mod RoleBits
 pub mod RoleData

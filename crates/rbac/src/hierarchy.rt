@@ -1,5 +1,5 @@
 ghost use Rattle.std.specs.Prelude.{◌≡◌, []};
-ghost use Rattle.rbac.specs.Inheritance.{without_pair};
+ghost use Rattle.rbac.specs.Inheritance.{opening_pairs, without_pair};
 ghost use Rattle.rbac.specs.Hierarchy.{below, HasOneMore, IsClosure, reached_from};
 
 use crate::inheritance::Inheritance;
@@ -23,6 +23,17 @@ impl Hierarchy {
             reached[place] = RoleSet::new().with(*role);
         }
         Hierarchy { reached }
+    }
+
+    /// The hierarchy of a new session.
+    pub fn opening() -> Hierarchy
+        ensures { IsClosure opening_pairs result.reached }
+    {
+        let mut hierarchy = Hierarchy::new();
+        for pair in Inheritance::OPENING {
+            hierarchy = hierarchy.with(pair);
+        }
+        hierarchy
     }
 
     /// The roles that a role reaches.

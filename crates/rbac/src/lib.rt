@@ -19,8 +19,6 @@ mod role;
 mod role_set;
 mod roles;
 mod separation_set;
-#[cfg(test)]
-mod tests;
 
 pub use account::Account;
 pub use add_inheritance_error::AddInheritanceError;
@@ -30,6 +28,7 @@ pub use change::Change;
 pub use deassign_error::DeassignError;
 pub use delete_inheritance_error::DeleteInheritanceError;
 pub use inheritance::Inheritance;
+pub use lookup::is_user_name;
 pub use operation::Operation;
 pub use role::Role;
 pub use role_set::RoleSet;

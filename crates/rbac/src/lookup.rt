@@ -1,12 +1,16 @@
 //! Finding among the accounts.
 ghost use Rattle.std.specs.Prelude.{◌≡◌, ◌≢◌, ◌<◌, length, All, find, IfSome, IfNone};
-ghost use Rattle.std.specs.List.{HoldsAt, list_all};
+ghost use Rattle.std.specs.List.{HoldsAt, list_all, list_any};
 ghost use Rattle.rbac.specs.Separation.{separation_sets};
+ghost use Rattle.rbac.specs.Role.{has};
 ghost use Rattle.rbac.specs.Account.{is_user_name, is_name_byte};
-ghost use Rattle.rbac.specs.Hierarchy.{is_broken_in};
+ghost use Rattle.rbac.specs.Hierarchy.{is_broken_in, reached_from};
+ghost use Rattle.rbac.specs.Review.{assigned_without};
 
 use crate::account::Account;
 use crate::hierarchy::Hierarchy;
+use crate::role::Role;
+use crate::role_set::RoleSet;
 use crate::separation_set::SeparationSet;
 use cards::Name;
 
@@ -60,4 +64,40 @@ pub fn first_broken(accounts: &[Account], hierarchy: &Hierarchy) -> Option<Separ
         .iter()
         .copied()
         .find(|set| is_broken(accounts, hierarchy, *set))
+}
+
+/// Whether some account is authorized for a role.
+pub fn has_user_for(accounts: &[Account], hierarchy: &Hierarchy, role: Role) -> bool
+    ensures { result ≡
+        list_any (λ account. has (reached_from hierarchy.now.reached account.assigned) role) accounts.now }
+{
+    accounts.iter().any(|account| hierarchy.reached_from(account.assigned).has(role))
+}
+
+/// Whether some account would be authorized for a role if another were not assigned to a user.
+pub fn has_user_for_without(
+    accounts: &[Account],
+    hierarchy: &Hierarchy,
+    role: Role,
+    name: &str,
+    taken: Role,
+) -> bool
+    ensures { result ≡ list_any (λ account.
+        has (reached_from hierarchy.now.reached (assigned_without account name.now taken)) role) accounts.now }
+{
+    accounts.iter().any(|account| {
+        hierarchy
+            .reached_from(assigned_without(account, name, taken))
+            .has(role)
+    })
+}
+
+/// What is assigned to an account but for a role of the user of this name.
+fn assigned_without(account: &Account, name: &str, taken: Role) -> RoleSet
+    ensures { result ≡ assigned_without account.now name.now taken }
+{
+    if account.name.as_str() == name {
+        return account.assigned.without(taken);
+    }
+    account.assigned
 }

@@ -1,3 +1,5 @@
+mod review;
+
 ghost use Rattle.std.specs.Prelude.{◌≡◌, ◌<◌, ◌≢◌, ◌↔◌, length, All, find, option_map, slice_get, Some, IsTrue, IfOk, IfErr, IfSome, IfNone, OnOk, OnErr, OnSome};
 ghost use Rattle.std.specs.List.{list_any, HoldsAt};
 ghost use Rattle.rbac.specs.declared.add_user_error.AddUserError.{AddUserError};
@@ -6,8 +8,9 @@ ghost use Rattle.rbac.specs.declared.deassign_error.DeassignError.{DeassignError
 ghost use Rattle.rbac.specs.declared.add_inheritance_error.AddInheritanceError.{AddInheritanceError};
 ghost use Rattle.rbac.specs.declared.delete_inheritance_error.DeleteInheritanceError.{DeleteInheritanceError};
 ghost use Rattle.rbac.specs.Account.{HasAccount};
+ghost use Rattle.rbac.specs.Inheritance.{opening_pairs};
 ghost use Rattle.rbac.specs.RoleData.{opening_data, add_user, assign_user, deassign_user, add_inheritance, delete_inheritance, after};
-ghost use Rattle.rbac.specs.Authorization.{AreAuthorized, HasPermission, IsValid, authorized_roles, has_permission};
+ghost use Rattle.rbac.specs.Authorization.{AreAuthorized, HasPermission, IsValid, authorized_roles, has_permission, reached};
 ghost use Rattle.cards.specs.First.{IsFirst};
 ghost use Rattle.rbac.specs.Refusals.{add_user_place, RefusesUser, assign_place, RefusesAssignment, deassign_place, RefusesDeassignment, inheritance_place, RefusesInheritance, RefusesDeletion};
 
@@ -67,16 +70,34 @@ impl Roles {
     {
         let accounts = Vec::with_capacity(alloc, Roles::MOST_USERS)?;
         let mut pairs = Vec::with_capacity(alloc, Roles::MOST_PAIRS)?;
-        let mut hierarchy = Hierarchy::new();
-        for pair in Inheritance::OPENING {
-            pairs.push_reserved(pair);
-            hierarchy = hierarchy.with(pair);
-        }
+        pairs.extend_from_slice(&Inheritance::OPENING)?;
         Ok(Roles {
             accounts,
             pairs,
-            hierarchy,
+            hierarchy: Hierarchy::opening(),
         })
+    }
+
+    /// A copy, with room for all users and pairs.
+    pub fn copy(&self, alloc: Global) -> Result<Roles, AllocError>
+        ensures { IfOk result (λ copy. copy ≡ self.now) }
+    {
+        let mut accounts = Vec::with_capacity(alloc, Roles::MOST_USERS)?;
+        accounts.extend_from_slice(&self.accounts)?;
+        let mut pairs = Vec::with_capacity(alloc, Roles::MOST_PAIRS)?;
+        pairs.extend_from_slice(&self.pairs)?;
+        Ok(Roles {
+            accounts,
+            pairs,
+            hierarchy: self.hierarchy,
+        })
+    }
+
+    /// The roles for which a user of a new session is authorized to whom these roles are assigned.
+    pub fn authorized_at_opening(assigned: RoleSet) -> RoleSet
+        ensures { result ≡ reached opening_pairs assigned }
+    {
+        Hierarchy::opening().reached_from(assigned)
     }
 
     /// AddUser of INCITS 359-2012: adds an account with no role.
@@ -249,6 +270,14 @@ impl Roles {
         let place = place_of(&self.accounts, name)?;
         let hierarchy = Hierarchy::of_all_but(&self.pairs, pair);
         Some(hierarchy.reached_from(self.accounts[place].assigned))
+    }
+
+    /// The accounts, in the order of adding.
+    pub fn accounts(&self) -> &[Account]
+        ensures accounts { result.now ≡ self.now.accounts }
+        ensures valid { IsValid self.now }
+    {
+        &self.accounts
     }
 
     /// The user at a place from 0 and the roles that are assigned to it, if there are so many users.

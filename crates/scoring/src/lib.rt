@@ -21,6 +21,3 @@ pub use outcome::Outcome;
 pub use ranking::rank_order;
 pub use standing::Standing;
 pub use tricks::Tricks;
-
-#[cfg(test)]
-mod tests;

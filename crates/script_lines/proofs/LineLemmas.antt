@@ -11,7 +11,7 @@ abbrev ends_no_line : ℕ → Type 0
 ends_no_line byte = byte ≢ 10
 
 -- a byte that ends no line, before pieces
-before_other : (byte : ℕ) (following : Pieces) → byte ≢ 10 → before byte following ≡ before_rest byte following.ended following.rest
+pub before_other : (byte : ℕ) (following : Pieces) → byte ≢ 10 → before byte following ≡ before_rest byte following.ended following.rest
 before_other byte following other =
     ap (λ (b : Bool). if b then record { ended = [] ∷ following.ended; rest = following.rest } else before_rest byte following.ended following.rest) (ne_eqb byte 10 other)
 

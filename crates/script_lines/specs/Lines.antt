@@ -40,3 +40,8 @@ last_line (byte ∷ bytes) = (byte ∷ bytes) ∷ []
 -- all lines of a text
 unfoldable pub lines_of : List ℕ → List (List ℕ)
 lines_of text = ended_lines text ++ last_line (pieces_of text).rest
+
+-- the first of some lines, and the empty line where there is none
+abbrev pub first_of : List (List ℕ) → List ℕ
+first_of [] = []
+first_of (first ∷ lines) = first

@@ -1,11 +1,11 @@
 -- What reading a line takes from a reader.
-use Rattle.std.specs.Prelude.{◌≡◌, ◌≢◌, ℕ, ◌+◌, ◌<◌, ◌≤◌, Option, List, [], ◌∷◌, ◌++◌, length, All}
+use Rattle.std.specs.Prelude.{◌≡◌, ◌≢◌, ℕ, ◌+◌, ◌<◌, ◌≤◌, Option, Some, None, IfSome, List, [], ◌∷◌, ◌++◌, length, All}
 use Rattle.std.specs.Io.KnownBytes.{Consumes, IsAtEnd}
 use Rattle.script_lines.specs.declared.line_end.LineEnd.{LineEnd}
 use Rattle.script_lines.specs.declared.line_end.LineEnd.TheVariants.{LineFeed, EndOfInput}
 use Rattle.script_lines.specs.declared.reading.ReadFault.{ReadFault}
 use Rattle.script_lines.specs.declared.reading.ReadFault.TheVariants.{Input, OutOfMemory}
-use Rattle.script_lines.specs.Lines.{ended_line}
+use Rattle.script_lines.specs.Lines.{ended_line, first_of, lines_of}
 
 -- no byte of it ends a line
 abbrev pub IsUnbroken : List ℕ → Type 0
@@ -61,3 +61,32 @@ pub record FailsForMemory (old new : Option (List ℕ)) (line : List ℕ) (left_
 abbrev pub FailsFor : ReadFault → Option (List ℕ) → Option (List ℕ) → List ℕ → ℕ → ℕ → Type 0
 FailsFor Input old new line left_old left_new = FailsAtInput old new line left_old left_new
 FailsFor OutOfMemory old new line left_old left_new = FailsForMemory old new line left_old left_new
+
+-- ---- a line that is to have so many bytes at most
+
+-- the first line of what the reader has is longer: no more is taken of it than shows this
+pub record TakesLonger (old new : Option (List ℕ)) (most left_old left_new : ℕ) : Type 0 where
+  pub piece : List ℕ
+  pub unbroken : IsUnbroken piece
+  pub consumed : Consumes old new piece
+  pub few : length piece ≤ most + 2
+  pub counted : left_new + length piece ≡ left_old
+  pub longer : IfSome old (λ text. most < length (first_of (lines_of text)))
+
+-- a line that isn't longer, or the front of one that is
+abbrev pub TakesUpTo : Option LineEnd → Option (List ℕ) → Option (List ℕ) → List ℕ → ℕ → ℕ → ℕ → Type 0
+TakesUpTo (Some end) old new line most left_old left_new =
+    TakesLine end old new line left_old left_new × (length line ≤ most)
+TakesUpTo None old new line most left_old left_new = TakesLonger old new most left_old left_new
+
+-- memory was refused in a line: so many bytes of it are taken, and no LF
+pub record FailsInPiece (old new : Option (List ℕ)) (left_old : ℕ) : Type 0 where
+  pub piece : List ℕ
+  pub unbroken : IsUnbroken piece
+  pub consumed : Consumes old new piece
+  pub within : length piece ≤ left_old
+
+-- what each fault says of what was read
+abbrev pub FailsWithin : ReadFault → Option (List ℕ) → Option (List ℕ) → ℕ → Type 0
+FailsWithin Input old new left_old = FailsInLine old new left_old
+FailsWithin OutOfMemory old new left_old = FailsInPiece old new left_old

@@ -8,10 +8,10 @@
 pub mod laws;
 mod line_end;
 mod reading;
-#[cfg(test)]
-mod tests;
+mod short_line;
 mod writing;
 
 pub use line_end::LineEnd;
 pub use reading::{ReadFault, read_line};
+pub use short_line::read_short_line;
 pub use writing::{WriteFault, write_text};

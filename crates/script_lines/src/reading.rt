@@ -1,6 +1,7 @@
 ghost use Rattle.std.specs.Prelude.{◌≡◌, ◌+◌, ◌∷◌, [], ◌<◌, IfOk, IfErr, OnErr, Some, None, MatchOption};
 ghost use Rattle.std.specs.Io.KnownBytes.{Consumes, IsAtEnd};
 ghost use Rattle.script_lines.specs.Reading.{TakesLine, FailsInLine, FailsFor};
+ghost use Rattle.script_lines.specs.Lines.{ended_line};
 ghost use Rattle.script_lines.specs.NextByte.{TakesByte, FailsAtByte};
 ghost use Rattle.script_lines.specs.declared.reading.ReadFault.TheVariants.{Input};
 
@@ -37,9 +38,7 @@ pub fn read_line<R: Read>(
     loop {
         match next_byte(reader, left) {
             Ok(Some(b'\n')) => {
-                if line.last() == Some(&b'\r') {
-                    line.pop();
-                }
+                drop_return(line);
                 return Ok(LineEnd::LineFeed);
             }
             Ok(Some(byte)) => {
@@ -53,8 +52,17 @@ pub fn read_line<R: Read>(
     }
 }
 
+// Takes one CR off a line's end.
+fn drop_return(line: &mut Vec<u8>)
+    ensures { line.new.items ≡ ended_line line.old.items }
+{
+    if line.last() == Some(&b'\r') {
+        line.pop();
+    }
+}
+
 // The next byte, if there is one. It counts against what may still be read.
-fn next_byte<R: Read>(reader: &mut R, left: &mut usize) -> Result<Option<u8>, ReadFault>
+pub(crate) fn next_byte<R: Read>(reader: &mut R, left: &mut usize) -> Result<Option<u8>, ReadFault>
     ensures byte { IfOk result (λ found.
         TakesByte found (R.remaining reader.old) (R.remaining reader.new) left.old left.new) }
     ensures input { IfErr result (λ fault. fault ≡ Input) }

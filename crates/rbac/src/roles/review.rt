@@ -1,0 +1,81 @@
+//! What can be asked of users, their roles and the role hierarchy (the review functions of INCITS 359-2012). No call
+//! changes anything.
+ghost use Rattle.std.specs.Prelude.{◌≡◌, length};
+ghost use Rattle.rbac.specs.Inheritance.{reaches};
+ghost use Rattle.rbac.specs.Review.{is_assigned, has_user_for, first_broken, has_pair};
+ghost use Rattle.rbac.specs.RoleData.{assign_user, add_inheritance, after};
+
+use crate::change::Change;
+use crate::hierarchy::Hierarchy;
+use crate::inheritance::Inheritance;
+use crate::lookup::{first_broken, has_user_for, has_user_for_without, place_of};
+use crate::role::Role;
+use crate::roles::Roles;
+use crate::separation_set::SeparationSet;
+
+impl Roles {
+    /// How many users there are.
+    pub fn user_count(&self) -> usize
+        ensures { result ≡ length self.now.accounts }
+    {
+        self.accounts.len()
+    }
+
+    /// Whether a role is assigned to a user.
+    pub fn is_assigned(&self, name: &str, role: Role) -> bool
+        ensures { result ≡ is_assigned self.now name.now role }
+    {
+        self.accounts.iter().any(|account| account.name.as_str() == name
+            && account.assigned.has(role))
+    }
+
+    /// Whether the senior role is the junior one or inherits it, by whatever pairs.
+    pub fn reaches(&self, senior: Role, junior: Role) -> bool
+        ensures { result ≡ reaches self.now.pairs senior junior }
+    {
+        self.hierarchy.below(senior).has(junior)
+    }
+
+    /// Whether this very pair is there.
+    pub fn has_pair(&self, senior: Role, junior: Role) -> bool
+        ensures { result ≡ has_pair self.now senior junior }
+    {
+        self.pairs.contains(&Inheritance { senior, junior })
+    }
+
+    /// The first separation set that would be broken if a role were assigned to a user.
+    pub fn broken_by_assignment(&self, name: &str, role: Role) -> Option<SeparationSet>
+        ensures { result ≡ first_broken (assign_user self.now name.now role) }
+    {
+        let place = place_of(&self.accounts, name)?;
+        let more = self.accounts[place].assigned.with(role);
+        SeparationSet::first_broken_by(self.hierarchy.reached_from(more))
+    }
+
+    /// The first separation set that would be broken if the senior role inherited the junior one.
+    pub fn broken_by_inheritance(&self, senior: Role, junior: Role) -> Option<SeparationSet>
+        ensures { result ≡ first_broken (add_inheritance self.now senior junior) }
+    {
+        let hierarchy = self.hierarchy.with(Inheritance { senior, junior });
+        first_broken(&self.accounts, &hierarchy)
+    }
+
+    /// Whether some user would be authorized for a role after a change. A change that would be refused changes nothing.
+    pub fn has_user_if(&self, role: Role, change: Change<'_>) -> bool
+        ensures { result ≡ has_user_for (after self.now change.entry) role }
+    {
+        match change {
+            Change::Deassign(name, taken) => {
+                has_user_for_without(&self.accounts, &self.hierarchy, role, name, taken)
+            }
+            Change::DeleteInheritance(senior, junior) => {
+                let pair = Inheritance { senior, junior };
+                has_user_for(
+                    &self.accounts,
+                    &Hierarchy::of_all_but(&self.pairs, pair),
+                    role,
+                )
+            }
+        }
+    }
+}

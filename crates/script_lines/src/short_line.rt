@@ -1,0 +1,77 @@
+//! A line that is to have so many bytes at most.
+
+ghost use Rattle.std.specs.Prelude.{◌≡◌, ◌≢◌, ◌+◌, ◌≤◌, ◌∷◌, ◌++◌, [], ℕ, List, Option, IfOk, IfErr, length};
+ghost use Rattle.std.specs.Io.KnownBytes.{Consumes};
+ghost use Rattle.script_lines.specs.Reading.{IsUnbroken, TakesUpTo, FailsWithin};
+
+use crate::line_end::LineEnd;
+use crate::reading::{ReadFault, next_byte};
+use std::io::Read;
+
+/// Reads the next line as `read_line` does, if it has no more than `most` bytes; else there is none, and not more than so
+/// many bytes of it are kept.
+pub fn read_short_line<R: Read>(
+    reader: &mut R,
+    line: &mut Vec<u8>,
+    most: usize,
+    left: &mut usize,
+) -> Result<Option<LineEnd>, ReadFault>
+    ensures line { IfOk result (λ found. TakesUpTo found
+        (R.remaining reader.old) (R.remaining reader.new) line.new.items most left.old left.new) }
+    ensures fault { IfErr result (λ fault. FailsWithin fault
+        (R.remaining reader.old) (R.remaining reader.new) left.old) }
+    ensures kept { length line.new.items ≤ most }
+{
+    line.clear();
+    loop {
+        match next_byte(reader, left) {
+            Ok(Some(b'\n')) => {
+                if line.last() == Some(&b'\r') {
+                    line.pop();
+                }
+                return Ok(Some(LineEnd::LineFeed));
+            }
+            Ok(Some(byte)) => {
+                if line.len() == most {
+                    return end_of_full_line(byte, reader, left);
+                }
+                if line.push(byte).is_err() {
+                    return Err(ReadFault::OutOfMemory);
+                }
+            }
+            Ok(None) => return Ok(Some(LineEnd::EndOfInput)),
+            Err(fault) => return Err(fault),
+        }
+    }
+}
+
+// Whether a line that has as many bytes as it may have ends with this byte, which follows them: it does where the byte is
+// a CR before an LF.
+fn end_of_full_line<R: Read>(
+    byte: u8,
+    reader: &mut R,
+    left: &mut usize,
+) -> Result<Option<LineEnd>, ReadFault>
+    requires { byte ≢ 10 }
+    ensures line { (before : Option (List ℕ)) (line : List ℕ) (most all : ℕ) → IsUnbroken line → length line ≡ most →
+        Consumes before (R.remaining reader.old) (line ++ byte ∷ []) → left.old + (length line + 1) ≡ all →
+        IfOk result (λ found. TakesUpTo found before (R.remaining reader.new) line most all left.new) }
+    ensures fault { (before : Option (List ℕ)) (line : List ℕ) (all : ℕ) → IsUnbroken line →
+        Consumes before (R.remaining reader.old) (line ++ byte ∷ []) → left.old + (length line + 1) ≡ all →
+        IfErr result (λ fault. FailsWithin fault before (R.remaining reader.new) all) }
+{
+    if byte != b'\r' {
+        return Ok(None);
+    }
+    match next_byte(reader, left) {
+        Ok(Some(next)) => {
+            if next == b'\n' {
+                Ok(Some(LineEnd::LineFeed))
+            } else {
+                Ok(None)
+            }
+        }
+        Ok(None) => Ok(None),
+        Err(fault) => Err(fault),
+    }
+}
