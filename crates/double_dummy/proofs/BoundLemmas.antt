@@ -1,6 +1,6 @@
 -- The tricks of a position are bounded by its cards.
-use Rattle.std.proofs.Common.{ap, ◌≡◌, ◌≢◌, ℕ, ◌+◌, ◌*◌, ◌<◌, ◌≤◌, false, List, [], ◌∷◌, map, length, refl, sym, ◌∙◌, arith, zero, suc}
-use Rattle.std.proofs.lemmas.Bool.{true≢false, lt-leb}
+use Rattle.std.proofs.Common.{ap, ◌≡◌, ℕ, ◌+◌, ◌*◌, ◌<◌, ◌≤◌, false, List, [], ◌∷◌, map, length, refl, ◌∙◌, arith, zero, suc}
+use Rattle.std.proofs.lemmas.Bool.{lt-leb}
 use Rattle.cards.specs.declared.card.Card.{Card}
 use Rattle.cards.specs.declared.place.Place.{Place}
 use Rattle.cards.specs.declared.place.Place.TheVariants.{North, East, South, West}
@@ -11,7 +11,7 @@ use Rattle.cards.specs.Place.{side_of}
 use Rattle.cards.specs.Cards.{Cards}
 use Rattle.cards.specs.Hands.{Hands, IsDeal}
 use Rattle.std.specs.FinSet as set
-use Rattle.cards.specs.Play.{Position, after, cards_left, legal, point_of, table_after, to_play, trick_for, winner, IsUnderWay, IsApart, IsPosition, start}
+use Rattle.cards.specs.Play.{Position, after, cards_left, legal, point_of, table_after, to_play, trick_for, winner, IsUnderWay, IsPosition, start}
 use Rattle.double_dummy_laws.proofs.BestLemmas.{attained}
 use Rattle.double_dummy_laws.proofs.RenamingLemmas.{worth_in}
 use Rattle.double_dummy_laws.specs.DoubleDummy.{double_dummy, best, tricks}
@@ -100,29 +100,6 @@ deal_bound deal strain declarer is =
       is.thirteen South,
       is.thirteen West,
     )
-
--- no card of a deal is in two hands
-pub deal_apart : (deal : Hands) → IsDeal deal → IsApart deal
-deal_apart deal is place other card held held' =
-    same place other (λ differ. true≢false (sym held' ∙ is.apart place other differ card held))
-  where
-    same : (place other : Place) → (place ≢ other → ⊥) → place ≡ other
-    same North North never = refl
-    same East East never = refl
-    same South South never = refl
-    same West West never = refl
-    same North East never = absurd (never (λ e. cc))
-    same North South never = absurd (never (λ e. cc))
-    same North West never = absurd (never (λ e. cc))
-    same East North never = absurd (never (λ e. cc))
-    same East South never = absurd (never (λ e. cc))
-    same East West never = absurd (never (λ e. cc))
-    same South North never = absurd (never (λ e. cc))
-    same South East never = absurd (never (λ e. cc))
-    same South West never = absurd (never (λ e. cc))
-    same West North never = absurd (never (λ e. cc))
-    same West East never = absurd (never (λ e. cc))
-    same West South never = absurd (never (λ e. cc))
 
 -- a deal has 52 cards
 pub deal_cards : (p : Position) (deal : Hands) (strain : Strain) (declarer : Place) → p ≡ start deal strain declarer →

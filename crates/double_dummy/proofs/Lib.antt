@@ -1,10 +1,6 @@
 pub mod BoundLemmas
 pub mod ClaimLemmas
-pub mod DigitLemmas
-pub mod LeftLemmas
-pub mod RankLemmas
 pub mod RunLemmas
 pub mod SearchLemmas
-pub mod TopsLemmas
 pub mod CostsLemmas
 pub mod PlayedLemmas

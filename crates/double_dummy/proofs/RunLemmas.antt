@@ -1,55 +1,25 @@
 -- The cards of a player's that are alike.
-use Rattle.std.proofs.Common.{◌≤◌, ◌≡◌, ◌≢◌, ◌<◌, true, ◌⊎◌, refl, sym, ap, ◌∙◌, inl, inr, arith}
+use Rattle.std.proofs.Common.{◌≤◌, ◌≡◌, ◌<◌, true, refl, sym, ap, ◌∙◌, inl, inr, arith}
 use Rattle.std.specs.Prelude.{not, nat_lt, ◌&&◌, Bool, false}
-use Rattle.std.proofs.lemmas.Bool.{cases_eq, ltb-true, and_from, lt-ltb, or_cases, or_left, or_right, and_parts, true≢false, not-true, eq-eqb}
+use Rattle.std.proofs.lemmas.Bool.{cases_eq, ltb-true, and_from, lt-ltb, and_parts, true≢false, eq-eqb}
 use Rattle.cards.specs.declared.card.Card.{Card}
 use Rattle.cards.specs.Card.{card_cmp, number_in_pack}
 use Rattle.cards.specs.Cards.{Cards}
 use Rattle.cards.proofs.CardBitsLemmas.{height_below}
-use Rattle.cards.specs.CardBits.{same_number, card_cmp_total, tied_is_equal}
+use Rattle.cards.specs.CardBits.{same_number}
 use Rattle.cards.specs.Suit.{suit_number}
 use Rattle.cards.specs.Rank.{height}
 use Rattle.cards.specs.Hands.{hand_of}
 use Rattle.std.specs.FinSet as set
 use Rattle.cards.specs.Play.{Position, is_of, legal, to_play}
+use Rattle.position_patterns.proofs.SetLemmas.{in_difference, inserted, just_inserted, still_inserted}
 use Rattle.double_dummy.specs.Search.{HasOthers, IsRunOf}
-use Rattle.double_dummy_laws.proofs.HandLemmas.{legal_follows, tied, in_suit}
+use Rattle.double_dummy_laws.proofs.HandLemmas.{legal_follows, in_suit}
 use Rattle.double_dummy_laws.proofs.WinnerLemmas.{both_of}
 use Rattle.double_dummy_laws.proofs.NeighbourLemmas.{no_between}
 use Rattle.double_dummy_laws.specs.Found.{IsOwned, IsTight}
 use Rattle.double_dummy_laws.specs.Known.{IsLike}
 use Rattle.double_dummy_laws.specs.Renaming.{Ownership}
-
-pub just_inserted : (s t : Cards) (card other : Card) → t ≡ set.insert s card → set.contains t other ≡ true →
-    (other ≡ card) ⊎ (set.contains s other ≡ true)
-just_inserted s t card other e held =
-    elim (or_cases _ _ (sym (ap (λ u. set.contains u other) e ∙ set.contains-insert card_cmp_total s card other)
-    ∙ held)) [
-      | inl same ↦ inl (tied_is_equal other card same)
-      | inr old ↦ inr old
-    ]
-
-pub inserted : (s t : Cards) (card : Card) → t ≡ set.insert s card → set.contains t card ≡ true
-inserted s t card e = ap (λ u. set.contains u card) e ∙ set.contains-insert card_cmp_total s card card
-    ∙ or_left _ _ (tied card card refl)
-
-pub still_inserted : (s t : Cards) (card other : Card) → t ≡ set.insert s card → set.contains s other ≡ true →
-    set.contains t other ≡ true
-still_inserted s t card other e held =
-    ap (λ u. set.contains u other) e ∙ set.contains-insert card_cmp_total s card other ∙ or_right _ _ held
-
--- what a set that lost a card had
-pub had : (s t : Cards) (card other : Card) → t ≡ set.remove s card → set.contains t other ≡ true →
-    (set.contains s other ≡ true) × (other ≢ card)
-had s t card other e held =
-    let parts = and_parts _ _ (sym (ap (λ u. set.contains u other) e ∙ set.contains-remove card_cmp_total s card other)
-    ∙ held) in
-    (parts.1, λ same. true≢false (sym (tied other card same) ∙ not-true _ parts.0))
-
--- the cards of one set that another has not
-pub in_difference : (s t u : Cards) → u ≡ set.difference s t → (card : Card) →
-    set.contains u card ≡ (set.contains s card && not (set.contains t card))
-in_difference s t u e card = ap (λ v. set.contains v card) e ∙ set.contains-difference card_cmp_total s t card
 
 both_or_neither : (a b : Bool) → (a && not (a && not b)) ≡ (a && b)
 both_or_neither true true = refl

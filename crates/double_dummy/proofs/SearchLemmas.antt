@@ -238,17 +238,6 @@ found_next p q target rest trick card known answer next one less found =
     subst (λ r. IsFound (after p card) r known answer) (less ∙ ap (λ x. target - x) one)
     (subst (λ s. IsFound s rest known answer) next found)
 
--- a union has the cards of both sets
-pub in_first : (s t u : Cards) → u ≡ set.union s t → (card : Card) → set.contains s card ≡ true →
-    set.contains u card ≡ true
-in_first s t u e card held = ap (λ v. set.contains v card) e ∙ set.contains-union card_cmp_total s t card
-    ∙ or_left _ _ held
-
-pub in_second : (s t u : Cards) → u ≡ set.union s t → (card : Card) → set.contains t card ≡ true →
-    set.contains u card ≡ true
-in_second s t u e card held = ap (λ v. set.contains v card) e ∙ set.contains-union card_cmp_total s t card
-    ∙ or_right _ _ held
-
 pub known_more : (ownership : Ownership) (less more : Cards) (strain : Strain) (table : List Card) (card : Card) →
     ((other : Card) → set.contains less other ≡ true → set.contains more other ≡ true) →
     IsKnown (knowing ownership less) strain table card → IsKnown (knowing ownership more) strain table card

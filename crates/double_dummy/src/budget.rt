@@ -1,11 +1,25 @@
 ghost use Rattle.std.specs.Prelude.{◌≡◌, ◌+◌, ◌≤◌, OnOk, OnErr};
 
+use std::marker::Model;
 use thiserror::Error;
 
 /// How many positions may still be visited.
 #[derive(Debug, Drop)]
 pub struct Budget {
     left: u64,
+}
+
+impl Model for Budget {
+    ghost use Rattle.std.specs.Prelude.{ℕ};
+    ghost use Rattle.std.specs.Coded.{coded_ℕ};
+
+    ghost Value = { ℕ };
+
+    ghost coded = { coded_ℕ };
+
+    ghost view = { λ budget. budget.left };
+
+    ghost inverse = { λ visits. record { left = visits } };
 }
 
 /// The budget is spent.
@@ -15,22 +29,22 @@ pub struct BudgetSpent;
 
 impl Budget {
     pub fn new(visits: u64) -> Budget
-        ensures { result.left ≡ visits }
+        ensures { result ≡ visits }
     {
         Budget { left: visits }
     }
 
     pub fn left(&self) -> u64
-        ensures { result ≡ self.now.left }
+        ensures { result ≡ self.now }
     {
         self.left
     }
 
     /// One visit.
     pub(crate) fn visit(&mut self) -> Result<(), BudgetSpent>
-        ensures ok { OnOk result (self.new.left + 1 ≡ self.old.left) }
-        ensures err { OnErr result (self.old.left ≡ 0) }
-        ensures spent { self.new.left ≤ self.old.left }
+        ensures ok { OnOk result (self.new + 1 ≡ self.old) }
+        ensures err { OnErr result (self.old ≡ 0) }
+        ensures spent { self.new ≤ self.old }
     {
         if self.left == 0 {
             return Err(BudgetSpent);

@@ -2,7 +2,7 @@ ghost use Rattle.std.specs.Prelude.{◌≡◌, ◌≢◌, ◌+◌, ◌≤◌, �
 ghost use Rattle.std.specs.FinSet as set;
 ghost use Rattle.cards.specs.Hands.{IsDeal};
 ghost use Rattle.cards.specs.Play.{IsPosition, start, legal, cards_left};
-ghost use Rattle.double_dummy.specs.Left.{IsLeftOf};
+ghost use Rattle.position_patterns.specs.Remainder.{IsLeftOf};
 ghost use Rattle.double_dummy.specs.Played.{IsPlayed};
 ghost use Rattle.double_dummy.specs.declared.error.CostsError.TheVariants.{NotAPlay, OutOfBudget};
 ghost use Rattle.double_dummy_laws.specs.DoubleDummy.{double_dummy, cost_list, first_illegal};
@@ -10,11 +10,9 @@ ghost use Rattle.double_dummy_laws.specs.DoubleDummy.{double_dummy, cost_list, f
 use crate::budget::{Budget, BudgetSpent};
 use crate::cost_numbers::Costs;
 use crate::error::CostsError;
-use crate::holders::Holders;
-use crate::left::Lefts;
-use crate::memory::Memory;
 use crate::value::value;
 use cards::{Card, Deal, Place, Position, Side, Strain};
+use position_patterns::{DealPatterns, Holders, Memory};
 use scoring::Contract;
 use std::alloc::Global;
 
@@ -31,13 +29,13 @@ pub fn costs(
     ensures legal { OnOk result (first_illegal 1 (start deal contract.strain contract.declarer) play.now ≡ None) }
     ensures not_a_play { (number : ℕ) →
         first_illegal 1 (start deal contract.strain contract.declarer) play.now ≡ Some number →
-        (result ≡ Err (NotAPlay number)) × (budget.new.left ≡ budget.old.left) }
+        (result ≡ Err (NotAPlay number)) × (budget.new ≡ budget.old) }
     ensures first { IfErr result (λ refusal. (number : ℕ) → refusal ≡ NotAPlay number →
         first_illegal 1 (start deal contract.strain contract.declarer) play.now ≡ Some number) }
-    ensures spent { budget.new.left ≤ budget.old.left }
-    ensures out_of_budget { IfErr result (λ refusal. refusal ≡ OutOfBudget → budget.new.left ≡ 0) }
-    ensures empty { play.now ≡ [] → (result ≡ Ok []) × (budget.new.left ≡ budget.old.left) }
-    ensures no_budget { budget.old.left ≡ 0 → play.now ≢ [] →
+    ensures spent { budget.new ≤ budget.old }
+    ensures out_of_budget { IfErr result (λ refusal. refusal ≡ OutOfBudget → budget.new ≡ 0) }
+    ensures empty { play.now ≡ [] → (result ≡ Ok []) × (budget.new ≡ budget.old) }
+    ensures no_budget { budget.old ≡ 0 → play.now ≢ [] →
         first_illegal 1 (start deal contract.strain contract.declarer) play.now ≡ None → result ≡ Err OutOfBudget }
 {
     costs_from(
@@ -63,13 +61,13 @@ pub fn costs_from(
     ensures legal { OnOk result (first_illegal 1 (start deal strain declarer) play.now ≡ None) }
     ensures not_a_play { (number : ℕ) →
         first_illegal 1 (start deal strain declarer) play.now ≡ Some number →
-        (result ≡ Err (NotAPlay number)) × (budget.new.left ≡ budget.old.left) }
+        (result ≡ Err (NotAPlay number)) × (budget.new ≡ budget.old) }
     ensures first { IfErr result (λ refusal. (number : ℕ) → refusal ≡ NotAPlay number →
         first_illegal 1 (start deal strain declarer) play.now ≡ Some number) }
-    ensures spent { budget.new.left ≤ budget.old.left }
-    ensures out_of_budget { IfErr result (λ refusal. refusal ≡ OutOfBudget → budget.new.left ≡ 0) }
-    ensures empty { play.now ≡ [] → (result ≡ Ok []) × (budget.new.left ≡ budget.old.left) }
-    ensures no_budget { budget.old.left ≡ 0 → play.now ≢ [] →
+    ensures spent { budget.new ≤ budget.old }
+    ensures out_of_budget { IfErr result (λ refusal. refusal ≡ OutOfBudget → budget.new ≡ 0) }
+    ensures empty { play.now ≡ [] → (result ≡ Ok []) × (budget.new ≡ budget.old) }
+    ensures no_budget { budget.old ≡ 0 → play.now ≢ [] →
         first_illegal 1 (start deal strain declarer) play.now ≡ None → result ≡ Err OutOfBudget }
 {
     let start = Position::start(deal, strain, declarer);
@@ -82,13 +80,13 @@ pub fn costs_from(
     if budget.left() == 0 {
         return Err(CostsError::OutOfBudget);
     }
-    let Ok(lefts) = Lefts::new(alloc, &Holders::dealt(deal)) else {
+    let Ok(patterns) = DealPatterns::new(alloc, &Holders::dealt(deal)) else {
         return Err(CostsError::OutOfMemory);
     };
     let Ok(mut memory) = Memory::new(alloc, 13) else {
         return Err(CostsError::OutOfMemory);
     };
-    cost_each(alloc, &start, play, &lefts, &mut memory, budget)
+    cost_each(alloc, &start, play, &patterns, &mut memory, budget)
 }
 
 /// The number, from 1, of the first card that is not legal.
@@ -110,28 +108,28 @@ fn cost_each(
     alloc: Global,
     start: &Position,
     play: &[Card],
-    lefts: &Lefts,
+    patterns: &DealPatterns,
     memory: &mut Memory,
     budget: &mut Budget,
 ) -> Result<Costs, CostsError>
     requires play { first_illegal 1 start.now play.now ≡ None }
-    requires dealt { IsLeftOf lefts.now.whole start.now.hands }
+    requires dealt { IsLeftOf patterns.now.whole start.now.hands }
     requires cards { cards_left start.now ≡ 52 }
     requires table { start.now.table ≡ [] }
     ensures costs { IfOk result (λ costs. costs ≡ cost_list start.now play.now) }
     ensures refusal { IfErr result (λ refusal. (number : ℕ) → refusal ≢ NotAPlay number) }
-    ensures out_of_budget { IfErr result (λ refusal. refusal ≡ OutOfBudget → budget.new.left ≡ 0) }
-    ensures spent { budget.new.left ≤ budget.old.left }
+    ensures out_of_budget { IfErr result (λ refusal. refusal ≡ OutOfBudget → budget.new ≡ 0) }
+    ensures spent { budget.new ≤ budget.old }
 {
     let Ok(mut numbers) = Vec::with_capacity(alloc, play.len()) else {
         return Err(CostsError::OutOfMemory);
     };
-    let Ok(mut before) = value(start, 7, lefts, memory, budget) else {
+    let Ok(mut before) = value(start, 7, patterns, memory, budget) else {
         return Err(CostsError::OutOfBudget);
     };
     let mut position = *start;
     for card in play {
-        let Ok(played) = play_card(&position, *card, before, lefts, memory, budget) else {
+        let Ok(played) = play_card(&position, *card, before, patterns, memory, budget) else {
             return Err(CostsError::OutOfBudget);
         };
         let Ok(()) = numbers.push(played.cost) else {
@@ -156,21 +154,21 @@ fn play_card(
     position: &Position,
     card: Card,
     before: u8,
-    lefts: &Lefts,
+    patterns: &DealPatterns,
     memory: &mut Memory,
     budget: &mut Budget,
 ) -> Result<Played, BudgetSpent>
     requires legal { set.contains (legal position.now) card ≡ true }
-    requires dealt { IsLeftOf lefts.now.whole position.now.hands }
+    requires dealt { IsLeftOf patterns.now.whole position.now.hands }
     requires valid { IsPosition position.now }
     requires few { cards_left position.now + length position.now.table ≤ 52 }
     requires before { before ≡ double_dummy position.now }
     ensures played { IfOk result (IsPlayed position.now card) }
-    ensures err { OnErr result (budget.new.left ≡ 0) }
-    ensures spent { budget.new.left ≤ budget.old.left }
+    ensures err { OnErr result (budget.new ≡ 0) }
+    ensures spent { budget.new ≤ budget.old }
 {
     let next = position.after(card);
-    let tricks = value(&next, before, lefts, memory, budget)?;
+    let tricks = value(&next, before, patterns, memory, budget)?;
     let with_card = position.point(card) + tricks;
     let cost = match position.trick().turn(position.leader()).side() {
         Side::NorthSouth => before.saturating_sub(with_card),

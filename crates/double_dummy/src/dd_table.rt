@@ -1,17 +1,15 @@
 ghost use Rattle.std.specs.Prelude.{◌≡◌, ◌<◌, ◌≤◌, Ok, Err, IfOk, IfErr, OnErr};
 ghost use Rattle.cards.specs.Hands.{IsDeal};
 ghost use Rattle.double_dummy.specs.declared.error.SolveError.TheVariants.{OutOfBudget};
-ghost use Rattle.double_dummy.specs.Left.{IsLeftOf};
+ghost use Rattle.position_patterns.specs.Remainder.{IsLeftOf};
 ghost use Rattle.double_dummy_laws.specs.DoubleDummy.{declarer_tricks, tricks_for};
 ghost use Rattle.double_dummy.specs.DdTable.{IsTricksIn, tricks_of};
 
 use crate::budget::{Budget, BudgetSpent};
 use crate::error::SolveError;
-use crate::holders::Holders;
-use crate::left::Lefts;
-use crate::memory::Memory;
 use crate::value::value;
 use cards::{Deal, Place, Position, Side, Strain};
+use position_patterns::{DealPatterns, Holders, Memory};
 use std::alloc::Global;
 use std::marker::Model;
 
@@ -94,20 +92,20 @@ impl DeclarerTricks {
 /// The deal's double-dummy table.
 pub fn table(alloc: Global, deal: Deal, budget: &mut Budget) -> Result<DdTable, SolveError>
     ensures table { IfOk result (λ table. table ≡ deal) }
-    ensures spent { budget.new.left ≤ budget.old.left }
-    ensures out_of_budget { IfErr result (λ refusal. refusal ≡ OutOfBudget → budget.new.left ≡ 0) }
-    ensures no_budget { budget.old.left ≡ 0 → result ≡ Err OutOfBudget }
+    ensures spent { budget.new ≤ budget.old }
+    ensures out_of_budget { IfErr result (λ refusal. refusal ≡ OutOfBudget → budget.new ≡ 0) }
+    ensures no_budget { budget.old ≡ 0 → result ≡ Err OutOfBudget }
 {
     if budget.left() == 0 {
         return Err(SolveError::OutOfBudget);
     }
-    let Ok(lefts) = Lefts::new(alloc, &Holders::dealt(deal)) else {
+    let Ok(patterns) = DealPatterns::new(alloc, &Holders::dealt(deal)) else {
         return Err(SolveError::OutOfMemory);
     };
     let Ok(mut memory) = Memory::new(alloc, 13) else {
         return Err(SolveError::OutOfMemory);
     };
-    match solve_strains(deal, &lefts, &mut memory, budget) {
+    match solve_strains(deal, &patterns, &mut memory, budget) {
         Ok(table) => Ok(table),
         Err(_) => Err(SolveError::OutOfBudget),
     }
@@ -116,21 +114,21 @@ pub fn table(alloc: Global, deal: Deal, budget: &mut Budget) -> Result<DdTable, 
 /// The table, strain by strain.
 fn solve_strains(
     deal: Deal,
-    lefts: &Lefts,
+    patterns: &DealPatterns,
     memory: &mut Memory,
     budget: &mut Budget,
 ) -> Result<DdTable, BudgetSpent>
-    requires dealt { IsLeftOf lefts.now.whole deal }
+    requires dealt { IsLeftOf patterns.now.whole deal }
     requires deal { IsDeal deal }
     ensures table { IfOk result (λ table. table ≡ deal) }
-    ensures err { OnErr result (budget.new.left ≡ 0) }
-    ensures spent { budget.new.left ≤ budget.old.left }
+    ensures err { OnErr result (budget.new ≡ 0) }
+    ensures spent { budget.new ≤ budget.old }
 {
-    let spades = solve_strain(deal, Strain::Spades, lefts, memory, budget)?;
-    let hearts = solve_strain(deal, Strain::Hearts, lefts, memory, budget)?;
-    let diamonds = solve_strain(deal, Strain::Diamonds, lefts, memory, budget)?;
-    let clubs = solve_strain(deal, Strain::Clubs, lefts, memory, budget)?;
-    let no_trump = solve_strain(deal, Strain::NoTrump, lefts, memory, budget)?;
+    let spades = solve_strain(deal, Strain::Spades, patterns, memory, budget)?;
+    let hearts = solve_strain(deal, Strain::Hearts, patterns, memory, budget)?;
+    let diamonds = solve_strain(deal, Strain::Diamonds, patterns, memory, budget)?;
+    let clubs = solve_strain(deal, Strain::Clubs, patterns, memory, budget)?;
+    let no_trump = solve_strain(deal, Strain::NoTrump, patterns, memory, budget)?;
     Ok(DdTable {
         deal,
         spades,
@@ -145,21 +143,29 @@ fn solve_strains(
 fn solve_strain(
     deal: Deal,
     strain: Strain,
-    lefts: &Lefts,
+    patterns: &DealPatterns,
     memory: &mut Memory,
     budget: &mut Budget,
 ) -> Result<DeclarerTricks, BudgetSpent>
-    requires dealt { IsLeftOf lefts.now.whole deal }
+    requires dealt { IsLeftOf patterns.now.whole deal }
     requires deal { IsDeal deal }
     ensures tricks { IfOk result (IsTricksIn deal strain) }
-    ensures err { OnErr result (budget.new.left ≡ 0) }
-    ensures spent { budget.new.left ≤ budget.old.left }
+    ensures err { OnErr result (budget.new ≡ 0) }
+    ensures spent { budget.new ≤ budget.old }
 {
     memory.clear();
-    let north = solve_declarer(deal, strain, Place::North, 7, lefts, memory, budget)?;
-    let south = solve_declarer(deal, strain, Place::South, north, lefts, memory, budget)?;
-    let east = solve_declarer(deal, strain, Place::East, 13 - south, lefts, memory, budget)?;
-    let west = solve_declarer(deal, strain, Place::West, east, lefts, memory, budget)?;
+    let north = solve_declarer(deal, strain, Place::North, 7, patterns, memory, budget)?;
+    let south = solve_declarer(deal, strain, Place::South, north, patterns, memory, budget)?;
+    let east = solve_declarer(
+        deal,
+        strain,
+        Place::East,
+        13 - south,
+        patterns,
+        memory,
+        budget,
+    )?;
+    let west = solve_declarer(deal, strain, Place::West, east, patterns, memory, budget)?;
     Ok(DeclarerTricks {
         north,
         east,
@@ -174,21 +180,21 @@ fn solve_declarer(
     strain: Strain,
     declarer: Place,
     guess: u8,
-    lefts: &Lefts,
+    patterns: &DealPatterns,
     memory: &mut Memory,
     budget: &mut Budget,
 ) -> Result<u8, BudgetSpent>
-    requires dealt { IsLeftOf lefts.now.whole deal }
+    requires dealt { IsLeftOf patterns.now.whole deal }
     requires deal { IsDeal deal }
     requires guess { guess ≤ 13 }
     ensures tricks { IfOk result (λ tricks. tricks ≡ declarer_tricks deal strain declarer) }
     ensures few { IfOk result (λ tricks. tricks ≤ 13) }
-    ensures err { OnErr result (budget.new.left ≡ 0) }
-    ensures spent { budget.new.left ≤ budget.old.left }
+    ensures err { OnErr result (budget.new ≡ 0) }
+    ensures spent { budget.new ≤ budget.old }
 {
     let start = Position::start(deal, strain, declarer);
     let side = declarer.side();
-    let tricks = value(&start, tricks_for(side, guess), lefts, memory, budget)?;
+    let tricks = value(&start, tricks_for(side, guess), patterns, memory, budget)?;
     Ok(tricks_for(side, tricks))
 }
 

@@ -7,18 +7,12 @@ mod card_costs;
 mod cost_numbers;
 mod dd_table;
 mod error;
-mod holders;
-mod left;
-mod memory;
 mod order;
-mod pattern;
 mod play_answer;
 mod played_costs;
 mod run;
 mod search;
 mod solver;
-#[cfg(test)]
-mod tests;
 mod trick;
 mod value;
 mod weights;

@@ -74,14 +74,14 @@ pub fn play_costs(
     budget: &mut Budget,
 ) -> Result<PlayCosts, SolveError>
     ensures held { IfOk result (λ costs. costs ≡ record { deal = deal; contract = contract; play = play.now }) }
-    ensures spent { budget.new.left ≤ budget.old.left }
-    ensures out_of_budget { IfErr result (λ refusal. refusal ≡ OutOfBudget → budget.new.left ≡ 0) }
+    ensures spent { budget.new ≤ budget.old }
+    ensures out_of_budget { IfErr result (λ refusal. refusal ≡ OutOfBudget → budget.new ≡ 0) }
     ensures not_a_play { (number : ℕ) →
         first_illegal 1 (start deal contract.strain contract.declarer) play.now ≡ Some number →
-        IfErr result (λ refusal. refusal ≡ OutOfMemory) × (budget.new.left ≡ budget.old.left) }
+        IfErr result (λ refusal. refusal ≡ OutOfMemory) × (budget.new ≡ budget.old) }
     ensures empty { play.now ≡ [] →
-        IfErr result (λ refusal. refusal ≡ OutOfMemory) × (budget.new.left ≡ budget.old.left) }
-    ensures no_budget { budget.old.left ≡ 0 → play.now ≢ [] →
+        IfErr result (λ refusal. refusal ≡ OutOfMemory) × (budget.new ≡ budget.old) }
+    ensures no_budget { budget.old ≡ 0 → play.now ≢ [] →
         first_illegal 1 (start deal contract.strain contract.declarer) play.now ≡ None → result ≡ Err OutOfBudget }
 {
     let answer = match costs_from(

@@ -1,22 +1,20 @@
 ghost use Rattle.std.specs.Prelude.{◌≡◌, ◌<◌, ◌&&◌, true};
 ghost use Rattle.std.specs.FinSet as set;
-ghost use Rattle.std.specs.List.{list_any};
-ghost use Rattle.std.specs.Ordering.{eq_by_cmp};
-ghost use Rattle.cards.specs.Card.{card_cmp, number_in_pack};
+ghost use Rattle.cards.specs.Card.{number_in_pack};
 ghost use Rattle.cards.specs.declared.card.Card.{Card};
 ghost use Rattle.cards.specs.Play.{legal};
-ghost use Rattle.cards.specs.Trick.{cards_in};
 ghost use Rattle.double_dummy.specs.Search.{HasOthers, IsRunOf};
 
-use crate::holders::Holders;
-use cards::{Card, Hand, Position, Rank, Trick};
+use crate::weights::top;
+use cards::{Card, Hand, Position, Rank};
+use position_patterns::Holders;
 
 /// The cards that the other players hold, and those on the table.
 pub fn others(position: &Position) -> Hand
     ensures { HasOthers position.now result }
 {
     let trick = position.trick();
-    let live = Holders::of(position).all().union(cards_of(trick));
+    let live = Holders::of(position).all().union(trick.cards());
     live.difference(position.hand(trick.turn(position.leader())))
 }
 
@@ -31,6 +29,18 @@ pub fn run_of(position: &Position, others: Hand, playable: Hand, card: Card) -> 
     let mut run = common(playable.of_suit(card.suit), next_to(others, card));
     run.insert(card);
     run
+}
+
+/// Whether these cards are one run, or none: where a player has no choice, none has to be weighed.
+pub fn is_one_run(playable: Hand, others: Hand) -> bool {
+    let Some(lowest) = playable.first() else {
+        return true;
+    };
+    let highest = top(playable).unwrap_or(lowest);
+    if lowest.number() >= highest.number() {
+        return true;
+    }
+    lowest.suit == highest.suit && others.is_disjoint(Hand::between(lowest, highest))
 }
 
 /// The cards of the suit above a card, up to the first that the others have.
@@ -64,25 +74,4 @@ fn common(a: Hand, b: Hand) -> Hand
     ensures { (card : Card) → set.contains result card ≡ (set.contains a card && set.contains b card) }
 {
     a.difference(a.difference(b))
-}
-
-/// The cards of a trick under way, as a set.
-fn cards_of(trick: Trick) -> Hand
-    ensures { (card : Card) → set.contains result card ≡ list_any (eq_by_cmp card_cmp card) (cards_in trick) }
-{
-    let mut cards = Hand::new();
-    match trick {
-        Trick::Empty => {}
-        Trick::One(a) => cards.insert(a),
-        Trick::Two(a, b) => {
-            cards.insert(b);
-            cards.insert(a);
-        }
-        Trick::Three(a, b, c) => {
-            cards.insert(c);
-            cards.insert(b);
-            cards.insert(a);
-        }
-    }
-    cards
 }

@@ -2,7 +2,7 @@ ghost use Rattle.cards.specs.Place.{side_of};
 ghost use Rattle.cards.specs.Play.{to_play};
 ghost use Rattle.double_dummy_laws.specs.Found.{wanted};
 ghost use Rattle.cards.specs.Play.{cards_left};
-ghost use Rattle.double_dummy.specs.Left.{IsLeftOf};
+ghost use Rattle.position_patterns.specs.Remainder.{IsLeftOf};
 ghost use Rattle.double_dummy_laws.specs.Found.{Claims, IsFound, IsOwned, IsTight};
 ghost use Rattle.double_dummy_laws.specs.Renaming.{Ownership, knowing};
 ghost use Rattle.std.specs.Prelude.{◌≡◌, ◌<◌, ◌≤◌, true, IfOk, OnErr};
@@ -10,19 +10,10 @@ ghost use Rattle.std.specs.FinSet as set;
 ghost use Rattle.cards.specs.declared.card.Card.{Card};
 
 use crate::budget::{Budget, BudgetSpent};
-use crate::holders::Holders;
-use crate::left::Lefts;
-use crate::memory::Memory;
-use crate::order::Order;
+use crate::order::best;
 use crate::{run, trick};
 use cards::{Hand, Position, Side, Trick};
-
-/// Whether North and South take so many tricks, and the cards whose rank mattered.
-#[derive(Clone, Copy, Debug)]
-pub struct Finding {
-    pub holds: bool,
-    pub known: Hand,
-}
+use position_patterns::{DealPatterns, Finding, Holders, Memory};
 
 /// The known cards with those that decided, and the whole run of a card of them.
 fn learnt(known: Hand, decisive: Hand, run: Hand) -> Hand
@@ -44,14 +35,14 @@ fn learnt(known: Hand, decisive: Hand, run: Hand) -> Hand
 pub fn search(
     position: &Position,
     target: u8,
-    lefts: &Lefts,
+    patterns: &DealPatterns,
     memory: &mut Memory,
     budget: &mut Budget,
 ) -> Result<Finding, BudgetSpent>
-    requires { IsLeftOf lefts.now.whole position.now.hands }
+    requires { IsLeftOf patterns.now.whole position.now.hands }
     ensures found { IfOk result (λ found. IsFound position.now target found.known found.holds) }
-    ensures err { OnErr result (budget.new.left ≡ 0) }
-    ensures spent { budget.new.left ≤ budget.old.left }
+    ensures err { OnErr result (budget.new ≡ 0) }
+    ensures spent { budget.new ≤ budget.old }
 {
     if target == 0 {
         return Ok(Finding {
@@ -60,7 +51,7 @@ pub fn search(
         });
     }
     if position.trick() != Trick::Empty {
-        return explore(position, target, lefts, memory, budget);
+        return explore(position, target, patterns, memory, budget);
     }
     let tricks_left = position.tricks_left();
     if tricks_left < target {
@@ -71,14 +62,14 @@ pub fn search(
     }
     // two tricks are searched sooner than they are remembered
     if tricks_left <= 2 {
-        return explore(position, target, lefts, memory, budget);
+        return explore(position, target, patterns, memory, budget);
     }
     let holders = Holders::of(position);
-    let pattern = lefts.pattern(&holders);
+    let pattern = patterns.pattern(&holders);
     if let Some(found) = memory.find(position, &holders, &pattern, target) {
         return Ok(found);
     }
-    let found = explore(position, target, lefts, memory, budget)?;
+    let found = explore(position, target, patterns, memory, budget)?;
     memory.store(position, &holders, &pattern, target, &found);
     Ok(found)
 }
@@ -88,15 +79,15 @@ pub fn search(
 fn explore(
     position: &Position,
     target: u8,
-    lefts: &Lefts,
+    patterns: &DealPatterns,
     memory: &mut Memory,
     budget: &mut Budget,
 ) -> Result<Finding, BudgetSpent>
     requires target { 0 < target }
-    requires left { IsLeftOf lefts.now.whole position.now.hands }
+    requires left { IsLeftOf patterns.now.whole position.now.hands }
     ensures found { IfOk result (λ found. IsFound position.now target found.known found.holds) }
-    ensures err { OnErr result (budget.new.left ≡ 0) }
-    ensures spent { budget.new.left ≤ budget.old.left }
+    ensures err { OnErr result (budget.new ≡ 0) }
+    ensures spent { budget.new ≤ budget.old }
 {
     let playable = position.legal_cards();
     let mut untried = playable;
@@ -109,12 +100,11 @@ fn explore(
     budget.visit()?;
     let wanted = wants(position);
     let others = run::others(position);
-    let order = Order::of(position, others, playable);
     let mut known = Hand::new();
-    while let Some(card) = order.best(untried) {
+    while let Some(card) = best(position, others, playable, untried) {
         let rest = target - position.point(card);
         let next = position.after(card);
-        let found = search(&next, rest, lefts, memory, budget)?;
+        let found = search(&next, rest, patterns, memory, budget)?;
         let decisive = found.known.union(trick::decisive(position, card));
         if found.holds == wanted {
             return Ok(Finding {

@@ -5,20 +5,18 @@ ghost use Rattle.double_dummy_laws.specs.DoubleDummy.{double_dummy};
 
 use crate::budget::Budget;
 use crate::error::SolveError;
-use crate::holders::Holders;
-use crate::left::Lefts;
-use crate::memory::Memory;
 use crate::value::value;
 use cards::Position;
+use position_patterns::{DealPatterns, Holders, Memory};
 use std::alloc::Global;
 
 /// How many of the tricks that are left North and South take, when all four play their best with all cards seen.
 pub fn solve(alloc: Global, position: &Position, budget: &mut Budget) -> Result<u8, SolveError>
     ensures tricks { IfOk result (λ tricks. tricks ≡ double_dummy position.now) }
-    ensures spent { budget.new.left ≤ budget.old.left }
-    ensures out_of_budget { IfErr result (λ refusal. refusal ≡ OutOfBudget → budget.new.left ≡ 0) }
-    ensures no_cards { cards_left position.now ≡ 0 → (result ≡ Ok 0) × (budget.new.left ≡ budget.old.left) }
-    ensures no_budget { 0 < cards_left position.now → budget.old.left ≡ 0 → result ≡ Err OutOfBudget }
+    ensures spent { budget.new ≤ budget.old }
+    ensures out_of_budget { IfErr result (λ refusal. refusal ≡ OutOfBudget → budget.new ≡ 0) }
+    ensures no_cards { cards_left position.now ≡ 0 → (result ≡ Ok 0) × (budget.new ≡ budget.old) }
+    ensures no_budget { 0 < cards_left position.now → budget.old ≡ 0 → result ≡ Err OutOfBudget }
 {
     let tricks_left = position.tricks_left();
     if tricks_left == 0 {
@@ -27,13 +25,19 @@ pub fn solve(alloc: Global, position: &Position, budget: &mut Budget) -> Result<
     if budget.left() == 0 {
         return Err(SolveError::OutOfBudget);
     }
-    let Ok(lefts) = Lefts::new(alloc, &Holders::of(position)) else {
+    let Ok(patterns) = DealPatterns::new(alloc, &Holders::of(position)) else {
         return Err(SolveError::OutOfMemory);
     };
     let Ok(mut memory) = Memory::new(alloc, tricks_left) else {
         return Err(SolveError::OutOfMemory);
     };
-    match value(position, tricks_left / 2 + 1, &lefts, &mut memory, budget) {
+    match value(
+        position,
+        tricks_left / 2 + 1,
+        &patterns,
+        &mut memory,
+        budget,
+    ) {
         Ok(tricks) => Ok(tricks),
         Err(_) => Err(SolveError::OutOfBudget),
     }

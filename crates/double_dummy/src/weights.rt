@@ -41,7 +41,7 @@ impl Weights {
     }
 
     /// How promising a card is, the highest of its run.
-    pub fn weight(&self, card: Card, run: Hand) -> u8 {
+    pub fn weight(&self, card: Card, run: Hand) -> u16 {
         let high = top(run).unwrap_or(card);
         match self.best {
             None => self.lead(high),
@@ -54,43 +54,63 @@ impl Weights {
         }
     }
 
-    /// A lead: a suit in which partner and self are long, a card that wins, or a low one to partner's.
-    fn lead(&self, card: Card) -> u8 {
+    /// A lead: a card that wins, or a low one to partner's, and not into the strength of the right-hand opponent.
+    fn lead(&self, card: Card) -> u16 {
         let suit = card.suit;
-        let rank = card.rank.height();
-        let ours = length(self.mine, suit) + length(self.partner, suit);
-        let theirs = length(self.left, suit) + length(self.right, suit);
-        let base = 100 + 2 * ours - theirs + if self.is_trump(suit) { 4 } else { 0 };
+        let rank = card.rank.height() as u16;
+        let base = self.suit_weight(suit);
         let Some(first) = top(self.all.of_suit(suit)) else {
             return base;
         };
         let is_ruffed = self.ruffs(self.left, suit) || self.ruffs(self.right, suit);
         if card == first {
-            return if is_ruffed { base - 10 } else { base + 25 };
+            return if is_ruffed { base - 21 } else { base + 33 };
         }
         if self.partner.contains(first) {
             return if is_ruffed {
-                base - 10 - rank
+                base - 11 - rank
             } else {
-                base + 20 - rank
+                base + 25 - rank
             };
         }
         if self.ruffs(self.partner, suit) {
-            return base + 18 - rank;
+            return base + 26 - rank;
         }
         let second = top(self.all.of_suit(suit).without(first));
         let builds = second.is_some_and(|card| self.mine.union(self.partner).contains(card));
-        let under = if self.right.contains(first) { 4 } else { 0 };
-        if builds {
-            base + 8 - rank - under
+        let weight = if builds { base + 2 - rank } else { base - rank };
+        if self.right.contains(first) {
+            weight - 16
+        } else if self.left.contains(first) {
+            weight + 3
         } else {
-            base - rank - under
+            weight
+        }
+    }
+
+    /// How promising a suit is to lead, by how many cards of it the players have.
+    fn suit_weight(&self, suit: Suit) -> u16
+        ensures enough { 100 ≤ result }
+        ensures few { result ≤ 1000 }
+    {
+        let held = length(self.mine, suit);
+        let base = 300
+            + held
+            + 2 * length(self.partner, suit)
+            + length(self.left, suit)
+            + 7 * length(self.right, suit);
+        if self.is_trump(suit) {
+            base - 13
+        } else if held == 1 && self.ruffs(self.mine.difference(self.mine.of_suit(suit)), suit) {
+            base + 10
+        } else {
+            base
         }
     }
 
     /// The second and the third card of a trick.
-    fn follow(&self, card: Card, led: Suit, best: Card, played: u8) -> u8 {
-        let rank = card.rank.height();
+    fn follow(&self, card: Card, led: Suit, best: Card, played: u8) -> u16 {
+        let rank = card.rank.height() as u16;
         if self.power(card, led) <= self.power(best, led) {
             return self.low(card, led);
         }
@@ -98,14 +118,14 @@ impl Weights {
         let is_safe = self.power(card, led) > answer;
         if self.is_ours {
             if self.is_trump(best.suit) && best.suit != led {
-                return 80 - rank;
+                return 280 - rank;
             }
             if self.power(best, led) > answer {
-                return 95 - rank;
+                return 293 - rank;
             }
-            return if is_safe { 130 - rank } else { 100 - rank };
+            return if is_safe { 324 - rank } else { 286 - rank };
         }
-        let base = if is_safe { 145 - rank } else { 108 - rank };
+        let base = if is_safe { 357 - rank } else { 312 - rank };
         let partner = top(self.partner.of_suit(led));
         let is_covered = partner.is_some_and(|card| self.power(card, led) > answer);
         if played == 1 && !is_safe && is_covered {
@@ -116,35 +136,35 @@ impl Weights {
     }
 
     /// The last card of a trick.
-    fn last(&self, card: Card, led: Suit, best: Card) -> u8 {
-        let rank = card.rank.height();
+    fn last(&self, card: Card, led: Suit, best: Card) -> u16 {
+        let rank = card.rank.height() as u16;
         if self.power(card, led) <= self.power(best, led) {
             self.low(card, led)
         } else if self.is_ours {
-            90 - rank
+            299 - rank
         } else {
-            145 - rank
+            344 - rank
         }
     }
 
-    /// A card that does not win: low, and a discard from a long suit, not from its guards.
-    fn low(&self, card: Card, led: Suit) -> u8 {
+    /// A card that does not win: low, and a discard not from the guards of a suit.
+    fn low(&self, card: Card, led: Suit) -> u16 {
         let suit = card.suit;
-        let rank = card.rank.height();
+        let rank = card.rank.height() as u16;
         if suit == led {
-            return 110 - rank;
+            return 310 - rank;
         }
         let held = length(self.mine, suit);
-        let base = 100 + 2 * held - rank - if self.is_trump(suit) { 10 } else { 0 };
+        let base = 299 - 2 * held - rank - if self.is_trump(suit) { 12 } else { 0 };
         let Some(first) = top(self.all.of_suit(suit)) else {
             return base;
         };
         if card == first {
-            return base - 12;
+            return base - 11;
         }
         let second = top(self.all.of_suit(suit).without(first));
         let guards = held == 2 && second.is_some_and(|card| self.mine.contains(card));
-        if guards { base - 6 } else { base }
+        if guards { base - 8 } else { base }
     }
 
     /// How strong the next opponent's strongest answer is.
@@ -206,14 +226,14 @@ fn best_of(strain: Strain, trick: Trick) -> (Option<Card>, bool) {
 }
 
 /// How many cards a hand has of a suit.
-fn length(hand: Hand, suit: Suit) -> u8
+fn length(hand: Hand, suit: Suit) -> u16
     ensures { result ≤ 15 }
 {
-    (hand.of_suit(suit).len() & 15) as u8
+    (hand.of_suit(suit).len() & 15) as u16
 }
 
 /// The last card of a set in the order of the pack: of one suit's cards the highest.
-fn top(hand: Hand) -> Option<Card> {
+pub fn top(hand: Hand) -> Option<Card> {
     let word = hand.word();
     if word == 0 {
         return None;

@@ -3,9 +3,9 @@ use Rattle.cards.specs.declared.card.Card.{Card}
 use Rattle.cards.specs.declared.suit.Suit.TheVariants.{Spades}
 use Rattle.cards.specs.declared.rank.Rank.TheVariants.{Two}
 use Rattle.cards.specs.Play.{cards_left}
-use Rattle.double_dummy.proofs.LeftLemmas.{left_without}
+use Rattle.position_patterns.proofs.RemainderLemmas.{left_without}
 use Rattle.double_dummy.proofs.PlayedLemmas.{head_legal, past_card, from_card, one_cost_more, few_after, all_costs}
-use Rattle.double_dummy.specs.Left.{IsLeftOf}
+use Rattle.position_patterns.specs.Remainder.{IsLeftOf}
 use Rattle.double_dummy.proofs.card_costs.cost_each.Goals as goal
 use Rattle.double_dummy_laws.proofs.NeighbourLemmas.{one_less_after}
 use Rattle.double_dummy_laws.specs.DoubleDummy.{cost_list}
@@ -61,8 +61,8 @@ loop-card-preserved c =
           played.cost played.next c.in-Ok-push.ensures.items;
       before = played.tricks;
       valid = played.valid;
-      dealt = subst (λ r. IsLeftOf c.args.lefts.now.whole r.hands) (sym played.next)
-          (left_without c.args.lefts.now.whole p.hands card before.dealt);
+      dealt = subst (λ r. IsLeftOf c.args.patterns.now.whole r.hands) (sym played.next)
+          (left_without c.args.patterns.now.whole p.hands card before.dealt);
       few = subst (λ r. cards_left r + length r.table ≤ 52) (sym played.next)
           (few_after p card before.valid may before.few);
       number = omega (arith, before.number, left, moved);

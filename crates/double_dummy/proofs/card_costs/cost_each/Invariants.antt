@@ -1,6 +1,6 @@
 use Rattle.std.proofs.Common.{◌≡◌, ◌+◌, ◌≤◌, suc, drop, length, ◌++◌, None}
 use Rattle.cards.specs.Play.{IsPosition, cards_left}
-use Rattle.double_dummy.specs.Left.{IsLeftOf}
+use Rattle.position_patterns.specs.Remainder.{IsLeftOf}
 use Rattle.double_dummy.proofs.card_costs.cost_each.Given as goal
 use Rattle.double_dummy_laws.specs.DoubleDummy.{double_dummy, cost_list, first_illegal}
 
@@ -10,10 +10,10 @@ invariant-loop-card l = record {
   costs : l.numbers.items ++ cost_list l.position (drop l.card-index l.play) ≡ cost_list l.start l.play;
   before : l.before ≡ double_dummy l.position;
   valid : IsPosition l.position;
-  dealt : IsLeftOf l.lefts.whole l.position.hands;
+  dealt : IsLeftOf l.patterns.whole l.position.hands;
   few : cards_left l.position + length l.position.table ≤ 52;
   number : l.card-index + cards_left l.position ≡ 52;
   numbers : length l.numbers.items ≡ l.card-index;
-  spent : l.budget.left ≤ l.initial.budget.left;
-  spent_before : l.initial.budget.left ≤ l.fn.budget.left;
+  spent : l.budget ≤ l.initial.budget;
+  spent_before : l.initial.budget ≤ l.fn.budget;
 }

@@ -1,12 +1,12 @@
 use Rattle.std.proofs.Common.{subst, sym, arith}
-use Rattle.double_dummy.proofs.LeftLemmas.{left_without}
+use Rattle.position_patterns.proofs.RemainderLemmas.{left_without}
 use Rattle.double_dummy.proofs.PlayedLemmas.{thirteen_next}
-use Rattle.double_dummy.specs.Left.{IsLeftOf}
+use Rattle.position_patterns.specs.Remainder.{IsLeftOf}
 use Rattle.double_dummy.proofs.card_costs.play_card.Goals as goal
 
 pub value-requires : goal.value-requires
 value-requires c =
-    let whole = c.args.lefts.now.whole in
+    let whole = c.args.patterns.now.whole in
     record {
       dealt =
           subst (λ q. IsLeftOf whole q.hands) (sym c.after-next.ensures)

@@ -1,4 +1,5 @@
-use Rattle.double_dummy.proofs.RunLemmas.{run_up, inserted}
+use Rattle.double_dummy.proofs.RunLemmas.{run_up}
+use Rattle.position_patterns.proofs.SetLemmas.{inserted}
 use Rattle.double_dummy.proofs.run.run_of.Goals as goal
 
 pub returns-clause-run : goal.returns-clause-run

@@ -1,12 +1,13 @@
 use Rattle.std.proofs.Common.{◌∙◌, ◌-◌, ap, sym, subst, arith, refl, not}
 use Rattle.std.proofs.lemmas.Bool.{and_parts, true≢false}
 use Rattle.double_dummy.proofs.search.+search.Goals as goal
-use Rattle.double_dummy.proofs.RunLemmas.{in_difference}
+use Rattle.position_patterns.proofs.SetLemmas.{in_difference}
 use Rattle.cards.specs.Play.{cards_left, legal}
 use Rattle.double_dummy.proofs.BoundLemmas.{too_many}
-use Rattle.double_dummy.proofs.LeftLemmas.{left_without}
-use Rattle.double_dummy.proofs.SearchLemmas.{fewer_untried, found_decided, found_next, found_refused, in_first, in_second, known_more, nothing_left, other_bool, refused_step, same_bool, some_in}
-use Rattle.double_dummy.specs.Left.{IsLeftOf}
+use Rattle.position_patterns.proofs.RemainderLemmas.{left_without}
+use Rattle.double_dummy.proofs.SearchLemmas.{fewer_untried, found_decided, found_next, found_refused, known_more, nothing_left, other_bool, refused_step, same_bool, some_in}
+use Rattle.position_patterns.proofs.SetLemmas.{in_first, in_second}
+use Rattle.position_patterns.specs.Remainder.{IsLeftOf}
 use Rattle.double_dummy_laws.proofs.CountLemmas.{fewer_after}
 use Rattle.double_dummy_laws.specs.Found.{IsFound}
 
@@ -22,8 +23,8 @@ explore-search-requires t c =
     let same = ap cards_left c.after-next.ensures in
     let d = c.decreases in (
       omega (arith, fewer, same, d),
-      subst (λ q. IsLeftOf c.args.lefts.now.whole q.hands) (sym c.after-next.ensures)
-          (left_without c.args.lefts.now.whole c.args.position.now.hands c.in-Some.card c.requires.left),
+      subst (λ q. IsLeftOf c.args.patterns.now.whole q.hands) (sym c.after-next.ensures)
+          (left_without c.args.patterns.now.whole c.args.position.now.hands c.in-Some.card c.requires.left),
     )
 
 pub explore-returns-then-found-wanted-clause-found : goal.explore-returns-then-found-wanted-clause-found

@@ -9,7 +9,7 @@ use Rattle.double_dummy.specs.Search.{IsRefused}
 abbrev pub invariant-explore-loop-card : goal.invariant-explore-loop-card
 invariant-explore-loop-card l = record {
   untried : (card : Card) → set.contains l.untried card ≡ true → set.contains (legal l.position) card ≡ true;
-  spent : l.budget.left ≤ l.initial.budget.left;
+  spent : l.budget ≤ l.initial.budget;
   refused : IsRefused l.position l.target l.untried l.known (not l.wanted);
 }
 

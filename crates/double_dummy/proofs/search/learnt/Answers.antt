@@ -1,7 +1,7 @@
 use Rattle.std.proofs.Common.{sym, ◌∙◌}
 use Rattle.std.proofs.lemmas.Bool.{true≢false}
 use Rattle.double_dummy.proofs.search.learnt.Goals as goal
-use Rattle.double_dummy.proofs.SearchLemmas.{in_first, in_second}
+use Rattle.position_patterns.proofs.SetLemmas.{in_first, in_second}
 
 pub returns-then-is_disjoint : goal.returns-then-is_disjoint
 returns-then-is_disjoint c = record {

@@ -1,7 +1,7 @@
 use Rattle.std.proofs.lemmas.Bool.{or_right}
 use Rattle.std.specs.FinSet as set
 use Rattle.double_dummy.proofs.trick.settled.Goals as goal
-use Rattle.double_dummy.proofs.RunLemmas.{inserted}
+use Rattle.position_patterns.proofs.SetLemmas.{inserted}
 
 pub returns : goal.returns
 returns c ownership =

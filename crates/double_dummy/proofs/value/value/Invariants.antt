@@ -7,7 +7,7 @@ invariant-loop-low l = record {
   taken : l.low ≤ double_dummy l.position;
   bound : double_dummy l.position ≤ l.high;
   fits : l.high < 256;
-  spent : l.budget.left ≤ l.initial.budget.left;
+  spent : l.budget ≤ l.initial.budget;
 }
 
 abbrev pub decreases-loop-low : goal.decreases-loop-low

@@ -1,9 +1,0 @@
-use Rattle.std.proofs.Common.{◌∙◌, sym, arith}
-use Rattle.std.proofs.lemmas.Bool.{eqb-true}
-use Rattle.double_dummy.proofs.pattern.SuitTops.has.Goals as goal
-use Rattle.double_dummy.proofs.RankLemmas.{low_digits}
-
-pub returns-clause-owners : goal.returns-clause-owners
-returns-clause-owners c same =
-    let few = c.if-self-gt13.false in
-    sym (low_digits c.args.pattern.now.owners c.args.self.now.count (omega arith)) ∙ eqb-true _ _ same

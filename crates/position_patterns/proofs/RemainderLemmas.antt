@@ -1,0 +1,192 @@
+-- A suit's pattern is known from the cards that are left of it.
+use Rattle.std.proofs.Common.{◌≡◌, ◌≢◌, Bool, true, false, List, [], ◌∷◌, refl, sym, ap, ◌∙◌, subst, inl, inr, Some, None}
+use Rattle.std.specs.Prelude.{if◌then◌else◌}
+use Rattle.std.proofs.lemmas.Bool.{or_cases, or_left, or_right, and_parts, and_from, true≢false, false_from_ne_true, eq-eqb}
+use Rattle.cards.specs.declared.card.Card.{Card}
+use Rattle.cards.specs.declared.suit.Suit.{Suit}
+use Rattle.cards.specs.declared.rank.Rank.{Rank}
+use Rattle.cards.specs.declared.place.Place.{Place}
+use Rattle.cards.specs.declared.place.Place.TheVariants.{North, East, South, West}
+use Rattle.cards.specs.Rank.{ranks_down}
+use Rattle.cards.specs.Cards.{Cards, AreDisjoint}
+use Rattle.cards.specs.Hands.{Hands, IsDeal, hand_of}
+use Rattle.cards.specs.CardBits.{card_cmp_total}
+use Rattle.std.specs.FinSet as set
+use Rattle.position_patterns.specs.declared.deal_patterns.Remainder.{Remainder}
+use Rattle.cards.specs.Play.{IsApart, is_of, without}
+use Rattle.position_patterns.specs.Remainder.{IsLeftOf, IsPartOf, IsTrueRemainder, all_held}
+use Rattle.position_patterns.specs.Tops.{IsPatternOf}
+use Rattle.double_dummy_laws.proofs.HandLemmas.{in_suit, without_had}
+use Rattle.double_dummy_laws.specs.Pattern.{held_before, held_of, holder_of, holding}
+
+either_way : (a b : Bool) → (a ≡ true → b ≡ true) → (b ≡ true → a ≡ true) → a ≡ b
+either_way true b to from = sym (to refl)
+either_way false b to from = sym (false_from_ne_true b (λ t. true≢false (sym (from t))))
+
+in_left : (s t : Cards) (card : Card) → set.contains s card ≡ true → set.contains (set.union s t) card ≡ true
+in_left s t card held = set.contains-union card_cmp_total s t card ∙ or_left _ _ held
+
+in_right : (s t : Cards) (card : Card) → set.contains t card ≡ true → set.contains (set.union s t) card ≡ true
+in_right s t card held = set.contains-union card_cmp_total s t card ∙ or_right _ _ held
+
+held_in_all : (hands : Hands) (place : Place) (card : Card) → set.contains (hand_of hands place) card ≡ true →
+    set.contains (all_held hands) card ≡ true
+held_in_all hands North card held = in_left _ _ card (in_left hands.north hands.east card held)
+held_in_all hands East card held = in_left _ _ card (in_right hands.north hands.east card held)
+held_in_all hands South card held = in_right _ _ card (in_left hands.south hands.west card held)
+held_in_all hands West card held = in_right _ _ card (in_right hands.south hands.west card held)
+
+held_by_one : (hands : Hands) (card : Card) → set.contains (all_held hands) card ≡ true →
+    (place : Place) × (set.contains (hand_of hands place) card ≡ true)
+held_by_one hands card held =
+    elim (or_cases _ _ (sym (set.contains-union card_cmp_total (set.union hands.north hands.east)
+    (set.union hands.south hands.west) card) ∙ held)) [
+      | inl ne ↦ elim (or_cases _ _ (sym (set.contains-union card_cmp_total hands.north hands.east card) ∙ ne))
+          [ inl n ↦ (North, n) | inr e ↦ (East, e) ]
+      | inr sw ↦ elim (or_cases _ _ (sym (set.contains-union card_cmp_total hands.south hands.west card) ∙ sw))
+          [ inl s ↦ (South, s) | inr w ↦ (West, w) ]
+    ]
+
+same_holder : (hands others : Hands) (card : Card) →
+    ((place : Place) → set.contains (hand_of hands place) card ≡ set.contains (hand_of others place) card) →
+    holder_of hands card ≡ holder_of others card
+unfolding holder_of
+same_holder hands others card same = λ i.
+    if same North i then Some North
+    else (if same East i then Some East
+    else (if same South i then Some South
+    else (if same West i then Some West else None)))
+
+same_held : (hands others : Hands) (suit : Suit) →
+    ((rank : Rank) → holder_of hands (record { suit = suit; rank = rank })
+    ≡ holder_of others (record { suit = suit; rank = rank })) →
+    (ranks : List Rank) → held_of hands suit ranks ≡ held_of others suit ranks
+same_held hands others suit same [] = refl
+same_held hands others suit same (rank ∷ ranks) =
+    λ i. held_before (record { suit = suit; rank = rank }) (same rank i) (same_held hands others suit same ranks i)
+
+is_of_own : (suit : Suit) (rank : Rank) → is_of suit (record { suit = suit; rank = rank }) ≡ true
+is_of_own suit rank = eq-eqb _ _ refl
+
+goes_over : (whole hands others : Hands) (suit : Suit) → IsApart whole → IsPartOf hands whole → IsPartOf others whole →
+    set.retain (all_held hands) (is_of suit) ≡ set.retain (all_held others) (is_of suit) →
+    (place : Place) (rank : Rank) →
+    set.contains (hand_of hands place) (record { suit = suit; rank = rank }) ≡ true →
+    set.contains (hand_of others place) (record { suit = suit; rank = rank }) ≡ true
+goes_over whole hands others suit apart part part' same place rank held =
+    let card : Card = record { suit = suit; rank = rank } in
+    let there : set.contains (set.retain (all_held hands) (is_of suit)) card ≡ true =
+    in_suit (all_held hands) suit card ∙ and_from _ _ (held_in_all hands place card held) (is_of_own suit rank) in
+    let here = held_by_one others card
+    (and_parts _ _ (sym (in_suit (all_held others) suit card) ∙ ap (λ s. set.contains s card) (sym same)
+    ∙ there)).0 in
+    subst (λ p. set.contains (hand_of others p) card ≡ true)
+    (apart here.0 place card (part' here.0 card here.1) (part place card held)) here.1
+
+pub same_holding : (whole hands others : Hands) (suit : Suit) → IsApart whole → IsPartOf hands whole →
+    IsPartOf others whole →
+    set.retain (all_held hands) (is_of suit) ≡ set.retain (all_held others) (is_of suit) →
+    holding hands suit ≡ holding others suit
+same_holding whole hands others suit apart part part' same =
+    same_held hands others suit (λ rank. same_holder hands others (record { suit = suit; rank = rank }) (λ place.
+    either_way _ _ (goes_over whole hands others suit apart part part' same place rank)
+    (goes_over whole others hands suit apart part' part (sym same) place rank))) ranks_down
+
+pub true_remainder : (whole hands : Hands) (left : Remainder) → IsLeftOf whole hands →
+    left.cards ≡ set.retain (all_held hands) (is_of left.suit) →
+    IsPatternOf left.pattern (holding hands left.suit) → IsTrueRemainder whole left
+true_remainder whole hands left is cards pattern' others part same =
+    subst (IsPatternOf left.pattern)
+    (same_holding whole hands others left.suit is.apart is.part part (sym cards ∙ sym same)) pattern'
+
+pub left_without : (whole hands : Hands) (card : Card) → IsLeftOf whole hands → IsLeftOf whole (without hands card)
+left_without whole hands card is =
+    record {
+      apart = is.apart;
+      part =
+          λ place other held. is.part place other (without_had hands card other place held).0;
+    }
+
+pub left_apart : (whole hands : Hands) → IsLeftOf whole hands → IsApart hands
+left_apart whole hands is x y card held held' = is.apart x y card (is.part x card held) (is.part y card held')
+
+-- two sets with no card in common have no card in common
+none_in_both : (s t : Cards) (card : Card) → AreDisjoint s t → set.contains s card ≡ true →
+    set.contains t card ≡ true → ⊥
+none_in_both s t card apart in_s in_t = true≢false (sym in_t ∙ apart card in_s)
+
+pub all_apart : (hands : Hands) → AreDisjoint hands.north hands.south → AreDisjoint hands.east hands.west →
+    AreDisjoint (set.union hands.north hands.south) (set.union hands.east hands.west) → IsApart hands
+all_apart hands ns ew sides North North card h h' = refl
+all_apart hands ns ew sides East East card h h' = refl
+all_apart hands ns ew sides South South card h h' = refl
+all_apart hands ns ew sides West West card h h' = refl
+all_apart hands ns ew sides North South card h h' = absurd (none_in_both _ _ card ns h h')
+all_apart hands ns ew sides South North card h h' = absurd (none_in_both _ _ card ns h' h)
+all_apart hands ns ew sides East West card h h' = absurd (none_in_both _ _ card ew h h')
+all_apart hands ns ew sides West East card h h' = absurd (none_in_both _ _ card ew h' h)
+all_apart hands ns ew sides North East card h h' =
+    absurd (none_in_both _ _ card sides (in_left hands.north hands.south card h)
+    (in_left hands.east hands.west card h'))
+all_apart hands ns ew sides North West card h h' =
+    absurd (none_in_both _ _ card sides (in_left hands.north hands.south card h)
+    (in_right hands.east hands.west card h'))
+all_apart hands ns ew sides South East card h h' =
+    absurd (none_in_both _ _ card sides (in_right hands.north hands.south card h)
+    (in_left hands.east hands.west card h'))
+all_apart hands ns ew sides South West card h h' =
+    absurd (none_in_both _ _ card sides (in_right hands.north hands.south card h)
+    (in_right hands.east hands.west card h'))
+all_apart hands ns ew sides East North card h h' =
+    absurd (none_in_both _ _ card sides (in_left hands.north hands.south card h')
+    (in_left hands.east hands.west card h))
+all_apart hands ns ew sides West North card h h' =
+    absurd (none_in_both _ _ card sides (in_left hands.north hands.south card h')
+    (in_right hands.east hands.west card h))
+all_apart hands ns ew sides East South card h h' =
+    absurd (none_in_both _ _ card sides (in_right hands.north hands.south card h')
+    (in_left hands.east hands.west card h))
+all_apart hands ns ew sides West South card h h' =
+    absurd (none_in_both _ _ card sides (in_right hands.north hands.south card h')
+    (in_right hands.east hands.west card h))
+
+pub both_sides_apart : (hands : Hands) (s t : Cards) → s ≡ set.union hands.north hands.south →
+    t ≡ set.union hands.east hands.west →
+    AreDisjoint hands.north hands.south → AreDisjoint hands.east hands.west → AreDisjoint s t → IsApart hands
+both_sides_apart hands s t e e' ns ew sides =
+    all_apart hands ns ew (λ card in_s. ap (λ u. set.contains u card) (sym e')
+    ∙ sides card (ap (λ u. set.contains u card) e ∙ in_s))
+
+-- a part of a deal, hand by hand
+pub parts_of : (whole part : Hands) →
+    ((card : Card) → set.contains part.north card ≡ true → set.contains whole.north card ≡ true) →
+    ((card : Card) → set.contains part.east card ≡ true → set.contains whole.east card ≡ true) →
+    ((card : Card) → set.contains part.south card ≡ true → set.contains whole.south card ≡ true) →
+    ((card : Card) → set.contains part.west card ≡ true → set.contains whole.west card ≡ true) → IsPartOf part whole
+parts_of whole part n e s w North card held = n card held
+parts_of whole part n e s w East card held = e card held
+parts_of whole part n e s w South card held = s card held
+parts_of whole part n e s w West card held = w card held
+
+-- no card of a deal is in two hands
+pub deal_apart : (deal : Hands) → IsDeal deal → IsApart deal
+deal_apart deal is place other card held held' =
+    same place other (λ differ. true≢false (sym held' ∙ is.apart place other differ card held))
+  where
+    same : (place other : Place) → (place ≢ other → ⊥) → place ≡ other
+    same North North never = refl
+    same East East never = refl
+    same South South never = refl
+    same West West never = refl
+    same North East never = absurd (never (λ e. cc))
+    same North South never = absurd (never (λ e. cc))
+    same North West never = absurd (never (λ e. cc))
+    same East North never = absurd (never (λ e. cc))
+    same East South never = absurd (never (λ e. cc))
+    same East West never = absurd (never (λ e. cc))
+    same South North never = absurd (never (λ e. cc))
+    same South East never = absurd (never (λ e. cc))
+    same South West never = absurd (never (λ e. cc))
+    same West North never = absurd (never (λ e. cc))
+    same West East never = absurd (never (λ e. cc))
+    same West South never = absurd (never (λ e. cc))

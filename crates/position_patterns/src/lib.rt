@@ -1,0 +1,16 @@
+//! The pattern of a position, by which a search remembers what it found out: who holds the top cards of each suit, and
+//! how many cards each player has. What holds at one position holds at every position of its pattern.
+#![tactic(auto)]
+
+mod deal_patterns;
+mod finding;
+mod holders;
+mod memory;
+mod pattern;
+mod sketch;
+
+pub use deal_patterns::DealPatterns;
+pub use finding::Finding;
+pub use holders::Holders;
+pub use memory::Memory;
+pub use pattern::{Pattern, SuitPattern};

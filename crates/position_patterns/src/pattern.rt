@@ -1,0 +1,267 @@
+ghost use Rattle.cards.specs.Place.{place_number};
+ghost use Rattle.cards.specs.Play.{IsApart, cards_left};
+ghost use Rattle.position_patterns.specs.Tops.{HasTopCards, HasTops, IsPatternOf, IsReach, IsTruePattern, Matches, pattern_of, place_weight, tops_of};
+ghost use Rattle.double_dummy_laws.specs.Found.{IsFound};
+ghost use Rattle.double_dummy_laws.specs.Pattern.{IsTop, holder_of, holding};
+ghost use Rattle.std.specs.Prelude.{◌≡◌, ◌<◌, ◌≤◌, ◌+◌, ◌-◌, ◌*◌, ◌%◌, ◌^◌, [], true, false, length, IsTrue, bit_and};
+ghost use Rattle.std.specs.FinSet as set;
+ghost use Rattle.cards.specs.declared.card.Card.{Card};
+ghost use Rattle.cards.specs.declared.suit.Suit.{Suit};
+
+use crate::finding::Finding;
+use crate::holders::Holders;
+use cards::{Card, Hand, Place, Position, Rank, Strain, Suit};
+
+/// A suit's cards that are left: who holds each, the top card's holder in the lowest digit to base 4, and how many
+/// cards each player has, to base 16.
+#[derive(Clone, Copy, Debug)]
+pub struct SuitPattern {
+    pub owners: u32,
+    pub lengths: u16,
+}
+
+/// The four suits' patterns.
+#[derive(Clone, Copy, Debug)]
+pub struct Pattern {
+    pub spades: SuitPattern,
+    pub hearts: SuitPattern,
+    pub diamonds: SuitPattern,
+    pub clubs: SuitPattern,
+}
+
+/// The holders of so many top cards of a suit, and how many cards each player has.
+#[derive(Clone, Copy, Debug)]
+pub struct SuitTops {
+    pub owners: u32,
+    pub lengths: u16,
+    pub count: u8,
+}
+
+/// What was found out of every position of a pattern.
+#[derive(Clone, Copy, Debug)]
+pub struct Entry {
+    pub target: u8,
+    pub holds: bool,
+    pub leader: Place,
+    pub strain: Strain,
+    pub tricks: u8,
+    pub spades: SuitTops,
+    pub hearts: SuitTops,
+    pub diamonds: SuitTops,
+    pub clubs: SuitTops,
+}
+
+fn place_number(place: Place) -> u32
+    ensures { result ≡ place_number place }
+{
+    match place {
+        Place::North => 0,
+        Place::East => 1,
+        Place::South => 2,
+        Place::West => 3,
+    }
+}
+
+fn place_weight(place: Place) -> u16
+    ensures { result ≡ place_weight place }
+{
+    match place {
+        Place::North => 1,
+        Place::East => 16,
+        Place::South => 256,
+        Place::West => 4096,
+    }
+}
+
+impl Holders {
+    /// Who holds a suit's cards, and how many each player has.
+    pub fn suit_pattern(&self, suit: Suit) -> SuitPattern
+        ensures { IsPatternOf result (holding self.now suit) }
+    {
+        let mut owners = 0;
+        let mut lengths = 0;
+        let mut below = 0;
+        while below < 13 {
+            let rank = Rank::from_height(below);
+            if let Some(place) = self.holder(Card { suit, rank }) {
+                owners = place_number(place) + 4 * owners;
+                lengths = place_weight(place) + lengths;
+            }
+            below += 1;
+        }
+        SuitPattern { owners, lengths }
+    }
+
+    /// The patterns of the four suits.
+    pub fn pattern(&self) -> Pattern
+        ensures { (suit : Suit) → IsPatternOf (pattern_of result suit) (holding self.now suit) }
+    {
+        Pattern {
+            spades: self.suit_pattern(Suit::Spades),
+            hearts: self.suit_pattern(Suit::Hearts),
+            diamonds: self.suit_pattern(Suit::Diamonds),
+            clubs: self.suit_pattern(Suit::Clubs),
+        }
+    }
+
+    /// How many of the suit's cards, from the top, there are down to the lowest known one.
+    pub fn reach(&self, suit: Suit, known: Hand) -> u8
+        ensures reach { IsReach known (holding self.now suit) result }
+        ensures few { result ≤ 13 }
+    {
+        let mut count: u8 = 0;
+        let mut below = 0;
+        while below < 13 {
+            let card = Card {
+                suit,
+                rank: Rank::from_height(below),
+            };
+            if let Some(_) = self.holder(card) {
+                if count > 0 || known.contains(card) {
+                    count += 1;
+                }
+            }
+            below += 1;
+        }
+        count
+    }
+
+    /// So many of the suit's cards, from the top.
+    pub fn top_cards(&self, suit: Suit, count: u8) -> Hand
+        ensures { (card : Card) → IsTop count (holding self.now suit) card → set.contains result card ≡ true }
+    {
+        let mut tops = Hand::new();
+        let mut rest = count;
+        let mut below = 13;
+        while below > 0 {
+            below -= 1;
+            let card = Card {
+                suit,
+                rank: Rank::from_height(below),
+            };
+            if rest == 0 {
+                return tops;
+            }
+            if let Some(_) = self.holder(card) {
+                tops.insert(card);
+                rest -= 1;
+            }
+        }
+        tops
+    }
+
+    /// What is to be remembered of a suit.
+    fn suit_tops(&self, suit: Suit, pattern: &SuitPattern, known: Hand) -> SuitTops
+        requires { IsPatternOf pattern.now (holding self.now suit) }
+        ensures tops { HasTops result (holding self.now suit) }
+        ensures reach { IsReach known (holding self.now suit) result.count }
+    {
+        let count = self.reach(suit, known);
+        SuitTops {
+            count,
+            owners: pattern.owners & ((1 << (2 * count)) - 1),
+            lengths: pattern.lengths,
+        }
+    }
+}
+
+impl SuitTops {
+    fn has(&self, pattern: &SuitPattern) -> bool
+        ensures owners { IsTrue result → pattern.now.owners % 2 ^ (2 * self.now.count) ≡ self.now.owners }
+        ensures lengths { IsTrue result → pattern.now.lengths ≡ self.now.lengths }
+    {
+        if self.count > 13 || pattern.lengths != self.lengths {
+            return false;
+        }
+        pattern.owners & ((1 << (2 * self.count)) - 1) == self.owners
+    }
+}
+
+impl Entry {
+    /// What was found out, as of each position of the pattern.
+    pub fn new(
+        position: &Position,
+        holders: &Holders,
+        pattern: &Pattern,
+        target: u8,
+        finding: &Finding,
+    ) -> Entry
+        requires same { holders.now ≡ position.now.hands }
+        requires apart { IsApart holders.now }
+        requires start { position.now.table ≡ [] }
+        requires pattern { (suit : Suit) → IsPatternOf (pattern_of pattern.now suit) (holding holders.now suit) }
+        requires found { IsFound position.now target finding.now.known finding.now.holds }
+        ensures { IsTruePattern result }
+    {
+        let known = finding.known;
+        Entry {
+            strain: position.strain(),
+            leader: position.leader(),
+            tricks: position.tricks_left(),
+            spades: holders.suit_tops(Suit::Spades, &pattern.spades, known),
+            hearts: holders.suit_tops(Suit::Hearts, &pattern.hearts, known),
+            diamonds: holders.suit_tops(Suit::Diamonds, &pattern.diamonds, known),
+            clubs: holders.suit_tops(Suit::Clubs, &pattern.clubs, known),
+            target,
+            holds: finding.holds,
+        }
+    }
+
+    /// Whether the entry answers for so many tricks too.
+    pub fn serves(&self, target: u8) -> bool
+        ensures holds { IsTrue result → self.now.holds ≡ true → target ≤ self.now.target }
+        ensures refused { IsTrue result → self.now.holds ≡ false → self.now.target ≤ target }
+    {
+        if self.holds {
+            target <= self.target
+        } else {
+            self.target <= target
+        }
+    }
+
+    /// Whether the position is of the entry's pattern.
+    pub fn matches(&self, position: &Position, holders: &Holders, pattern: &Pattern) -> bool
+        requires same { holders.now ≡ position.now.hands }
+        requires pattern { (suit : Suit) → IsPatternOf (pattern_of pattern.now suit) (holding holders.now suit) }
+        requires start { position.now.table ≡ [] }
+        ensures { IsTrue result → Matches self.now position.now }
+    {
+        if self.leader != position.leader() {
+            return false;
+        }
+        if self.strain != position.strain() {
+            return false;
+        }
+        if !self.spades.has(&pattern.spades) {
+            return false;
+        }
+        if !self.hearts.has(&pattern.hearts) {
+            return false;
+        }
+        if !self.diamonds.has(&pattern.diamonds) {
+            return false;
+        }
+        if self.tricks != position.tricks_left() {
+            return false;
+        }
+        self.clubs.has(&pattern.clubs)
+    }
+
+    /// What the entry says of a position of its pattern.
+    pub fn finding(&self, position: &Position, holders: &Holders) -> Finding
+        requires same { holders.now ≡ position.now.hands }
+        requires true_pattern { IsTruePattern self.now }
+        requires matches { Matches self.now position.now }
+        ensures found { IsFound position.now self.now.target result.known result.holds }
+        ensures same { result.holds ≡ self.now.holds }
+    {
+        let spades = holders.top_cards(Suit::Spades, self.spades.count);
+        let hearts = holders.top_cards(Suit::Hearts, self.hearts.count);
+        let diamonds = holders.top_cards(Suit::Diamonds, self.diamonds.count);
+        let clubs = holders.top_cards(Suit::Clubs, self.clubs.count);
+        Finding {
+            holds: self.holds,
+            known: spades.union(hearts).union(diamonds.union(clubs)),
+        }
+    }
+}

@@ -1,0 +1,100 @@
+use crate::pattern::{Entry, Pattern, SuitTops};
+
+// How many slots a block has: with the next block's number they fill a line of a processor's cache.
+const SLOTS: usize = 5;
+
+// What a slot without an entry points at.
+const NONE: u32 = u32::MAX;
+
+/// A sketch of an entry: the holders of its top cards, up to four of each suit. Most entries that do not match are passed over
+/// by their sketch, unread; which are decides nothing but the time.
+#[derive(Clone, Copy, Debug)]
+pub struct Slot {
+    mask: u32,
+    holders: u32,
+    pub entry: u32,
+}
+
+/// A few slots of a chain, and the number of the block after it.
+#[derive(Clone, Copy, Debug)]
+pub struct Block {
+    pub next: u32,
+    pub slots: [Slot; SLOTS],
+}
+
+impl Slot {
+    /// The slot of an entry that lies in this place.
+    pub fn of(entry: &Entry, place: u32) -> Slot {
+        let spades = few(&entry.spades);
+        let hearts = few(&entry.hearts);
+        let diamonds = few(&entry.diamonds);
+        let clubs = few(&entry.clubs);
+        let mask = spades | hearts << 8 | diamonds << 16 | clubs << 24;
+        let holders = entry.spades.owners & 255
+            | (entry.hearts.owners & 255) << 8
+            | (entry.diamonds.owners & 255) << 16
+            | (entry.clubs.owners & 255) << 24;
+        Slot {
+            mask,
+            holders,
+            entry: place,
+        }
+    }
+
+    fn free() -> Slot {
+        Slot {
+            mask: 0,
+            holders: 1,
+            entry: NONE,
+        }
+    }
+
+    /// Whether the holders of a position's top cards may be those of the entry.
+    pub fn fits(&self, tops: u32) -> bool {
+        tops & self.mask == self.holders
+    }
+}
+
+/// A mask for the holders of at most four top cards.
+fn few(tops: &SuitTops) -> u32 {
+    (1 << (2 * tops.count.min(4))) - 1
+}
+
+impl Pattern {
+    /// The holders of four top cards of each suit.
+    pub fn sketch(&self) -> u32 {
+        let spades = self.spades.owners & 255;
+        let hearts = self.hearts.owners & 255;
+        let diamonds = self.diamonds.owners & 255;
+        let clubs = self.clubs.owners & 255;
+        spades | hearts << 8 | diamonds << 16 | clubs << 24
+    }
+}
+
+impl Block {
+    /// A block with one slot.
+    pub fn new(next: u32, first: Slot) -> Block {
+        let free = Slot::free();
+        Block {
+            next,
+            slots: [first, free, free, free, free],
+        }
+    }
+
+    /// The first slot without an entry.
+    pub fn free_slot(&self) -> Option<usize> {
+        for (i, slot) in self.slots.iter().enumerate() {
+            if slot.entry == NONE {
+                return Some(i);
+            }
+        }
+        None
+    }
+
+    /// Writes a slot, if the block has one of this number.
+    pub fn put(&mut self, slot: usize, written: Slot) {
+        if slot < SLOTS {
+            self.slots[slot] = written;
+        }
+    }
+}
