@@ -1,3 +1,4 @@
+pub mod FirstLineLemmas
 pub mod PartLemmas
 pub mod ScriptLemmas
 pub mod ResponseLemmas

@@ -2,14 +2,15 @@
 use Rattle.std.proofs.Common.{◌≡◌, ℕ, Bool, true, false, ◌==◌, inl, inr, List, [], ◌∷◌, ◌++◌, map, refl, sym, ap, subst, ◌∙◌, append_assoc, append-nil, arith}
 use Rattle.std.specs.Prelude.{if◌then◌else◌, Option, Some, filter, ◌⊎◌}
 use Rattle.std.proofs.lemmas.List.{map-append}
-use Rattle.std.specs.Io.KnownBytes.{Consumes, IsAtEnd}
-use Rattle.script_lines.specs.Lines.{Pieces, before_rest, pieces_of, ended_line, ended_lines, last_line, lines_of}
+use Rattle.std.specs.Io.KnownBytes.{Consumes, Appends, IsAtEnd}
+use Rattle.script_lines.specs.Lines.{Pieces, before_rest, pieces_of, ended_line, ended_lines, last_line, lines_of, first_of}
 use Rattle.script_lines.proofs.LineLemmas.{all_ended}
-use Rattle.session_book.specs.declared.entry.Entry.{Entry}
-use Rattle.session_book.specs.SessionState.{SessionState}
+use Rattle.session_state.specs.declared.entry.Entry.{Entry}
+use Rattle.session_state.specs.SessionState.{SessionState}
+use Rattle.program.specs.FirstLine.{Opens}
 use Rattle.program.specs.Script.{Received, with_ample_memory, responses_to, is_not_empty, messages_among}
-use Rattle.program.specs.Writes.{RespondsToEach, WritesResponses, WritesPartOfLast, WritesPartOfResponses, IsCutShort, IsTooLong, IsUnwritten}
-use Rattle.program.proofs.ScriptLemmas.{among_first, taken_of, responds_to_more}
+use Rattle.program.specs.Writes.{RespondsToEach, WritesSoFar, WritesPartOfLast, WritesPartOfResponses, IsCutShort, IsTooLong, IsUnwritten}
+use Rattle.program.proofs.ScriptLemmas.{among_first, first_more, taken_of, responds_to_more}
 use Rattle.program.proofs.TextLemmas.{goes_on}
 
 -- ---- lines of a text that goes on
@@ -85,17 +86,17 @@ part_of messages whole opening journal text (later, is_whole) responds =
 -- ---- faults
 
 module _ (input : List ℕ) (left before after : Option (List ℕ)) where
-  -- of what was read, and then so many bytes
-  part_of_read : (read more : List ℕ) → Consumes (Some input) left (read ++ more) → WritesResponses (messages_among (ended_lines read)) before after →
-      WritesPartOfResponses (messages_among (lines_of input)) before after
-  part_of_read read more consumed w =
-      let (rest, known, is_input) = taken_of input left (read ++ more) consumed in
-      let all : input ≡ read ++ (more ++ rest) = is_input ∙ append_assoc read more rest in
-      let lines : IsFirst (ended_lines read) (lines_of input) = subst (λ bytes. IsFirst (ended_lines read) (lines_of bytes)) (sym all) (lines_first read (more ++ rest)) in
-      let on = part_of _ _ w.opening w.journal w.text (messages_first (ended_lines read) (lines_of input) lines) w.responses in
-      record {
+  -- nothing, or a first part of the responses to a script
+  abbrev IsPart : Type 0
+  IsPart = Appends before after [] ⊎ WritesPartOfResponses (lines_of input) before after
+
+  part_of_lines : (lines : List (List ℕ)) → IsFirst lines (lines_of input) → WritesSoFar lines before after → IsPart
+  part_of_lines [] first unwritten = inl unwritten
+  part_of_lines (line ∷ lines) first w =
+      let on = part_of _ _ w.opening w.journal w.text (messages_first (line ∷ lines) (lines_of input) first) w.responses in
+      inr (record {
         opening = w.opening;
-        opened = w.opened;
+        opened = subst (λ l. Opens l w.opening) (sym (ap first_of first.1)) w.opened;
         journal = on.journal;
         text = w.text ++ on.more;
         responses = on.responses;
@@ -103,12 +104,20 @@ module _ (input : List ℕ) (left before after : Option (List ℕ)) where
         missing = on.more;
         split = refl;
         appended = w.appended;
-      }
+      })
 
-  pub part_of_cut : IsCutShort input left before after → WritesPartOfResponses (messages_among (lines_of input)) before after
+  -- of what was read, and then so many bytes
+  part_of_read : (read more : List ℕ) → Consumes (Some input) left (read ++ more) → WritesSoFar (ended_lines read) before after → IsPart
+  part_of_read read more consumed w =
+      let (rest, known, is_input) = taken_of input left (read ++ more) consumed in
+      let all : input ≡ read ++ (more ++ rest) = is_input ∙ append_assoc read more rest in
+      let lines : IsFirst (ended_lines read) (lines_of input) = subst (λ bytes. IsFirst (ended_lines read) (lines_of bytes)) (sym all) (lines_first read (more ++ rest)) in
+      part_of_lines (ended_lines read) lines w
+
+  pub part_of_cut : IsCutShort input left before after → IsPart
   part_of_cut cut = part_of_read cut.read [] (subst (Consumes (Some input) left) (sym (append-nil cut.read)) cut.consumed) cut.written
 
-  pub part_of_long : IsTooLong input left before after → WritesPartOfResponses (messages_among (lines_of input)) before after
+  pub part_of_long : IsTooLong input left before after → IsPart
   part_of_long long = part_of_read long.read (long.beyond ∷ []) long.consumed long.written
 
   lines_read : (read rest : List ℕ) → left ≡ Some rest → input ≡ read ++ rest → ((pieces_of read).rest ≡ []) ⊎ IsAtEnd left → IsFirst (lines_of read) (lines_of input)
@@ -119,18 +128,22 @@ module _ (input : List ℕ) (left before after : Option (List ℕ)) where
       ([], ap lines_of (is_input ∙ ap (λ more. read ++ more) none ∙ append-nil read) ∙ sym (append-nil (lines_of read)))
 
   -- of a script whose writing ended early
-  pub part_of_broken : IsUnwritten input left before after → WritesPartOfResponses (messages_among (lines_of input)) before after
+  pub part_of_broken : IsUnwritten input left before after → WritesPartOfResponses (lines_of input) before after
   part_of_broken broken =
       let (rest, known, is_input) = taken_of input left broken.read broken.consumed in
-      let w : WritesPartOfLast (messages_among broken.lines) broken.last before after = broken.written in
+      let w : WritesPartOfLast broken.lines broken.last before after = broken.written in
       let with_last : RespondsToEach w.opening (messages_among (lines_of broken.read)) w.journal_after (w.text ++ w.response) =
       subst (λ messages. RespondsToEach w.opening messages w.journal_after (w.text ++ w.response)) (sym broken.message)
       (responds_to_more w.opening (messages_among broken.lines) w.journal w.journal_after w.text w.response broken.last w.responses w.responds) in
+      let first : IsFirst (lines_of broken.read) (lines_of input) = lines_read broken.read rest known is_input broken.whole in
+      let opener : first_of (lines_of input) ≡ first_of broken.lines =
+      ap first_of (first.1 ∙ ap (λ lines. lines ++ first.0) broken.last_line ∙ append_assoc broken.lines (broken.last ∷ []) first.0)
+      ∙ first_more broken.lines ((broken.last ∷ []) ++ first.0) broken.begun in
       let on = part_of _ _ w.opening w.journal_after (w.text ++ w.response)
-      (messages_first (lines_of broken.read) (lines_of input) (lines_read broken.read rest known is_input broken.whole)) with_last in
+      (messages_first (lines_of broken.read) (lines_of input) first) with_last in
       record {
         opening = w.opening;
-        opened = w.opened;
+        opened = subst (λ l. Opens l w.opening) (sym opener) w.opened;
         journal = on.journal;
         text = (w.text ++ w.response) ++ on.more;
         responses = on.responses;

@@ -2,12 +2,12 @@
 use Rattle.std.proofs.Common.{◌≡◌, ℕ, Bool, true, false, List, [], ◌∷◌, ◌++◌, map, take, drop, length, refl, sym, ap, subst, ◌∙◌}
 use Rattle.std.specs.Prelude.{Option, Some, None, Result, Ok, Err, IfOk, IfErr, is_some, if◌then◌else◌}
 use Rattle.session_book.specs.declared.answer.Answer.TheVariants.{Refused}
-use Rattle.session_book.specs.declared.command.Command.{Command}
-use Rattle.session_book.specs.declared.entry.Entry.{Entry}
-use Rattle.session_book.specs.declared.refusal.Refusal.TheVariants as refusal
+use Rattle.session_state.specs.declared.command.Command.{Command}
+use Rattle.session_state.specs.declared.entry.Entry.{Entry}
+use Rattle.session_state.specs.declared.refusal.Refusal.TheVariants as refusal
 use Rattle.session_book.specs.Journal.{replay}
 use Rattle.session_book.specs.Run.{Progress, run, Runs, first_number, last_number}
-use Rattle.session_book.specs.SessionState.{SessionState}
+use Rattle.session_state.specs.SessionState.{SessionState}
 use Rattle.published_view.specs.declared.query.Query.{Query}
 use Rattle.wire.specs.declared.request_fault.RequestFault.{RequestFault}
 use Rattle.wire.specs.declared.request_fault.RequestFault.TheVariants.{Malformed, UnknownRequest, BadField, OutOfMemory}

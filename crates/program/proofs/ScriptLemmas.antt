@@ -1,27 +1,30 @@
 -- How a script's run goes on from line to line.
-use Rattle.std.proofs.Common.{◌≡◌, ◌≢◌, ℕ, ◌+◌, ◌≤◌, ◌<◌, inl, inr, List, [], ◌∷◌, ◌++◌, length, refl, sym, ap, subst, ◌∙◌, append_assoc, append-nil, length-append, arith}
+use Rattle.std.proofs.Common.{◌≡◌, ◌≢◌, ◌⊎◌, ℕ, ◌+◌, ◌≤◌, ◌<◌, inl, inr, List, [], ◌∷◌, ◌++◌, length, refl, sym, ap, subst, ◌∙◌, append_assoc, append-nil, length-append, arith}
 use Rattle.std.specs.Prelude.{Option, Some, None, IfSome, IfErr, OnOk, Err, Ok, Result, filter}
 use Rattle.std.proofs.lemmas.List.{map-append}
 use Rattle.std.proofs.lemmas.List.Sums.{fold-append}
 use Rattle.std.proofs.lemmas.List.Elements.{filter-append, All-append, All-cons, All-nil}
 use Rattle.std.specs.Io.KnownBytes.{Consumes, Appends, IsAtEnd}
-use Rattle.std.proofs.KnownBytes.{Consumes-nil, Consumes-trans, Appends-nil, Appends-trans}
+use Rattle.std.proofs.KnownBytes.{Consumes-trans, Appends-nil, Appends-trans}
 use Rattle.script_lines.specs.declared.line_end.LineEnd.{LineEnd}
 use Rattle.script_lines.specs.declared.line_end.LineEnd.TheVariants.{LineFeed, EndOfInput}
 use Rattle.script_lines.specs.declared.reading.ReadFault.{ReadFault}
 use Rattle.script_lines.specs.declared.reading.ReadFault.TheVariants as read
-use Rattle.script_lines.specs.Lines.{pieces_of, ended_line, ended_lines, last_line, lines_of}
-use Rattle.script_lines.specs.Reading.{IsUnbroken, TakesLine, FailsAtInput, FailsForMemory, FailsFor}
+use Rattle.script_lines.specs.Lines.{pieces_of, ended_line, ended_lines, last_line, lines_of, first_of}
+use Rattle.script_lines.specs.Reading.{IsUnbroken, TakesLine, TakesLonger, FailsAtInput, FailsForMemory, FailsFor, FailsWithin}
 use Rattle.script_lines.specs.Writing.{WritesPart}
-use Rattle.script_lines.proofs.LineLemmas.{piece_more, ended_more, ended_same, all_ended, lines_rest}
-use Rattle.session_book.specs.declared.entry.Entry.{Entry}
+use Rattle.script_lines.proofs.LineLemmas.{piece_more, ended_more, ended_same, all_ended, lines_rest, lines_more}
+use Rattle.script_lines.proofs.ShortLineLemmas.{at_most_one_less}
+use Rattle.session_state.specs.declared.entry.Entry.{Entry}
 use Rattle.session_book.specs.Journal.{Ledger}
-use Rattle.session_book.specs.Opening.{IsOpening}
-use Rattle.session_book.specs.SessionState.{SessionState}
+use Rattle.session_object.specs.Reading.{most_bytes}
+use Rattle.session_object.specs.declared.session_fault.SessionFault.TheVariants as session
+use Rattle.session_state.specs.SessionState.{SessionState}
 use Rattle.program.specs.declared.fault.Fault.{Fault}
-use Rattle.program.specs.declared.fault.Fault.TheVariants.{Input}
+use Rattle.program.specs.declared.fault.Fault.TheVariants.{Session, Opening, Input, Output, OutOfMemory}
+use Rattle.program.specs.FirstLine.{Opens, OpensNone}
 use Rattle.program.specs.Script.{Received, Response, respond, responses_to, response_to_line, is_not_empty, messages_among}
-use Rattle.program.specs.Writes.{script_limit, Responds, RespondsToEach, WritesResponses, WritesPartOfLast, IsDone, IsCutShort, IsUnwritten, IsUnopened, EndsWith}
+use Rattle.program.specs.Writes.{script_limit, Responds, RespondsToEach, WritesResponses, WritesSoFar, WritesPartOfLast, IsDone, IsUnopened, IsWithoutMemory, IsCutShort, IsUnwritten, EndsWith}
 use Rattle.program.specs.Standing.{StandsAtLine, StandsAtEnd, StandsAfter, line_feeds, fault_of_read}
 
 -- ---- responses
@@ -74,6 +77,24 @@ is_last : (line : List ℕ) → 1 ≤ length line → last_line line ≡ line �
 is_last [] some = absurd (omega arith)
 is_last (byte ∷ bytes) some = refl
 
+-- the first of lines stays the first
+pub first_more : (lines later : List (List ℕ)) → 1 ≤ length lines → first_of (lines ++ later) ≡ first_of lines
+first_more [] later begun = absurd (omega arith)
+first_more (first ∷ lines) later begun = refl
+
+first_last : (line : List ℕ) → first_of (last_line line) ≡ line
+first_last [] = refl
+first_last (byte ∷ bytes) = refl
+
+at_most_one : (line : List ℕ) → length (last_line line) ≤ 1
+at_most_one [] = omega arith
+at_most_one (byte ∷ bytes) = omega arith
+
+-- what is written after the first line
+so_far : (lines : List (List ℕ)) (before after : Option (List ℕ)) → 1 ≤ length lines → WritesResponses lines before after → WritesSoFar lines before after
+so_far [] before after begun written = absurd (omega arith)
+so_far (first ∷ lines) before after begun written = written
+
 -- ---- the bytes that were taken
 
 -- a reader of known bytes has lost what was taken of them
@@ -90,7 +111,7 @@ with_line messages line = messages ++ filter is_not_empty (line ∷ [])
 module _ (input before : Option (List ℕ)) (reader reader' writer' : Option (List ℕ)) (ledger' : Ledger) (left left' : ℕ) (line : List ℕ) (taken text' : List ℕ) where
   -- after a line more, whose message has its response or is passed over
   advance : (end : LineEnd) → (whole : (pieces_of taken).rest ≡ []) → 1 ≤ length (ended_lines taken) → Consumes input reader taken → left + length taken ≡ script_limit →
-      IsOpening ledger'.opening → TakesLine end reader reader' line left left' →
+      Opens (first_of (ended_lines taken)) ledger'.opening → TakesLine end reader reader' line left left' →
       RespondsToEach ledger'.opening (with_line (messages_among (ended_lines taken)) line) ledger'.journal text' → Appends before writer' text' → StandsAfter end input before reader' writer' ledger' left'
   advance LineFeed whole begun consumed counted opened takes responses appended =
       let lines : ended_lines (taken ++ (takes.piece ++ 10 ∷ [])) ≡ ended_lines taken ++ line ∷ [] =
@@ -102,7 +123,7 @@ module _ (input before : Option (List ℕ)) (reader reader' writer' : Option (Li
         stands = record {
           consumed = Consumes-trans input reader reader' taken (takes.piece ++ 10 ∷ []) consumed takes.consumed;
           counted = omega (arith, counted, takes.counted, length-append taken (takes.piece ++ 10 ∷ []), length-append takes.piece (10 ∷ []));
-          opened = opened;
+          opened = subst (λ first. Opens first ledger'.opening) (sym (ap first_of lines ∙ first_more (ended_lines taken) (line ∷ []) begun)) opened;
           text = text';
           responses = subst (λ messages. RespondsToEach ledger'.opening messages ledger'.journal text') (sym (ap messages_among lines ∙ among_first (ended_lines taken) (line ∷ []) begun)) responses;
           appended = appended;
@@ -116,7 +137,7 @@ module _ (input before : Option (List ℕ)) (reader reader' writer' : Option (Li
         stands = record {
           consumed = Consumes-trans input reader reader' taken line consumed takes.consumed;
           counted = omega (arith, counted, takes.counted, length-append taken line);
-          opened = opened;
+          opened = subst (λ first. Opens first ledger'.opening) (sym (ap first_of lines ∙ first_more (ended_lines taken) (last_line line) begun)) opened;
           text = text';
           responses = subst (λ messages. RespondsToEach ledger'.opening messages ledger'.journal text')
               (sym (ap messages_among lines ∙ among_first (ended_lines taken) (last_line line) begun ∙ ap (λ rest. messages_among (ended_lines taken) ++ rest) (last_message line))) responses;
@@ -141,7 +162,7 @@ module _ (input before reader reader' writer writer' : Option (List ℕ)) (ledge
       (text : List ℕ) → Responds ledger.opening ledger.journal line ledger'.journal text → Appends writer writer' text → StandsAfter end input before reader' writer' ledger' left'
   responded_next at takes some same text tells appended =
       advance input before reader reader' writer' ledger' left left' line at.taken (at.stands.text ++ text) end at.whole at.begun at.stands.consumed at.stands.counted
-      (subst IsOpening (sym same) at.stands.opened) takes
+      (subst (Opens (first_of (ended_lines at.taken))) (sym same) at.stands.opened) takes
       (subst (λ opening. RespondsToEach opening (with_line (messages_among (ended_lines at.taken)) line) ledger'.journal (at.stands.text ++ text)) (sym same)
       (subst (λ more. RespondsToEach ledger.opening (messages_among (ended_lines at.taken) ++ more) ledger'.journal (at.stands.text ++ text)) (sym (is_message line some))
       (responds_to_more ledger.opening _ ledger.journal ledger'.journal at.stands.text text line at.stands.responses tells)))
@@ -150,18 +171,20 @@ module _ (input before reader reader' writer writer' : Option (List ℕ)) (ledge
 -- ---- faults
 
 module _ (input : List ℕ) (before reader reader' writer : Option (List ℕ)) (ledger : Ledger) (left left' : ℕ) (taken text line : List ℕ) where
-  module _ (whole : (pieces_of taken).rest ≡ []) (taken_first : Consumes (Some input) reader taken) (counted : left + length taken ≡ script_limit)
-      (opened : IsOpening ledger.opening) (responses : RespondsToEach ledger.opening (messages_among (ended_lines taken)) ledger.journal text) (appended : Appends before writer text) where
+  module _ (whole : (pieces_of taken).rest ≡ []) (begun : 1 ≤ length (ended_lines taken)) (taken_first : Consumes (Some input) reader taken) (counted : left + length taken ≡ script_limit)
+      (opened : Opens (first_of (ended_lines taken)) ledger.opening) (responses : RespondsToEach ledger.opening (messages_among (ended_lines taken)) ledger.journal text) (appended : Appends before writer text) where
     -- bytes of a line that hasn't ended change nothing
-    written_so_far : (piece : List ℕ) → IsUnbroken piece → WritesResponses (messages_among (ended_lines (taken ++ piece))) before writer
-    written_so_far piece unbroken = record {
-      opening = ledger.opening;
-      opened = opened;
-      journal = ledger.journal;
-      text = text;
-      responses = subst (λ lines. RespondsToEach ledger.opening (messages_among lines) ledger.journal text) (sym (ended_same taken piece whole unbroken)) responses;
-      appended = appended;
-    }
+    written_so_far : (piece : List ℕ) → IsUnbroken piece → WritesSoFar (ended_lines (taken ++ piece)) before writer
+    written_so_far piece unbroken =
+        subst (λ lines. WritesSoFar lines before writer) (sym (ended_same taken piece whole unbroken))
+        (so_far (ended_lines taken) before writer begun (record {
+          opening = ledger.opening;
+          opened = opened;
+          journal = ledger.journal;
+          text = text;
+          responses = responses;
+          appended = appended;
+        }))
 
     -- reading ends early in the line after, or finds a byte too many
     at_input : FailsAtInput reader reader' line left left' → EndsWith Input input reader' before writer
@@ -202,15 +225,43 @@ module _ (input : List ℕ) (before reader reader' writer : Option (List ℕ)) (
 pub cut_short : (fault : ReadFault) (input : List ℕ) (before reader reader' writer : Option (List ℕ)) (ledger : Ledger) (left left' : ℕ) (line : List ℕ) →
     StandsAtLine (Some input) before reader writer ledger left → FailsFor fault reader reader' line left left' → EndsWith (fault_of_read fault) input reader' before writer
 cut_short fault input before reader reader' writer ledger left left' line at fails =
-    ends_of_read input before reader reader' writer ledger left left' at.taken at.stands.text line at.whole at.stands.consumed at.stands.counted at.stands.opened at.stands.responses at.stands.appended fault fails
+    ends_of_read input before reader reader' writer ledger left left' at.taken at.stands.text line at.whole at.begun at.stands.consumed at.stands.counted at.stands.opened at.stands.responses at.stands.appended fault fails
+
+-- no LF ends a line of these bytes
+none_ended : (piece : List ℕ) → IsUnbroken piece → ended_lines piece ≡ []
+unfolding ended_lines
+none_ended piece unbroken = ended_same [] piece refl unbroken
+
+nothing_written : (piece : List ℕ) (writer : Option (List ℕ)) → IsUnbroken piece → WritesSoFar (ended_lines piece) writer writer
+nothing_written piece writer unbroken = subst (λ lines. WritesSoFar lines writer writer) (sym (none_ended piece unbroken)) (Appends-nil writer)
 
 -- the first line isn't read
-pub first_cut_short : (fault : ReadFault) (input : List ℕ) (reader' writer : Option (List ℕ)) (ledger : Ledger) (left left' : ℕ) (line : List ℕ) → IsOpening ledger.opening → ledger.journal ≡ [] →
-    left ≡ script_limit → FailsFor fault (Some input) reader' line left left' → EndsWith (fault_of_read fault) input reader' writer writer
-unfolding ended_lines
-first_cut_short fault input reader' writer ledger left left' line opened none all fails =
-    ends_of_read input writer (Some input) reader' writer ledger left left' [] [] line refl (Consumes-nil (Some input)) (omega (arith, all)) opened
-    (subst (λ j. RespondsToEach ledger.opening [] j []) (sym none) (responds_to_none ledger.opening)) (Appends-nil writer) fault fails
+first_cut_short : (fault : ReadFault) (input : List ℕ) (reader' writer : Option (List ℕ)) → FailsWithin fault (Some input) reader' script_limit →
+    EndsWith (fault_of_read fault) input reader' writer writer
+first_cut_short read.Input input reader' writer fails = by fails.beyond fails.consumed fails.few fails.full
+  where
+    by : (beyond : List ℕ) → Consumes (Some input) reader' (fails.piece ++ beyond) → length beyond ≤ 1 → (0 < length beyond → length fails.piece ≡ script_limit) →
+        EndsWith Input input reader' writer writer
+    by [] consumed few full = inl (record {
+      read = fails.piece;
+      consumed = subst (Consumes (Some input) reader') (append-nil fails.piece) consumed;
+      within = fails.within;
+      written = nothing_written fails.piece writer fails.unbroken;
+    })
+    by (byte ∷ []) consumed few full = inr (record {
+      read = fails.piece;
+      beyond = byte;
+      consumed = consumed;
+      full = full (omega arith);
+      written = nothing_written fails.piece writer fails.unbroken;
+    })
+    by (byte ∷ other ∷ bytes) consumed few full = absurd (omega arith)
+first_cut_short read.OutOfMemory input reader' writer fails = inr (record {
+  read = fails.piece;
+  consumed = fails.consumed;
+  within = fails.within;
+  written = nothing_written fails.piece writer fails.unbroken;
+})
 
 -- a response was written in part alone
 pub broken : (input : List ℕ) (before reader reader' writer writer' : Option (List ℕ)) (ledger : Ledger) (left left' : ℕ) (line : List ℕ) (end : LineEnd) →
@@ -222,7 +273,7 @@ broken input before reader reader' writer writer' ledger left left' line end at 
     lines : List (List ℕ)
     lines = ended_lines at.taken
 
-    written : WritesPartOfLast (messages_among lines) line before writer'
+    written : WritesPartOfLast lines line before writer'
     written = record {
       opening = ledger.opening;
       opened = at.stands.opened;
@@ -254,6 +305,7 @@ broken input before reader reader' writer writer' ledger left left' line end at 
           whole = inl whole;
           lines = lines;
           last = line;
+          begun = at.begun;
           last_line = are;
           message = one_more read are;
           written = written;
@@ -268,6 +320,7 @@ broken input before reader reader' writer writer' ledger left left' line end at 
           whole = inr takes.at_end;
           lines = lines;
           last = line;
+          begun = at.begun;
           last_line = are;
           message = one_more read are;
           written = written;
@@ -275,11 +328,11 @@ broken input before reader reader' writer writer' ledger left left' line end at 
 
 -- ---- the first line and the end
 
--- the first line is read, and there is no message yet
-pub begins : (reader reader' writer : Option (List ℕ)) (ledger : Ledger) (left left' : ℕ) (line : List ℕ) (end : LineEnd) → IsOpening ledger.opening → ledger.journal ≡ [] → left ≡ script_limit →
-    TakesLine end reader reader' line left left' → StandsAfter end reader writer reader' writer ledger left'
+-- the first line has opened its session, and there is no message yet
+pub begins : (reader reader' writer : Option (List ℕ)) (ledger : Ledger) (left' : ℕ) (line : List ℕ) (end : LineEnd) → Opens line ledger.opening → ledger.journal ≡ [] →
+    TakesLine end reader reader' line script_limit left' → StandsAfter end reader writer reader' writer ledger left'
 unfolding ended_lines
-begins reader reader' writer ledger left left' line LineFeed opened none all takes =
+begins reader reader' writer ledger left' line LineFeed opened none takes =
     let lines : ended_lines (takes.piece ++ 10 ∷ []) ≡ ended_line takes.piece ∷ [] = ended_more [] takes.piece refl takes.unbroken in
     record {
       taken = takes.piece ++ 10 ∷ [];
@@ -287,23 +340,24 @@ begins reader reader' writer ledger left left' line LineFeed opened none all tak
       begun = subst (λ ls. 1 ≤ length ls) (sym lines) (omega arith);
       stands = record {
         consumed = takes.consumed;
-        counted = omega (arith, all, takes.counted, length-append takes.piece (10 ∷ []));
-        opened = opened;
+        counted = omega (arith, takes.counted, length-append takes.piece (10 ∷ []));
+        opened = subst (λ first. Opens first ledger.opening) (takes.shortened ∙ sym (ap first_of lines)) opened;
         text = [];
         responses = subst (λ ls. RespondsToEach ledger.opening (messages_among ls) ledger.journal []) (sym lines) (subst (λ j. RespondsToEach ledger.opening [] j []) (sym none) (responds_to_none ledger.opening));
         appended = Appends-nil writer;
       };
     }
-begins reader reader' writer ledger left left' line EndOfInput opened none all takes =
+begins reader reader' writer ledger left' line EndOfInput opened none takes =
+    let lines : lines_of line ≡ last_line line = lines_rest [] line refl takes.unbroken in
     record {
       taken = line;
       at_end = takes.at_end;
       stands = record {
         consumed = takes.consumed;
-        counted = omega (arith, all, takes.counted);
-        opened = opened;
+        counted = omega (arith, takes.counted);
+        opened = subst (λ first. Opens first ledger.opening) (sym (ap first_of lines ∙ first_last line)) opened;
         text = [];
-        responses = subst (λ ls. RespondsToEach ledger.opening (messages_among ls) ledger.journal []) (sym (lines_rest [] line refl takes.unbroken)) (no_more line);
+        responses = subst (λ ls. RespondsToEach ledger.opening (messages_among ls) ledger.journal []) (sym lines) (no_more line);
         appended = Appends-nil writer;
       };
     }
@@ -314,6 +368,96 @@ begins reader reader' writer ledger left left' line EndOfInput opened none all t
     no_more : (line : List ℕ) → RespondsToEach ledger.opening (messages_among (last_line line)) ledger.journal []
     no_more [] = nothing
     no_more (byte ∷ bytes) = nothing
+
+-- ---- the first line opens no session
+
+-- so many bytes were read, which are no more than the first line
+record ReadsFirst (input : List ℕ) (left : Option (List ℕ)) (line : List ℕ) : Type 0 where
+  read : List ℕ
+  consumed : Consumes (Some input) left read
+  few : length read ≤ most_bytes + 2
+  one : length (lines_of read) ≤ 1
+  first : first_of (lines_of input) ≡ line
+
+reads_first : (end : LineEnd) (input : List ℕ) (reader' : Option (List ℕ)) (line : List ℕ) (all left' : ℕ) → TakesLine end (Some input) reader' line all left' →
+    length line ≤ most_bytes → ReadsFirst input reader' line
+unfolding ended_lines
+reads_first LineFeed input reader' line all left' takes short =
+    let (rest, known, is_input) = taken_of input reader' (takes.piece ++ 10 ∷ []) takes.consumed in
+    let whole : (pieces_of (takes.piece ++ 10 ∷ [])).rest ≡ [] = ap (λ p. p.rest) (piece_more [] takes.piece refl takes.unbroken) in
+    let lines : ended_lines (takes.piece ++ 10 ∷ []) ≡ ended_line takes.piece ∷ [] = ended_more [] takes.piece refl takes.unbroken in
+    record {
+      read = takes.piece ++ 10 ∷ [];
+      consumed = takes.consumed;
+      few = omega (arith, short, ap length takes.shortened, at_most_one_less takes.piece, length-append takes.piece (10 ∷ []));
+      one = subst (λ ls. length ls ≤ 1) (sym (all_ended (takes.piece ++ 10 ∷ []) whole ∙ lines)) (omega arith);
+      first = ap (λ bytes. first_of (lines_of bytes)) is_input
+          ∙ ap first_of (lines_more (takes.piece ++ 10 ∷ []) rest whole)
+          ∙ ap (λ ls. first_of (ls ++ lines_of rest)) lines
+          ∙ sym takes.shortened;
+    }
+reads_first EndOfInput input reader' line all left' takes short =
+    let (rest, known, is_input) = taken_of input reader' line takes.consumed in
+    let none : rest ≡ [] = subst IsAtEnd known takes.at_end in
+    let lines : lines_of line ≡ last_line line = lines_rest [] line refl takes.unbroken in
+    record {
+      read = line;
+      consumed = takes.consumed;
+      few = omega (arith, short);
+      one = subst (λ ls. length ls ≤ 1) (sym lines) (at_most_one line);
+      first = ap (λ bytes. first_of (lines_of bytes)) (is_input ∙ ap (λ r. line ++ r) none ∙ append-nil line) ∙ ap first_of lines ∙ first_last line;
+    }
+
+module _ (input : List ℕ) (reader' writer : Option (List ℕ)) (line : List ℕ) (reads : ReadsFirst input reader' line) where
+  isnt_opened : (fault : Fault) → OpensNone fault line → IsUnopened fault input reader' writer writer
+  isnt_opened fault none = record {
+    read = reads.read;
+    consumed = reads.consumed;
+    few = reads.few;
+    opens_none = subst (OpensNone fault) (sym reads.first) none;
+    unwritten = Appends-nil writer;
+  }
+
+  without_memory : IsWithoutMemory input reader' writer writer
+  without_memory = record { read = reads.read; consumed = reads.consumed; few = reads.few; first = reads.one; unwritten = Appends-nil writer }
+
+  ends_there : (fault : Fault) → OpensNone fault line ⊎ (fault ≡ OutOfMemory) → EndsWith fault input reader' writer writer
+  ends_there (Session fault) (inl none) = isnt_opened (Session fault) none
+  ends_there (Session fault) (inr same) = absurd (cc)
+  ends_there (Opening cause) (inl none) = isnt_opened (Opening cause) none
+  ends_there (Opening cause) (inr same) = absurd (cc)
+  ends_there Input (inl none) = absurd none
+  ends_there Input (inr same) = absurd (cc)
+  ends_there Output (inl none) = absurd none
+  ends_there Output (inr same) = absurd (cc)
+  ends_there OutOfMemory (inl none) = absurd none
+  ends_there OutOfMemory (inr same) = inl without_memory
+
+-- a line that is no longer than a session object opens none
+pub first_refused : (known reader' writer : Option (List ℕ)) (end : LineEnd) (line : List ℕ) (left' : ℕ) (fault : Fault) →
+    TakesLine end known reader' line script_limit left' → length line ≤ most_bytes → OpensNone fault line ⊎ (fault ≡ OutOfMemory) →
+    IfSome known (λ input. EndsWith fault input reader' writer writer)
+first_refused None reader' writer end line left' fault takes short none = tt
+first_refused (Some input) reader' writer end line left' fault takes short none =
+    ends_there input reader' writer line (reads_first end input reader' line script_limit left' takes short) fault none
+
+-- a longer line
+pub first_too_long : (known reader' writer : Option (List ℕ)) (left' : ℕ) → TakesLonger known reader' most_bytes script_limit left' →
+    IfSome known (λ input. EndsWith (Session session.TooLong) input reader' writer writer)
+first_too_long None reader' writer left' takes = tt
+first_too_long (Some input) reader' writer left' takes = record {
+  read = takes.piece;
+  consumed = takes.consumed;
+  few = takes.few;
+  opens_none = (λ same. absurd (cc), takes.longer);
+  unwritten = Appends-nil writer;
+}
+
+-- reading the first line fails
+pub first_unread : (known reader' writer : Option (List ℕ)) (fault : ReadFault) (ended : Fault) → ended ≡ fault_of_read fault → FailsWithin fault known reader' script_limit →
+    IfSome known (λ input. EndsWith ended input reader' writer writer)
+first_unread None reader' writer fault ended same fails = tt
+first_unread (Some input) reader' writer fault ended same fails = subst (λ f. EndsWith f input reader' writer writer) (sym same) (first_cut_short fault input reader' writer fails)
 
 -- the whole input is read
 pub finished : (input : List ℕ) (before reader writer : Option (List ℕ)) (ledger : Ledger) (left : ℕ) → StandsAtEnd (Some input) before reader writer ledger left → IsDone input reader before writer
@@ -326,17 +470,13 @@ finished input before reader writer ledger left at =
       consumed = subst (Consumes (Some input) reader) (sym all) at.stands.consumed;
       written = record {
         opening = ledger.opening;
-        opened = at.stands.opened;
+        opened = subst (λ bytes. Opens (first_of (lines_of bytes)) ledger.opening) (sym all) at.stands.opened;
         journal = ledger.journal;
         text = at.stands.text;
         responses = subst (λ bytes. RespondsToEach ledger.opening (messages_among (lines_of bytes)) ledger.journal at.stands.text) (sym all) at.stands.responses;
         appended = at.stands.appended;
       };
     }
-
--- nothing was read or written yet
-pub unopened : (input : List ℕ) (writer : Option (List ℕ)) → IsUnopened input (Some input) writer writer
-unopened input writer = record { unread = Consumes-nil (Some input); unwritten = Appends-nil writer }
 
 -- a line that is read leaves fewer bytes to read, unless it was the last
 pub fewer : (end : LineEnd) (reader reader' : Option (List ℕ)) (line : List ℕ) (left left' : ℕ) → TakesLine end reader reader' line left left' → left' + line_feeds end ≤ left
@@ -356,9 +496,3 @@ pub ended_from : {T : Type 0} (known before reader writer : Option (List ℕ)) (
 ended_from known before reader writer (Ok x) ends = tt
 ended_from None before reader writer (Err fault) ends = tt
 ended_from (Some input) before reader writer (Err fault) ends = ends input refl
-
-pub first_ended_from : (known reader' writer : Option (List ℕ)) (ledger : Ledger) (left left' : ℕ) (line : List ℕ) (fault : ReadFault) (ended : Fault) → ended ≡ fault_of_read fault →
-    IsOpening ledger.opening → ledger.journal ≡ [] → left ≡ script_limit → FailsFor fault known reader' line left left' → IfSome known (λ input. EndsWith ended input reader' writer writer)
-first_ended_from None reader' writer ledger left left' line fault ended same opened none all fails = tt
-first_ended_from (Some input) reader' writer ledger left left' line fault ended same opened none all fails =
-    subst (λ f. EndsWith f input reader' writer writer) (sym same) (first_cut_short fault input reader' writer ledger left left' line opened none all fails)

@@ -1,4 +1,5 @@
 pub mod Script
+pub mod FirstLine
 pub mod Writes
 pub mod Standing
 pub mod Status

@@ -8,12 +8,12 @@ use Rattle.published_view.specs.declared.reply.Reply.{Reply}
 use Rattle.published_view.specs.Answers.{board_reply, traveller_reply}
 use Rattle.session_book.specs.declared.answer.Answer.{Answer}
 use Rattle.session_book.specs.declared.answer.Answer.TheVariants.{Refused}
-use Rattle.session_book.specs.declared.command.Command.{Command}
-use Rattle.session_book.specs.declared.entry.Entry.{Entry}
-use Rattle.session_book.specs.declared.refusal.Refusal.TheVariants as refusal
+use Rattle.session_state.specs.declared.command.Command.{Command}
+use Rattle.session_state.specs.declared.entry.Entry.{Entry}
+use Rattle.session_state.specs.declared.refusal.Refusal.TheVariants as refusal
 use Rattle.session_book.specs.Journal.{replay, refusal_after}
 use Rattle.session_book.specs.Run.{Progress, run, first_number, last_number}
-use Rattle.session_book.specs.SessionState.{SessionState}
+use Rattle.session_state.specs.SessionState.{SessionState}
 use Rattle.wire.specs.declared.request_fault.RequestFault.{RequestFault}
 use Rattle.wire.specs.declared.request_fault.RequestFault.TheVariants.{OutOfMemory}
 use Rattle.wire.specs.declared.request.Request.{Request}

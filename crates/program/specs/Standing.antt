@@ -5,13 +5,13 @@ use Rattle.script_lines.specs.declared.line_end.LineEnd.{LineEnd}
 use Rattle.script_lines.specs.declared.line_end.LineEnd.TheVariants.{LineFeed, EndOfInput}
 use Rattle.script_lines.specs.declared.reading.ReadFault.{ReadFault}
 use Rattle.script_lines.specs.declared.reading.ReadFault.TheVariants as read
-use Rattle.script_lines.specs.Lines.{pieces_of, ended_lines, lines_of}
+use Rattle.script_lines.specs.Lines.{pieces_of, ended_lines, lines_of, first_of}
 use Rattle.session_book.specs.Journal.{Ledger}
-use Rattle.session_book.specs.Opening.{IsOpening}
 use Rattle.wire.specs.declared.request_fault.RequestFault.{RequestFault}
 use Rattle.wire.specs.ReceiptText.{fault_text}
 use Rattle.program.specs.declared.fault.Fault.{Fault}
 use Rattle.program.specs.declared.fault.Fault.TheVariants.{Input, OutOfMemory}
+use Rattle.program.specs.FirstLine.{Opens}
 use Rattle.program.specs.Script.{messages_among}
 use Rattle.program.specs.Writes.{script_limit, RespondsToEach}
 
@@ -20,14 +20,15 @@ abbrev pub line_of : {S : Type 0} → (S → List ℕ) → Result S RequestFault
 line_of bytes (Ok text) = bytes text
 line_of bytes (Err fault) = fault_text fault ++ 10 ∷ []
 
--- so many bytes were taken from the reader, and the messages among them have their responses
+-- so many bytes were taken from the reader, the first of these lines opened the session, and the messages among them have
+-- their responses
 pub record Stands (input before reader writer : Option (List ℕ)) (ledger : Ledger) (left : ℕ) (taken : List ℕ)
-    (messages : List (List ℕ)) : Type 0 where
+    (lines : List (List ℕ)) : Type 0 where
   pub consumed : Consumes input reader taken
   pub counted : left + length taken ≡ script_limit
-  pub opened : IsOpening ledger.opening
+  pub opened : Opens (first_of lines) ledger.opening
   pub text : List ℕ
-  pub responses : RespondsToEach ledger.opening messages ledger.journal text
+  pub responses : RespondsToEach ledger.opening (messages_among lines) ledger.journal text
   pub appended : Appends before writer text
 
 -- after a line that an LF ended
@@ -35,13 +36,13 @@ pub record StandsAtLine (input before reader writer : Option (List ℕ)) (ledger
   pub taken : List ℕ
   pub whole : (pieces_of taken).rest ≡ []
   pub begun : 1 ≤ length (ended_lines taken)
-  pub stands : Stands input before reader writer ledger left taken (messages_among (ended_lines taken))
+  pub stands : Stands input before reader writer ledger left taken (ended_lines taken)
 
 -- at the input's end
 pub record StandsAtEnd (input before reader writer : Option (List ℕ)) (ledger : Ledger) (left : ℕ) : Type 0 where
   pub taken : List ℕ
   pub at_end : IsAtEnd reader
-  pub stands : Stands input before reader writer ledger left taken (messages_among (lines_of taken))
+  pub stands : Stands input before reader writer ledger left taken (lines_of taken)
 
 -- after a line that ended so
 abbrev pub StandsAfter : LineEnd → Option (List ℕ) → Option (List ℕ) → Option (List ℕ) → Option (List ℕ) → Ledger → ℕ

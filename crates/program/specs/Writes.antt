@@ -1,12 +1,13 @@
 -- What a script's run reads and writes, against the text of the script.
-use Rattle.std.specs.Prelude.{◌≡◌, ℕ, ◌≤◌, ◌⊎◌, Option, Some, List, [], ◌∷◌, ◌++◌, map, length}
+use Rattle.std.specs.Prelude.{◌≡◌, ℕ, ◌+◌, ◌≤◌, ◌⊎◌, Option, Some, List, [], ◌∷◌, ◌++◌, map, length}
 use Rattle.std.specs.Io.KnownBytes.{Consumes, Appends, IsAtEnd}
-use Rattle.script_lines.specs.Lines.{pieces_of, ended_lines, lines_of}
-use Rattle.session_book.specs.declared.entry.Entry.{Entry}
-use Rattle.session_book.specs.Opening.{IsOpening}
-use Rattle.session_book.specs.SessionState.{SessionState}
+use Rattle.script_lines.specs.Lines.{pieces_of, ended_lines, lines_of, first_of}
+use Rattle.session_object.specs.Reading.{most_bytes}
+use Rattle.session_state.specs.declared.entry.Entry.{Entry}
+use Rattle.session_state.specs.SessionState.{SessionState}
 use Rattle.program.specs.declared.fault.Fault.{Fault}
-use Rattle.program.specs.declared.fault.Fault.TheVariants.{Input, Output, OutOfMemory}
+use Rattle.program.specs.declared.fault.Fault.TheVariants.{Session, Opening, Input, Output, OutOfMemory}
+use Rattle.program.specs.FirstLine.{Opens, OpensNone}
 use Rattle.program.specs.Script.{Memory, Received, response_to_line, responses_to, messages_among}
 
 -- how many bytes a script has at most
@@ -32,34 +33,39 @@ pub record RespondsToEach (opening : SessionState) (messages : List (List ℕ)) 
 
 -- ---- what a writer was given
 
--- the responses to these messages, and nothing else
-pub record WritesResponses (messages : List (List ℕ)) (before after : Option (List ℕ)) : Type 0 where
+-- the responses to the messages among these lines, of which the first opens the session; and nothing else
+pub record WritesResponses (lines : List (List ℕ)) (before after : Option (List ℕ)) : Type 0 where
   pub opening : SessionState
-  pub opened : IsOpening opening
+  pub opened : Opens (first_of lines) opening
   pub journal : List Entry
   pub text : List ℕ
-  pub responses : RespondsToEach opening messages journal text
+  pub responses : RespondsToEach opening (messages_among lines) journal text
   pub appended : Appends before after text
 
--- a first part of the responses to these messages
-pub record WritesPartOfResponses (messages : List (List ℕ)) (before after : Option (List ℕ)) : Type 0 where
+-- nothing before the first line is read, and then the responses
+abbrev pub WritesSoFar : List (List ℕ) → Option (List ℕ) → Option (List ℕ) → Type 0
+WritesSoFar [] before after = Appends before after []
+WritesSoFar (first ∷ lines) before after = WritesResponses (first ∷ lines) before after
+
+-- a first part of the responses to the messages among these lines
+pub record WritesPartOfResponses (lines : List (List ℕ)) (before after : Option (List ℕ)) : Type 0 where
   pub opening : SessionState
-  pub opened : IsOpening opening
+  pub opened : Opens (first_of lines) opening
   pub journal : List Entry
   pub text : List ℕ
-  pub responses : RespondsToEach opening messages journal text
+  pub responses : RespondsToEach opening (messages_among lines) journal text
   pub part : List ℕ
   pub missing : List ℕ
   pub split : text ≡ part ++ missing
   pub appended : Appends before after part
 
--- the responses to these messages, and a first part of the response to one message more
-pub record WritesPartOfLast (messages : List (List ℕ)) (last : List ℕ) (before after : Option (List ℕ)) : Type 0 where
+-- the responses to the messages among these lines, and a first part of the response to one message more
+pub record WritesPartOfLast (lines : List (List ℕ)) (last : List ℕ) (before after : Option (List ℕ)) : Type 0 where
   pub opening : SessionState
-  pub opened : IsOpening opening
+  pub opened : Opens (first_of lines) opening
   pub journal : List Entry
   pub text : List ℕ
-  pub responses : RespondsToEach opening messages journal text
+  pub responses : RespondsToEach opening (messages_among lines) journal text
   pub journal_after : List Entry
   pub response : List ℕ
   pub responds : Responds opening journal last journal_after response
@@ -70,18 +76,36 @@ pub record WritesPartOfLast (messages : List (List ℕ)) (last : List ℕ) (befo
 
 -- ---- how a run ends
 
--- the script was read whole: it isn't too long, and each of its messages has its response
+-- the script was read whole: it isn't too long, its first line opened the session, and each of its messages has its
+-- response
 pub record IsDone (input : List ℕ) (left : Option (List ℕ)) (before after : Option (List ℕ)) : Type 0 where
   pub short : length input ≤ script_limit
   pub consumed : Consumes (Some input) left input
-  pub written : WritesResponses (messages_among (lines_of input)) before after
+  pub written : WritesResponses (lines_of input) before after
+
+-- the first line opens no session: nothing is written, and no more is read than shows this
+pub record IsUnopened (fault : Fault) (input : List ℕ) (left : Option (List ℕ)) (before after : Option (List ℕ)) : Type 0
+  where
+    pub read : List ℕ
+    pub consumed : Consumes (Some input) left read
+    pub few : length read ≤ most_bytes + 2
+    pub opens_none : OpensNone fault (first_of (lines_of input))
+    pub unwritten : Appends before after []
+
+-- there was no memory for the session of the first line: nothing is written, and no second line is read
+pub record IsWithoutMemory (input : List ℕ) (left : Option (List ℕ)) (before after : Option (List ℕ)) : Type 0 where
+  pub read : List ℕ
+  pub consumed : Consumes (Some input) left read
+  pub few : length read ≤ most_bytes + 2
+  pub first : length (lines_of read) ≤ 1
+  pub unwritten : Appends before after []
 
 -- reading ended early: just the messages whose lines had ended are answered
 pub record IsCutShort (input : List ℕ) (left : Option (List ℕ)) (before after : Option (List ℕ)) : Type 0 where
   pub read : List ℕ
   pub consumed : Consumes (Some input) left read
   pub within : length read ≤ script_limit
-  pub written : WritesResponses (messages_among (ended_lines read)) before after
+  pub written : WritesSoFar (ended_lines read) before after
 
 -- the script is too long: one byte beyond the limit was read, and just the messages whose lines had ended are answered
 pub record IsTooLong (input : List ℕ) (left : Option (List ℕ)) (before after : Option (List ℕ)) : Type 0 where
@@ -89,7 +113,7 @@ pub record IsTooLong (input : List ℕ) (left : Option (List ℕ)) (before after
   pub beyond : ℕ
   pub consumed : Consumes (Some input) left (read ++ beyond ∷ [])
   pub full : length read ≡ script_limit
-  pub written : WritesResponses (messages_among (ended_lines read)) before after
+  pub written : WritesSoFar (ended_lines read) before after
 
 -- writing ended early, in the response to the last line that was read: it was read to its end, and no byte after it
 pub record IsUnwritten (input : List ℕ) (left : Option (List ℕ)) (before after : Option (List ℕ)) : Type 0 where
@@ -99,17 +123,16 @@ pub record IsUnwritten (input : List ℕ) (left : Option (List ℕ)) (before aft
   pub whole : ((pieces_of read).rest ≡ []) ⊎ IsAtEnd left
   pub lines : List (List ℕ)
   pub last : List ℕ
+  pub begun : 1 ≤ length lines
   pub last_line : lines_of read ≡ lines ++ last ∷ []
   pub message : messages_among (lines_of read) ≡ messages_among lines ++ last ∷ []
-  pub written : WritesPartOfLast (messages_among lines) last before after
-
--- the session wasn't opened: nothing is read and nothing written
-pub record IsUnopened (input : List ℕ) (left : Option (List ℕ)) (before after : Option (List ℕ)) : Type 0 where
-  pub unread : Consumes (Some input) left []
-  pub unwritten : Appends before after []
+  pub written : WritesPartOfLast lines last before after
 
 -- what stands after each fault
 abbrev pub EndsWith : Fault → List ℕ → Option (List ℕ) → Option (List ℕ) → Option (List ℕ) → Type 0
+EndsWith (Session fault) input left before after = IsUnopened (Session fault) input left before after
+EndsWith (Opening cause) input left before after = IsUnopened (Opening cause) input left before after
 EndsWith Input input left before after = IsCutShort input left before after ⊎ IsTooLong input left before after
 EndsWith Output input left before after = IsUnwritten input left before after
-EndsWith OutOfMemory input left before after = IsUnopened input left before after ⊎ IsCutShort input left before after
+EndsWith OutOfMemory input left before after =
+    IsWithoutMemory input left before after ⊎ IsCutShort input left before after

@@ -2,8 +2,9 @@
 
 ghost use Rattle.std.specs.Prelude.{◌≡◌, ◌≢◌, ◌↔◌, ◌⊎◌, [], None, IfSome, map, string_bytes};
 ghost use Rattle.std.specs.Io.KnownBytes.{Consumes, Appends};
+ghost use Rattle.program.specs.declared.fault.Fault.{Fault};
 ghost use Rattle.program.specs.declared.fault.Fault.TheVariants.{Input, Output, OutOfMemory};
-ghost use Rattle.program.specs.Status.{IsStatus};
+ghost use Rattle.program.specs.Status.{IsStatus, status_of};
 ghost use Rattle.program.specs.Words.{words_of};
 ghost use Rattle.program.specs.Writes.{IsDone, EndsWith};
 
@@ -33,7 +34,10 @@ pub fn run_words<R: Read, W: Write, E: Write>(
     ensures bad_words { (result ≡ 2) ↔ (words_of (map string_bytes words.now) ≡ None) }
     ensures unread { result ≡ 2 → Consumes (R.remaining reader.old) (R.remaining reader.new) [] }
     ensures unwritten { result ≡ 2 → Appends (W.contents writer.old) (W.contents writer.new) [] }
-    ensures silent { result ≢ 2 → Appends (E.contents errors.old) (E.contents errors.new) [] }
+    ensures silent { result ≢ 1 → result ≢ 2 → Appends (E.contents errors.old) (E.contents errors.new) [] }
+    ensures refused { result ≡ 1 → IfSome (R.remaining reader.old) (λ input. (fault : Fault)
+        × (status_of fault ≡ 1)
+        × EndsWith fault input (R.remaining reader.new) (W.contents writer.old) (W.contents writer.new)) }
     ensures answered { result ≡ 0 → IfSome (R.remaining reader.old) (λ input.
         IsDone input (R.remaining reader.new) (W.contents writer.old) (W.contents writer.new)) }
     ensures failed { result ≡ 3 → IfSome (R.remaining reader.old) (λ input.
@@ -45,14 +49,29 @@ pub fn run_words<R: Read, W: Write, E: Write>(
     match Words::read(words) {
         Some(Words::Script) => match run_script(alloc, reader, writer) {
             Ok(()) => 0,
-            Err(Fault::Input | Fault::Output) => 3,
-            Err(Fault::OutOfMemory) => 4,
+            Err(fault) => status_of(fault, errors),
         },
         None => {
             // Where even this can't be written, the status still tells.
             let _unwritten = write_text(errors, USAGE.as_bytes());
             2
         }
+    }
+}
+
+// The status after a fault. One of the session is named.
+fn status_of<E: Write>(fault: Fault, errors: &mut E) -> u8
+    ensures status { result ≡ status_of fault }
+    ensures silent { result ≢ 1 → Appends (E.contents errors.old) (E.contents errors.new) [] }
+{
+    match fault {
+        Fault::Session(_) | Fault::Opening(_) => {
+            // Where it can't be written, the status still tells.
+            let _unwritten = writeln!(errors, "bridge_server: {fault}");
+            1
+        }
+        Fault::Input | Fault::Output => 3,
+        Fault::OutOfMemory => 4,
     }
 }
 

@@ -1,8 +1,10 @@
 //! What answering comes to: each function here has nothing to do, and its clauses are the theorem.
 
-ghost use Rattle.std.specs.Prelude.{◌≡◌, ◌++◌, ℕ, List, Option, map, All};
+ghost use Rattle.std.specs.Prelude.{◌≡◌, ◌++◌, ◌⊎◌, [], ℕ, List, Option, map, All};
+ghost use Rattle.std.specs.Io.KnownBytes.{Appends};
 ghost use Rattle.script_lines.specs.Lines.{lines_of};
-ghost use Rattle.session_book.specs.SessionState.{SessionState};
+ghost use Rattle.session_state.specs.SessionState.{SessionState};
+ghost use Rattle.program.specs.FirstLine.{Opens};
 ghost use Rattle.program.specs.Script.{Received, ample, responses_to, messages_among, script_text};
 ghost use Rattle.program.specs.Writes.{IsCutShort, IsTooLong, IsUnwritten, WritesPartOfResponses};
 
@@ -21,12 +23,17 @@ pub fn a_script_goes_on()
         × ((responses_to opening (received ++ later)).text ≡ (responses_to opening received).text ++ more) }
 {}
 
-/// What was written before a fault is a first part of a text of the whole script.
+/// A first line opens one session at most.
+pub fn a_first_line_opens_one_session()
+    ensures { (line : List ℕ) (one other : SessionState) → Opens line one → Opens line other → one ≡ other }
+{}
+
+/// What was written before a fault is nothing, or a first part of a text of the whole script.
 pub fn a_first_part_before_a_fault()
     ensures read { (input : List ℕ) (left before after : Option (List ℕ)) → IsCutShort input left before after →
-        WritesPartOfResponses (messages_among (lines_of input)) before after }
+        Appends before after [] ⊎ WritesPartOfResponses (lines_of input) before after }
     ensures too_long { (input : List ℕ) (left before after : Option (List ℕ)) → IsTooLong input left before after →
-        WritesPartOfResponses (messages_among (lines_of input)) before after }
+        Appends before after [] ⊎ WritesPartOfResponses (lines_of input) before after }
     ensures written { (input : List ℕ) (left before after : Option (List ℕ)) → IsUnwritten input left before after →
-        WritesPartOfResponses (messages_among (lines_of input)) before after }
+        WritesPartOfResponses (lines_of input) before after }
 {}

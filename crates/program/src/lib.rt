@@ -3,11 +3,10 @@
 
 mod calling;
 mod fault;
+mod first_line;
 pub mod laws;
 mod response;
 mod script;
-#[cfg(test)]
-mod tests;
 mod words;
 
 pub use calling::{run_program, run_words};

@@ -1,22 +1,23 @@
 //! A script, from its first line to its last.
 
-ghost use Rattle.std.specs.Prelude.{◌≡◌, ◌+◌, ◌≤◌, [], List, ℕ, Option, Some, IfSome, IfOk, IfErr, OnOk};
-ghost use Rattle.session_book.specs.Opening.{IsOpening};
-ghost use Rattle.program.specs.Writes.{script_limit, IsDone, EndsWith};
+ghost use Rattle.std.specs.Prelude.{◌≡◌, ◌+◌, ◌≤◌, List, ℕ, Option, Some, IfSome, IfOk, IfErr, OnOk};
+ghost use Rattle.program.specs.Writes.{IsDone, EndsWith};
 ghost use Rattle.program.specs.Standing.{StandsAtLine, StandsAtEnd, StandsAfter, line_feeds, fault_of_read};
 
 use crate::fault::Fault;
+use crate::first_line::open_session;
 use crate::response::respond;
-use script_lines::{LineEnd, ReadFault, read_line};
+use script_lines::{LineEnd, ReadFault, read_line, read_short_line};
 use session_book::Book;
-use std::alloc::{AllocError, Global};
+use session_object::{MOST_BYTES, SessionFault};
+use std::alloc::Global;
 use std::io::{Read, Write};
 
 /// How many bytes a script has at most.
 pub const SCRIPT_LIMIT: usize = 1_073_741_824;
 
 /// Reads a script and responds to each message with a line, which is written before the next line is read. The first line
-/// is the session's: it is read and not looked at, until a session can be read.
+/// opens the session.
 pub fn run_script<R: Read, W: Write>(
     alloc: Global,
     reader: &mut R,
@@ -27,12 +28,12 @@ pub fn run_script<R: Read, W: Write>(
     ensures ended { IfErr result (λ fault. IfSome (R.remaining reader.old) (λ input.
         EndsWith fault input (R.remaining reader.new) (W.contents writer.old) (W.contents writer.new))) }
 {
-    let Ok(mut run) = ScriptRun::open(alloc) else {
-        return Err(Fault::OutOfMemory);
-    };
-    match read_line(reader, &mut run.line, &mut run.left) {
-        Ok(end) => run.respond_after(end, reader, writer),
-        Err(fault) => Err(fault_of_read(fault)),
+    match ScriptRun::open(alloc, reader) {
+        Ok(mut run) => {
+            let first = run.first;
+            run.respond_after(first, reader, writer)
+        }
+        Err(fault) => Err(fault),
     }
 }
 
@@ -41,24 +42,37 @@ pub fn run_script<R: Read, W: Write>(
 struct ScriptRun {
     alloc: Global,
     book: Book,
+    // What ended the first line.
+    first: LineEnd,
     line: Vec<u8>,
     // How many bytes may still be read.
     left: usize,
 }
 
 impl ScriptRun {
-    fn open(alloc: Global) -> Result<ScriptRun, AllocError>
-        ensures opening { IfOk result (λ run. IsOpening run.book.opening) }
-        ensures journal { IfOk result (λ run. run.book.journal ≡ []) }
-        ensures left { IfOk result (λ run. run.left ≡ script_limit) }
+    // Opens the session of the first line.
+    fn open<R: Read>(alloc: Global, reader: &mut R) -> Result<ScriptRun, Fault>
+        ensures opened { (writer : Option (List ℕ)) → IfOk result (λ run.
+            StandsAfter run.first (R.remaining reader.old) writer (R.remaining reader.new) writer run.book run.left) }
+        ensures ended { (writer : Option (List ℕ)) → IfErr result (λ fault.
+            IfSome (R.remaining reader.old) (λ input. EndsWith fault input (R.remaining reader.new) writer writer)) }
     {
-        let book = Book::open(alloc)?;
-        Ok(ScriptRun {
-            alloc,
-            book,
-            line: Vec::new(alloc),
-            left: SCRIPT_LIMIT,
-        })
+        let mut line = Vec::new(alloc);
+        let mut left = SCRIPT_LIMIT;
+        match read_short_line(reader, &mut line, MOST_BYTES, &mut left) {
+            Ok(Some(first)) => match open_session(alloc, line.as_slice()) {
+                Ok(book) => Ok(ScriptRun {
+                    alloc,
+                    book,
+                    first,
+                    line,
+                    left,
+                }),
+                Err(fault) => Err(fault),
+            },
+            Ok(None) => Err(Fault::Session(SessionFault::TooLong)),
+            Err(fault) => Err(fault_of_read(fault)),
+        }
     }
 
     // Responds to the lines that come after one that ended so.

@@ -13,7 +13,7 @@ use Rattle.scoring.specs.declared.outcome.Outcome.{Outcome}
 use Rattle.disclosure_rules.specs.declared.fact.Fact.{Fact}
 use Rattle.disclosure_rules.specs.declared.fact.Fact.TheVariants as fact
 use Rattle.disclosure_rules.specs.declared.viewer.Viewer.{Viewer}
-use Rattle.session_book.specs.SessionState.{SessionState, viewer_of}
+use Rattle.session_state.specs.SessionState.{SessionState, viewer_of}
 use Rattle.published_view.specs.Shown.{Shown, public_facts, hands_of, result_of, fact_of, result_at, result_with, result_in, results_to, shown_as, boards_from, contents, is_allowed, shown}
 use Rattle.published_view.specs.declared.table_result.TableResult.{TableResult}
 use Rattle.published_view.specs.Agreement.{Agree}

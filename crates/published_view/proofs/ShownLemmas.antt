@@ -13,7 +13,7 @@ use Rattle.disclosure_rules.proofs.FirstLemmas.{public_allowed}
 use Rattle.movement.specs.declared.cell.Cell.{Cell}
 use Rattle.movement.specs.Movement.{Section, boards_of}
 use Rattle.scoring.specs.declared.outcome.Outcome.{Outcome}
-use Rattle.session_book.specs.SessionState.{SessionState, viewer_of}
+use Rattle.session_state.specs.SessionState.{SessionState, viewer_of}
 use Rattle.published_view.specs.Shown.{Shown, public_facts, hands_of, fact_of, result_at, results_to, shown_as, boards_from, is_allowed, shown, shown_hands, shown_public, shown_marks, shown_results, allowed_results}
 use Rattle.published_view.specs.declared.table_result.TableResult.{TableResult}
 use Rattle.published_view.specs.Answers.{board_by, board_answer, traveller_by, traveller_answer, board_preface, board_reply, traveller_reply}

@@ -16,7 +16,7 @@ use Rattle.movement.proofs.ScheduleTests.{scheduled-cell}
 use Rattle.scoring.specs.Law77.{ns_score_of}
 use Rattle.scoring.specs.Law78A.{units}
 use Rattle.disclosure_rules.specs.declared.viewer.Viewer.{Viewer}
-use Rattle.session_book.specs.SessionState.{SessionState}
+use Rattle.session_state.specs.SessionState.{SessionState}
 use Rattle.published_view.specs.declared.table_result.TableResult.{TableResult}
 use Rattle.published_view.specs.Shown.{is_allowed, result_at, result_with, allowed_one, allowed_result, allowed_results}
 use Rattle.published_view.specs.Traveller.{traveller_row, rows_from}

@@ -2,7 +2,7 @@
 use Rattle.std.specs.Prelude.{◌≡◌, ℕ, ◌-◌, ◌≤◌, true, List, length, slice_get}
 use Rattle.movement.specs.declared.cell.Cell.{Cell}
 use Rattle.disclosure_rules.specs.declared.fact.Fact.TheVariants as fact
-use Rattle.session_book.specs.SessionState.{SessionState, viewer_of}
+use Rattle.session_state.specs.SessionState.{SessionState, viewer_of}
 use Rattle.published_view.specs.Shown.{is_allowed, result_at}
 
 -- two states agree for a user where what every member may see is the same, the user has the same roles and the same

@@ -9,7 +9,7 @@ use Rattle.disclosure_rules.specs.declared.public.Public.{Public}
 use Rattle.disclosure_rules.specs.declared.viewer.Viewer.{Viewer}
 use Rattle.disclosure_rules.specs.declared.fact.Fact.{Fact}
 use Rattle.denials.specs.Evidence.{denial_of}
-use Rattle.session_book.specs.SessionState.{SessionState, viewer_of}
+use Rattle.session_state.specs.SessionState.{SessionState, viewer_of}
 use Rattle.published_view.specs.Shown.{Shown, shown, shown_hands, shown_public, shown_marks, shown_results}
 use Rattle.published_view.specs.Traveller.{traveller_rows}
 use Rattle.published_view.specs.declared.table_result.TableResult.{TableResult}

@@ -14,9 +14,9 @@ use Rattle.disclosure_rules.specs.declared.marks.Marks.{Marks}
 use Rattle.disclosure_rules.specs.declared.public.Public.{Public}
 use Rattle.disclosure_rules.specs.declared.viewer.Viewer.{Viewer}
 use Rattle.disclosure_rules.specs.Policy.{first_rule}
-use Rattle.session_book.specs.declared.cell_state.CellState.{CellState}
-use Rattle.session_book.specs.declared.cell_state.CellState.TheVariants.{Empty, Entered, Confirmed}
-use Rattle.session_book.specs.SessionState.{SessionState, cell_at}
+use Rattle.session_state.specs.declared.cell_state.CellState.{CellState}
+use Rattle.session_state.specs.declared.cell_state.CellState.TheVariants.{Empty, Entered, Confirmed, Ruled}
+use Rattle.session_state.specs.SessionState.{SessionState, cell_at}
 use Rattle.published_view.specs.declared.table_result.TableResult.{TableResult}
 
 -- something to show, with what it says: what every member may see, the hands of a board, or the result of a cell
@@ -36,6 +36,7 @@ abbrev pub confirmed_outcome : CellState → Option Outcome
 confirmed_outcome Empty = None
 confirmed_outcome (Entered outcome play) = None
 confirmed_outcome (Confirmed outcome play) = Some outcome
+confirmed_outcome (Ruled north_south east_west reason) = None
 
 -- the result of a cell: its confirmed outcome
 abbrev pub result_at : SessionState → Cell → Option Outcome

@@ -7,7 +7,7 @@ use crate::reply::Reply;
 use cards::Name;
 use denials::deny;
 use disclosure_rules::{Fact, Public, Viewer};
-use session_book::State;
+use session_state::State;
 
 /// The reply to a user's query of a board, at a state and its version; the user wants no version older than `since`.
 #[tactic(auto, unfolding(crate::specs::Answers::board_reply))]

@@ -1,7 +1,7 @@
 //! What holds of the replies as a whole.
 
 ghost use Rattle.std.specs.Prelude.{◌≡◌, ℕ, List};
-ghost use Rattle.session_book.specs.SessionState.{SessionState};
+ghost use Rattle.session_state.specs.SessionState.{SessionState};
 ghost use Rattle.published_view.specs.Agreement.{Agree};
 ghost use Rattle.published_view.specs.Answers.{board_reply, traveller_reply};
 

@@ -6,8 +6,6 @@ pub mod laws;
 mod query;
 mod reply;
 mod table_result;
-#[cfg(test)]
-mod tests;
 mod traveller;
 mod traveller_row;
 mod traveller_rows;

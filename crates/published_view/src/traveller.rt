@@ -14,7 +14,7 @@ use cards::{Name, Pair, Side, Vulnerability};
 use disclosure_rules::{Fact, Viewer, decide};
 use movement::Movement;
 use scoring::{Outcome, matchpoints, ns_score};
-use session_book::{CellState, State};
+use session_state::{CellState, State};
 use std::alloc::{AllocError, Global};
 
 /// The reply to a user's query of a board's traveller, at a state and its version; the user wants no version older than
@@ -97,7 +97,7 @@ fn confirmed_outcome(known: &CellState) -> Option<Outcome>
     ensures { result ≡ confirmed_outcome known.now }
 {
     match known {
-        CellState::Empty | CellState::Entered { .. } => None,
+        CellState::Empty | CellState::Entered { .. } | CellState::Ruled { .. } => None,
         CellState::Confirmed { outcome, .. } => Some(*outcome),
     }
 }

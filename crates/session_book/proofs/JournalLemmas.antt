@@ -2,13 +2,14 @@
 use Rattle.std.proofs.Common.{◌≡◌, ℕ, ◌≤◌, ◌<◌, List, [], ◌∷◌, ◌++◌, length, refl, sym, ap, subst, append_assoc, length-append, arith}
 use Rattle.std.specs.Prelude.{None}
 use Rattle.std.proofs.lemmas.List.Sums.{fold-append}
-use Rattle.session_book.specs.declared.entry.Entry.{Entry}
-use Rattle.session_book.specs.Apply.{apply}
+use Rattle.session_state.specs.declared.entry.Entry.{Entry}
+use Rattle.session_state.specs.Apply.{apply}
+use Rattle.session_book.specs.Exposure.{spoiler_of}
 use Rattle.session_book.specs.Journal.{replay, MayFollow, Follow, IsAccepted, refusal_after}
-use Rattle.session_book.specs.Refusal.{most_entries}
-use Rattle.session_book.specs.SessionState.{SessionState}
-use Rattle.session_book.specs.declared.command.Command.{Command}
-use Rattle.session_book.proofs.RefusalLemmas.{room_left}
+use Rattle.session_state.specs.Refusal.{most_entries}
+use Rattle.session_state.specs.SessionState.{SessionState}
+use Rattle.session_state.specs.declared.command.Command.{Command}
+use Rattle.session_state.proofs.RefusalLemmas.{room_left}
 
 -- one entry more does to the state what the entry does
 pub replayed_more : (opening : SessionState) (journal : List Entry) (entry : Entry) → replay opening (journal ++ entry ∷ []) ≡ apply (replay opening journal) entry
@@ -31,7 +32,7 @@ accepted_more opening journal entry accepted may = follow_more opening [] journa
 
 room_after : (opening : SessionState) (journal : List Entry) (actor : List ℕ) (command : Command) → refusal_after opening journal actor command ≡ None → length journal < most_entries
 unfolding refusal_after
-room_after opening journal actor command none = room_left (replay opening journal) actor command (length journal) none
+room_after opening journal actor command none = room_left (replay opening journal) (spoiler_of opening journal command) actor command (length journal) none
 
 follow_length : (opening : SessionState) (before entries : List Entry) → Follow opening before entries → length before ≤ most_entries → length (before ++ entries) ≤ most_entries
 follow_length opening before [] follow few = omega (arith, length-append before [])

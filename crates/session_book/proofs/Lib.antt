@@ -1,9 +1,9 @@
-pub mod HindranceLemmas
+pub mod AuditLemmas
+pub mod ExposureLemmas
+pub mod ExposureTableLemmas
 pub mod JournalLemmas
-pub mod LiveLemmas
-pub mod NewAccountLemmas
-pub mod OpeningLemmas
-pub mod PlayLemmas
-pub mod RefusalLemmas
+pub mod LastingLemmas
 pub mod RunLemmas
-pub mod ScheduleLemmas
+pub mod SightLemmas
+pub mod SpoilerLemmas
+pub mod TouchedLemmas

@@ -1,18 +1,19 @@
 -- A batch of one command more.
 use Rattle.std.proofs.Common.{◌≡◌, ℕ, Bool, true, false, List, [], ◌∷◌, ◌++◌, map, length, refl, sym, ap, ◌∙◌, subst, append_assoc, ◌⊎◌, inl, inr}
-use Rattle.std.specs.Prelude.{Option, Some, None}
+use Rattle.std.specs.Prelude.{Option, Some, None, ◌||◌}
 use Rattle.std.proofs.lemmas.List.Sums.{fold-append}
 use Rattle.session_book.specs.declared.answer.Answer.{Answer}
 use Rattle.session_book.specs.declared.answer.Answer.TheVariants.{Accepted, Refused}
-use Rattle.session_book.specs.declared.command.Command.{Command}
-use Rattle.session_book.specs.declared.entry.Entry.{Entry}
-use Rattle.session_book.specs.declared.refusal.Refusal.{Refusal}
-use Rattle.session_book.specs.declared.refusal.Refusal.TheVariants.{OutOfMemory, NotTried}
+use Rattle.session_state.specs.declared.command.Command.{Command}
+use Rattle.session_state.specs.declared.entry.Entry.{Entry}
+use Rattle.session_state.specs.declared.refusal.Refusal.{Refusal}
+use Rattle.session_state.specs.declared.refusal.Refusal.TheVariants.{OutOfMemory, NotTried}
+use Rattle.session_book.specs.Exposure.{spoiler_of}
 use Rattle.session_book.specs.Journal.{replay, refusal_after}
-use Rattle.session_book.specs.Refusal.{is_out_of_memory}
-use Rattle.session_book.proofs.RefusalLemmas.{never_memory}
-use Rattle.session_book.specs.Run.{Progress, answered, step, run, Runs}
-use Rattle.session_book.specs.SessionState.{SessionState}
+use Rattle.session_state.specs.Refusal.{is_out_of_memory}
+use Rattle.session_state.proofs.RefusalLemmas.{never_memory}
+use Rattle.session_book.specs.Run.{Progress, stops, answered, step, run, Runs}
+use Rattle.session_state.specs.SessionState.{SessionState}
 
 run_more : (opening : SessionState) (before : List Entry) (actor : List ℕ) (tried : List Command) (command : Command) →
     run opening before actor (tried ++ command ∷ []) ≡ step opening actor (run opening before actor tried) command
@@ -63,7 +64,7 @@ later_not_tried opening before actor tried command so_far until = record {
 
 never_memory_after : (opening : SessionState) (journal : List Entry) (actor : List ℕ) (command : Command) (cause : Refusal) → refusal_after opening journal actor command ≡ Some cause → is_out_of_memory cause ≡ false
 unfolding refusal_after
-never_memory_after opening journal actor command cause refused = never_memory (replay opening journal) actor command (length journal) cause refused
+never_memory_after opening journal actor command cause refused = never_memory (replay opening journal) (spoiler_of opening journal command) actor command (length journal) cause refused
 
 -- no command, no answer
 pub runs_none : (opening : SessionState) (before : List Entry) (actor : List ℕ) (answers : List Answer) → answers ≡ [] →
@@ -72,35 +73,34 @@ unfolding run
 runs_none opening before actor answers none = λ i. record { journal = before; answers = none i }
 
 -- what the answer to one command makes of it: not tried, accepted, or refused
-pub runs_not_tried : (opening : SessionState) (before : List Entry) (actor : List ℕ) (tried : List Command) (command : Command) (journal : List Entry) (answers : List Answer) (stopped : Bool) → stopped ≡ true →
-    Runs stopped opening before actor tried (record { journal = journal; answers = answers }) →
-    Runs stopped opening before actor (tried ++ command ∷ []) (record { journal = journal; answers = answers ++ Refused NotTried ∷ [] })
-runs_not_tried opening before actor tried command journal answers stopped is_stopped until =
-    subst (λ b. Runs b opening before actor (tried ++ command ∷ []) (record { journal = journal; answers = answers ++ Refused NotTried ∷ [] })) (sym is_stopped)
-    (later_not_tried opening before actor tried command (record { journal = journal; answers = answers }) (subst (λ b. Runs b opening before actor tried (record { journal = journal; answers = answers })) is_stopped until))
+module _ (opening : SessionState) (before : List Entry) (actor : List ℕ) (tried : List Command) (command : Command) (journal : List Entry) (answers : List Answer) (stopped : Bool) where
+  pub runs_not_tried : stopped ≡ true → Runs stopped opening before actor tried (record { journal = journal; answers = answers }) →
+      Runs (stopped || stops (Some NotTried)) opening before actor (tried ++ command ∷ []) (record { journal = journal; answers = answers ++ Refused NotTried ∷ [] })
+  runs_not_tried is_stopped until =
+      subst (λ b. Runs (b || stops (Some NotTried)) opening before actor (tried ++ command ∷ []) (record { journal = journal; answers = answers ++ Refused NotTried ∷ [] })) (sym is_stopped)
+      (later_not_tried opening before actor tried command (record { journal = journal; answers = answers }) (subst (λ b. Runs b opening before actor tried (record { journal = journal; answers = answers })) is_stopped until))
 
-pub runs_accepted : (opening : SessionState) (before : List Entry) (actor : List ℕ) (tried : List Command) (command : Command) (journal : List Entry) (answers : List Answer) (stopped : Bool) (after : List Entry) → stopped ≡ false →
-    refusal_after opening journal actor command ≡ None → after ≡ journal ++ record { actor = actor; command = command } ∷ [] →
-    Runs stopped opening before actor tried (record { journal = journal; answers = answers }) →
-    Runs stopped opening before actor (tried ++ command ∷ []) (record { journal = after; answers = answers ++ Accepted ∷ [] })
-runs_accepted opening before actor tried command journal answers stopped after goes_on accepted more ran =
-    subst (λ b. Runs b opening before actor (tried ++ command ∷ []) (record { journal = after; answers = answers ++ Accepted ∷ [] })) (sym goes_on)
-    ((λ i. record { journal = more i; answers = answers ++ Accepted ∷ [] })
-    ∙ runs_answered opening before actor tried command (record { journal = journal; answers = answers }) None (subst (λ b. Runs b opening before actor tried (record { journal = journal; answers = answers })) goes_on ran) accepted)
+  pub runs_accepted : (after : List Entry) → stopped ≡ false → refusal_after opening journal actor command ≡ None → after ≡ journal ++ record { actor = actor; command = command } ∷ [] →
+      Runs stopped opening before actor tried (record { journal = journal; answers = answers }) →
+      Runs (stopped || stops None) opening before actor (tried ++ command ∷ []) (record { journal = after; answers = answers ++ Accepted ∷ [] })
+  runs_accepted after goes_on accepted more ran =
+      subst (λ b. Runs (b || stops None) opening before actor (tried ++ command ∷ []) (record { journal = after; answers = answers ++ Accepted ∷ [] })) (sym goes_on)
+      ((λ i. record { journal = more i; answers = answers ++ Accepted ∷ [] })
+      ∙ runs_answered opening before actor tried command (record { journal = journal; answers = answers }) None (subst (λ b. Runs b opening before actor tried (record { journal = journal; answers = answers })) goes_on ran) accepted)
 
-pub runs_refused : (opening : SessionState) (before : List Entry) (actor : List ℕ) (tried : List Command) (command : Command) (journal : List Entry) (answers : List Answer) (stopped : Bool) (after : List Entry) (cause : Refusal) (stops : Bool) → stopped ≡ false →
-    stops ≡ is_out_of_memory cause → after ≡ journal →
-    (refusal_after opening journal actor command ≡ Some cause) ⊎ ((cause ≡ OutOfMemory) × (refusal_after opening journal actor command ≡ None)) →
-    Runs stopped opening before actor tried (record { journal = journal; answers = answers }) →
-    Runs stops opening before actor (tried ++ command ∷ []) (record { journal = after; answers = answers ++ Refused cause ∷ [] })
-runs_refused opening before actor tried command journal answers stopped after cause stops goes_on is_stop same (inl refused) ran =
-    let ran' = subst (λ b. Runs b opening before actor tried (record { journal = journal; answers = answers })) goes_on ran in
-    subst (λ b. Runs b opening before actor (tried ++ command ∷ []) (record { journal = after; answers = answers ++ Refused cause ∷ [] })) (sym (is_stop ∙ never_memory_after opening journal actor command cause refused))
-    ((λ i. record { journal = same i; answers = answers ++ Refused cause ∷ [] })
-    ∙ runs_answered opening before actor tried command (record { journal = journal; answers = answers }) (Some cause) ran' refused)
-runs_refused opening before actor tried command journal answers stopped after cause stops goes_on is_stop same (inr (memory, accepted)) ran =
-    let ran' = subst (λ b. Runs b opening before actor tried (record { journal = journal; answers = answers })) goes_on ran in
-    let stopped' : stops ≡ true = is_stop ∙ ap is_out_of_memory memory in
-    let P : Bool → List Entry → Refusal → Type 0 = λ b entries other. Runs b opening before actor (tried ++ command ∷ []) (record { journal = entries; answers = answers ++ Refused other ∷ [] }) in
-    subst (λ b. P b after cause) (sym stopped') (subst (λ entries. P true entries cause) (sym same) (subst (λ other. P true journal other) (sym memory)
-    (runs_stopped opening before actor tried command (record { journal = journal; answers = answers }) ran' accepted)))
+  pub runs_refused : (after : List Entry) (cause : Refusal) → stopped ≡ false → after ≡ journal →
+      (refusal_after opening journal actor command ≡ Some cause) ⊎ ((cause ≡ OutOfMemory) × (refusal_after opening journal actor command ≡ None)) →
+      Runs stopped opening before actor tried (record { journal = journal; answers = answers }) →
+      Runs (stopped || stops (Some cause)) opening before actor (tried ++ command ∷ []) (record { journal = after; answers = answers ++ Refused cause ∷ [] })
+  runs_refused after cause goes_on same (inl refused) ran =
+      let stops_not : (stopped || is_out_of_memory cause) ≡ false = λ i. goes_on i || never_memory_after opening journal actor command cause refused i in
+      subst (λ b. Runs b opening before actor (tried ++ command ∷ []) (record { journal = after; answers = answers ++ Refused cause ∷ [] })) (sym stops_not)
+      ((λ i. record { journal = same i; answers = answers ++ Refused cause ∷ [] })
+      ∙ runs_answered opening before actor tried command (record { journal = journal; answers = answers }) (Some cause)
+      (subst (λ b. Runs b opening before actor tried (record { journal = journal; answers = answers })) goes_on ran) refused)
+  runs_refused after cause goes_on same (inr (memory, accepted)) ran =
+      let stops_here : (stopped || is_out_of_memory cause) ≡ true = λ i. goes_on i || is_out_of_memory (memory i) in
+      let P : Bool → List Entry → Refusal → Type 0 = λ b entries other. Runs b opening before actor (tried ++ command ∷ []) (record { journal = entries; answers = answers ++ Refused other ∷ [] }) in
+      subst (λ b. P b after cause) (sym stops_here) (subst (λ entries. P true entries cause) (sym same) (subst (λ other. P true journal other) (sym memory)
+      (runs_stopped opening before actor tried command (record { journal = journal; answers = answers })
+      (subst (λ b. Runs b opening before actor tried (record { journal = journal; answers = answers })) goes_on ran) accepted)))

@@ -1,22 +1,19 @@
--- A journal, the state that it leads to, and when it is accepted.
+-- A journal, and when it is accepted.
 use Rattle.std.specs.Prelude.{◌≡◌, ℕ, zero, suc, Option, None, slice_get, List, [], ◌∷◌, ◌++◌, length, refl}
-use Rattle.std.specs.List.{fold}
 use Rattle.std.specs.Coded.{Coded, code_by, coded×, coded_list, coded_ℕ}
-use Rattle.session_book.specs.declared.command.Command.{Command}
-use Rattle.session_book.specs.declared.entry.Entry.{Entry}
-use Rattle.session_book.specs.contracts.entry.Entry as the_entry
-use Rattle.session_book.specs.declared.refusal.Refusal.{Refusal}
-use Rattle.session_book.specs.Apply.{apply}
-use Rattle.session_book.specs.Refusal.{refusal_of}
-use Rattle.session_book.specs.SessionState.{SessionState, session_code}
-
--- the state to which a journal leads from the opening
-unfoldable pub replay : SessionState → List Entry → SessionState
-replay opening journal = fold apply opening journal
+use Rattle.session_state.specs.declared.command.Command.{Command}
+use Rattle.session_state.specs.declared.entry.Entry.{Entry}
+use Rattle.session_state.specs.contracts.entry.Entry as the_entry
+use Rattle.session_state.specs.declared.refusal.Refusal.{Refusal}
+use Rattle.session_state.specs.Refusal.{refusal_of}
+use Rattle.session_state.specs.SessionState.{SessionState, session_code}
+use Rattle.session_book.specs.Exposure.{spoiler_of}
+unfoldable pub use Rattle.session_book.specs.Replay.{replay}
 
 -- why a command is refused after a journal, if it is
 unfoldable pub refusal_after : SessionState → List Entry → List ℕ → Command → Option Refusal
-refusal_after opening journal actor command = refusal_of (replay opening journal) actor command (length journal)
+refusal_after opening journal actor command =
+    refusal_of (replay opening journal) (spoiler_of opening journal command) actor command (length journal)
 
 -- nothing refuses the entry after a journal
 abbrev pub MayFollow : SessionState → List Entry → Entry → Type 0

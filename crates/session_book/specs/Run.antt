@@ -3,12 +3,13 @@ use Rattle.std.specs.Prelude.{◌≡◌, ℕ, ◌+◌, nat_lt, if◌then◌else�
 use Rattle.std.specs.List.{fold}
 use Rattle.session_book.specs.declared.answer.Answer.{Answer}
 use Rattle.session_book.specs.declared.answer.Answer.TheVariants.{Accepted, Refused}
-use Rattle.session_book.specs.declared.command.Command.{Command}
-use Rattle.session_book.specs.declared.entry.Entry.{Entry}
-use Rattle.session_book.specs.declared.refusal.Refusal.{Refusal}
-use Rattle.session_book.specs.declared.refusal.Refusal.TheVariants.{OutOfMemory, NotTried}
+use Rattle.session_state.specs.declared.command.Command.{Command}
+use Rattle.session_state.specs.declared.entry.Entry.{Entry}
+use Rattle.session_state.specs.declared.refusal.Refusal.{Refusal}
+use Rattle.session_state.specs.declared.refusal.Refusal.TheVariants.{OutOfMemory, NotTried}
+use Rattle.session_state.specs.Refusal.{is_out_of_memory}
 use Rattle.session_book.specs.Journal.{refusal_after}
-use Rattle.session_book.specs.SessionState.{SessionState}
+use Rattle.session_state.specs.SessionState.{SessionState}
 
 -- how many commands a batch has at most
 abbrev pub most_commands : ℕ
@@ -18,6 +19,16 @@ most_commands = 64
 pub record Progress : Type 0 where
   pub journal : List Entry
   pub answers : List Answer
+
+-- the answer to a command, from why it is refused, if it is
+abbrev pub answer_of : Option Refusal → Answer
+answer_of None = Accepted
+answer_of (Some cause) = Refused cause
+
+-- whether no command is tried any more: memory was refused
+abbrev pub stops : Option Refusal → Bool
+stops None = false
+stops (Some cause) = is_out_of_memory cause
 
 -- a command that nothing refuses joins the journal; another is answered why it is refused
 abbrev pub answered : Progress → List ℕ → Command → Option Refusal → Progress

@@ -1,36 +1,49 @@
-ghost use Rattle.std.specs.Prelude.{◌≡◌, ℕ, ◌+◌, ◌-◌, ◌≤◌, ◌<◌, ◌⊎◌, Bool, List, [], ◌∷◌, ◌++◌, None, Some, length, slice_get, IfOk, IfErr, OnErr};
+ghost use Rattle.std.specs.Prelude.{◌≡◌, ℕ, ◌+◌, ◌-◌, ◌≤◌, ◌<◌, ◌⊎◌, ◌||◌, Bool, false, List, [], ◌∷◌, ◌++◌, None, Some, length, slice_get, slice_index_or, map, Contains, IfOk, IfErr, OnOk, OnErr, IfSome, IfNone, IsTrue, ◌↔◌, true};
 ghost use Rattle.std.specs.Option.{option_copied};
+ghost use Rattle.movement.specs.Movement.{IsCell, boards_of, most_boards};
+ghost use Rattle.rbac.specs.Account.{most_users};
+ghost use Rattle.rbac.specs.Authorization.{HasPermission};
+ghost use Rattle.rbac.specs.declared.operation.Operation.TheVariants.{Audit};
+ghost use Rattle.session_book.specs.Audit.{audit_rows};
+ghost use Rattle.session_book.specs.declared.audit.AuditError.TheVariants.{NotPermitted};
+ghost use Rattle.session_book.specs.Exposure.{Exposed, is_exposed, spoiler_of, spoiler_at, spoils, result_cell, users_of};
+ghost use Rattle.session_book.specs.ExposureTable.{user_at};
 ghost use Rattle.session_book.specs.Journal.{IsAccepted, MayFollow, refusal_at, state_of, entry_of};
-ghost use Rattle.session_book.specs.Opening.{IsOpening};
-ghost use Rattle.session_book.specs.Refusal.{most_entries};
-ghost use Rattle.session_book.specs.Run.{Runs, first_number, last_number, most_commands};
-ghost use Rattle.session_book.specs.declared.command.Command.{Command};
+ghost use Rattle.session_state.specs.Opening.{opening_of};
+ghost use Rattle.session_state.specs.OpeningRefusal.{opening_refusal};
+ghost use Rattle.session_state.specs.declared.opening_refusal.OpeningRefusal.TheVariants as opening_cause;
+ghost use Rattle.session_state.specs.Refusal.{most_entries};
+ghost use Rattle.session_book.specs.Run.{Runs, stops, answer_of, first_number, last_number, most_commands};
+ghost use Rattle.session_state.specs.declared.command.Command.{Command};
 ghost use Rattle.session_book.specs.declared.answer.Answer.{Answer};
-ghost use Rattle.session_book.specs.declared.entry.Entry.{Entry};
-ghost use Rattle.session_book.specs.declared.refusal.Refusal.TheVariants.{OutOfMemory};
+ghost use Rattle.session_state.specs.declared.entry.Entry.{Entry};
+ghost use Rattle.session_state.specs.declared.refusal.Refusal.TheVariants.{OutOfMemory};
 
-use crate::acceptance::refusal;
 use crate::answer::Answer;
-use crate::command::Command;
-use crate::entry::Entry;
-use crate::opening::{opening_marks, opening_state};
-use crate::refusal::Refusal;
-use crate::room::{push_copy, push_within};
-use crate::state::State;
+use crate::audit::{AuditError, AuditRows, rows_of};
+use crate::exposure::Exposure;
 use crate::submission::Submission;
+use crate::touched::touched_by;
 use cards::Name;
+use disclosure_rules::is_seated_at;
+use movement::Cell;
+use rbac::{Account, Operation};
+use session_state::room::{push_copy, push_within};
+use session_state::{Command, Config, Entry, OpeningRefusal, Refusal, State};
 use std::alloc::{AllocError, Global};
 use std::marker::Model;
 
 /// For how many entries a new book has room.
 const FIRST_ROOM: usize = 256;
 
-/// A session's journal, beside the state that it leads to from the opening.
+/// A session's journal, beside the state that it leads to from the opening, and who was shown something of which board on the
+/// way.
 #[derive(Drop)]
 pub struct Book {
     opening: State,
     journal: Vec<Entry>,
     state: State,
+    exposure: Exposure,
     alloc: Global,
 }
 
@@ -57,19 +70,39 @@ impl Book {
     /// How many commands a batch has at most.
     pub const MOST_COMMANDS: usize = 64;
 
-    /// The book of a new session: its journal is empty.
-    pub fn open(alloc: Global) -> Result<Book, AllocError>
+    /// The book of a new session, whose journal is empty. There is room for all that the session's state can need.
+    pub fn open(alloc: Global, config: Config) -> Result<Book, OpeningRefusal>
+        requires { boards_of config.movement ≤ length config.boards }
+        ensures opening { IfOk result (λ book. book.opening ≡ opening_of config) }
         ensures journal { IfOk result (λ book. book.journal ≡ []) }
-        ensures opening { IfOk result (λ book. IsOpening book.opening) }
+        ensures ok { IfOk result (λ book. opening_refusal config ≡ None) }
+        ensures err { IfErr result (λ cause. (opening_refusal config ≡ Some cause)
+            ⊎ ((cause ≡ opening_cause.OutOfMemory) × (opening_refusal config ≡ None))) }
     {
-        let marks = opening_marks();
-        let opening = opening_state(alloc, marks)?;
-        let state = opening_state(alloc, marks)?;
+        match State::open(alloc, &config) {
+            Ok(opening) => match Book::of(alloc, opening) {
+                Ok(book) => Ok(book),
+                Err(_) => Err(OpeningRefusal::OutOfMemory),
+            },
+            Err(cause) => Err(cause),
+        }
+    }
+
+    // The book of a session that opens in a state.
+    fn of(alloc: Global, opening: State) -> Result<Book, AllocError>
+        ensures opening { IfOk result (λ book. book.opening ≡ opening) }
+        ensures journal { IfOk result (λ book. book.journal ≡ []) }
+    {
+        let state = opening.copy(alloc)?;
+        let mut exposure = Exposure::new(alloc)?;
+        let boards = opening.public().movement.boards();
+        exposure.ask_all(&opening, boards);
         let journal = Vec::with_capacity(alloc, FIRST_ROOM)?;
         Ok(Book {
             opening,
             journal,
             state,
+            exposure,
             alloc,
         })
     }
@@ -100,6 +133,22 @@ impl Book {
         self.journal.get(number - 1)
     }
 
+    /// The entries from a number on, at most so many, for a user who has the permission for the audit.
+    pub fn audit(&self, actor: Name, from: usize, limit: usize) -> Result<AuditRows, AuditError>
+        ensures rows { IfOk result (λ rows. rows ≡ audit_rows self.now.journal from limit) }
+        ensures ok { OnOk result (HasPermission (state_of self.now).roles actor Audit) }
+        ensures err { IfErr result (λ error.
+            (error ≡ NotPermitted) ↔ (¬ HasPermission (state_of self.now).roles actor Audit)) }
+    {
+        if !self.state().check_access(actor, Operation::Audit) {
+            return Err(AuditError::NotPermitted);
+        }
+        match rows_of(self.alloc, &self.journal, from, limit) {
+            Ok(rows) => Ok(AuditRows::new(rows)),
+            Err(_) => Err(AuditError::OutOfMemory),
+        }
+    }
+
     /// Whether a command of a user is accepted now: then its entry, for which there is room. This changes nothing but
     /// the room.
     pub fn check(&mut self, actor: Name, command: &Command) -> Result<Entry, Refusal>
@@ -126,7 +175,96 @@ impl Book {
     fn refusal(&self, actor: Name, command: &Command) -> Option<Refusal>
         ensures { result ≡ refusal_at self.now actor command.now }
     {
-        refusal(&self.state, actor, command, self.journal.len())
+        let spoiler = self.spoiler(command);
+        self.state
+            .refusal(spoiler, actor, command, self.journal.len())
+    }
+
+    // Who spoils the result that a command enters or confirms, if somebody does.
+    fn spoiler(&self, command: &Command) -> Option<Name>
+        ensures { result ≡ spoiler_of self.now.opening self.now.journal command.now }
+    {
+        let cell = result_cell(command)?;
+        if !self.has_cell(cell) {
+            return None;
+        }
+        self.spoiler_at(cell)
+    }
+
+    // The first user, in order of the accounts, who was shown something of the cell's board and sits at the cell.
+    fn spoiler_at(&self, cell: Cell) -> Option<Name>
+        requires from { 1 ≤ cell.board }
+        requires to { cell.board ≤ boards_of self.now.opening.public.movement }
+        ensures { result ≡ spoiler_at self.now.opening self.now.journal cell }
+    {
+        let accounts = self.state().accounts();
+        for place in 0..accounts.len() {
+            let user = accounts[place].name;
+            if self.spoils(place, user, cell) {
+                return Some(user);
+            }
+        }
+        None
+    }
+
+    // Whether the user at a place was shown something of the cell's board, and sits at the cell.
+    fn spoils(&self, place: usize, user: Name, cell: Cell) -> bool
+        requires place { place < length (users_of (state_of self.now)) }
+        requires room { place < most_users }
+        requires user { user ≡ user_at (state_of self.now) place }
+        requires from { 1 ≤ cell.board }
+        requires to { cell.board ≤ boards_of self.now.opening.public.movement }
+        ensures { result ≡ spoils self.now.opening self.now.journal cell user }
+    {
+        let state = self.state();
+        self.is_noted(place, cell.board) && is_seated_at(state.public(), &state.viewer(user), cell)
+    }
+
+    // Whether the user at a place was shown something of a board.
+    fn is_noted(&self, place: usize, board: u8) -> bool
+        requires place { place < length (users_of (state_of self.now)) }
+        requires room { place < most_users }
+        requires from { 1 ≤ board }
+        requires to { board ≤ boards_of self.now.opening.public.movement }
+        ensures { result ≡ is_exposed self.now.opening self.now.journal (user_at (state_of self.now) place) board }
+    {
+        self.exposure.contains(place, board)
+    }
+
+    // How many boards the session plays.
+    fn boards(&self) -> u8
+        ensures boards { result ≡ boards_of self.now.opening.public.movement }
+        ensures few { result ≤ most_boards }
+    {
+        self.opening.public().movement.boards()
+    }
+
+    // Whether the cell's table is scheduled to play its board.
+    fn has_cell(&self, cell: Cell) -> bool
+        ensures from { result ≡ true → 1 ≤ cell.board }
+        ensures to { result ≡ true → cell.board ≤ boards_of self.now.opening.public.movement }
+        ensures none { result ≡ false → ¬ IsCell self.now.opening.public.movement cell }
+    {
+        self.opening
+            .public()
+            .movement
+            .cell(cell.table, cell.board)
+            .is_some()
+    }
+
+    /// Whether a user is exposed to a board of the session: whether, at the opening or after some entry, some secret fact
+    /// of the board was allowed to the user.
+    pub fn exposed(&self, name: Name, board: u8) -> bool
+        requires from { 1 ≤ board }
+        requires to { board ≤ boards_of (state_of self.now).public.movement }
+        ensures test { result ≡ is_exposed self.now.opening self.now.journal name board }
+        ensures exposed { IsTrue result ↔ Exposed self.now.opening self.now.journal name board }
+    {
+        let accounts = self.state().accounts();
+        match place_of(accounts, name) {
+            Some(place) => self.is_noted(place, board),
+            None => false,
+        }
     }
 
     /// Adds an entry that is accepted, and for which there is room.
@@ -136,8 +274,11 @@ impl Book {
         ensures journal { self.new.journal ≡ self.old.journal ++ entry ∷ [] }
         ensures opening { self.new.opening ≡ self.old.opening }
     {
+        let boards = self.boards();
+        let touched = touched_by(&entry.command);
         self.state.absorb(&entry);
         push_copy(&mut self.journal, &entry);
+        self.exposure.ask_touched(&self.state, &touched, boards);
     }
 
     /// Tries the commands of a user, one after another: each that is accepted joins the journal. Where memory is refused
@@ -159,33 +300,67 @@ impl Book {
         let before = self.version();
         let mut stopped = false;
         for command in batch {
-            let answer = self.answer(actor, command, &mut stopped);
-            push_within(&mut answers, answer);
+            let refusal = self.attempt(actor, command, stopped);
+            stopped = is_stopped(stopped, &refusal);
+            push_within(&mut answers, Answer::new(refusal));
         }
         Ok(Submission::new(answers, before, self.version()))
     }
 
-    // The answer to one command of a batch: none is tried once memory was refused.
-    fn answer(&mut self, actor: Name, command: &Command, stopped: &mut bool) -> Answer
+    // Why one command of a batch is refused, if it is: none is tried once memory was refused.
+    fn attempt(&mut self, actor: Name, command: &Command, stopped: bool) -> Option<Refusal>
         ensures runs { (before : List Entry) (tried : List Command) (answers : List Answer) →
-            Runs stopped.old self.old.opening before actor tried
+            Runs stopped self.old.opening before actor tried
             (record { journal = self.old.journal; answers = answers }) →
-            Runs stopped.new self.old.opening before actor (tried ++ command.now ∷ [])
-            (record { journal = self.new.journal; answers = answers ++ result ∷ [] }) }
+            Runs (stopped || stops result) self.old.opening before actor (tried ++ command.now ∷ [])
+            (record { journal = self.new.journal; answers = answers ++ answer_of result ∷ [] }) }
         ensures opening { self.new.opening ≡ self.old.opening }
     {
-        if *stopped {
-            return Answer::Refused(Refusal::NotTried);
+        if stopped {
+            return Some(Refusal::NotTried);
         }
         match self.check(actor, command) {
             Ok(entry) => {
                 self.commit(entry);
-                Answer::Accepted
+                None
             }
-            Err(cause) => {
-                *stopped = cause.is_out_of_memory();
-                Answer::Refused(cause)
-            }
+            Err(cause) => Some(cause),
         }
     }
+}
+
+// Whether no command is tried any more, after one that was refused or not.
+fn is_stopped(stopped: bool, refusal: &Option<Refusal>) -> bool
+    ensures { result ≡ (stopped || stops refusal.now) }
+{
+    stopped
+        || match refusal {
+            Some(cause) => cause.is_out_of_memory(),
+            None => false,
+        }
+}
+
+// The cell whose result a command enters or confirms, if it does so.
+fn result_cell(command: &Command) -> Option<Cell>
+    ensures { result ≡ result_cell command.now }
+{
+    if command.is_told_by_table() {
+        command.cell()
+    } else {
+        None
+    }
+}
+
+// Where the account of a user stands, if there is one.
+fn place_of(accounts: &[Account], name: Name) -> Option<usize>
+    ensures within { IfSome result (λ place. place < length accounts.now) }
+    ensures found { IfSome result (λ place. slice_index_or (map (λ account. account.name) accounts.now) place [] ≡ name) }
+    ensures none { IfNone result (¬ Contains (map (λ account. account.name) accounts.now) name) }
+{
+    for place in 0..accounts.len() {
+        if accounts[place].name == name {
+            return Some(place);
+        }
+    }
+    None
 }

@@ -1,16 +1,19 @@
 //! Laws of the book: functions with nothing to do, whose clauses are the laws.
-ghost use Rattle.std.specs.Prelude.{◌≡◌, ◌↔◌, ℕ, List, Some};
-ghost use Rattle.rbac.specs.Authorization.{HasPermission, IsValid};
-ghost use Rattle.session_book.specs.Command.{operation_of};
-ghost use Rattle.session_book.specs.Refusal.{refusal_of};
-ghost use Rattle.session_book.specs.SessionState.{SessionState};
-ghost use Rattle.session_book.specs.declared.command.Command.{Command};
-ghost use Rattle.session_book.specs.declared.refusal.Refusal.TheVariants.{NotPermitted};
+ghost use Rattle.std.specs.Prelude.{◌≡◌, ℕ, List, ◌∷◌, ◌++◌, Some};
+ghost use Rattle.movement.specs.declared.cell.Cell.{Cell};
+ghost use Rattle.disclosure_rules.specs.Seating.{IsSeatedAt};
+ghost use Rattle.session_state.specs.SessionState.{SessionState, viewer_of};
+ghost use Rattle.session_state.specs.declared.entry.Entry.{Entry};
+ghost use Rattle.session_book.specs.Exposure.{SomeAllowed, result_cell};
+ghost use Rattle.session_book.specs.Journal.{replay, IsAccepted};
 
-/// A command is refused as not permitted just where the user hasn't the permission for its operation: where the user is
-/// authorized for no role that holds it (CheckAccess of INCITS 359-2012).
-pub fn permissions_guard_commands()
-    ensures { (state : SessionState) (actor : List ℕ) (command : Command) (entries : ℕ) → IsValid state.roles →
-        (refusal_of state actor command entries ≡ Some NotPermitted)
-        ↔ (¬ HasPermission state.roles actor (operation_of command)) }
+/// No foreknowledge: where some secret fact of a board was allowed to a user after some first part of an accepted journal,
+/// the empty one included, no later entry enters or confirms a result of that board at a cell in one of whose pairs the
+/// user sits at that moment.
+pub fn no_foreknowledge()
+    ensures { (opening : SessionState) (first later after : List Entry) (entry : Entry) (user : List ℕ) (board : ℕ)
+        (cell : Cell) →
+        IsAccepted opening (first ++ later ++ entry ∷ after) → SomeAllowed (replay opening first) user board →
+        result_cell entry.command ≡ Some cell → cell.board ≡ board →
+        ¬ IsSeatedAt (replay opening (first ++ later)).public (viewer_of (replay opening (first ++ later)) user) cell }
 {}

@@ -65,7 +65,7 @@ found_step : {A : Type 0} (p : A → Bool) (x found : A) (rest : Option A) (b : 
 found_step p x found rest true is h later = ap p (sym (same_Some x found h)) ∙ is
 found_step p x found rest false is h later = later h
 
-found_passes : {A : Type 0} (p : A → Bool) (xs : List A) (found : A) → find p xs ≡ Some found → p found ≡ true
+pub found_passes : {A : Type 0} (p : A → Bool) (xs : List A) (found : A) → find p xs ≡ Some found → p found ≡ true
 found_passes p [] found h = absurd (cc)
 found_passes p (x ∷ xs) found h = found_step p x found (find p xs) (p x) refl h (found_passes p xs found)
 

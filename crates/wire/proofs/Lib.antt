@@ -6,3 +6,4 @@ pub mod ReceiptLemmas
 pub mod ReplyLemmas
 pub mod RequestLemmas
 pub mod TableLemmas
+pub mod UserLemmas

@@ -99,14 +99,14 @@ numbered_agrees name = record {
   reads = λ o n is. small_reads (number o) n is.is is.below;
 }
 
-name_read : (o : Option (List ℕ)) (name : List ℕ) → at_most_32 o ≡ Some name → (o ≡ Some name) × (length name ≤ 32)
+pub name_read : (o : Option (List ℕ)) (name : List ℕ) → at_most_32 o ≡ Some name → (o ≡ Some name) × (length name ≤ 32)
 name_read None name h = absurd (cc)
 name_read (Some text) name h =
     let both = kept (nat_le (length text) 32) (Some text) name h in
     let same : text ≡ name = cc (both.1) in
     (ap Some same, subst (λ t. length t ≤ 32) same (is_most (length text) 32 both.0))
 
-name_reads : (o : Option (List ℕ)) (name : List ℕ) → o ≡ Some name → length name ≤ 32 → at_most_32 o ≡ Some name
+pub name_reads : (o : Option (List ℕ)) (name : List ℕ) → o ≡ Some name → length name ≤ 32 → at_most_32 o ≡ Some name
 name_reads o name is short = ap at_most_32 is ∙ ap (λ b. cond b (Some name) None) (most_is (length name) 32 short)
 
 pub user_agrees : Agrees user

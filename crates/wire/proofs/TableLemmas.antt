@@ -1,15 +1,22 @@
 -- What an object says by a table's form, and the words of a table.
-use Rattle.std.proofs.Common.{◌≡◌, ◌≢◌, ℕ, List, [], ◌∷◌, Bool, true, false, not, cond, ◌&&◌, ◌||◌, All, Some, refl, ap, subst, ◌∙◌, inl, inr}
+use Rattle.std.proofs.Common.{◌≡◌, ◌≢◌, ℕ, List, [], ◌∷◌, Bool, true, false, not, cond, ◌&&◌, ◌||◌, All, Some, option_and_then, refl, sym, ap, subst, ◌∙◌, inl, inr}
 use Rattle.std.specs.List.{list_any}
 use Rattle.std.specs.Str.{bytes_eq}
 use Rattle.std.proofs.lemmas.List.Elements.{All-nil, All-cons, All-head, All-tail}
 use Rattle.std.proofs.lemmas.Slice.Eq.{bytes_eq-Decides}
 use Rattle.serde_json.specs.Data.{Data}
 use Rattle.wire.specs.Form.{Form, formed, words, by_word, HasFormOf}
-use Rattle.wire.specs.Field.{table, board}
-use Rattle.wire.specs.Command.{commands}
+use Rattle.wire.specs.Field.{text, table, board}
+use Rattle.wire.specs.Command.{commands, north_south, east_west, reason, role_called, role, senior, junior}
+use Rattle.wire.specs.Result.{outcome}
+use Rattle.wire.specs.Play.{play}
+use Rattle.wire.specs.User.{user_name, pair, place, digest, role_named}
+use Rattle.rbac.specs.declared.role.Role.{Role}
+use Rattle.rbac.specs.Role.{roles, role_name}
 use Rattle.wire.specs.Query.{queries}
-use Rattle.wire.proofs.MemberLemmas.{AgreesForm, form_agrees, with_agrees, numbered_agrees, outcome_agrees, play_agrees, formed_read, formed_reads}
+use Rattle.wire.proofs.LetterLemmas.{found_passes}
+use Rattle.wire.proofs.UserLemmas.{called_agrees, pair_agrees, place_agrees, digest_agrees, role_at, role_back}
+use Rattle.wire.proofs.MemberLemmas.{Agrees, AgreesForm, named_agrees, form_agrees, with_agrees, numbered_agrees, outcome_agrees, play_agrees, formed_read, formed_reads}
 
 -- ---- what each form of a table says is what it is
 
@@ -17,12 +24,63 @@ abbrev pub AllAgree : {A : Type 0} → List (Form A) → Type 0
 AllAgree [] = Unit {0}
 AllAgree (f ∷ fs) = AgreesForm f × AllAgree fs
 
+role_called_agrees : (name : List ℕ) → Agrees (role_called name)
+role_called_agrees name = record {
+  read = λ o role h. role_at (text o) role h;
+  reads = λ o role is. ap (option_and_then role_named) is ∙ role_back role;
+}
+
 pub commands_agree : AllAgree commands
 commands_agree = (
-  with_agrees _ _ (with_agrees _ _ (with_agrees _ _ (with_agrees _ table (form_agrees _ _) (numbered_agrees _)) (numbered_agrees _)) outcome_agrees) play_agrees,
+  (with_agrees _ play (with_agrees _ outcome (with_agrees _ board (with_agrees _ table (form_agrees _ _) (numbered_agrees _)) (numbered_agrees _)) outcome_agrees) play_agrees),
   (
-    with_agrees _ _ (with_agrees _ _ (with_agrees _ table (form_agrees _ _) (numbered_agrees _)) (numbered_agrees _)) outcome_agrees,
-    tt,
+    (with_agrees _ outcome (with_agrees _ board (with_agrees _ table (form_agrees _ _) (numbered_agrees _)) (numbered_agrees _)) outcome_agrees),
+    (
+      (with_agrees _ play (with_agrees _ outcome (with_agrees _ board (with_agrees _ table (form_agrees _ _) (numbered_agrees _)) (numbered_agrees _)) outcome_agrees) play_agrees),
+      (
+        (with_agrees _ reason (with_agrees _ east_west (with_agrees _ north_south (with_agrees _ board (with_agrees _ table (form_agrees _ _) (numbered_agrees _)) (numbered_agrees _)) (numbered_agrees _)) (numbered_agrees _)) (numbered_agrees _)),
+        (
+          (with_agrees _ board (with_agrees _ table (form_agrees _ _) (numbered_agrees _)) (numbered_agrees _)),
+          (
+            (with_agrees _ board (form_agrees _ _) (numbered_agrees _)),
+            (
+              (with_agrees _ board (form_agrees _ _) (numbered_agrees _)),
+              (
+                (with_agrees _ place (with_agrees _ pair (with_agrees _ user_name (form_agrees _ _) (called_agrees _)) pair_agrees) place_agrees),
+                (
+                  (with_agrees _ user_name (form_agrees _ _) (called_agrees _)),
+                  (
+                    (form_agrees _ _),
+                    (
+                      (form_agrees _ _),
+                      (
+                        (form_agrees _ _),
+                        (
+                          (with_agrees _ digest (with_agrees _ user_name (form_agrees _ _) (called_agrees _)) digest_agrees),
+                          (
+                            (with_agrees _ role (with_agrees _ user_name (form_agrees _ _) (called_agrees _)) (role_called_agrees _)),
+                            (
+                              (with_agrees _ role (with_agrees _ user_name (form_agrees _ _) (called_agrees _)) (role_called_agrees _)),
+                              (
+                                (with_agrees _ junior (with_agrees _ senior (form_agrees _ _) (role_called_agrees _)) (role_called_agrees _)),
+                                (
+                                  (with_agrees _ junior (with_agrees _ senior (form_agrees _ _) (role_called_agrees _)) (role_called_agrees _)),
+                                  tt,
+                                ),
+                              ),
+                            ),
+                          ),
+                        ),
+                      ),
+                    ),
+                  ),
+                ),
+              ),
+            ),
+          ),
+        ),
+      ),
+    ),
   ),
 )
 

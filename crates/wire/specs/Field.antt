@@ -1,8 +1,8 @@
--- Members that are a number, a name or a text.
+-- Members that are a number, a name, a text or a list.
 use Rattle.std.specs.Prelude.{◌≡◌, ℕ, ◌<◌, ◌≤◌, List, length, nat_lt, nat_le, if◌then◌else◌, codes, Option, Some, None, option_and_then}
-use Rattle.serde_json.specs.Data.{Data}
-use Rattle.serde_json.specs.Find.{get, as_str, as_number, as_u64}
-use Rattle.wire.specs.Form.{Member}
+use Rattle.serde_json.specs.Data.{Data, Items}
+use Rattle.serde_json.specs.Find.{get, as_str, as_number, as_u64, as_array}
+use Rattle.wire.specs.Form.{Member, each, AreEach}
 
 -- a whole number: a token without point and exponent, other than `-0`, from 0 to 2 ^ 64 - 1
 abbrev pub whole : Data → Option ℕ
@@ -47,7 +47,23 @@ table = numbered (codes "table")
 abbrev pub board : Member ℕ
 board = numbered (codes "board")
 
--- ---- in whose name a message is: a name of at most 32 bytes
+-- ---- numbers up to a limit
+
+-- a number that isn't above the limit
+abbrev pub at_most : ℕ → Option ℕ → Option ℕ
+at_most most None = None
+at_most most (Some n) = if nat_le n most then Some n else None
+
+-- what stands there is this number, and it isn't above the limit
+pub record IsAtMost (most : ℕ) (o : Option Data) (n : ℕ) : Type 0 where
+  pub is : number o ≡ Some n
+  pub within : n ≤ most
+
+-- a member of this name that is a number up to a limit
+abbrev pub limited : List ℕ → ℕ → Member ℕ
+limited name most = record { name = name; value = λ o. at_most most (number o); Is = IsAtMost most }
+
+-- ---- names: at most 32 bytes
 
 -- a text that isn't too long for a name
 abbrev pub at_most_32 : Option (List ℕ) → Option (List ℕ)
@@ -59,9 +75,13 @@ pub record IsName (o : Option Data) (name : List ℕ) : Type 0 where
   pub is : text o ≡ Some name
   pub short : length name ≤ 32
 
--- the user in whose name it is
+-- a member of this name that is a name itself
+abbrev pub called : List ℕ → Member (List ℕ)
+called name = record { name = name; value = λ o. at_most_32 (text o); Is = IsName }
+
+-- the user in whose name a message is
 abbrev pub user : Member (List ℕ)
-user = record { name = codes "as"; value = λ o. at_most_32 (text o); Is = IsName }
+user = called (codes "as")
 
 -- ---- from which version on an answer is wanted: any, where it is left out
 
@@ -88,3 +108,22 @@ named name read text_of = record {
   value = λ o. option_and_then read (text o);
   Is = λ o x. text o ≡ Some (text_of x);
 }
+
+-- ---- texts of any kind, and lists
+
+-- a member of this name that is a text
+abbrev pub written : List ℕ → Member (List ℕ)
+written name = record { name = name; value = text; Is = λ o bytes. text o ≡ Some bytes }
+
+-- the elements of a list that stands there
+abbrev pub elements : Option Data → Option Items
+elements o = option_and_then as_array o
+
+-- a list stands there, and each element of it is the value in its place
+abbrev pub IsList : {A : Type 0} → (Data → A → Type 0) → Option Data → List A → Type 0
+IsList Is o xs = (ds : Items) × (elements o ≡ Some ds) × AreEach Is ds xs
+
+-- a member of this name that is a list: as which an element is read, and what an element is
+abbrev pub listed : {A : Type 0} → List ℕ → (Data → Option A) → (Data → A → Type 0) → Member (List A)
+listed name read Is =
+    record { name = name; value = λ o. option_and_then (λ ds. each read ds) (elements o); Is = IsList Is }

@@ -4,7 +4,7 @@ use Rattle.std.specs.Str.Lossy.{utf8_valid_len}
 use Rattle.serde_json.specs.Data.{Data, Items}
 use Rattle.serde_json.specs.Read.{read}
 use Rattle.serde_json.specs.Find.{get, as_array, as_object}
-use Rattle.session_book.specs.declared.command.Command.{Command}
+use Rattle.session_state.specs.declared.command.Command.{Command}
 use Rattle.published_view.specs.declared.query.Query.{Query}
 use Rattle.wire.specs.Form.{has_only, words, HasFormOf, AreEach}
 use Rattle.wire.specs.Field.{text_at, user, since}

@@ -2,6 +2,7 @@ pub mod Reading
 pub mod Form
 pub mod Field
 pub mod Result
+pub mod User
 pub mod Play
 pub mod Command
 pub mod Query

@@ -1,12 +1,13 @@
 -- What is written of a batch that was tried, and of a line that no message was read from: JSON texts with no space.
-use Rattle.std.specs.Prelude.{ℕ, List, map, codes}
+use Rattle.std.specs.Prelude.{ℕ, List, ◌++◌, map, codes}
 use Rattle.serde_json.specs.Data.{Data, string, number, unsigned, array, object, Items, member, no_members}
 use Rattle.serde_json.specs.View.{items_of}
 use Rattle.serde_json.specs.Written.{compact_text}
+use Rattle.rbac.specs.Separation.{set_name}
 use Rattle.session_book.specs.declared.answer.Answer.{Answer}
 use Rattle.session_book.specs.declared.answer.Answer.TheVariants.{Accepted, Refused}
-use Rattle.session_book.specs.declared.refusal.Refusal.{Refusal}
-use Rattle.session_book.specs.declared.refusal.Refusal.TheVariants as refusal
+use Rattle.session_state.specs.declared.refusal.Refusal.{Refusal}
+use Rattle.session_state.specs.declared.refusal.Refusal.TheVariants as refusal
 use Rattle.wire.specs.declared.request_fault.RequestFault.{RequestFault}
 use Rattle.wire.specs.declared.request_fault.RequestFault.TheVariants as fault
 
@@ -15,24 +16,60 @@ use Rattle.wire.specs.declared.request_fault.RequestFault.TheVariants as fault
 -- how a cause of refusal is called
 abbrev pub refusal_name : Refusal → List ℕ
 refusal_name refusal.NotPermitted = codes "NotPermitted"
+refusal_name refusal.NoSuchUser = codes "NoSuchUser"
 refusal_name refusal.NoSuchCell = codes "NoSuchCell"
+refusal_name refusal.NoSuchBoard = codes "NoSuchBoard"
 refusal_name refusal.WrongPhase = codes "WrongPhase"
 refusal_name refusal.RoundNotStarted = codes "RoundNotStarted"
 refusal_name refusal.BadResult = codes "BadResult"
 refusal_name refusal.AlreadyLive = codes "AlreadyLive"
 refusal_name refusal.NothingEntered = codes "NothingEntered"
 refusal_name refusal.Mismatch = codes "Mismatch"
+refusal_name (refusal.Spoiled _) = codes "Spoiled"
+refusal_name refusal.NotLive = codes "NotLive"
+refusal_name refusal.BadRuling = codes "BadRuling"
+refusal_name refusal.AlreadyHeld = codes "AlreadyHeld"
+refusal_name refusal.NotHeld = codes "NotHeld"
+refusal_name refusal.NoSuchPair = codes "NoSuchPair"
+refusal_name refusal.WrongDirection = codes "WrongDirection"
+refusal_name refusal.NotContestant = codes "NotContestant"
+refusal_name refusal.AlreadySeated = codes "AlreadySeated"
+refusal_name refusal.SeatTaken = codes "SeatTaken"
+refusal_name refusal.NotSeated = codes "NotSeated"
+refusal_name refusal.NoMoreRounds = codes "NoMoreRounds"
+refusal_name refusal.NotAllLive = codes "NotAllLive"
+refusal_name refusal.BadName = codes "BadName"
+refusal_name refusal.UserExists = codes "UserExists"
+refusal_name refusal.TooManyUsers = codes "TooManyUsers"
+refusal_name refusal.AlreadyAssigned = codes "AlreadyAssigned"
+refusal_name (refusal.Separation _) = codes "Separation"
+refusal_name refusal.NotAssigned = codes "NotAssigned"
+refusal_name refusal.StillSeated = codes "StillSeated"
+refusal_name refusal.LastAdministrator = codes "LastAdministrator"
+refusal_name refusal.Cycle = codes "Cycle"
+refusal_name refusal.AlreadyThere = codes "AlreadyThere"
+refusal_name refusal.NotThere = codes "NotThere"
 refusal_name refusal.JournalFull = codes "JournalFull"
 refusal_name refusal.OutOfMemory = codes "OutOfMemory"
 refusal_name refusal.NotTried = codes "NotTried"
 
--- how an answer is called: `ok`, or by its cause of refusal
-abbrev pub answer_name : Answer → List ℕ
-answer_name Accepted = codes "ok"
-answer_name (Refused refusal) = refusal_name refusal
+-- a name, and in brackets who or what it is about
+abbrev pub about : List ℕ → List ℕ → List ℕ
+about name subject = name ++ codes "(" ++ subject ++ codes ")"
+
+-- what is written of a cause of refusal: its name, with the user or the separation set in brackets where there is one
+abbrev pub refusal_text : Refusal → List ℕ
+refusal_text (refusal.Spoiled name) = about (codes "Spoiled") name
+refusal_text (refusal.Separation set) = about (codes "Separation") (set_name set)
+refusal_text refusal = refusal_name refusal
+
+-- what is written of an answer: `ok`, or the cause of refusal
+abbrev pub answer_text : Answer → List ℕ
+answer_text Accepted = codes "ok"
+answer_text (Refused refusal) = refusal_text refusal
 
 abbrev pub answer_data : Answer → Data
-answer_data answer = string (answer_name answer)
+answer_data answer = string (answer_text answer)
 
 -- a text for each answer
 abbrev pub answers_data : List Answer → Items

@@ -1,6 +1,6 @@
 ghost use Rattle.std.specs.Prelude.{◌≡◌};
 
-use session_book::Command;
+use session_state::Command;
 use std::marker::Model;
 
 /// The commands of a batch, in their order.
@@ -11,7 +11,7 @@ pub struct Commands {
 
 impl Model for Commands {
     ghost use Rattle.std.specs.Prelude.{List};
-    ghost use Rattle.session_book.specs.declared.command.Command.{Command};
+    ghost use Rattle.session_state.specs.declared.command.Command.{Command};
 
     ghost Value = { List Command };
 

@@ -7,14 +7,14 @@ ghost use Rattle.serde_json.specs.Find.{get};
 ghost use Rattle.serde_json.specs.View.{view, members_view};
 ghost use Rattle.wire.specs.Reading.{wanted};
 ghost use Rattle.wire.specs.Form.{names_are, has_only};
-ghost use Rattle.wire.specs.Field.{text_at, number, small, user, since};
+ghost use Rattle.wire.specs.Field.{text_at, number, small, at_most, called, user, since};
 
 use crate::request_fault::RequestFault;
 use cards::Name;
 use serde_json::{Map, Value};
 
-// Whether the value is an object and each of its members is listed.
-pub(crate) fn has_only(value: &Value, listed: &[&str]) -> bool
+/// Whether the value is an object and each of its members is listed.
+pub fn has_only(value: &Value, listed: &[&str]) -> bool
     ensures { result ≡ has_only (map (λ name. name.now) listed.now) (view value.now) }
 {
     match value.as_object() {
@@ -45,7 +45,8 @@ fn is_listed(listed: &[&str], name: &str) -> bool
     false
 }
 
-pub(crate) fn text_at<'v>(value: &'v Value, name: &str) -> Option<&'v str>
+/// The text in the member of this name.
+pub fn text_at<'v>(value: &'v Value, name: &str) -> Option<&'v str>
     ensures { option_map (λ text. text.now) result ≡ text_at name.now (view value.now) }
 {
     match value.get(name) {
@@ -63,25 +64,46 @@ fn whole_at(value: &Value, name: &str) -> Option<u64>
     }
 }
 
+/// The number up to 255 in the member of this name.
+pub fn small_number_at(value: &Value, name: &str) -> Option<u8>
+    ensures { result ≡ small (get name.now (view value.now)) }
+{
+    match whole_at(value, name) {
+        Some(number) if number < 256 => Some(number as u8),
+        _ => None,
+    }
+}
+
+/// The number up to a limit in the member of this name.
+pub fn limited_at(value: &Value, name: &str, most: u64) -> Option<u64>
+    ensures { result ≡ at_most most (number (get name.now (view value.now))) }
+{
+    match whole_at(value, name) {
+        Some(number) if number <= most => Some(number),
+        _ => None,
+    }
+}
+
+/// The name in the member that is called so.
+pub fn name_at(value: &Value, name: &str) -> Option<Name>
+    ensures { result ≡ (called name.now).value (get name.now (view value.now)) }
+{
+    match text_at(value, name) {
+        Some(text) => Name::new(text).ok(),
+        None => None,
+    }
+}
+
 pub(crate) fn small_at(value: &Value, name: &str) -> Result<u8, RequestFault>
     ensures { result ≡ wanted (small (get name.now (view value.now))) }
 {
-    match whole_at(value, name) {
-        Some(number) if number < 256 => Ok(number as u8),
-        _ => Err(RequestFault::BadField),
-    }
+    small_number_at(value, name).ok_or(RequestFault::BadField)
 }
 
 pub(crate) fn user_of(value: &Value) -> Result<Name, RequestFault>
     ensures { result ≡ wanted (user.value (get user.name (view value.now))) }
 {
-    match text_at(value, "as") {
-        Some(text) => match Name::new(text) {
-            Ok(name) => Ok(name),
-            Err(_) => Err(RequestFault::BadField),
-        },
-        None => Err(RequestFault::BadField),
-    }
+    name_at(value, "as").ok_or(RequestFault::BadField)
 }
 
 pub(crate) fn since_of(value: &Value) -> Result<u64, RequestFault>

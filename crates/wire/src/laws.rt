@@ -5,7 +5,7 @@ ghost use Rattle.serde_json.specs.Data.{Data};
 ghost use Rattle.wire.specs.declared.request_fault.RequestFault.TheVariants.{Malformed, UnknownRequest, BadField};
 ghost use Rattle.published_view.specs.declared.query.Query.{Query};
 ghost use Rattle.wire.specs.declared.request.Request.TheVariants as request;
-ghost use Rattle.session_book.specs.declared.command.Command.{Command};
+ghost use Rattle.session_state.specs.declared.command.Command.{Command};
 ghost use Rattle.wire.specs.Grammar.{IsObject, IsUnknownRequest, IsQuery, IsBatch, IsNoRequest};
 ghost use Rattle.wire.specs.Request.{meaning};
 

@@ -13,13 +13,14 @@ mod reply_writing;
 mod request;
 mod request_fault;
 mod result;
-#[cfg(test)]
-mod tests;
 mod traveller_writing;
+mod user;
 
 pub use commands::Commands;
+pub use field::{has_only, limited_at, name_at, small_number_at, text_at};
 pub use reading::read_request;
 pub use receipt_writing::{fault_line, receipt_text};
 pub use reply_writing::reply_text;
 pub use request::Request;
 pub use request_fault::RequestFault;
+pub use user::{digest_of, pair_of, place_of, role_of};

@@ -9,7 +9,7 @@ ghost use Rattle.wire.specs.Play.{card_named, card_of, cards_in, cards_by, play}
 use crate::request_fault::RequestFault;
 use cards::Card;
 use serde_json::Value;
-use session_book::Play;
+use session_state::Play;
 use std::alloc::Global;
 
 fn card_named(text: &str) -> Option<Card>

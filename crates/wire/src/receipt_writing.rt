@@ -1,13 +1,14 @@
 //! What is written of a batch that was tried, and of a line that no message was read from.
 
 ghost use Rattle.std.specs.Prelude.{◌≡◌, ◌++◌, ◌∷◌, [], IfOk, string_bytes};
-ghost use Rattle.serde_json.specs.Data.{array};
+ghost use Rattle.serde_json.specs.Data.{array, string};
 ghost use Rattle.serde_json.specs.View.{view};
-ghost use Rattle.wire.specs.ReceiptText.{refusal_name, answer_name, answers_data, receipt_data, receipt_text, fault_text};
+ghost use Rattle.wire.specs.ReceiptText.{refusal_name, about, refusal_text, answer_data, answers_data, receipt_data, receipt_text, fault_text};
 
 use crate::request_fault::RequestFault;
 use serde_json::{Value, json};
-use session_book::{Answer, Refusal, Submission};
+use session_book::{Answer, Submission};
+use session_state::Refusal;
 use std::alloc::{AllocError, Global};
 
 /// The text of the receipt for a batch after which the journal has this version.
@@ -45,33 +46,77 @@ fn answers_value(alloc: Global, answers: &[Answer]) -> Result<Value, AllocError>
 {
     let mut values = Vec::with_capacity(alloc, answers.len())?;
     for answer in answers {
-        let name = Value::try_from_str(alloc, answer_name(*answer))?;
-        values.push(name)?;
+        let value = answer_value(alloc, answer)?;
+        values.push(value)?;
     }
     Ok(Value::Array(values))
 }
 
-fn answer_name(answer: Answer) -> &'static str
-    ensures { result.now ≡ answer_name answer }
+fn answer_value(alloc: Global, answer: &Answer) -> Result<Value, AllocError>
+    ensures { IfOk result (λ value. view value ≡ answer_data answer.now) }
 {
     match answer {
-        Answer::Accepted => "ok",
-        Answer::Refused(refusal) => refusal_name(refusal),
+        Answer::Accepted => Value::try_from_str(alloc, "ok"),
+        Answer::Refused(refusal) => refusal_value(alloc, refusal),
     }
 }
 
-fn refusal_name(refusal: Refusal) -> &'static str
-    ensures { result.now ≡ refusal_name refusal }
+fn refusal_value(alloc: Global, refusal: &Refusal) -> Result<Value, AllocError>
+    ensures { IfOk result (λ value. view value ≡ string (refusal_text refusal.now)) }
+{
+    match refusal {
+        Refusal::Spoiled(name) => about(alloc, "Spoiled", name.as_str()),
+        Refusal::Separation(set) => about(alloc, "Separation", set.name()),
+        refusal => Value::try_from_str(alloc, refusal_name(refusal)),
+    }
+}
+
+// A name, and in brackets who or what it is about.
+fn about(alloc: Global, name: &str, subject: &str) -> Result<Value, AllocError>
+    ensures { IfOk result (λ value. view value ≡ string (about name.now subject.now)) }
+{
+    let text = format!(in alloc; "{name}({subject})")?;
+    Ok(Value::String(text))
+}
+
+fn refusal_name(refusal: &Refusal) -> &'static str
+    ensures { result.now ≡ refusal_name refusal.now }
 {
     match refusal {
         Refusal::NotPermitted => "NotPermitted",
+        Refusal::NoSuchUser => "NoSuchUser",
         Refusal::NoSuchCell => "NoSuchCell",
+        Refusal::NoSuchBoard => "NoSuchBoard",
         Refusal::WrongPhase => "WrongPhase",
         Refusal::RoundNotStarted => "RoundNotStarted",
         Refusal::BadResult => "BadResult",
         Refusal::AlreadyLive => "AlreadyLive",
         Refusal::NothingEntered => "NothingEntered",
         Refusal::Mismatch => "Mismatch",
+        Refusal::Spoiled(_) => "Spoiled",
+        Refusal::NotLive => "NotLive",
+        Refusal::BadRuling => "BadRuling",
+        Refusal::AlreadyHeld => "AlreadyHeld",
+        Refusal::NotHeld => "NotHeld",
+        Refusal::NoSuchPair => "NoSuchPair",
+        Refusal::WrongDirection => "WrongDirection",
+        Refusal::NotContestant => "NotContestant",
+        Refusal::AlreadySeated => "AlreadySeated",
+        Refusal::SeatTaken => "SeatTaken",
+        Refusal::NotSeated => "NotSeated",
+        Refusal::NoMoreRounds => "NoMoreRounds",
+        Refusal::NotAllLive => "NotAllLive",
+        Refusal::BadName => "BadName",
+        Refusal::UserExists => "UserExists",
+        Refusal::TooManyUsers => "TooManyUsers",
+        Refusal::AlreadyAssigned => "AlreadyAssigned",
+        Refusal::Separation(_) => "Separation",
+        Refusal::NotAssigned => "NotAssigned",
+        Refusal::StillSeated => "StillSeated",
+        Refusal::LastAdministrator => "LastAdministrator",
+        Refusal::Cycle => "Cycle",
+        Refusal::AlreadyThere => "AlreadyThere",
+        Refusal::NotThere => "NotThere",
         Refusal::JournalFull => "JournalFull",
         Refusal::OutOfMemory => "OutOfMemory",
         Refusal::NotTried => "NotTried",

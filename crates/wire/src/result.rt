@@ -13,7 +13,7 @@ use cards::{Place, Strain};
 use scoring::{Contract, Doubling, Level, Outcome, Tricks};
 use serde_json::Value;
 
-fn place_named(text: &str) -> Option<Place>
+pub(crate) fn place_named(text: &str) -> Option<Place>
     ensures { result ≡ place_named text.now }
 {
     match text.as_bytes() {

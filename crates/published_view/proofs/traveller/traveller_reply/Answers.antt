@@ -1,7 +1,7 @@
 use Rattle.std.proofs.Common.{rules, ◌≡◌, ap, ◌∙◌, sym, subst, All}
 use Rattle.movement.specs.Movement.{IsCell}
 use Rattle.disclosure_rules.specs.declared.public.Public.{Public}
-use Rattle.session_book.specs.SessionState.{viewer_of}
+use Rattle.session_state.specs.SessionState.{viewer_of}
 use Rattle.published_view.specs.declared.reply.Reply.TheVariants as reply
 use Rattle.published_view.specs.declared.table_result.TableResult.{TableResult}
 use Rattle.published_view.specs.Shown.{allowed_results}

@@ -1,0 +1,46 @@
+//! The session that a script's first line opens.
+
+ghost use Rattle.std.specs.Prelude.{◌≡◌, ◌⊎◌, [], IfOk, IfErr};
+ghost use Rattle.program.specs.FirstLine.{Opens, OpensNone, fault_of_session, fault_of_opening};
+ghost use Rattle.program.specs.declared.fault.Fault.TheVariants.{OutOfMemory};
+
+use crate::fault::Fault;
+use session_book::Book;
+use session_object::{SessionFault, SessionObject, read_session};
+use session_state::OpeningRefusal;
+use std::alloc::Global;
+
+/// Opens the session of a script's first line.
+pub(crate) fn open_session(alloc: Global, line: &[u8]) -> Result<Book, Fault>
+    ensures opens { IfOk result (λ book. Opens line.now book.opening) }
+    ensures journal { IfOk result (λ book. book.journal ≡ []) }
+    ensures none { IfErr result (λ fault. OpensNone fault line.now ⊎ (fault ≡ OutOfMemory)) }
+{
+    match read_session(alloc, line, None) {
+        Ok(SessionObject { config, .. }) => match Book::open(alloc, config) {
+            Ok(book) => Ok(book),
+            Err(cause) => Err(fault_of_opening(cause)),
+        },
+        Err(fault) => Err(fault_of_session(fault)),
+    }
+}
+
+// The fault of a script whose first line isn't read.
+fn fault_of_session(fault: SessionFault) -> Fault
+    ensures { result ≡ fault_of_session fault }
+{
+    match fault {
+        SessionFault::OutOfMemory => Fault::OutOfMemory,
+        _ => Fault::Session(fault),
+    }
+}
+
+// The fault of a script whose session isn't opened.
+fn fault_of_opening(cause: OpeningRefusal) -> Fault
+    ensures { result ≡ fault_of_opening cause }
+{
+    match cause {
+        OpeningRefusal::OutOfMemory => Fault::OutOfMemory,
+        _ => Fault::Opening(cause),
+    }
+}

@@ -1,5 +1,0 @@
-mod calling;
-mod devices;
-mod endings;
-mod limits;
-mod script;

@@ -1,0 +1,9 @@
+mod calling;
+mod devices;
+mod endings;
+mod limits;
+mod objects;
+mod requests;
+mod script;
+mod session;
+mod texts;

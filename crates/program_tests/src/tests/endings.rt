@@ -1,0 +1,246 @@
+use super::devices::{Arriving, FailingReader, FailingWriter, Waiting};
+use super::session::SESSION;
+use program::{Fault, run_script};
+use std::alloc::{AllocError, Global};
+use std::cell::Cell;
+use std::io::{BufWriter, ErrorKind};
+use std::test::Fail;
+
+/// The lines of a script after the session's, with what ends each, and what answers each.
+const LINES: [(&str, &str); 7] = [
+    (
+        "{\"as\":\"n2\",\"ask\":\"board\",\"board\":2}\r\n",
+        "{\"denied\":{\"board\":2,\"rule\":5,\"table\":2,\"why\":\"your pair has still to play this board\"},\"version\":0}\n",
+    ),
+    ("\r\n", ""),
+    ("{\"ask\":\n", "{\"error\":\"Malformed\"}\n"),
+    (
+        "{\"as\":\"k\",\"do\":[{\"board\":2,\"cmd\":\"Enter\",\"result\":\"pass\",\"table\":2},{\"board\":2,\"cmd\":\"Confirm\",\"result\":\"pass\",\"table\":2}]}\n",
+        "{\"answers\":[\"ok\",\"ok\"],\"first\":1,\"last\":2,\"version\":2}\n",
+    ),
+    ("\n", ""),
+    (
+        "{\"as\":\"n2\",\"ask\":\"board\",\"board\":2}\n",
+        "{\"board\":{\"deal\":\"N:...AKQJT98765432 AKQJT98765432... .AKQJT98765432.. ..AKQJT98765432.\",\"dealer\":\"E\",\"number\":2,\"vul\":\"ns\"},\"version\":2}\n",
+    ),
+    (
+        "{\"as\":\"zz\",\"ask\":\"board\",\"board\":2}",
+        "{\"denied\":{\"board\":0,\"rule\":1,\"table\":0,\"why\":\"no such account\"},\"version\":2}\n",
+    ),
+];
+
+/// The line that opens the session.
+fn session_line(alloc: Global) -> Result<String, AllocError> {
+    format!(in alloc; "{SESSION}\n")
+}
+
+/// The whole script, and all its answers.
+fn whole(alloc: Global) -> Result<(String, String), AllocError> {
+    let mut script = session_line(alloc)?;
+    let mut answers = String::new(alloc);
+    for (line, answer) in LINES {
+        script.push_str(line)?;
+        answers.push_str(answer)?;
+    }
+    Ok((script, answers))
+}
+
+/// The answers to the lines whose LF is among the first so many bytes.
+fn answers_within(alloc: Global, good: usize) -> Result<String, AllocError> {
+    let mut answers = String::new(alloc);
+    let mut left = good.saturating_sub(SESSION.len() + 1);
+    for (line, answer) in LINES {
+        if !line.ends_with('\n') || line.len() > left {
+            break;
+        }
+        left -= line.len();
+        answers.push_str(answer)?;
+    }
+    Ok(answers)
+}
+
+/// How many bytes of the script are unread after the line whose answer found so much room, and no more.
+fn unread_after(script: usize, room: usize) -> usize {
+    let mut unread = script.saturating_sub(SESSION.len() + 1);
+    let mut left = room;
+    for (line, answer) in LINES {
+        unread = unread.saturating_sub(line.len());
+        if left < answer.len() {
+            break;
+        }
+        left -= answer.len();
+    }
+    unread
+}
+
+/// A read that failed isn't tried again, though it would succeed.
+#[test]
+fn answers_what_it_read_before_a_read_failed(rt: HostRuntime) -> Result<(), Fail> {
+    let (script, _) = whole(rt.alloc())?;
+    for good in 0..=script.len() {
+        let mut reader = FailingReader {
+            bytes: script.as_bytes(),
+            good: Some(good),
+        };
+        let mut writer = Vec::new(rt.alloc());
+        let ended = run_script(rt.alloc(), &mut reader, &mut writer);
+        assert_eq!(rt; ended, Err(Fault::Input), "after {good} bytes");
+        let answers = answers_within(rt.alloc(), good)?;
+        assert_eq!(rt; writer.as_slice(), answers.as_bytes(), "after {good} bytes");
+    }
+    Ok(())
+}
+
+/// A write that failed isn't tried again, though it would succeed, and nothing is read after it.
+#[test]
+fn writes_a_first_part_where_a_write_fails(rt: HostRuntime) -> Result<(), Fail> {
+    let (script, answers) = whole(rt.alloc())?;
+    for room in 0..answers.len() {
+        let mut reader = script.as_bytes();
+        let mut writer = FailingWriter {
+            held: Vec::new(rt.alloc()),
+            room: Some(room),
+            at_once: 1000,
+            fault: ErrorKind::Interrupted,
+        };
+        let ended = run_script(rt.alloc(), &mut reader, &mut writer);
+        assert_eq!(rt; ended, Err(Fault::Output), "{room} bytes of room");
+        assert_eq!(rt;
+            Some(writer.held.as_slice()),
+            answers.as_bytes().get(..room),
+            "{room} bytes of room"
+        );
+        assert_eq!(rt;
+            reader.len(),
+            unread_after(script.len(), room),
+            "{room} bytes of room"
+        );
+    }
+    Ok(())
+}
+
+#[test]
+fn writes_a_byte_at_a_time_where_a_writer_takes_no_more(rt: HostRuntime) -> Result<(), Fail> {
+    let (script, answers) = whole(rt.alloc())?;
+    let mut reader = script.as_bytes();
+    let mut writer = FailingWriter {
+        held: Vec::new(rt.alloc()),
+        room: None,
+        at_once: 1,
+        fault: ErrorKind::BrokenPipe,
+    };
+    run_script(rt.alloc(), &mut reader, &mut writer)?;
+    assert_eq!(rt; writer.held.as_slice(), answers.as_bytes());
+    Ok(())
+}
+
+/// Also through a writer that keeps small writes back until it is flushed.
+#[test]
+fn writes_each_response_before_it_reads_the_next_line(rt: HostRuntime) -> Result<(), Fail> {
+    let arrived = Cell::new(0usize);
+    let first = session_line(rt.alloc())?;
+    let mut reader = Waiting {
+        first: first.as_bytes(),
+        lines: &LINES,
+        line: 0,
+        at: 0,
+        due: 0,
+        arrived: &arrived,
+    };
+    let mut writer = BufWriter::new(rt.alloc(), Arriving { arrived: &arrived })?;
+    run_script(rt.alloc(), &mut reader, &mut writer)?;
+    assert_eq!(rt; reader.line, LINES.len());
+    assert_eq!(rt; arrived.get(), whole(rt.alloc())?.1.len());
+    Ok(())
+}
+
+/// The fault of the last write is told, also where a writer keeps small writes back.
+#[test]
+fn tells_the_fault_of_a_write_that_was_kept_back(rt: HostRuntime) -> Result<(), Fail> {
+    let (script, answers) = whole(rt.alloc())?;
+    let mut reader = script.as_bytes();
+    let held = Vec::new(rt.alloc());
+    let inner = FailingWriter {
+        held,
+        room: Some(answers.len().saturating_sub(1)),
+        at_once: 1000,
+        fault: ErrorKind::BrokenPipe,
+    };
+    let mut writer = BufWriter::new(rt.alloc(), inner)?;
+    let ended = run_script(rt.alloc(), &mut reader, &mut writer);
+    assert_eq!(rt; ended, Err(Fault::Output));
+    Ok(())
+}
+
+/// A script whose messages don't depend on one another, and what answers each.
+const APART: [(&str, &str); 5] = [
+    (
+        "{\"as\":\"zz\",\"ask\":\"board\",\"board\":4}\n",
+        "{\"error\":\"NoSuchBoard\",\"version\":0}",
+    ),
+    ("{\"ask\":\"weather\"}\n", "{\"error\":\"UnknownRequest\"}"),
+    (
+        "{\"as\":\"n1\",\"ask\":\"board\",\"board\":1}\n",
+        "{\"denied\":{\"board\":1,\"rule\":5,\"table\":1,\"why\":\"your pair has still to play this board\"},\"version\":0}",
+    ),
+    (
+        "{\"as\":\"d\",\"ask\":\"board\",\"board\":1}\n",
+        "{\"board\":{\"deal\":\"N:AKQJT98765432... .AKQJT98765432.. ..AKQJT98765432. ...AKQJT98765432\",\"dealer\":\"N\",\"number\":1,\"vul\":\"none\"},\"version\":0}",
+    ),
+    (
+        "{\"as\":\"k\",\"do\":[{\"board\":1,\"cmd\":\"Enter\",\"result\":\"pass\",\"table\":1},{\"board\":1,\"cmd\":\"Confirm\",\"result\":\"pass\",\"table\":1}]}\n",
+        "{\"answers\":[\"ok\",\"ok\"],\"first\":1,\"last\":2,\"version\":2}",
+    ),
+];
+
+/// Each answer is the one that it should be, or says that there was no memory for it, and a script that ends for want of
+/// memory has answered its first messages. This holds under every memory: `rt try --test --fail-alloc N` refuses the Nth growth.
+#[test]
+fn says_where_memory_was_refused(rt: HostRuntime) -> Result<(), Fail> {
+    let Ok(mut script) = session_line(rt.alloc()) else {
+        return Ok(());
+    };
+    for (line, _) in APART {
+        if script.push_str(line).is_err() {
+            return Ok(());
+        }
+    }
+    let Ok(mut writer) = Vec::with_capacity(rt.alloc(), 1024) else {
+        return Ok(());
+    };
+    let mut reader = script.as_bytes();
+    let ended = run_script(rt.alloc(), &mut reader, &mut writer);
+    assert!(rt;
+        ended != Err(Fault::Input) && ended != Err(Fault::Output),
+        "{ended:?}"
+    );
+    let mut answers = writer.split(|byte| *byte == b'\n');
+    for (line, answer) in APART {
+        let Some(found) = answers.next() else {
+            return Err("no answers at all".into());
+        };
+        if found.is_empty() {
+            assert_eq!(rt; ended, Err(Fault::OutOfMemory), "{line}");
+            return Ok(());
+        }
+        assert!(rt;
+            found == answer.as_bytes() || found == b"{\"error\":\"OutOfMemory\"}".as_slice(),
+            "{line}"
+        );
+    }
+    assert_eq!(rt; answers.next().map(<[u8]>::len), Some(0));
+    Ok(())
+}
+
+#[test]
+fn names_why_a_script_ended(rt: HostRuntime) -> Result<(), Fail> {
+    let rows = [
+        (Fault::Input, "the script can't be read"),
+        (Fault::Output, "the answers can't be written"),
+        (Fault::OutOfMemory, "out of memory"),
+    ];
+    for (fault, text) in rows {
+        assert_eq!(rt; fault.to_string(rt.alloc())?.as_str(), text);
+    }
+    Ok(())
+}

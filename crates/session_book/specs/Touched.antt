@@ -1,0 +1,52 @@
+-- Whom a command may let see the hands of a board, who didn't see them before: nobody else is asked about after it.
+use Rattle.std.specs.Prelude.{ℕ, Bool, true, false, ◌&&◌, nat_eq, nat_le, nat_lt, List}
+use Rattle.rbac.specs.Account.{same_name}
+use Rattle.session_state.specs.SessionState.{SessionState}
+use Rattle.session_state.specs.declared.command.Command.{Command}
+use Rattle.session_state.specs.declared.command.Command.TheVariants.{Enter, Confirm, Correct, Rule, Void, Hold, Release}
+use Rattle.session_state.specs.declared.command.Command.TheVariants.{Seat, Unseat, NextRound, Close, Finalise}
+use Rattle.session_state.specs.declared.command.Command.TheVariants.{AddUser, Assign, Deassign, AddInheritance}
+use Rattle.session_state.specs.declared.command.Command.TheVariants.{DeleteInheritance}
+use Rattle.session_book.specs.declared.touched.Touched.{Touched}
+use Rattle.session_book.specs.declared.touched.Touched.TheVariants.{Nothing, Board, User, Everything}
+use Rattle.session_book.specs.ExposureTable.{user_at}
+
+-- what each command touches: a result may complete its board, for anybody; what is entered, a round and a phase let nobody
+-- see more; of the other commands everything is asked about
+abbrev pub touched_by : Command → Touched
+touched_by (Enter table board outcome play) = Nothing
+touched_by (Confirm table board outcome) = Board board
+touched_by (Correct table board outcome play) = Board board
+touched_by (Rule table board north_south east_west reason) = Board board
+touched_by (Void table board) = Everything
+touched_by (Hold board) = Everything
+touched_by (Release board) = Everything
+touched_by (Seat name pair place) = Everything
+touched_by (Unseat name) = Everything
+touched_by NextRound = Nothing
+touched_by Close = Nothing
+touched_by Finalise = Nothing
+touched_by (AddUser name digest) = Everything
+touched_by (Assign name role) = Everything
+touched_by (Deassign name role) = Everything
+touched_by (AddInheritance senior junior) = Everything
+touched_by (DeleteInheritance senior junior) = Everything
+
+-- whether it touches what a user sees of a board
+abbrev pub is_touched : Touched → List ℕ → ℕ → Bool
+is_touched Nothing user board = false
+is_touched (Board touched) user board = nat_eq board touched
+is_touched (User name) user board = same_name user name
+is_touched Everything user board = true
+
+-- whether it touches what the user at a place sees of a board, from 1 to the last
+abbrev pub is_touched_at : SessionState → Touched → ℕ → ℕ → ℕ → Bool
+is_touched_at state touched last p b = (nat_le 1 b && nat_le b last) && is_touched touched (user_at state p) b
+
+-- about what is touched, for the user at a place
+abbrev pub touched_at : SessionState → Touched → ℕ → ℕ → ℕ → ℕ → Bool
+touched_at state touched last place p b = nat_eq p place && is_touched_at state touched last p b
+
+-- about what is touched, for each user before a place
+abbrev pub touched_before : SessionState → Touched → ℕ → ℕ → ℕ → ℕ → Bool
+touched_before state touched last place p b = nat_lt p place && is_touched_at state touched last p b

@@ -1,0 +1,79 @@
+//! The audit: what was accepted, entry by entry.
+ghost use Rattle.std.specs.Prelude.{◌≡◌, IfOk};
+ghost use Rattle.session_book.specs.Audit.{audit_rows};
+
+use session_state::Entry;
+use session_state::room::push_within;
+use std::alloc::{AllocError, Global};
+use std::marker::Model;
+use thiserror::Error;
+
+/// An entry of the journal, and its number from 1.
+#[derive(Clone, Copy, Debug)]
+pub struct AuditRow {
+    pub number: usize,
+    pub entry: Entry,
+}
+
+/// Rows of the audit, in the order of their numbers: clauses see the list of the rows.
+#[derive(Debug, Drop)]
+pub struct AuditRows {
+    rows: Vec<AuditRow>,
+}
+
+impl Model for AuditRows {
+    ghost use Rattle.std.specs.Prelude.{List};
+    ghost use Rattle.session_book.specs.declared.audit.AuditRow.{AuditRow};
+
+    ghost Value = { List AuditRow };
+
+    ghost view = { λ audit. audit.rows.items };
+}
+
+impl AuditRows {
+    /// These rows.
+    pub fn new(rows: Vec<AuditRow>) -> AuditRows
+        ensures { result ≡ rows.items }
+    {
+        AuditRows { rows }
+    }
+
+    /// The rows.
+    pub fn as_slice(&self) -> &[AuditRow]
+        ensures { result.now ≡ self.now }
+    {
+        &self.rows
+    }
+}
+
+/// Why no audit is given.
+#[derive(Clone, Copy, Debug, PartialEq, Eq, Error)]
+pub enum AuditError {
+    #[error("the user has no permission for the audit")]
+    NotPermitted,
+    #[error("out of memory")]
+    OutOfMemory,
+}
+
+/// The rows of a journal from a number on, at most so many.
+pub fn rows_of(
+    alloc: Global,
+    journal: &[Entry],
+    from: usize,
+    limit: usize,
+) -> Result<Vec<AuditRow>, AllocError>
+    ensures { IfOk result (λ rows. rows.items ≡ audit_rows journal.now from limit) }
+{
+    let before = from.max(1) - 1;
+    let before = before.min(journal.len());
+    let count = limit.min(journal.len() - before);
+    let mut rows = Vec::with_capacity(alloc, count)?;
+    for k in 0..count {
+        let row = AuditRow {
+            number: before + k + 1,
+            entry: journal[before + k],
+        };
+        push_within(&mut rows, row);
+    }
+    Ok(rows)
+}

@@ -1,0 +1,159 @@
+ghost use Rattle.std.specs.Prelude.{◌≡◌, ℕ, ◌||◌, ◌<◌, ◌≤◌, length, [], replicate, IfOk};
+ghost use Rattle.movement.specs.Movement.{most_boards};
+ghost use Rattle.rbac.specs.Account.{most_users};
+ghost use Rattle.rbac.specs.Authorization.{IsValid};
+ghost use Rattle.session_book.specs.Exposure.{users_of};
+ghost use Rattle.session_book.specs.Touched.{touched_at, touched_before};
+ghost use Rattle.session_book.specs.declared.touched.Touched.TheVariants.{Board, User};
+ghost use Rattle.session_book.specs.ExposureTable.{is_noted, user_at, IsAsked, one_board, first_boards, first_users};
+
+use crate::touched::Touched;
+use cards::Name;
+use disclosure_rules::Fact;
+use rbac::Roles;
+use session_state::State;
+use session_state::room::filled;
+use std::alloc::{AllocError, Global};
+use std::marker::Model;
+
+/// Who was shown something of which board: clauses see, for the account at each place, the list of the boards, ascending.
+#[derive(Debug, Drop)]
+pub struct Exposure {
+    words: Vec<u64>,
+}
+
+impl Model for Exposure {
+    ghost use Rattle.std.specs.Prelude.{◌≡◌, ℕ, List, map, vec_len};
+    ghost use Rattle.movement.specs.Movement.{most_boards};
+    ghost use Rattle.rbac.specs.Account.{most_users};
+    ghost use Rattle.disclosure_rules.specs.Numbers.{numbers_of_bits};
+
+    ghost Value = { List (List ℕ) };
+
+    ghost view = { λ exposure. map (numbers_of_bits most_boards) exposure.words.items };
+
+    ghost invariant = { λ exposure. vec_len exposure.words ≡ most_users };
+}
+
+impl Exposure {
+    /// Nobody was shown anything, with room for all users.
+    pub fn new(alloc: Global) -> Result<Exposure, AllocError>
+        ensures { IfOk result (λ exposure. exposure ≡ replicate most_users []) }
+    {
+        let words = filled(alloc, 0, Roles::MOST_USERS)?;
+        Ok(Exposure { words })
+    }
+
+    /// Whether the board is noted for the account at a place.
+    pub fn contains(&self, place: usize, board: u8) -> bool
+        requires place { place < most_users }
+        requires from { 1 ≤ board }
+        requires to { board ≤ most_boards }
+        ensures { result ≡ is_noted self.now place board }
+    {
+        self.words[place] >> (board - 1) & 1 == 1
+    }
+
+    // Notes a board for the account at a place.
+    fn insert(&mut self, place: usize, board: u8)
+        requires place { place < most_users }
+        requires from { 1 ≤ board }
+        requires to { board ≤ most_boards }
+        ensures { (p b : ℕ) → 1 ≤ b → b ≤ most_boards →
+            is_noted self.new p b ≡ (is_noted self.old p b || one_board place board p b) }
+    {
+        self.words[place] |= 1 << (board - 1);
+    }
+
+    /// Notes what the users are allowed, of so many boards: each that isn't noted yet is asked about.
+    pub fn ask_all(&mut self, state: &State, boards: u8)
+        requires { boards ≤ most_boards }
+        ensures asked { IsAsked state.now (first_users (length (users_of state.now)) boards) self.old self.new }
+        ensures valid { IsValid state.now.roles }
+    {
+        let accounts = state.accounts();
+        for place in 0..accounts.len() {
+            self.ask_boards(state, place, accounts[place].name, boards);
+        }
+    }
+
+    /// Notes what the users are allowed of what is touched, of so many boards: what is noted isn't asked about.
+    pub fn ask_touched(&mut self, state: &State, touched: &Touched, boards: u8)
+        requires { boards ≤ most_boards }
+        ensures asked { IsAsked state.now (touched_before state.now touched.now boards (length (users_of state.now)))
+            self.old self.new }
+        ensures valid { IsValid state.now.roles }
+    {
+        let accounts = state.accounts();
+        for place in 0..accounts.len() {
+            self.ask_user(state, place, accounts[place].name, touched, boards);
+        }
+    }
+
+    // Notes what the user at a place is allowed of what is touched.
+    fn ask_user(&mut self, state: &State, place: usize, user: Name, touched: &Touched, boards: u8)
+        requires room { place < most_users }
+        requires user { user ≡ user_at state.now place }
+        requires boards { boards ≤ most_boards }
+        ensures { IsAsked state.now (touched_at state.now touched.now boards place) self.old self.new }
+    {
+        match touched {
+            Touched::Nothing => {}
+            Touched::Board(board) => self.ask_within(state, place, user, *board, boards),
+            Touched::User(name) => self.ask_named(state, place, user, *name, boards),
+            Touched::Everything => self.ask_boards(state, place, user, boards),
+        }
+    }
+
+    // Notes a board for the user at a place, if it is one of the first.
+    fn ask_within(&mut self, state: &State, place: usize, user: Name, board: u8, boards: u8)
+        requires room { place < most_users }
+        requires user { user ≡ user_at state.now place }
+        requires boards { boards ≤ most_boards }
+        ensures { IsAsked state.now (touched_at state.now (Board board) boards place) self.old self.new }
+    {
+        if board < 1 || board > boards {
+            return;
+        }
+        self.ask(state, place, user, board);
+    }
+
+    // Notes what the user at a place is allowed, if it has the name.
+    fn ask_named(&mut self, state: &State, place: usize, user: Name, name: Name, boards: u8)
+        requires room { place < most_users }
+        requires user { user ≡ user_at state.now place }
+        requires boards { boards ≤ most_boards }
+        ensures { IsAsked state.now (touched_at state.now (User name) boards place) self.old self.new }
+    {
+        if !(user == name) {
+            return;
+        }
+        self.ask_boards(state, place, user, boards);
+    }
+
+    /// Notes what the user at a place is allowed, of so many boards: each that isn't noted yet is asked about.
+    pub fn ask_boards(&mut self, state: &State, place: usize, user: Name, boards: u8)
+        requires room { place < most_users }
+        requires user { user ≡ user_at state.now place }
+        requires boards { boards ≤ most_boards }
+        ensures { IsAsked state.now (first_boards place boards) self.old self.new }
+    {
+        for k in 0..boards {
+            self.ask(state, place, user, k + 1);
+        }
+    }
+
+    /// Notes a board for the user at a place, where its hands are allowed. Who was shown something of it before isn't
+    /// asked about again.
+    pub fn ask(&mut self, state: &State, place: usize, user: Name, board: u8)
+        requires room { place < most_users }
+        requires user { user ≡ user_at state.now place }
+        requires from { 1 ≤ board }
+        requires to { board ≤ most_boards }
+        ensures { IsAsked state.now (one_board place board) self.old self.new }
+    {
+        if !self.contains(place, board) && state.decide(user, Fact::Hands(board)).is_none() {
+            self.insert(place, board);
+        }
+    }
+}

@@ -1,0 +1,42 @@
+ghost use Rattle.std.specs.Prelude.{◌≡◌};
+ghost use Rattle.session_book.specs.Touched.{touched_by};
+
+use cards::Name;
+use session_state::Command;
+
+/// Whom a command may let see the hands of a board, who didn't see them before.
+#[derive(Clone, Copy, Debug)]
+pub enum Touched {
+    /// Nobody.
+    Nothing,
+    /// Anybody, those of one board.
+    Board(u8),
+    /// One user, those of any board.
+    User(Name),
+    /// Anybody, those of any board.
+    Everything,
+}
+
+/// What a command touches.
+pub fn touched_by(command: &Command) -> Touched
+    ensures { result ≡ touched_by command.now }
+{
+    match *command {
+        Command::Enter { .. } | Command::NextRound | Command::Close | Command::Finalise => {
+            Touched::Nothing
+        }
+        Command::Confirm { board, .. }
+        | Command::Correct { board, .. }
+        | Command::Rule { board, .. } => Touched::Board(board),
+        Command::Void { .. }
+        | Command::Hold { .. }
+        | Command::Release { .. }
+        | Command::Seat { .. }
+        | Command::Unseat { .. }
+        | Command::AddUser { .. }
+        | Command::Assign { .. }
+        | Command::Deassign { .. }
+        | Command::AddInheritance { .. }
+        | Command::DeleteInheritance { .. } => Touched::Everything,
+    }
+}

@@ -1,0 +1,3 @@
+pub mod ExclusionLemmas
+pub mod ReadingLemmas
+pub mod SessionLemmas

@@ -1,0 +1,128 @@
+-- What is read from a session object's text, and why it is refused.
+use Rattle.std.proofs.Common.{◌≡◌, ◌≤◌, ◌==◌, ℕ, true, is_some, List, length, Option, Some, Result, Ok, Err, IfOk, IfErr, IsUtf8, refl, sym, ap, subst, ◌∙◌, arith}
+use Rattle.std.proofs.lemmas.Str.{utf8_valid_len-IsUtf8}
+use Rattle.std.proofs.lemmas.Option.{same_Some}
+use Rattle.serde_json.specs.Data.{Data}
+use Rattle.serde_json.specs.Read.{read}
+use Rattle.serde_json.specs.Find.{as_object}
+use Rattle.cards.specs.First.{IsFirst}
+use Rattle.movement.specs.Movement.{Section, boards_of}
+use Rattle.movement.specs.Refusal.{Refuses, number_of}
+use Rattle.movement.specs.declared.movement_error.MovementError.{MovementError}
+use Rattle.pbn_records.specs.Reads as pbn
+use Rattle.pbn_records.specs.declared.board.Board.{Board}
+use Rattle.pbn_records.specs.declared.deals_error.DealsError.{DealsError}
+use Rattle.pbn_records.specs.declared.deals_error.DealsError.TheVariants as deals
+use Rattle.pbn_records.proofs.LawLemmas.{one_reading}
+use Rattle.session_object.specs.declared.object.SessionObject.{SessionObject}
+use Rattle.session_object.specs.declared.parts.Parts.{Parts}
+use Rattle.session_object.specs.declared.session_fault.SessionFault.{SessionFault}
+use Rattle.session_object.specs.declared.session_fault.SessionFault.TheVariants.{TooLong, Malformed, BadField, Movement, Deals, OutOfMemory}
+use Rattle.session_object.specs.Session.{Session, session_of, IsSession}
+use Rattle.session_object.specs.Reading.{section_of, IsAllowed, ReadsObject, HasNoBoards, IsRefusedObject, most_bytes, Reads, IsObjectText, IsRefused, session_of_parts, fault_of_deals, Fails}
+use Rattle.session_object.proofs.SessionLemmas.{session_read, session_reads, one_session}
+
+module _ (given : Option (List ℕ)) (d : Data) where
+  -- a member is wrong, or memory was refused
+  pub refused_parts : (fault : SessionFault) → Fails fault (session_of given d) → IsRefusedObject fault given d
+  refused_parts TooLong fails = absurd fails
+  refused_parts Malformed fails = absurd fails
+  refused_parts BadField fails = λ session is. let found = session_reads given d session is in absurd (cc)
+  refused_parts (Movement error) fails = absurd fails
+  refused_parts (Deals error) fails = absurd fails
+  refused_parts OutOfMemory fails = tt
+
+  pub refused_section : (parts : Parts) (error : MovementError) → session_of given d ≡ Some (session_of_parts parts)
+      → IsFirst number_of (λ other. Refuses other (section_of (session_of_parts parts))) error
+      → IsRefusedObject (Movement error) given d
+  refused_section parts error said refused =
+      record { session = session_of_parts parts; says = session_read given d (session_of_parts parts) said; refused = refused }
+
+  module _ (session : Session) (says : IsSession given d session) (allowed : IsAllowed (section_of session)) where
+    refused_by : (error : DealsError) → pbn.IsRefused error session.pbn (boards_of (section_of session)) → HasNoBoards given d error
+    refused_by error refused = record { session = session; says = says; allowed = allowed; refused = refused }
+
+    by_error : (error : DealsError) → pbn.IsRefused error session.pbn (boards_of (section_of session))
+        → IsRefusedObject (fault_of_deals error) given d
+    by_error deals.OutOfMemory refused = tt
+    by_error (deals.BadTag offset) refused = (λ same. absurd (cc), refused_by (deals.BadTag offset) refused)
+    by_error (deals.BadDeal offset) refused = (λ same. absurd (cc), refused_by (deals.BadDeal offset) refused)
+    by_error (deals.HiddenHand offset) refused = (λ same. absurd (cc), refused_by (deals.HiddenHand offset) refused)
+    by_error (deals.BadMark offset) refused = (λ same. absurd (cc), refused_by (deals.BadMark offset) refused)
+    by_error (deals.DealConflict offset) refused = (λ same. absurd (cc), refused_by (deals.DealConflict offset) refused)
+    by_error (deals.InheritedForm offset) refused = (λ same. absurd (cc), refused_by (deals.InheritedForm offset) refused)
+    by_error (deals.MissingBoard board) refused = (λ same. absurd (cc), refused_by (deals.MissingBoard board) refused)
+
+  pub refused_boards : (parts : Parts) (section : Section) (boards : ℕ) (error : DealsError) (fault : SessionFault)
+      → fault ≡ fault_of_deals error → session_of given d ≡ Some (session_of_parts parts)
+      → section ≡ section_of (session_of_parts parts) → IsAllowed section → boards ≡ boards_of section
+      → pbn.IsRefused error parts.pbn.now boards → IsRefusedObject fault given d
+  refused_boards parts section boards error fault is said same allowed many refused =
+      subst (λ f. IsRefusedObject f given d) (sym is)
+      (by_error (session_of_parts parts) (session_read given d (session_of_parts parts) said) (subst IsAllowed same allowed) error
+      (subst (pbn.IsRefused error parts.pbn.now) (many ∙ ap boards_of same) refused))
+
+  pub reads_object : (parts : Parts) (section : Section) (many : ℕ) (boards : List Board) → session_of given d ≡ Some (session_of_parts parts)
+      → section ≡ section_of (session_of_parts parts) → IsAllowed section → many ≡ boards_of section
+      → pbn.Reads parts.pbn.now many boards
+      → ReadsObject given d (record { config = record { movement = section; boards = boards; users = parts.users }; budget = parts.budget })
+  reads_object parts section many boards said same allowed is_many read = record {
+    session = session_of_parts parts;
+    says = session_read given d (session_of_parts parts) said;
+    movement = same;
+    allowed = subst IsAllowed same allowed;
+    boards = subst (λ n. pbn.Reads parts.pbn.now n boards) (is_many ∙ ap boards_of same) read;
+    users = refl;
+    budget = refl;
+  }
+
+-- ---- texts
+
+pub refused_text : (fault : SessionFault) (given : Option (List ℕ)) (text : List ℕ) (d : Data) → IsObjectText text d
+    → IsRefusedObject fault given d → IsRefused fault given text
+refused_text TooLong given text d is refused = absurd refused
+refused_text Malformed given text d is refused = absurd refused
+refused_text BadField given text d is refused = record { said = d; is = is; refused = refused }
+refused_text (Movement error) given text d is refused = record { said = d; is = is; refused = refused }
+refused_text (Deals error) given text d is refused = record { said = d; is = is; refused = refused }
+refused_text OutOfMemory given text d is refused = tt
+
+same_number : (m n : ℕ) → m ≡ n → (m == n) ≡ true
+same_number m n h = grind arith
+
+pub object_text : (text : List ℕ) (d : Data) → length text ≤ most_bytes → IsUtf8 text → read text ≡ Some d → is_some (as_object d) ≡ true
+    → IsObjectText text d
+object_text text d short utf8 reads members = record {
+  short = short;
+  object = record { utf8 = same_number _ _ (utf8_valid_len-IsUtf8 text utf8); reads = reads; members = members };
+}
+
+pub refused_in : {A : Type 0} (result : Result A SessionFault) (given : Option (List ℕ)) (text : List ℕ) (d : Data) → IsObjectText text d
+    → IfErr result (λ fault. IsRefusedObject fault given d) → IfErr result (λ fault. IsRefused fault given text)
+refused_in (Ok x) given text d is refused = tt
+refused_in (Err fault) given text d is refused = refused_text fault given text d is refused
+
+pub read_in : (result : Result SessionObject SessionFault) (given : Option (List ℕ)) (text : List ℕ) (d : Data) → IsObjectText text d
+    → IfOk result (ReadsObject given d) → IfOk result (Reads given text)
+read_in (Ok x) given text d is reads = record { said = d; is = is; reads = reads }
+read_in (Err fault) given text d is reads = tt
+
+-- ---- one reading
+
+module _ (given : Option (List ℕ)) where
+  one_object : (d : Data) (one other : SessionObject) → ReadsObject given d one → ReadsObject given d other → one ≡ other
+  one_object d one other first second =
+      let session : first.session ≡ second.session = one_session given d first.session second.session first.says second.says in
+      let again : pbn.Reads first.session.pbn (boards_of (section_of first.session)) other.config.boards =
+      subst (λ (s : Session). pbn.Reads s.pbn (boards_of (section_of s)) other.config.boards) (sym session) second.boards in
+      let boards : one.config.boards ≡ other.config.boards =
+      one_reading first.session.pbn (boards_of (section_of first.session)) one.config.boards other.config.boards first.boards again in
+      let movement : one.config.movement ≡ other.config.movement = first.movement ∙ ap section_of session ∙ sym second.movement in
+      let users : one.config.users ≡ other.config.users = first.users ∙ ap (λ (s : Session). s.users) session ∙ sym second.users in
+      let budget : one.budget ≡ other.budget = first.budget ∙ ap (λ (s : Session). s.budget) session ∙ sym second.budget in
+      λ i. record { config = record { movement = movement i; boards = boards i; users = users i }; budget = budget i }
+
+  pub one_text : (text : List ℕ) (one other : SessionObject) → Reads given text one → Reads given text other → one ≡ other
+  one_text text one other first second =
+      let same : first.said ≡ second.said = same_Some first.said second.said (sym first.is.object.reads ∙ second.is.object.reads) in
+      one_object first.said one other first.reads (subst (λ d. ReadsObject given d other) (sym same) second.reads)

@@ -1,0 +1,10 @@
+use session_state::Config;
+
+/// What a session object says.
+#[derive(Drop)]
+pub struct SessionObject {
+    /// What a session opens with.
+    pub config: Config,
+    /// How many visits a solver's call may make.
+    pub budget: u64,
+}

@@ -1,0 +1,96 @@
+//! The members of a session object.
+
+ghost use Rattle.std.specs.Prelude.{◌≡◌, [], Some, None, IfOk, IfErr, option_map};
+ghost use Rattle.serde_json.specs.View.{view};
+ghost use Rattle.wire.specs.Form.{formed};
+ghost use Rattle.session_object.specs.Session.{with_boards, beside_boards, session_of};
+ghost use Rattle.session_object.specs.Reading.{Fails, session_of_parts};
+
+use crate::session_fault::SessionFault;
+use crate::user::users_of;
+use serde_json::Value;
+use session_state::NewUsers;
+use std::alloc::Global;
+use wire::{has_only, limited_at, small_number_at, text_at};
+
+/// The most visits of a solver's call.
+const MOST_VISITS: u64 = 1_000_000_000_000_000_000;
+
+/// What the members of a session object say.
+#[derive(Drop)]
+pub(crate) struct Parts<'t> {
+    pub(crate) budget: u64,
+    /// The PBN text of the boards.
+    pub(crate) pbn: &'t [u8],
+    pub(crate) per_set: u8,
+    pub(crate) rounds: u8,
+    pub(crate) tables: u8,
+    pub(crate) users: NewUsers,
+}
+
+fn with_boards<'t>(alloc: Global, value: &'t Value) -> Result<Parts<'t>, SessionFault>
+    ensures parts { IfOk result (λ parts. formed [] with_boards (view value.now) ≡ Some (session_of_parts parts)) }
+    ensures fault { IfErr result (λ fault. Fails fault (formed [] with_boards (view value.now))) }
+{
+    if !has_only(
+        value,
+        &["budget", "pbn", "per_set", "rounds", "tables", "users"],
+    ) {
+        return Err(SessionFault::BadField);
+    }
+    let budget = limited_at(value, "budget", MOST_VISITS).ok_or(SessionFault::BadField)?;
+    let pbn = text_at(value, "pbn").ok_or(SessionFault::BadField)?;
+    let per_set = small_number_at(value, "per_set").ok_or(SessionFault::BadField)?;
+    let rounds = small_number_at(value, "rounds").ok_or(SessionFault::BadField)?;
+    let tables = small_number_at(value, "tables").ok_or(SessionFault::BadField)?;
+    let users = users_of(alloc, value)?;
+    Ok(Parts {
+        budget,
+        pbn: pbn.as_bytes(),
+        per_set,
+        rounds,
+        tables,
+        users,
+    })
+}
+
+fn beside_boards<'t>(alloc: Global, value: &Value, pbn: &'t [u8]) -> Result<Parts<'t>, SessionFault>
+    ensures parts { IfOk result (λ parts.
+        formed [] (beside_boards pbn.now) (view value.now) ≡ Some (session_of_parts parts)) }
+    ensures fault { IfErr result (λ fault. Fails fault (formed [] (beside_boards pbn.now) (view value.now))) }
+{
+    if !has_only(value, &["budget", "per_set", "rounds", "tables", "users"]) {
+        return Err(SessionFault::BadField);
+    }
+    let budget = limited_at(value, "budget", MOST_VISITS).ok_or(SessionFault::BadField)?;
+    let per_set = small_number_at(value, "per_set").ok_or(SessionFault::BadField)?;
+    let rounds = small_number_at(value, "rounds").ok_or(SessionFault::BadField)?;
+    let tables = small_number_at(value, "tables").ok_or(SessionFault::BadField)?;
+    let users = users_of(alloc, value)?;
+    Ok(Parts {
+        budget,
+        pbn,
+        per_set,
+        rounds,
+        tables,
+        users,
+    })
+}
+
+/// The members of a session object; its boards' text is among them, unless it is given.
+#[tactic(auto, unfolding(crate::specs::Session::session_of))]
+pub(crate) fn parts_of<'t>(
+    alloc: Global,
+    value: &'t Value,
+    given: Option<&'t [u8]>,
+) -> Result<Parts<'t>, SessionFault>
+    ensures parts { IfOk result (λ parts.
+        session_of (option_map (λ bytes. bytes.now) given.entry) (view value.now) ≡ Some (session_of_parts parts)) }
+    ensures fault { IfErr result (λ fault.
+        Fails fault (session_of (option_map (λ bytes. bytes.now) given.entry) (view value.now))) }
+{
+    match given {
+        Some(pbn) => beside_boards(alloc, value, pbn),
+        None => with_boards(alloc, value),
+    }
+}

@@ -1,0 +1,112 @@
+//! The users of a session object.
+
+ghost use Rattle.std.specs.Prelude.{◌≡◌, [], Some, None, IfOk, IfErr};
+ghost use Rattle.serde_json.specs.Find.{get};
+ghost use Rattle.serde_json.specs.View.{view, items_view};
+ghost use Rattle.wire.specs.Form.{each, formed};
+ghost use Rattle.wire.specs.User.{role_of, user_roles};
+ghost use Rattle.session_object.specs.Session.{seated, unseated, user_of, users};
+ghost use Rattle.session_object.specs.Reading.{Gives, Fails};
+
+use crate::session_fault::SessionFault;
+use cards::Name;
+use disclosure_rules::Seat;
+use rbac::Role;
+use serde_json::Value;
+use session_state::{Digest, NewUser, NewUsers, RoleList};
+use std::alloc::Global;
+use wire::{digest_of, has_only, name_at, pair_of, place_of, role_of};
+
+fn roles_in(alloc: Global, list: &[Value]) -> Result<Vec<Role>, SessionFault>
+    ensures roles { IfOk result (λ roles. each role_of (items_view list.now) ≡ Some roles.items) }
+    ensures fault { IfErr result (λ fault. Fails fault (each role_of (items_view list.now))) }
+{
+    let mut roles = Vec::new(alloc);
+    for value in list {
+        let role = role_of(value).ok_or(SessionFault::BadField)?;
+        roles.push(role)?;
+    }
+    Ok(roles)
+}
+
+fn roles_of(alloc: Global, value: &Value) -> Result<RoleList, SessionFault>
+    ensures { Gives result (user_roles.value (get user_roles.name (view value.now))) }
+{
+    let Some(member) = value.get("roles") else {
+        return Err(SessionFault::BadField);
+    };
+    match member.as_array() {
+        Some(list) => Ok(RoleList::new(roles_in(alloc, list.as_slice())?)),
+        None => Err(SessionFault::BadField),
+    }
+}
+
+fn unseated_user(alloc: Global, value: &Value) -> Result<NewUser, SessionFault>
+    ensures { Gives result (formed [] unseated (view value.now)) }
+{
+    if !has_only(value, &["digest", "name", "roles"]) {
+        return Err(SessionFault::BadField);
+    }
+    let digest = digest_of(value).ok_or(SessionFault::BadField)?;
+    let name = name_at(value, "name").ok_or(SessionFault::BadField)?;
+    let roles = roles_of(alloc, value)?;
+    Ok(NewUser {
+        name,
+        digest,
+        roles,
+        seat: None,
+    })
+}
+
+fn seated_user(alloc: Global, value: &Value) -> Result<NewUser, SessionFault>
+    ensures { Gives result (formed [] seated (view value.now)) }
+{
+    if !has_only(value, &["digest", "name", "pair", "place", "roles"]) {
+        return Err(SessionFault::BadField);
+    }
+    let digest = digest_of(value).ok_or(SessionFault::BadField)?;
+    let name = name_at(value, "name").ok_or(SessionFault::BadField)?;
+    let pair = pair_of(value).ok_or(SessionFault::BadField)?;
+    let place = place_of(value).ok_or(SessionFault::BadField)?;
+    let roles = roles_of(alloc, value)?;
+    Ok(NewUser {
+        name,
+        digest,
+        roles,
+        seat: Some(Seat { pair, place }),
+    })
+}
+
+#[tactic(auto, unfolding(crate::specs::Session::user_of))]
+fn user_of(alloc: Global, value: &Value) -> Result<NewUser, SessionFault>
+    ensures { Gives result (user_of (view value.now)) }
+{
+    match value.get("pair") {
+        Some(_) => seated_user(alloc, value),
+        None => unseated_user(alloc, value),
+    }
+}
+
+fn users_in(alloc: Global, list: &[Value]) -> Result<NewUsers, SessionFault>
+    ensures users { IfOk result (λ users. each user_of (items_view list.now) ≡ Some users) }
+    ensures fault { IfErr result (λ fault. Fails fault (each user_of (items_view list.now))) }
+{
+    let mut users = Vec::new(alloc);
+    for value in list {
+        let user = user_of(alloc, value)?;
+        users.push(user)?;
+    }
+    Ok(NewUsers::new(users))
+}
+
+pub(crate) fn users_of(alloc: Global, value: &Value) -> Result<NewUsers, SessionFault>
+    ensures { Gives result (users.value (get users.name (view value.now))) }
+{
+    let Some(member) = value.get("users") else {
+        return Err(SessionFault::BadField);
+    };
+    match member.as_array() {
+        Some(list) => users_in(alloc, list.as_slice()),
+        None => Err(SessionFault::BadField),
+    }
+}

@@ -1,0 +1,252 @@
+-- A command changes the part of a state that it is about, and no other.
+use Rattle.std.proofs.Common.{◌≡◌, ◌≢◌, ℕ, Bool, true, false, List, refl, sym, ap, ◌∙◌, inl, inr}
+use Rattle.std.specs.Prelude.{Option, Some, None, is_some, not, if◌then◌else◌}
+use Rattle.std.specs.Bool.{then_some}
+use Rattle.std.proofs.lemmas.Bool.{false≢true, cases_Bool}
+use Rattle.movement.specs.declared.cell.Cell.{Cell}
+use Rattle.movement.specs.Movement.{IsSection}
+use Rattle.movement.specs.Schedule.{is_scheduled}
+use Rattle.movement.proofs.CellLemmas.{cell_in_range}
+use Rattle.movement.proofs.ScheduleTests.{scheduled-cell}
+use Rattle.rbac.specs.RoleData.{add_user, assign_user, deassign_user, add_inheritance, delete_inheritance}
+use Rattle.rbac.specs.declared.account.Account.{Account}
+use Rattle.rbac.specs.declared.inheritance.Inheritance.{Inheritance}
+use Rattle.disclosure_rules.specs.Seating.{some_that}
+use Rattle.disclosure_rules.specs.declared.phase.Phase.{Phase}
+use Rattle.session_state.specs.declared.cell_state.CellState.{CellState}
+use Rattle.session_state.specs.declared.cell_state.CellState.TheVariants.{Empty, Entered, Confirmed, Ruled}
+use Rattle.session_state.specs.declared.command.Command.{Command}
+use Rattle.session_state.specs.declared.command.Command.TheVariants.{Enter, Confirm, Correct, Rule, Void, Hold, Release, Seat, Unseat, NextRound, Close, Finalise, AddUser, Assign, Deassign, AddInheritance, DeleteInheritance}
+use Rattle.session_state.specs.declared.digest.Digest.{Digest}
+use Rattle.session_state.specs.declared.entry.Entry.{Entry}
+use Rattle.session_state.specs.declared.refusal.Refusal.{Refusal}
+use Rattle.session_state.specs.declared.seated.Seated.{Seated}
+use Rattle.session_state.specs.Apply.{apply, effect, confirmed}
+use Rattle.session_state.specs.Command.{cell_of}
+use Rattle.session_state.specs.Parts.{Part, Results, HeldBoards, Seats, Rounds, Phases, Accounts, Hierarchy, part_of, IsSameBut}
+use Rattle.session_state.specs.Refusal.{hindrance_of}
+use Rattle.session_state.specs.SessionState.{SessionState, cell_at, with_cell, place_of, IsPlaced}
+use Rattle.session_state.proofs.HindranceLemmas.{cell_unhindered}
+use Rattle.session_state.proofs.LiveLemmas.{own_place, known_elsewhere}
+use Rattle.session_state.proofs.ScheduleLemmas.{placed}
+
+-- a state with one part changed
+module _ (state : SessionState) where
+  same : (part : Part) → IsSameBut part state state
+  same part = record {
+    movement = refl;
+    marks = refl;
+    deals = refl;
+    cells = λ _. refl;
+    live = λ _. refl;
+    held = λ _. refl;
+    seats = λ _. refl;
+    round = λ _. refl;
+    phase = λ _. refl;
+    accounts = λ _. refl;
+    digests = λ _. refl;
+    pairs = λ _. refl;
+  }
+
+  same_but_cells : (cells : List CellState) (live : List (List ℕ)) → IsSameBut Results state (record state { cells = cells; public = record state.public { live = live } })
+  same_but_cells cells live = record {
+    movement = refl;
+    marks = refl;
+    deals = refl;
+    cells = λ other. absurd (other refl);
+    live = λ other. absurd (other refl);
+    held = λ _. refl;
+    seats = λ _. refl;
+    round = λ _. refl;
+    phase = λ _. refl;
+    accounts = λ _. refl;
+    digests = λ _. refl;
+    pairs = λ _. refl;
+  }
+
+  same_but_held : (held : List ℕ) → IsSameBut HeldBoards state (record state { public = record state.public { held = held } })
+  same_but_held held = record {
+    movement = refl;
+    marks = refl;
+    deals = refl;
+    cells = λ _. refl;
+    live = λ _. refl;
+    held = λ other. absurd (other refl);
+    seats = λ _. refl;
+    round = λ _. refl;
+    phase = λ _. refl;
+    accounts = λ _. refl;
+    digests = λ _. refl;
+    pairs = λ _. refl;
+  }
+
+  same_but_seats : (seats : List Seated) → IsSameBut Seats state (record state { seats = seats })
+  same_but_seats seats = record {
+    movement = refl;
+    marks = refl;
+    deals = refl;
+    cells = λ _. refl;
+    live = λ _. refl;
+    held = λ _. refl;
+    seats = λ other. absurd (other refl);
+    round = λ _. refl;
+    phase = λ _. refl;
+    accounts = λ _. refl;
+    digests = λ _. refl;
+    pairs = λ _. refl;
+  }
+
+  same_but_round : (round : ℕ) → IsSameBut Rounds state (record state { public = record state.public { round = round } })
+  same_but_round round = record {
+    movement = refl;
+    marks = refl;
+    deals = refl;
+    cells = λ _. refl;
+    live = λ _. refl;
+    held = λ _. refl;
+    seats = λ _. refl;
+    round = λ other. absurd (other refl);
+    phase = λ _. refl;
+    accounts = λ _. refl;
+    digests = λ _. refl;
+    pairs = λ _. refl;
+  }
+
+  same_but_phase : (phase : Phase) → IsSameBut Phases state (record state { public = record state.public { phase = phase } })
+  same_but_phase phase = record {
+    movement = refl;
+    marks = refl;
+    deals = refl;
+    cells = λ _. refl;
+    live = λ _. refl;
+    held = λ _. refl;
+    seats = λ _. refl;
+    round = λ _. refl;
+    phase = λ other. absurd (other refl);
+    accounts = λ _. refl;
+    digests = λ _. refl;
+    pairs = λ _. refl;
+  }
+
+  same_but_accounts : (accounts : List Account) (digests : List Digest) → IsSameBut Accounts state (record state { roles = record state.roles { accounts = accounts }; digests = digests })
+  same_but_accounts accounts digests = record {
+    movement = refl;
+    marks = refl;
+    deals = refl;
+    cells = λ _. refl;
+    live = λ _. refl;
+    held = λ _. refl;
+    seats = λ _. refl;
+    round = λ _. refl;
+    phase = λ _. refl;
+    accounts = λ other. absurd (other refl);
+    digests = λ other. absurd (other refl);
+    pairs = λ _. refl;
+  }
+
+  same_but_pairs : (pairs : List Inheritance) → IsSameBut Hierarchy state (record state { roles = record state.roles { pairs = pairs } })
+  same_but_pairs pairs = record {
+    movement = refl;
+    marks = refl;
+    deals = refl;
+    cells = λ _. refl;
+    live = λ _. refl;
+    held = λ _. refl;
+    seats = λ _. refl;
+    round = λ _. refl;
+    phase = λ _. refl;
+    accounts = λ _. refl;
+    digests = λ _. refl;
+    pairs = λ other. absurd (other refl);
+  }
+
+  confirmed_part : (cell : Cell) (known : CellState) → IsSameBut Results state (confirmed state cell known)
+  confirmed_part cell Empty = same Results
+  confirmed_part cell (Entered outcome play) = same_but_cells _ _
+  confirmed_part cell (Confirmed outcome play) = same Results
+  confirmed_part cell (Ruled north_south east_west reason) = same Results
+
+  effect_part : (command : Command) → IsSameBut (part_of command) state (effect state command)
+  effect_part (Enter table board outcome play) = same_but_cells _ _
+  effect_part (Confirm table board outcome) = confirmed_part _ _
+  effect_part (Correct table board outcome play) = same_but_cells _ _
+  effect_part (Rule table board north_south east_west reason) = same_but_cells _ _
+  effect_part (Void table board) = same_but_cells _ _
+  effect_part (Hold board) = same_but_held _
+  effect_part (Release board) = same_but_held _
+  effect_part (Seat name pair place) = same_but_seats _
+  effect_part (Unseat name) = same_but_seats _
+  effect_part NextRound = same_but_round _
+  effect_part Close = same_but_phase _
+  effect_part Finalise = same_but_phase _
+  effect_part (AddUser name digest) = same_but_accounts _ _
+  effect_part (Assign name role) = same_but_accounts _ _
+  effect_part (Deassign name role) = same_but_accounts _ _
+  effect_part (AddInheritance senior junior) = same_but_pairs _
+  effect_part (DeleteInheritance senior junior) = same_but_pairs _
+
+-- an entry changes one part at most
+pub entry_part : (state : SessionState) (entry : Entry) → IsSameBut (part_of entry.command) state (apply state entry)
+entry_part state entry = by_hindrance (is_some (hindrance_of state entry.command))
+  where
+    by_hindrance : (b : Bool) → IsSameBut (part_of entry.command) state (if b then state else effect state entry.command)
+    by_hindrance true = same state (part_of entry.command)
+    by_hindrance false = effect_part state entry.command
+
+-- another cell keeps what is known of it
+module _ (state : SessionState) (own cell : Cell) (placed_own : IsPlaced own) (placed_cell : IsPlaced cell) (other : own ≢ cell) where
+  apart : place_of cell ≢ place_of own
+  apart same = let both = own_place own cell placed_own placed_cell same in other (λ i. record { table = sym both.1 i; board = sym both.0 i })
+
+  kept_elsewhere : (known : CellState) → cell_at (with_cell state own known) cell ≡ cell_at state cell
+  kept_elsewhere known = known_elsewhere state.cells own cell known apart
+
+  kept_confirmed : (known : CellState) → cell_at (confirmed state own known) cell ≡ cell_at state cell
+  kept_confirmed Empty = refl
+  kept_confirmed (Entered outcome play) = kept_elsewhere (Confirmed outcome play)
+  kept_confirmed (Confirmed outcome play) = refl
+  kept_confirmed (Ruled north_south east_west reason) = refl
+
+no_other : {cell : Cell} (own : Cell) → Some own ≢ Some cell → own ≢ cell
+no_other own other same = other (ap Some same)
+
+not_false : (b : Bool) → not b ≡ false → b ≡ true
+not_false true none = refl
+not_false false none = absurd (false≢true (sym none))
+
+effect_elsewhere : (state : SessionState) (command : Command) (cell : Cell) → IsSection state.public.movement → IsPlaced cell → hindrance_of state command ≡ None →
+    cell_of command ≢ Some cell → cell_at (effect state command) cell ≡ cell_at state cell
+effect_elsewhere state command cell is_section placed_cell unhindered other = by_command command (cell_unhindered state command unhindered) other
+  where
+    own_placed : (own : Cell) → not (is_scheduled state.public.movement own) ≡ false → IsPlaced own
+    own_placed own scheduled =
+        placed state.public.movement own is_section (cell_in_range state.public.movement own (scheduled-cell state.public.movement own (not_false _ scheduled)))
+
+    by_command : (command : Command) → some_that (cell_of command) (λ own. not (is_scheduled state.public.movement own)) ≡ false →
+        cell_of command ≢ Some cell → cell_at (effect state command) cell ≡ cell_at state cell
+    by_command (Enter table board outcome play) there other = kept_elsewhere state _ cell (own_placed _ there) placed_cell (no_other _ other) _
+    by_command (Confirm table board outcome) there other = kept_confirmed state _ cell (own_placed _ there) placed_cell (no_other _ other) _
+    by_command (Correct table board outcome play) there other = kept_elsewhere state _ cell (own_placed _ there) placed_cell (no_other _ other) _
+    by_command (Rule table board north_south east_west reason) there other = kept_elsewhere state _ cell (own_placed _ there) placed_cell (no_other _ other) _
+    by_command (Void table board) there other = kept_elsewhere state _ cell (own_placed _ there) placed_cell (no_other _ other) _
+    by_command (Hold board) there other = refl
+    by_command (Release board) there other = refl
+    by_command (Seat name pair place) there other = refl
+    by_command (Unseat name) there other = refl
+    by_command NextRound there other = refl
+    by_command Close there other = refl
+    by_command Finalise there other = refl
+    by_command (AddUser name digest) there other = refl
+    by_command (Assign name role) there other = refl
+    by_command (Deassign name role) there other = refl
+    by_command (AddInheritance senior junior) there other = refl
+    by_command (DeleteInheritance senior junior) there other = refl
+
+-- an entry changes what is known of its own cell alone
+pub entry_elsewhere : (state : SessionState) (entry : Entry) (cell : Cell) → IsSection state.public.movement → IsPlaced cell →
+    cell_of entry.command ≢ Some cell → cell_at (apply state entry) cell ≡ cell_at state cell
+entry_elsewhere state entry cell is_section placed_cell other = by_hindrance (hindrance_of state entry.command) refl
+  where
+    by_hindrance : (found : Option Refusal) → hindrance_of state entry.command ≡ found → cell_at (if is_some found then state else effect state entry.command) cell ≡ cell_at state cell
+    by_hindrance (Some cause) found = refl
+    by_hindrance None found = effect_elsewhere state entry.command cell is_section placed_cell found other

@@ -1,0 +1,44 @@
+use Rattle.std.proofs.Common.{◌≡◌, ◌≤◌, ◌++◌, ◌∷◌, [], None, length, sym, ap, subst, ◌∙◌, arith}
+use Rattle.std.proofs.lemmas.List.{length_push}
+use Rattle.session_state.specs.Refusal.{hindrance_of}
+use Rattle.session_state.specs.Seats.{AreSeated}
+use Rattle.session_state.specs.contracts.state.State.{the_view}
+use Rattle.session_state.specs.declared.command.Command.TheVariants as command
+use Rattle.session_state.specs.declared.seated.Seated.{Seated}
+use Rattle.session_state.proofs.SeatLemmas.{seats_are_few}
+use Rattle.session_state.proofs.SeatCauseLemmas.{seats_still_apart}
+use Rattle.session_state.proofs.state.State.take_seat.Goals as goal
+
+pub push_within-requires : goal.push_within-requires
+push_within-requires c =
+    let inside = c.self.inside in
+    let seat = c.args.seat in
+    let seated : Seated = record { name = c.args.name; seat = seat } in
+    let unhindered : hindrance_of (the_view inside) (command.Seat c.args.name seat.pair seat.place) ≡ None =
+    ap (λ state. hindrance_of state (command.Seat c.args.name seat.pair seat.place)) c.self.view_is ∙ c.requires in
+    let are = seats_still_apart (the_view inside) c.args.name seat.pair seat.place unhindered c.self.invariant.seated in
+    let few : length (inside.seats.items ++ seated ∷ []) ≤ length inside.roles.accounts =
+    seats_are_few inside.roles (inside.seats.items ++ seated ∷ []) are in
+    omega (arith, few, length_push inside.seats.items seated, c.self.invariant.users, c.self.invariant.seats, inside.seats.ok.0)
+
+pub invariant_of-self : goal.invariant_of-self
+invariant_of-self c =
+    let inside = c.self.inside in
+    let kept = c.self.invariant in
+    let seat = c.args.seat in
+    let unhindered : hindrance_of (the_view inside) (command.Seat c.args.name seat.pair seat.place) ≡ None =
+    ap (λ state. hindrance_of state (command.Seat c.args.name seat.pair seat.place)) c.self.view_is ∙ c.requires in
+    record {
+      cells = kept.cells;
+      marks = kept.marks;
+      boards = kept.boards;
+      deals = kept.deals;
+      digests = kept.digests;
+      digest_room = kept.digest_room;
+      seats = omega (arith, kept.seats, c.push_within.ensures.capacity);
+      users = kept.users;
+      seated =
+          subst (AreSeated inside.roles) (sym c.push_within.ensures.items)
+          (seats_still_apart (the_view inside) c.args.name seat.pair seat.place unhindered kept.seated);
+      live = kept.live;
+    }

@@ -1,0 +1,40 @@
+use Rattle.std.proofs.Common.{◌<◌, ◌-◌, length, refl, sym, ap, ◌∙◌, subst, arith, length-set}
+use Rattle.std.specs.Prelude.{slice_set}
+use Rattle.disclosure_rules.specs.LiveCells.{without_live}
+use Rattle.session_state.specs.Apply.{without_result}
+use Rattle.session_state.specs.contracts.state.State.{the_view}
+use Rattle.session_state.specs.declared.cell_state.CellState.TheVariants.{Empty}
+use Rattle.session_state.specs.SessionState.{place_of, AreLive}
+use Rattle.session_state.proofs.LiveLemmas.{cleared_live}
+use Rattle.session_state.proofs.state.State.void.Goals as goal
+
+pub returns : goal.returns
+returns c =
+    let inside = c.self.inside in
+    (λ i. record (the_view inside) {
+      public = record inside.public { live = c.remove.ensures i };
+      cells = slice_set inside.cells.items (c.place_of-place.ensures.place i) Empty;
+    })
+    ∙ ap (λ state. without_result state c.args.cell) c.self.view_is
+
+pub invariant_of-self : goal.invariant_of-self
+invariant_of-self c =
+    let inside = c.self.inside in
+    let kept = c.self.invariant in
+    let cell = c.args.cell in
+    let below : place_of cell < length inside.cells.items = omega (arith, inside.cells.ok.0, kept.cells, c.place_of-place.ensures.place, c.place_of-place.ensures.below) in
+    record {
+      cells = kept.cells;
+      marks = kept.marks;
+      deals = kept.deals;
+      digests = kept.digests;
+      digest_room = kept.digest_room;
+      seats = kept.seats;
+      users = kept.users;
+      seated = kept.seated;
+      boards = ap length c.remove.ensures ∙ length-set inside.public.live (cell.board - 1) _ ∙ kept.boards;
+      live =
+          subst (λ live. AreLive live (slice_set inside.cells.items c.place_of-place.result Empty)) (sym c.remove.ensures)
+          (subst (λ place. AreLive (without_live inside.public.live cell) (slice_set inside.cells.items place Empty)) (sym c.place_of-place.ensures.place)
+          (cleared_live inside.public.live inside.cells.items cell Empty c.requires.placed below kept.boards kept.live refl));
+    }

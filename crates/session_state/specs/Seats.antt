@@ -1,0 +1,46 @@
+-- What a command asks of seats.
+use Rattle.std.specs.Prelude.{◌≡◌, ℕ, Bool, true, ◌&&◌, not, nat_le, nat_eq, List, filter}
+use Rattle.std.specs.List.{list_any, IsDistinct}
+use Rattle.cards.specs.declared.pair.Pair.{Pair}
+use Rattle.cards.specs.declared.place.Place.{Place}
+use Rattle.cards.specs.Place.{side_of, place_number}
+use Rattle.movement.specs.Movement.{Section}
+use Rattle.movement.specs.Schedule.{same_side, same_pair}
+use Rattle.rbac.specs.Account.{same_name}
+use Rattle.rbac.specs.RoleData.{RoleData}
+use Rattle.disclosure_rules.specs.declared.seat.Seat.{Seat}
+use Rattle.session_state.specs.declared.seated.Seated.{Seated}
+use Rattle.session_state.specs.Accounts.{has_account}
+
+-- whether the section has the pair: on each side a pair for each table
+abbrev pub is_pair : Section → Pair → Bool
+is_pair section pair = nat_le 1 pair.number && nat_le pair.number section.tables
+
+-- whether the place is one of the pair's side
+abbrev pub is_of_side : Pair → Place → Bool
+is_of_side pair place = same_side pair.side (side_of place)
+
+-- whether two seats are one
+abbrev pub same_seat : Seat → Seat → Bool
+same_seat a b = same_pair a.pair b.pair && nat_eq (place_number a.place) (place_number b.place)
+
+-- whether a user of this name sits somewhere
+abbrev pub has_seat : List Seated → List ℕ → Bool
+has_seat seats name = list_any (λ (seated : Seated). same_name seated.name name) seats
+
+-- whether somebody sits there
+abbrev pub is_taken : List Seated → Seat → Bool
+is_taken seats seat = list_any (λ (seated : Seated). same_seat seated.seat seat) seats
+
+-- without the seat of a user
+abbrev pub without_seat : List Seated → List ℕ → List Seated
+without_seat seats name = filter (λ (seated : Seated). not (same_name seated.name name)) seats
+
+-- whether two seats are one user's
+abbrev pub same_user : Seated → Seated → Bool
+same_user a b = same_name a.name b.name
+
+-- no user has two seats, and who has one has an account
+pub record AreSeated (roles : RoleData) (seats : List Seated) : Type 0 where
+  pub once : IsDistinct same_user seats
+  pub users : (name : List ℕ) → has_seat seats name ≡ true → has_account roles name ≡ true

@@ -1,0 +1,99 @@
+-- The state of a session, as plain lists.
+use Rattle.std.specs.Prelude.{◌≡◌, ◌≤◌, ℕ, ◌+◌, ◌-◌, ◌*◌, nat_eq, Option, List, slice_index_or, slice_set, refl}
+use Rattle.std.specs.List.{find}
+use Rattle.std.specs.Option.{option_map}
+use Rattle.std.specs.Cmp.Lexicographic.{pointwise}
+use Rattle.std.specs.Coded.{Coded, code_by, coded×, coded_list}
+use Rattle.cards.specs.Hands.{Hands, hands_code}
+use Rattle.rbac.specs.declared.role.Role.{Role}
+use Rattle.rbac.specs.Authorization.{authorized_roles}
+use Rattle.rbac.specs.RoleData.{RoleData}
+use Rattle.rbac.specs.contracts.roles.Roles as the_roles
+use Rattle.movement.specs.declared.cell.Cell.{Cell}
+use Rattle.movement.specs.Movement.{most_tables, most_boards}
+use Rattle.disclosure_rules.specs.declared.public.Public.{Public}
+use Rattle.disclosure_rules.specs.contracts.public.Public as the_public
+use Rattle.disclosure_rules.specs.LiveCells.{is_live}
+use Rattle.disclosure_rules.specs.declared.seat.Seat.{Seat}
+use Rattle.disclosure_rules.specs.declared.viewer.Viewer.{Viewer}
+use Rattle.session_state.specs.declared.digest.Digest.{Digest}
+use Rattle.session_state.specs.contracts.digest.Digest as the_digest
+use Rattle.session_state.specs.declared.seated.Seated.{Seated}
+use Rattle.session_state.specs.contracts.seated.Seated as the_seated
+use Rattle.session_state.specs.declared.cell_state.CellState.{CellState}
+use Rattle.session_state.specs.declared.cell_state.CellState.TheVariants.{Empty}
+use Rattle.session_state.specs.contracts.cell_state.CellState as the_cell_state
+use Rattle.session_state.specs.CellState.{has_result}
+
+-- the users with their roles and the role hierarchy, the digest of each user's token in the order of the accounts,
+-- where users sit, what every member may see, what is known of each cell, and the hands of board 1, 2, ..
+pub record SessionState : Type 0 where
+  pub roles : RoleData
+  pub digests : List Digest
+  pub seats : List Seated
+  pub public : Public
+  pub cells : List CellState
+  pub deals : List Hands
+
+-- a state is stored as the tuple of its parts
+abbrev pub session_code : Coded SessionState
+session_code =
+    code_by (RoleData × (List Digest × (List Seated × (Public × (List CellState × List Hands)))))
+    (coded× the_roles.the_row.coded (coded× (coded_list the_digest.the_row.coded)
+    (coded× (coded_list the_seated.the_row.coded) (coded× the_public.the_row.coded
+    (coded× (coded_list the_cell_state.the_row.coded) (coded_list hands_code))))))
+    (λ s. (s.roles, (s.digests, (s.seats, (s.public, (s.cells, s.deals))))))
+    (λ p. record {
+      roles = p.0;
+      digests = p.1.0;
+      seats = p.1.1.0;
+      public = p.1.1.1.0;
+      cells = p.1.1.1.1.0;
+      deals = p.1.1.1.1.1;
+    })
+    (λ _. refl)
+
+-- how many cells there is room for: each table on each board
+abbrev pub most_cells : ℕ
+most_cells = most_tables * most_boards
+
+-- where a cell stands among the cells: the tables of board 1 come first, then those of board 2, and so on
+abbrev pub place_of : Cell → ℕ
+place_of cell = (cell.board - 1) * most_tables + (cell.table - 1)
+
+-- a place is kept for the cell
+pub record IsPlaced (cell : Cell) : Type 0 where
+  pub from_table : 1 ≤ cell.table
+  pub to_table : cell.table ≤ most_tables
+  pub from_board : 1 ≤ cell.board
+  pub to_board : cell.board ≤ most_boards
+
+-- a place is kept for a board of this number
+abbrev pub IsKeptBoard : ℕ → Type 0
+IsKeptBoard board = (1 ≤ board) × (board ≤ most_boards)
+
+-- what is known of a cell
+abbrev pub cell_at : SessionState → Cell → CellState
+cell_at state cell = slice_index_or state.cells (place_of cell) Empty
+
+-- with something else known of a cell
+abbrev pub with_cell : SessionState → Cell → CellState → SessionState
+with_cell state cell known = record state { cells = slice_set state.cells (place_of cell) known }
+
+-- the live bits are set just where a cell has a result
+abbrev pub AreLive : List (List ℕ) → List CellState → Type 0
+AreLive live cells =
+    (cell : Cell) → IsPlaced cell → is_live live cell ≡ has_result (slice_index_or cells (place_of cell) Empty)
+
+-- the roles that a user is authorized for, if the user has an account
+abbrev pub authorized_of : SessionState → List ℕ → Option (List Role)
+authorized_of state name = authorized_roles state.roles name
+
+-- where a user sits, if the user sits somewhere
+abbrev pub seat_of : SessionState → List ℕ → Option Seat
+seat_of state name =
+    option_map (λ seated. seated.seat) (find (λ (seated : Seated). pointwise nat_eq seated.name name) state.seats)
+
+-- a user as the policy sees one
+abbrev pub viewer_of : SessionState → List ℕ → Viewer
+viewer_of state name = record { roles = authorized_of state name; seat = seat_of state name }

@@ -1,0 +1,141 @@
+//! When a command is refused.
+ghost use Rattle.std.specs.Prelude.{◌≡◌, not, IfSome, IfNone};
+ghost use Rattle.disclosure_rules.specs.Seating.{some_that};
+ghost use Rattle.session_state.specs.Accounts.{has_account};
+ghost use Rattle.session_state.specs.Command.{cell_of, board_of};
+ghost use Rattle.session_state.specs.Refusal.{first_of, own_causes, hindrance_of, refusal_of};
+ghost use Rattle.session_state.specs.SessionState.{IsPlaced, IsKeptBoard};
+
+use crate::causes::{accounts, first_of, progress, results, seats};
+use crate::command::Command;
+use crate::refusal::Refusal;
+use crate::schedule::{awaits_round, misses_board, misses_cell};
+use crate::state::State;
+use cards::Name;
+use disclosure_rules::Seat;
+use movement::Cell;
+
+/// How many entries a journal has at most.
+pub const MOST_ENTRIES: usize = 60000;
+
+/// Why a command of a user is refused over a state to which a journal of so many entries leads, if it is. The spoiler is
+/// the first user who sits at the command's cell and was shown something of its board.
+pub fn refusal(
+    state: &State,
+    spoiler: Option<Name>,
+    actor: Name,
+    command: &Command,
+    entries: usize,
+) -> Option<Refusal>
+    ensures { result ≡ refusal_of state.now spoiler actor command.now entries }
+{
+    if !state.check_access(actor, command.operation()) {
+        return Some(Refusal::NotPermitted);
+    }
+    let hindered = hindrance(state, command);
+    if hindered.is_some() {
+        return hindered;
+    }
+    first_of(&[
+        command.spoiled(spoiler),
+        (entries >= MOST_ENTRIES).then_some(Refusal::JournalFull),
+    ])
+}
+
+/// The first cause to refuse a command that leaves the state as it is, if one is met.
+#[tactic(auto, unfolding(crate::specs::Refusal::hindrance_of))]
+pub fn hindrance(state: &State, command: &Command) -> Option<Refusal>
+    ensures cause { result ≡ hindrance_of state.now command.now }
+    ensures placed { IfNone result (IfSome (cell_of command.now) IsPlaced) }
+    ensures board { IfNone result (IfSome (board_of command.now) IsKeptBoard) }
+{
+    let public = state.public();
+    let cell = command.cell();
+    if misses_user(state, command.user()) {
+        return Some(Refusal::NoSuchUser);
+    }
+    if misses_cell(public.movement, cell) {
+        return Some(Refusal::NoSuchCell);
+    }
+    if misses_board(public.movement, command.board()) {
+        return Some(Refusal::NoSuchBoard);
+    }
+    if !command.is_taken_in(public.phase) {
+        return Some(Refusal::WrongPhase);
+    }
+    if awaits_round(public.movement, cell, public.round) {
+        return Some(Refusal::RoundNotStarted);
+    }
+    own_cause(state, command)
+}
+
+// Whether there is a user without an account.
+fn misses_user(state: &State, user: Option<Name>) -> bool
+    ensures { result ≡ some_that user (λ name. not (has_account state.now.roles name)) }
+{
+    match user {
+        Some(name) => !state.has_account(name),
+        None => false,
+    }
+}
+
+// The first of a command's own causes that is met.
+fn own_cause(state: &State, command: &Command) -> Option<Refusal>
+    requires { IfSome (cell_of command.now) IsPlaced }
+    ensures { result ≡ first_of (own_causes state.now command.now) }
+{
+    match command {
+        Command::Enter {
+            table,
+            board,
+            outcome,
+            play,
+        } => results::enter_cause(state, at(*table, *board), *outcome, play),
+        Command::Confirm {
+            table,
+            board,
+            outcome,
+        } => results::confirm_cause(state, at(*table, *board), *outcome),
+        Command::Correct {
+            table,
+            board,
+            outcome,
+            play,
+        } => results::correct_cause(state, at(*table, *board), *outcome, play),
+        Command::Rule {
+            north_south,
+            east_west,
+            reason,
+            ..
+        } => results::rule_cause(*north_south, *east_west, *reason),
+        Command::Void { table, board } => results::void_cause(state, at(*table, *board)),
+        Command::Hold { board } => progress::hold_cause(state, *board),
+        Command::Release { board } => progress::release_cause(state, *board),
+        Command::Seat { name, pair, place } => seats::seat_cause(
+            state,
+            *name,
+            Seat {
+                pair: *pair,
+                place: *place,
+            },
+        ),
+        Command::Unseat { name } => seats::unseat_cause(state, *name),
+        Command::NextRound => progress::next_round_cause(state),
+        Command::Close | Command::Finalise => progress::all_live_cause(state),
+        Command::AddUser { name, .. } => accounts::add_user_cause(state, *name),
+        Command::Assign { name, role } => accounts::assign_cause(state, *name, *role),
+        Command::Deassign { name, role } => accounts::deassign_cause(state, *name, *role),
+        Command::AddInheritance { senior, junior } => {
+            accounts::add_inheritance_cause(state, *senior, *junior)
+        }
+        Command::DeleteInheritance { senior, junior } => {
+            accounts::delete_inheritance_cause(state, *senior, *junior)
+        }
+    }
+}
+
+fn at(table: u8, board: u8) -> Cell
+    ensures { result ≡ record { table = table; board = board } }
+{
+    Cell { table, board }
+}

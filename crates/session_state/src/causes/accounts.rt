@@ -1,0 +1,84 @@
+//! Why a command on users, roles and the role hierarchy is refused.
+ghost use Rattle.std.specs.Prelude.{◌≡◌};
+ghost use Rattle.rbac.specs.RoleData.{after};
+ghost use Rattle.session_state.specs.Accounts.{seats_a_stranger};
+ghost use Rattle.session_state.specs.Refusal.{first_of, own_causes, needed_causes};
+ghost use Rattle.session_state.specs.declared.command.Command.TheVariants.{AddUser, Assign, Deassign, AddInheritance};
+ghost use Rattle.session_state.specs.declared.command.Command.TheVariants.{DeleteInheritance};
+
+use crate::causes::first_of;
+use crate::digest::Digest;
+use crate::refusal::Refusal;
+use crate::state::State;
+use cards::Name;
+use rbac::{Change, Role, Roles, is_user_name};
+
+pub fn add_user_cause(state: &State, name: Name) -> Option<Refusal>
+    ensures { (digest : Digest) → result ≡ first_of (own_causes state.now (AddUser name digest)) }
+{
+    first_of(&[
+        (!is_user_name(name.as_str())).then_some(Refusal::BadName),
+        state.has_account(name).then_some(Refusal::UserExists),
+        (state.roles().user_count() >= Roles::MOST_USERS).then_some(Refusal::TooManyUsers),
+    ])
+}
+
+pub fn assign_cause(state: &State, name: Name, role: Role) -> Option<Refusal>
+    ensures { result ≡ first_of (own_causes state.now (Assign name role)) }
+{
+    let roles = state.roles();
+    first_of(&[
+        roles
+            .is_assigned(name.as_str(), role)
+            .then_some(Refusal::AlreadyAssigned),
+        roles
+            .broken_by_assignment(name.as_str(), role)
+            .map(Refusal::Separation),
+    ])
+}
+
+pub fn deassign_cause(state: &State, name: Name, role: Role) -> Option<Refusal>
+    ensures { result ≡ first_of (own_causes state.now (Deassign name role)) }
+{
+    if !state.roles().is_assigned(name.as_str(), role) {
+        return Some(Refusal::NotAssigned);
+    }
+    needed_cause(state, Change::Deassign(name.as_str(), role))
+}
+
+pub fn add_inheritance_cause(state: &State, senior: Role, junior: Role) -> Option<Refusal>
+    ensures { result ≡ first_of (own_causes state.now (AddInheritance senior junior)) }
+{
+    let roles = state.roles();
+    first_of(&[
+        roles.reaches(junior, senior).then_some(Refusal::Cycle),
+        roles
+            .has_pair(senior, junior)
+            .then_some(Refusal::AlreadyThere),
+        roles
+            .broken_by_inheritance(senior, junior)
+            .map(Refusal::Separation),
+    ])
+}
+
+pub fn delete_inheritance_cause(state: &State, senior: Role, junior: Role) -> Option<Refusal>
+    ensures { result ≡ first_of (own_causes state.now (DeleteInheritance senior junior)) }
+{
+    if !state.roles().has_pair(senior, junior) {
+        return Some(Refusal::NotThere);
+    }
+    needed_cause(state, Change::DeleteInheritance(senior, junior))
+}
+
+// Why authorization may not be taken away by a change.
+fn needed_cause(state: &State, change: Change<'_>) -> Option<Refusal>
+    ensures { result ≡ first_of (needed_causes state.now (after state.now.roles change.entry)) }
+{
+    let has_administrator = state.roles().has_user_if(Role::Administrator, change);
+    first_of(&[
+        state
+            .seats_a_stranger_if(change)
+            .then_some(Refusal::StillSeated),
+        (!has_administrator).then_some(Refusal::LastAdministrator),
+    ])
+}

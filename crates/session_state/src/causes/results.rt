@@ -1,0 +1,77 @@
+//! Why a command on a result is refused.
+ghost use Rattle.std.specs.Prelude.{◌≡◌, ℕ};
+ghost use Rattle.session_state.specs.Refusal.{first_of, is_bad_result, is_bad_ruling, own_causes};
+ghost use Rattle.session_state.specs.SessionState.{SessionState, IsPlaced};
+ghost use Rattle.session_state.specs.declared.command.Command.TheVariants.{Enter, Confirm, Correct, Rule, Void};
+
+use crate::causes::first_of;
+use crate::play::Play;
+use crate::refusal::Refusal;
+use crate::state::State;
+use movement::Cell;
+use scoring::Outcome;
+
+pub fn enter_cause(state: &State, cell: Cell, outcome: Outcome, play: &Play) -> Option<Refusal>
+    requires { IsPlaced cell }
+    ensures { result ≡ first_of (own_causes state.now (Enter cell.table cell.board outcome play.now)) }
+{
+    first_of(&[
+        is_bad_result(outcome, play).then_some(Refusal::BadResult),
+        state
+            .cell(cell)
+            .has_result()
+            .then_some(Refusal::AlreadyLive),
+    ])
+}
+
+pub fn confirm_cause(state: &State, cell: Cell, outcome: Outcome) -> Option<Refusal>
+    requires { IsPlaced cell }
+    ensures { result ≡ first_of (own_causes state.now (Confirm cell.table cell.board outcome)) }
+{
+    let known = state.cell(cell);
+    first_of(&[
+        known.has_result().then_some(Refusal::AlreadyLive),
+        known.is_empty().then_some(Refusal::NothingEntered),
+        known
+            .is_entered_otherwise(outcome)
+            .then_some(Refusal::Mismatch),
+    ])
+}
+
+pub fn correct_cause(state: &State, cell: Cell, outcome: Outcome, play: &Play) -> Option<Refusal>
+    requires { IsPlaced cell }
+    ensures { result ≡ first_of (own_causes state.now (Correct cell.table cell.board outcome play.now)) }
+{
+    first_of(&[
+        is_bad_result(outcome, play).then_some(Refusal::BadResult),
+        (!state.cell(cell).has_result()).then_some(Refusal::NotLive),
+    ])
+}
+
+pub fn rule_cause(north_south: u8, east_west: u8, reason: u8) -> Option<Refusal>
+    ensures { (state : SessionState) (table board : ℕ) →
+        result ≡ first_of (own_causes state (Rule table board north_south east_west reason)) }
+{
+    is_bad_ruling(north_south, east_west, reason).then_some(Refusal::BadRuling)
+}
+
+pub fn void_cause(state: &State, cell: Cell) -> Option<Refusal>
+    requires { IsPlaced cell }
+    ensures { result ≡ first_of (own_causes state.now (Void cell.table cell.board)) }
+{
+    (!state.cell(cell).has_result()).then_some(Refusal::NotLive)
+}
+
+// Whether the play has a card twice, or cards were played on a passed-out board.
+fn is_bad_result(outcome: Outcome, play: &Play) -> bool
+    ensures { result ≡ is_bad_result outcome play.now }
+{
+    play.has_repeat() || matches!(outcome, Outcome::PassedOut) && !play.is_empty()
+}
+
+// Whether a percentage is over 100, or the reason isn't one of 1 to 99.
+fn is_bad_ruling(north_south: u8, east_west: u8, reason: u8) -> bool
+    ensures { result ≡ is_bad_ruling north_south east_west reason }
+{
+    north_south > 100 || east_west > 100 || !(1 <= reason && reason <= 99)
+}

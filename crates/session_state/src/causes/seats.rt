@@ -1,0 +1,48 @@
+//! Why a command on a seat is refused.
+ghost use Rattle.std.specs.Prelude.{◌≡◌};
+ghost use Rattle.session_state.specs.Refusal.{first_of, own_causes};
+ghost use Rattle.session_state.specs.Seats.{is_pair, is_of_side, is_taken};
+ghost use Rattle.session_state.specs.declared.command.Command.TheVariants as command;
+
+use crate::causes::first_of;
+use crate::refusal::Refusal;
+use crate::state::State;
+use cards::{Name, Pair, Place, Side};
+use disclosure_rules::Seat;
+use movement::Movement;
+use rbac::Role;
+
+pub fn seat_cause(state: &State, name: Name, seat: Seat) -> Option<Refusal>
+    ensures { result ≡ first_of (own_causes state.now (command.Seat name seat.pair seat.place)) }
+{
+    first_of(&[
+        (!is_pair(state.public().movement, seat.pair)).then_some(Refusal::NoSuchPair),
+        (!is_of_side(seat.pair, seat.place)).then_some(Refusal::WrongDirection),
+        (!state.viewer(name).is_authorized(Role::Contestant)).then_some(Refusal::NotContestant),
+        state.has_seat(name).then_some(Refusal::AlreadySeated),
+        state.is_taken(seat).then_some(Refusal::SeatTaken),
+    ])
+}
+
+pub fn unseat_cause(state: &State, name: Name) -> Option<Refusal>
+    ensures { result ≡ first_of (own_causes state.now (command.Unseat name)) }
+{
+    (!state.has_seat(name)).then_some(Refusal::NotSeated)
+}
+
+// Whether the section has the pair.
+fn is_pair(movement: Movement, pair: Pair) -> bool
+    ensures { result ≡ is_pair movement pair }
+{
+    1 <= pair.number && pair.number <= movement.tables()
+}
+
+// Whether the place is one of the pair's side.
+fn is_of_side(pair: Pair, place: Place) -> bool
+    ensures { result ≡ is_of_side pair place }
+{
+    match place {
+        Place::North | Place::South => matches!(pair.side, Side::NorthSouth),
+        Place::East | Place::West => matches!(pair.side, Side::EastWest),
+    }
+}

@@ -1,0 +1,40 @@
+ghost use Rattle.std.specs.Prelude.{◌≡◌};
+
+use rbac::Role;
+use std::marker::Model;
+
+/// The roles that a new user is to have, as they were written: in their order, and some perhaps twice.
+#[derive(Debug, Drop)]
+pub struct RoleList {
+    roles: Vec<Role>,
+}
+
+impl Model for RoleList {
+    ghost use Rattle.std.specs.Prelude.{List};
+    ghost use Rattle.rbac.specs.declared.role.Role.{Role};
+
+    ghost Value = { List Role };
+
+    ghost view = { λ list. list.roles.items };
+}
+
+impl RoleList {
+    /// The roles of a list, in its order.
+    pub fn new(roles: Vec<Role>) -> RoleList
+        ensures { result ≡ roles.items }
+    {
+        RoleList { roles }
+    }
+
+    pub fn as_slice(&self) -> &[Role]
+        ensures { result.now ≡ self.now }
+    {
+        self.roles.as_slice()
+    }
+
+    pub fn into_vec(self) -> Vec<Role>
+        ensures { result.items ≡ self }
+    {
+        self.roles
+    }
+}

@@ -1,0 +1,318 @@
+ghost use Rattle.std.specs.Prelude.{◌≡◌, ◌-◌, ◌<◌, ◌≤◌, ◌↔◌, [], length, slice_get, vec_capacity, Some, None, IfOk, IfSome, IsTrue, replicate};
+ghost use Rattle.movement.specs.Movement.{boards_of, most_tables, most_boards};
+ghost use Rattle.rbac.specs.Account.{most_users};
+ghost use Rattle.rbac.specs.Authorization.{HasPermission, IsValid, has_permission};
+ghost use Rattle.disclosure_rules.specs.LiveCells.{is_live};
+ghost use Rattle.disclosure_rules.specs.Policy.{first_rule};
+ghost use Rattle.session_state.specs.Accounts.{has_account};
+ghost use Rattle.session_state.specs.Seats.{is_taken, AreSeated};
+ghost use Rattle.session_state.specs.Apply.{apply, effect};
+ghost use Rattle.session_state.specs.CellState.{has_result};
+ghost use Rattle.session_state.specs.Command.{cell_of, board_of};
+ghost use Rattle.session_state.specs.Refusal.{hindrance_of, refusal_of};
+ghost use Rattle.session_state.specs.SessionState.{authorized_of, seat_of, viewer_of, cell_at, with_cell, place_of, most_cells, IsPlaced, IsKeptBoard, AreLive};
+ghost use Rattle.session_state.specs.declared.cell_state.CellState.TheVariants.{Empty};
+
+mod accounts;
+mod progress;
+mod readers;
+mod results;
+mod seats;
+
+use crate::acceptance::{hindrance, refusal};
+use crate::cell_state::CellState;
+use crate::command::Command;
+use crate::digest::Digest;
+use crate::entry::Entry;
+use crate::play::Play;
+use crate::refusal::Refusal;
+use crate::room::{filled, with_room};
+use crate::seated::Seated;
+use cards::{Deal, Name};
+use disclosure_rules::{Fact, Marks, Public, Rule, Seat, Viewer, decide};
+use movement::{Cell, Movement};
+use rbac::{Account, Operation, RoleSet, Roles};
+use scoring::Outcome;
+use std::alloc::{AllocError, Global};
+use std::marker::Model;
+
+/// How many cells there is room for: each table on each board.
+const MOST_CELLS: usize = Movement::MOST_TABLES as usize * Movement::MOST_BOARDS as usize;
+
+/// What a session has come to.
+#[derive(Drop)]
+pub struct State {
+    roles: Roles,
+    digests: Vec<Digest>,
+    seats: Vec<Seated>,
+    public: Public,
+    cells: Vec<CellState>,
+    deals: Vec<Deal>,
+}
+
+impl Model for State {
+    ghost use Rattle.session_state.specs.SessionState.{SessionState, session_code};
+
+    ghost Value = { SessionState };
+
+    ghost coded = { session_code };
+
+    ghost use Rattle.session_state.specs.KeptState.{IsKept};
+
+    ghost view = { λ s. record {
+      roles = s.roles;
+      digests = s.digests.items;
+      seats = s.seats.items;
+      public = s.public;
+      cells = s.cells.items;
+      deals = s.deals.items;
+    } };
+
+    ghost invariant = { IsKept };
+}
+
+impl State {
+    /// A state in which nothing is entered yet.
+    pub(crate) fn new(
+        alloc: Global,
+        roles: Roles,
+        digests: Vec<Digest>,
+        seats: Vec<Seated>,
+        public: Public,
+        deals: Vec<Deal>,
+    ) -> Result<State, AllocError>
+        requires marks { length public.marks ≡ most_boards }
+        requires live { public.live ≡ replicate most_boards [] }
+        requires deals { boards_of public.movement ≤ length deals.items }
+        requires digests { length digests.items ≡ length roles.accounts }
+        requires digest_room { most_users ≤ vec_capacity digests }
+        requires seats { most_users ≤ vec_capacity seats }
+        requires users { length roles.accounts ≤ most_users }
+        requires seated { AreSeated roles seats.items }
+        ensures { IfOk result (λ state. state ≡ record {
+          roles = roles;
+          digests = digests.items;
+          seats = seats.items;
+          public = public;
+          cells = replicate most_cells Empty;
+          deals = deals.items;
+        }) }
+    {
+        let cells = filled(alloc, CellState::Empty, MOST_CELLS)?;
+        Ok(State {
+            roles,
+            digests,
+            seats,
+            public,
+            cells,
+            deals,
+        })
+    }
+
+    /// A copy, with room for all that a state can need.
+    pub fn copy(&self, alloc: Global) -> Result<State, AllocError>
+        ensures { IfOk result (λ copy. copy ≡ self.now) }
+    {
+        let roles = self.roles.copy(alloc)?;
+        let digests = with_room(alloc, &self.digests, Roles::MOST_USERS)?;
+        let seats = with_room(alloc, &self.seats, Roles::MOST_USERS)?;
+        let cells = with_room(alloc, &self.cells, MOST_CELLS)?;
+        let deals = with_room(alloc, &self.deals, self.deals.len())?;
+        Ok(State {
+            roles,
+            digests,
+            seats,
+            public: self.public.copy(),
+            cells,
+            deals,
+        })
+    }
+
+    /// What every member of the session may see.
+    pub fn public(&self) -> &Public
+        ensures public { result.now ≡ self.now.public }
+        ensures live { AreLive self.now.public.live self.now.cells }
+        ensures dealt { boards_of self.now.public.movement ≤ length self.now.deals }
+    {
+        &self.public
+    }
+
+    /// The accounts, in the order of adding.
+    pub fn accounts(&self) -> &[Account]
+        ensures accounts { result.now ≡ self.now.roles.accounts }
+        ensures valid { IsValid self.now.roles }
+    {
+        self.roles.accounts()
+    }
+
+    /// The roles that a user is authorized for; none where the user has no account.
+    pub fn authorized(&self, name: Name) -> Option<RoleSet>
+        ensures roles { result ≡ authorized_of self.now name }
+        ensures valid { IsValid self.now.roles }
+    {
+        self.roles.authorized(name.as_str())
+    }
+
+    /// Whether a user has the permission for an operation.
+    pub fn check_access(&self, name: Name, operation: Operation) -> bool
+        ensures permission { IsTrue result ↔ HasPermission self.now.roles name operation }
+        ensures test { result ≡ has_permission self.now.roles name operation }
+    {
+        self.roles.check_access(name.as_str(), operation)
+    }
+
+    /// Where a user sits, if the user sits somewhere.
+    pub fn seat(&self, name: Name) -> Option<Seat>
+        ensures { result ≡ seat_of self.now name }
+    {
+        self.seats
+            .iter()
+            .find(|seated| seated.name == name)
+            .map(|seated| seated.seat)
+    }
+
+    /// Whether there is a user of this name.
+    #[tactic(auto, using(crate::proofs::AccountLemmas::found_account))]
+    pub fn has_account(&self, name: Name) -> bool
+        ensures { result ≡ has_account self.now.roles name }
+    {
+        self.roles.authorized(name.as_str()).is_some()
+    }
+
+    /// Whether somebody sits at a place of a pair.
+    pub fn is_taken(&self, seat: Seat) -> bool
+        ensures { result ≡ is_taken self.now.seats seat }
+    {
+        self.seats.iter().any(|seated| seated.seat == seat)
+    }
+
+    /// What is known of a cell.
+    pub fn cell(&self, cell: Cell) -> CellState
+        requires from_table { 1 ≤ cell.table }
+        requires to_table { cell.table ≤ most_tables }
+        requires from_board { 1 ≤ cell.board }
+        requires to_board { cell.board ≤ most_boards }
+        ensures known { result ≡ cell_at self.now cell }
+        ensures live { is_live self.now.public.live cell ≡ has_result result }
+    {
+        self.cells[place_of(cell)]
+    }
+
+    /// The hands of a board.
+    pub fn deal(&self, board: u8) -> Deal
+        requires from { 1 ≤ board }
+        requires to { board ≤ boards_of self.now.public.movement }
+        ensures { slice_get self.now.deals (board - 1) ≡ Some result }
+    {
+        self.deals[board as usize - 1]
+    }
+
+    /// What is marked on a board.
+    pub fn marks(&self, board: u8) -> Marks
+        requires from { 1 ≤ board }
+        requires to { board ≤ most_boards }
+        ensures { slice_get self.now.public.marks (board - 1) ≡ Some result }
+    {
+        let marks = &self.public.marks;
+        marks[board as usize - 1]
+    }
+
+    /// A user, as the policy sees one.
+    pub fn viewer(&self, name: Name) -> Viewer
+        ensures { result ≡ viewer_of self.now name }
+    {
+        Viewer {
+            roles: self.authorized(name),
+            seat: self.seat(name),
+        }
+    }
+
+    /// The first rule that forbids a fact to a user, if one does.
+    pub fn decide(&self, name: Name, fact: Fact) -> Option<Rule>
+        ensures { result ≡ first_rule self.now.public (viewer_of self.now name) fact }
+    {
+        decide(&self.public, &self.viewer(name), fact)
+    }
+
+    /// Why a command of a user is refused here, where the journal has so many entries, if it is. The spoiler is the first
+    /// user who sits at the command's cell and was shown something of its board.
+    pub fn refusal(
+        &self,
+        spoiler: Option<Name>,
+        actor: Name,
+        command: &Command,
+        entries: usize,
+    ) -> Option<Refusal>
+        ensures { result ≡ refusal_of self.now spoiler actor command.now entries }
+    {
+        refusal(self, spoiler, actor, command, entries)
+    }
+
+    /// Takes an entry in: one that the state hinders changes nothing.
+    pub fn absorb(&mut self, entry: &Entry)
+        ensures { self.new ≡ apply self.old entry.now }
+    {
+        if hindrance(self, &entry.command).is_none() {
+            self.take_effect(&entry.command);
+        }
+    }
+
+    // Does what a command does where nothing hinders it.
+    fn take_effect(&mut self, command: &Command)
+        requires unhindered { hindrance_of self.old command.now ≡ None }
+        requires cell { IfSome (cell_of command.now) IsPlaced }
+        requires board { IfSome (board_of command.now) IsKeptBoard }
+        ensures { self.new ≡ effect self.old command.now }
+    {
+        match *command {
+            Command::Enter {
+                table,
+                board,
+                outcome,
+                play,
+            } => self.enter(Cell { table, board }, outcome, play),
+            Command::Confirm {
+                table,
+                board,
+                outcome,
+            } => self.confirm(Cell { table, board }, outcome),
+            Command::Correct {
+                table,
+                board,
+                outcome,
+                play,
+            } => self.correct(Cell { table, board }, outcome, play),
+            Command::Rule {
+                table,
+                board,
+                north_south,
+                east_west,
+                reason,
+            } => self.rule(Cell { table, board }, north_south, east_west, reason),
+            Command::Void { table, board } => self.void(Cell { table, board }),
+            Command::Hold { board } => self.hold(board),
+            Command::Release { board } => self.release(board),
+            Command::Seat { name, pair, place } => self.take_seat(name, Seat { pair, place }),
+            Command::Unseat { name } => self.unseat(name),
+            Command::NextRound => self.next_round(),
+            Command::Close => self.close(),
+            Command::Finalise => self.finalise(),
+            Command::AddUser { name, digest } => self.add_user(name, digest),
+            Command::Assign { name, role } => self.assign(name, role),
+            Command::Deassign { name, role } => self.deassign(name, role),
+            Command::AddInheritance { senior, junior } => self.add_inheritance(senior, junior),
+            Command::DeleteInheritance { senior, junior } => {
+                self.delete_inheritance(senior, junior)
+            }
+        }
+    }
+}
+
+// Where a cell stands among the cells.
+fn place_of(cell: Cell) -> usize
+    requires { IsPlaced cell }
+    ensures place { result ≡ place_of cell }
+    ensures below { result < most_cells }
+{
+    (cell.board as usize - 1) * Movement::MOST_TABLES as usize + (cell.table as usize - 1)
+}

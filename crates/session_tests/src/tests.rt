@@ -1,0 +1,2 @@
+mod book;
+mod opening;

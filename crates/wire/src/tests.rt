@@ -1,2 +1,0 @@
-mod reading;
-mod texts;
