@@ -2,6 +2,7 @@ pub mod DealValueLemmas
 pub mod EscapeLemmas
 pub mod FaultLemmas
 pub mod FreeLemmas
+pub mod InOrderLemmas
 pub mod InTextLemmas
 pub mod KnownLemmas
 pub mod LawLemmas

@@ -12,6 +12,7 @@ use Rattle.pbn_records.specs.Kept.{KnowsBoard, board_at}
 use Rattle.pbn_records.specs.Reads.{start_of, values_from, IsLeastMissing, Reads}
 use Rattle.pbn_records.specs.InText.{HasRead}
 use Rattle.pbn_records.specs.Each.{KnowsFirst, IsUnknown, HasFirst}
+use Rattle.pbn_records.proofs.InOrderLemmas.{next_number, pushed_before, pushed_last}
 use Rattle.pbn_records.proofs.KnownLemmas.{none_known}
 
 record IsKnown (number : ℕ) (first : Option Values) (known : Option Board) : Type 0 where
@@ -25,9 +26,6 @@ is_known : (number : ℕ) (first : Option Values) (known : Option Board) → Kno
 is_known number first None knows some = absurd (true≢false (sym some))
 is_known number None (Some board) knows some = absurd knows
 is_known number (Some values) (Some board) knows some = record { values = values; board = board; first_so = refl; known_so = refl; read = knows }
-
-next_number : (number : ℕ) → 1 ≤ number → number - 1 + 1 ≡ number
-next_number number from = omega (arith, from)
 
 known_at : (text : List ℕ) (boards : ℕ) (state : State) (number : ℕ) → (read : HasRead text boards state) → 1 ≤ number →
     is_some (board_at state.known (number - 1 + 1)) ≡ true →
@@ -55,15 +53,6 @@ reads_of text boards state set read knows has = record {
 }
 
 -- one board more in a row
-pushed_before : (set : List Board) (board : Board) (index : ℕ) → index < length set → slice_get (set ++ board ∷ []) index ≡ slice_get set index
-pushed_before [] board index within = absurd (omega (arith, within))
-pushed_before (first ∷ set) board zero within = refl
-pushed_before (first ∷ set) board (suc index) within = pushed_before set board index (omega (arith, within))
-
-pushed_last : (set : List Board) (board : Board) → slice_get (set ++ board ∷ []) (length set) ≡ Some board
-pushed_last [] board = refl
-pushed_last (first ∷ set) board = pushed_last set board
-
 pushed : (known : KnownBoards) (boards : ℕ) (set : List Board) (board : Board) → board_at known (boards + 1) ≡ Some board → HasFirst known boards set →
     HasFirst known (suc boards) (set ++ board ∷ [])
 pushed known boards set board e has = record {

@@ -1,6 +1,7 @@
 -- What the reader knows while it goes through a text.
-use Rattle.std.specs.Prelude.{◌≡◌, ◌≢◌, ◌≤◌, ℕ, if◌then◌else◌, nat_le, slice_index_or, List, [], ◌∷◌, ◌++◌, Option, Some, None}
+use Rattle.std.specs.Prelude.{◌≡◌, ◌≢◌, ◌≤◌, ℕ, if◌then◌else◌, nat_le, List, [], ◌∷◌, ◌++◌, Option, Some, None}
 use Rattle.pbn_records.specs.declared.known_boards.KnownBoards.{KnownBoards}
+use Rattle.pbn_records.specs.InOrder.{in_place}
 use Rattle.cards.specs.Hands.{Hands}
 use Rattle.pbn_records.specs.declared.used.Used.{Used}
 use Rattle.pbn_records.specs.declared.used.Used.TheVariants as used
@@ -37,7 +38,7 @@ KnowsBoard number (Some values) (Some board) = IsRead number values board
 
 -- what is known of a board
 abbrev pub board_at : KnownBoards → ℕ → Option Board
-board_at known number = slice_index_or known.places number None
+board_at known number = in_place known.places number
 
 -- the boards of these games are known
 abbrev pub Knows : ℕ → List Values → KnownBoards → Type 0
@@ -101,6 +102,7 @@ ended_walk done before (tag ∷ game) = record {
   game = [];
 }
 
+-- the walk once its game ends
 abbrev pub end_of : Walk → Walk
 end_of walk = ended_walk walk.done walk.before walk.game
 

@@ -3,6 +3,7 @@ pub mod Boards
 pub mod DealValue
 pub mod Each
 pub mod Faults
+pub mod InOrder
 pub mod InText
 pub mod Kept
 pub mod MarkValue

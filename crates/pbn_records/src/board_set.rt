@@ -1,45 +1,59 @@
-ghost use Rattle.std.specs.Prelude.{◌≡◌, ◌-◌, ◌≤◌, length, Some, slice_get};
+ghost use Rattle.std.specs.Prelude.{◌≡◌, ◌+◌, ◌-◌, ◌≤◌, ◌<◌, ℕ, length, Some, nat_eq, slice_get};
+ghost use Rattle.indexmap.specs.IndexMap.{get};
 ghost use Rattle.pbn_records.specs.declared.board.Board.{Board};
+ghost use Rattle.pbn_records.specs.InOrder.{HasEach};
 
 use crate::board::Board;
 use cards::{Deal, Place, Vulnerability};
+use indexmap::IndexMap;
 use std::marker::Model;
 
 /// A deal, a dealer and a vulnerability for each board from 1.
 #[derive(Drop)]
 pub struct BoardSet {
-    boards: Vec<Board>,
+    boards: u8,
+    read: IndexMap<u8, Board>,
 }
 
 impl Model for BoardSet {
-    ghost use Rattle.std.specs.Prelude.{List, ◌≤◌, vec_len};
+    ghost use Rattle.std.specs.Prelude.{List};
     ghost use Rattle.pbn_records.specs.declared.board.Board.{Board};
     ghost use Rattle.std.specs.Coded.{coded_list};
+    ghost use Rattle.pbn_records.specs.InOrder.{HasEach, by_number};
     ghost use Rattle.pbn_records.specs.contracts.board.Board as the_board;
 
     ghost Value = { List Board };
 
     ghost coded = { coded_list the_board.the_row.coded };
 
-    ghost view = { λ set. set.boards.items };
+    ghost view = { λ set. by_number set.read set.boards };
 
-    ghost invariant = { λ set. vec_len set.boards ≤ 255 };
+    ghost invariant = { λ set. HasEach set.read set.boards };
 }
 
 impl BoardSet {
-    /// The boards in the order of their numbers, from 1.
-    pub(crate) fn new(boards: Vec<Board>) -> BoardSet
-        requires { length boards.items ≤ 255 }
-        ensures { result ≡ boards.items }
+    /// The boards from 1, of those that were read.
+    pub(crate) fn new(boards: u8, read: IndexMap<u8, Board>) -> BoardSet
+        requires { HasEach read boards }
+        ensures many { length result ≡ boards }
+        ensures each { (index : ℕ) → index < boards → slice_get result index ≡ get nat_eq read (index + 1) }
     {
-        BoardSet { boards }
+        BoardSet { boards, read }
     }
 
     /// How many boards there are.
     pub fn boards(&self) -> u8
         ensures { result ≡ length self.now }
     {
-        self.boards.len() as u8
+        self.boards
+    }
+
+    /// What was read of a board.
+    fn board(&self, board: u8) -> Board
+        requires { (1 ≤ board) × (board ≤ length self.now) }
+        ensures { slice_get self.now (board - 1) ≡ Some result }
+    {
+        self.read[&board]
     }
 
     /// The deal of a board.
@@ -47,7 +61,7 @@ impl BoardSet {
         requires { (1 ≤ board) × (board ≤ length self.now) }
         ensures { (given : Board) → slice_get self.now (board - 1) ≡ Some given → result ≡ given.deal }
     {
-        self.boards[usize::from(board) - 1].deal
+        self.board(board).deal
     }
 
     /// Who deals a board.
@@ -55,7 +69,7 @@ impl BoardSet {
         requires { (1 ≤ board) × (board ≤ length self.now) }
         ensures { (given : Board) → slice_get self.now (board - 1) ≡ Some given → result ≡ given.dealer }
     {
-        self.boards[usize::from(board) - 1].dealer
+        self.board(board).dealer
     }
 
     /// Which sides are vulnerable on a board.
@@ -63,6 +77,6 @@ impl BoardSet {
         requires { (1 ≤ board) × (board ≤ length self.now) }
         ensures { (given : Board) → slice_get self.now (board - 1) ≡ Some given → result ≡ given.vulnerability }
     {
-        self.boards[usize::from(board) - 1].vulnerability
+        self.board(board).vulnerability
     }
 }

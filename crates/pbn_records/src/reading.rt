@@ -9,32 +9,32 @@ use crate::deals_error::DealsError;
 use crate::known_boards::KnownBoards;
 use crate::state::State;
 use pbn_pieces::Pieces;
-use std::alloc::{AllocError, Global};
+use std::alloc::Global;
 
 /// Reads the boards from 1 to `boards`. Only the set takes memory: what is wrong with a text is said without.
 pub fn read_deals(alloc: Global, text: &[u8], boards: u8) -> Result<BoardSet, DealsError>
     ensures set { IfOk result (Reads text.now boards) }
     ensures refused { IfErr result (λ error. IsRefused error text.now boards) }
 {
-    let state = match read_games(text, boards) {
+    let state = match read_games(alloc, text, boards) {
         Ok(state) => state,
         Err(error) => return Err(error),
     };
     if let Some(number) = unknown_board(&state.known, boards) {
         return Err(DealsError::MissingBoard(number));
     }
-    match board_set(alloc, &state.known, boards) {
-        Ok(set) => Ok(set),
-        Err(_) => Err(DealsError::OutOfMemory),
+    match board_set(state.known, boards) {
+        Some(set) => Ok(set),
+        None => Err(DealsError::OutOfMemory),
     }
 }
 
 /// Goes over all games of a text.
-fn read_games(text: &[u8], boards: u8) -> Result<State<'_>, DealsError>
+fn read_games(alloc: Global, text: &[u8], boards: u8) -> Result<State<'_>, DealsError>
     ensures read { IfOk result (HasRead text.now boards) }
     ensures refused { IfErr result (λ error. IsRefused error text.now boards) }
 {
-    let mut state = State::new(boards);
+    let mut state = State::new(alloc, boards);
     let mut pieces = Pieces::new(without_mark(text));
     let mut offset = text.len() - pieces.left();
     while let Some(found) = pieces.next_piece() {
@@ -73,16 +73,14 @@ fn unknown_board(known: &KnownBoards, boards: u8) -> Option<u8>
     None
 }
 
-/// The boards from 1, each of which is known.
-fn board_set(alloc: Global, known: &KnownBoards, boards: u8) -> Result<BoardSet, AllocError>
-    requires { KnowsFirst known.now boards }
-    ensures { IfOk result (HasFirst known.now boards) }
+/// The boards from 1, each of which is known, unless memory for them was refused.
+#[tactic(auto, using(crate::proofs::InOrderLemmas::row_known))]
+fn board_set(known: KnownBoards, boards: u8) -> Option<BoardSet>
+    requires { KnowsFirst known boards }
+    ensures { IfSome result (HasFirst known boards) }
 {
-    let mut set = Vec::with_capacity(alloc, usize::from(boards))?;
-    for index in 0..boards {
-        if let Some(board) = known.get(index + 1) {
-            set.push(board)?;
-        }
+    match known.in_order() {
+        Some(read) => Some(BoardSet::new(boards, read)),
+        None => None,
     }
-    Ok(BoardSet::new(set))
 }

@@ -11,6 +11,7 @@ use crate::known::add_game;
 use crate::known_boards::KnownBoards;
 use crate::used::Used;
 use pbn_pieces::Found;
+use std::alloc::Global;
 
 /// Where a reader is in a text: the game that it is in, the values of the game before, and the boards of the games so
 /// far.
@@ -25,7 +26,7 @@ pub(crate) struct State<'t> {
 
 impl<'t> State<'t> {
     /// At the start of a text.
-    pub(crate) fn new(boards: u8) -> State<'t>
+    pub(crate) fn new(alloc: Global, boards: u8) -> State<'t>
         ensures boards { result.boards ≡ boards }
         ensures at { IsAt result (record { done = []; before = no_values; game = [] }) }
     {
@@ -34,7 +35,7 @@ impl<'t> State<'t> {
             started: false,
             tags: UsedTags::new(),
             before: UsedTags::new(),
-            known: KnownBoards::new(),
+            known: KnownBoards::new(alloc),
         }
     }
 

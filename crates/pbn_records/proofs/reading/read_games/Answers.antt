@@ -25,7 +25,7 @@ returns-in-Ok-end_game-clause-read c =
     let stands = c.loop-found.invariant.stands in
     reads_all _ _ _ _ _ stands c.in_default.ensures.none c.end_game.ensures.boards (c.in-Ok-end_game.ensures.ended stands.walk stands.at)
 
-pub returns-in-Err-end_game-clause-refused : goal.returns-in-Err-end_game-clause-refused
-returns-in-Err-end_game-clause-refused c =
+pub returns-clause-refused : goal.returns-clause-refused
+returns-clause-refused c =
     let stands = c.loop-found.invariant.stands in
     refused_at_end _ _ _ _ _ stands c.in_default.ensures.none (c.in-Err-end_game.ensures.fault stands.walk stands.at)
