@@ -23,5 +23,6 @@ tricks_in hands strain = record {
   west = declarer_tricks hands strain West;
 }
 
+-- the four numbers are the deal's in this strain
 abbrev pub IsTricksIn : Hands → Strain → DeclarerTricks → Type 0
 IsTricksIn hands strain tricks = tricks ≡ tricks_in hands strain

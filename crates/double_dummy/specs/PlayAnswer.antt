@@ -31,6 +31,7 @@ abbrev pub answer_by : Option ℕ → List ℕ → PlayAnswer
 answer_by None costs = Costs costs
 answer_by (Some number) costs = NotAPlay number
 
+-- the answer for a play: its first card that is not legal, and where all are legal, what each costs
 abbrev pub answer_of : PlayedDeal → PlayAnswer
 answer_of played =
     answer_by (first_illegal 1 (start played.deal played.contract.strain played.contract.declarer) played.play)

@@ -1,4 +1,5 @@
 pub mod DigitLemmas
+pub mod KeptLemmas
 pub mod RankLemmas
 pub mod RemainderLemmas
 pub mod SetLemmas

@@ -10,7 +10,7 @@ use crate::finding::Finding;
 use crate::holders::Holders;
 use crate::pattern::{Entry, Pattern};
 use crate::sketch::{Block, Slot};
-use cards::Position;
+use cards::{Place, Position, Strain};
 use std::alloc::{AllocError, Global};
 
 // What ends a chain.
@@ -61,10 +61,7 @@ impl Memory {
     /// Forgets everything.
     pub fn clear(&mut self) {
         self.entries.clear();
-        self.blocks.clear();
-        for head in self.heads.iter_mut() {
-            *head = NONE;
-        }
+        self.unlink();
     }
 
     /// What is known of the position, at the beginning of a trick, if its pattern is remembered.
@@ -157,7 +154,7 @@ impl Memory {
         None
     }
 
-    /// Remembers what was found out. Where there is no room for it, everything else is forgotten first.
+    /// Remembers what was found out. Where there is no room for it, answers of few tricks are forgotten first.
     pub fn store(
         &mut self,
         position: &Position,
@@ -173,13 +170,56 @@ impl Memory {
         requires found { IsFound position.now target finding.now.known finding.now.holds }
     {
         if self.entries.len() >= self.room || self.blocks.len() >= self.room / 2 {
-            self.clear();
+            self.forget();
         }
-        let chain = self.chain_of(position, pattern);
         let entry = Entry::new(position, holders, pattern, target, finding);
         let place = self.entries.len();
-        if place < NONE as usize && push_entry(&mut self.entries, entry) {
+        if push_entry(&mut self.entries, entry) {
+            self.link(place);
+        }
+    }
+
+    /// Puts an entry into its chain.
+    fn link(&mut self, place: usize) {
+        let Some(entry) = self.entries.get(place).copied() else {
+            return;
+        };
+        if place < NONE as usize {
+            let chain = self.chain(entry.lengths(), entry.leader, entry.strain);
             self.insert(chain, Slot::of(&entry, place as u32));
+        }
+    }
+
+    /// Forgets the answers of few tricks, which are many and soon found again: a quarter of the room is kept at most.
+    fn forget(&mut self) {
+        let least = self.least_kept();
+        keep(&mut self.entries, least);
+        self.unlink();
+        for place in 0..self.entries.len() {
+            self.link(place);
+        }
+    }
+
+    /// From how many tricks on the answers fit into a quarter of the room.
+    fn least_kept(&self) -> u8 {
+        for least in 3..14 {
+            let kept = self
+                .entries
+                .iter()
+                .filter(|entry| entry.tricks >= least)
+                .count();
+            if kept <= self.room / 4 {
+                return least;
+            }
+        }
+        14
+    }
+
+    /// Empties the chains.
+    fn unlink(&mut self) {
+        self.blocks.clear();
+        for head in self.heads.iter_mut() {
+            *head = NONE;
         }
     }
 
@@ -240,17 +280,26 @@ impl Memory {
         }
     }
 
-    /// The chain of a pattern's lengths, leader and strain.
+    /// The chain of a position's pattern.
     fn chain_of(&self, position: &Position, pattern: &Pattern) -> usize {
-        let mut hash = pattern.spades.lengths as u64;
-        hash = hash << 16 | pattern.hearts.lengths as u64;
-        hash = hash << 16 | pattern.diamonds.lengths as u64;
-        hash = hash << 16 | pattern.clubs.lengths as u64;
-        hash ^= position.leader() as u64 ^ (position.strain() as u64) << 8;
+        self.chain(pattern.lengths(), position.leader(), position.strain())
+    }
+
+    /// The chain of a pattern's lengths, leader and strain.
+    fn chain(&self, lengths: u64, leader: Place, strain: Strain) -> usize {
+        let mut hash = lengths ^ leader as u64 ^ (strain as u64) << 8;
         hash = (hash ^ hash >> 29).wrapping_mul(0x9e37_79b9_7f4a_7c15);
         let mask = (self.heads.len() as u64).saturating_sub(1);
         ((hash >> 20) & mask) as usize
     }
+}
+
+/// Keeps the entries of so many tricks and more.
+fn keep(entries: &mut Vec<Entry>, least: u8)
+    requires { All IsTruePattern entries.old.items }
+    ensures { All IsTruePattern entries.new.items }
+{
+    entries.retain(|entry| entry.tricks >= least);
 }
 
 /// Adds an entry, if it finds room.

@@ -60,7 +60,34 @@ fn few(tops: &SuitTops) -> u32 {
     (1 << (2 * tops.count.min(4))) - 1
 }
 
+/// How many cards each player has of each suit, in one word: a key, of which no clause speaks.
+fn four(spades: u16, hearts: u16, diamonds: u16, clubs: u16) -> u64 {
+    (spades as u64) << 48 | (hearts as u64) << 32 | (diamonds as u64) << 16 | clubs as u64
+}
+
+impl Entry {
+    /// How many cards each player has of each suit.
+    pub fn lengths(&self) -> u64 {
+        four(
+            self.spades.lengths,
+            self.hearts.lengths,
+            self.diamonds.lengths,
+            self.clubs.lengths,
+        )
+    }
+}
+
 impl Pattern {
+    /// How many cards each player has of each suit.
+    pub fn lengths(&self) -> u64 {
+        four(
+            self.spades.lengths,
+            self.hearts.lengths,
+            self.diamonds.lengths,
+            self.clubs.lengths,
+        )
+    }
+
     /// The holders of four top cards of each suit.
     pub fn sketch(&self) -> u32 {
         let spades = self.spades.owners & 255;
