@@ -1,0 +1,4 @@
+pub mod Units
+pub mod Order
+pub mod Traveller
+pub mod Ranking

@@ -1,0 +1,101 @@
+ghost use Rattle.std.specs.Prelude.{◌≡◌, ◌≤◌, ◌+◌, ◌*◌, ◌++◌, length, All, OnOk, vec_len};
+ghost use Rattle.movement.specs.Movement.{IsCell};
+ghost use Rattle.standings.specs.Ranking.{top_of, earned_north_south, earned_east_west, earning_of, earnings_of};
+
+use crate::cell_result::CellResult;
+use crate::earning::Earning;
+use crate::table_result::TableResult;
+use crate::traveller::{east_west_at, north_south_at, scores_of};
+use crate::units::units_of_score;
+use cards::Vulnerability;
+use movement::Movement;
+use scoring::ns_score;
+use std::alloc::{AllocError, Global};
+
+/// Adds what the results of a board earn.
+#[tactic(auto, unfolding(crate::specs::Ranking::earnings_of))]
+pub fn add_earnings(
+    alloc: Global,
+    movement: Movement,
+    vulnerability: Vulnerability,
+    results: &[TableResult],
+    earnings: &mut Vec<Earning>,
+) -> Result<(), AllocError>
+    requires few { length results.now ≤ 16 }
+    requires cells { All (λ found. IsCell movement found.cell) results.now }
+    ensures earnings { OnOk result (earnings.new.items ≡
+        earnings.old.items ++ earnings_of movement vulnerability results.now) }
+    ensures many { OnOk result (vec_len earnings.new ≡ vec_len earnings.old + length results.now) }
+{
+    let scores = scores_of(alloc, vulnerability, results)?;
+    for found in results {
+        earnings.push(earning_of(movement, vulnerability, &scores, found))?;
+    }
+    Ok(())
+}
+
+/// What a result earns for its two pairs.
+fn earning_of(
+    movement: Movement,
+    vulnerability: Vulnerability,
+    scores: &[i32],
+    found: &TableResult,
+) -> Earning
+    requires few { length scores.now ≤ 16 }
+    requires cell { IsCell movement found.now.cell }
+    ensures { result ≡ earning_of movement vulnerability scores.now found.now }
+{
+    Earning {
+        north_south: north_south_at(movement, found.cell),
+        east_west: east_west_at(movement, found.cell),
+        for_north_south: earned_north_south(vulnerability, scores, &found.result),
+        for_east_west: earned_east_west(vulnerability, scores, &found.result),
+        top: 100 * top_of(scores),
+    }
+}
+
+/// What a result earns for North-South, in hundredths of a unit.
+fn earned_north_south(vulnerability: Vulnerability, scores: &[i32], found: &CellResult) -> u32
+    requires { length scores.now ≤ 16 }
+    ensures { result ≡ earned_north_south vulnerability scores.now found.now }
+{
+    match found {
+        CellResult::Confirmed(outcome) => {
+            100 * units_of_score(scores, ns_score(*outcome, vulnerability))
+        }
+        CellResult::Ruled { north_south, .. } => part_of_top(*north_south, scores),
+    }
+}
+
+/// What a result earns for East-West, in hundredths of a unit: of what was played, the rest of the top.
+fn earned_east_west(vulnerability: Vulnerability, scores: &[i32], found: &CellResult) -> u32
+    requires { length scores.now ≤ 16 }
+    ensures { result ≡ earned_east_west vulnerability scores.now found.now }
+{
+    match found {
+        CellResult::Confirmed(_) => (100 * top_of(scores)).saturating_sub(earned_north_south(
+            vulnerability,
+            scores,
+            found,
+        )),
+        CellResult::Ruled { east_west, .. } => part_of_top(*east_west, scores),
+    }
+}
+
+/// A percentage of a top, in hundredths of a unit.
+#[tactic(auto, using(crate::proofs::EarningLemmas::part_fits))]
+fn part_of_top(percentage: u8, scores: &[i32]) -> u32
+    requires { length scores.now ≤ 16 }
+    ensures { result ≡ percentage * top_of scores.now }
+{
+    u32::from(percentage) * top_of(scores)
+}
+
+/// The most units that a result can earn among so many that were played.
+fn top_of(scores: &[i32]) -> u32
+    requires { length scores.now ≤ 16 }
+    ensures top { result ≡ top_of scores.now }
+    ensures few { result ≤ 30 }
+{
+    2 * (scores.len() as u32).saturating_sub(1)
+}

@@ -1,0 +1,113 @@
+ghost use Rattle.std.specs.Prelude.{◌≡◌, ◌≤◌, ◌++◌, List, map, length, IfOk, OnOk};
+ghost use Rattle.std.specs.List.{range_with_len, insert};
+ghost use Rattle.cards.specs.declared.pair.Pair.{Pair};
+ghost use Rattle.standings.specs.Ranking.{earned_by, top_for, standing_of, pair_on, placed, ranked, ranking_of};
+
+use crate::earning::Earning;
+use cards::{Pair, Side};
+use movement::Movement;
+use scoring::{Standing, rank_order};
+use std::alloc::{AllocError, Global};
+use std::cmp::Ordering;
+
+/// The pairs of a movement in the order in which they rank, by what all results earn.
+pub fn ranking_of(
+    alloc: Global,
+    movement: Movement,
+    earnings: &[Earning],
+) -> Result<Vec<Standing>, AllocError>
+    requires few { length earnings.now ≤ 1024 }
+    ensures { IfOk result (λ standings. standings.items ≡ ranking_of movement earnings.now) }
+{
+    let tables = movement.tables();
+    let mut standings = Vec::with_capacity(alloc, 2 * tables as usize)?;
+    place_side(&mut standings, earnings, Side::EastWest, tables)?;
+    place_side(&mut standings, earnings, Side::NorthSouth, tables)?;
+    Ok(standings)
+}
+
+/// Puts the pairs of a side in their places among those that are in their order.
+fn place_side(
+    standings: &mut Vec<Standing>,
+    earnings: &[Earning],
+    side: Side,
+    tables: u8,
+) -> Result<(), AllocError>
+    requires few { length earnings.now ≤ 1024 }
+    ensures { OnOk result ((others : List Pair) →
+        standings.old.items ≡ ranked (map (standing_of earnings.now) others) →
+        standings.new.items ≡ ranked (map (standing_of earnings.now)
+        (map (pair_on side) (range_with_len 1 tables) ++ others))) }
+{
+    for before in 0..tables {
+        let pair = Pair {
+            side,
+            number: tables - before,
+        };
+        place(standings, standing_of(earnings, pair))?;
+    }
+    Ok(())
+}
+
+/// How a pair stands by what all results earn.
+#[tactic(auto, unfolding(crate::specs::Ranking::standing_of))]
+fn standing_of(earnings: &[Earning], pair: Pair) -> Standing
+    requires { length earnings.now ≤ 1024 }
+    ensures { result ≡ standing_of earnings.now pair }
+{
+    let mut earned = 0;
+    let mut tops = 0;
+    for earning in earnings {
+        earned += u64::from(earned_by(pair, earning));
+        tops += u64::from(top_for(pair, earning));
+    }
+    Standing { pair, earned, tops }
+}
+
+/// What a pair earns by one result.
+#[tactic(auto, using(movement::proofs::ScheduleTests::pair_decides))]
+fn earned_by(pair: Pair, earning: &Earning) -> u32
+    ensures { result ≡ earned_by pair earning.now }
+{
+    if earning.north_south == pair {
+        earning.for_north_south
+    } else if earning.east_west == pair {
+        earning.for_east_west
+    } else {
+        0
+    }
+}
+
+/// What a pair could have earned by it.
+#[tactic(auto, using(movement::proofs::ScheduleTests::pair_decides))]
+fn top_for(pair: Pair, earning: &Earning) -> u32
+    ensures { result ≡ top_for pair earning.now }
+{
+    if earning.north_south == pair || earning.east_west == pair {
+        earning.top
+    } else {
+        0
+    }
+}
+
+/// Puts a standing in its place among others that are in their order.
+fn place(standings: &mut Vec<Standing>, standing: Standing) -> Result<(), AllocError>
+    ensures { OnOk result (standings.new.items ≡ placed standing standings.old.items) }
+{
+    let place = place_among(standings, standing);
+    standings.insert(place, standing)?;
+    Ok(())
+}
+
+/// The place of a standing among others that are in their order.
+fn place_among(standings: &[Standing], standing: Standing) -> usize
+    ensures within { result ≤ length standings.now }
+    ensures place { insert standings.now result standing ≡ placed standing standings.now }
+{
+    for (place, other) in standings.iter().enumerate() {
+        if rank_order(standing, *other) == Ordering::Less {
+            return place;
+        }
+    }
+    standings.len()
+}

@@ -1,0 +1,130 @@
+ghost use Rattle.std.specs.Prelude.{◌≡◌, ◌≤◌, length, All, IfOk, vec_len};
+ghost use Rattle.movement.specs.Movement.{IsCell};
+ghost use Rattle.standings.specs.declared.cell_result.CellResult.TheVariants.{Confirmed};
+ghost use Rattle.standings.specs.Traveller.{north_south_at, east_west_at, row_result, score_of, scores_of, traveller_row, traveller_rows};
+
+use crate::cell_result::CellResult;
+use crate::push::push_copy;
+use crate::row_result::RowResult;
+use crate::table_result::TableResult;
+use crate::traveller_row::TravellerRow;
+use crate::units::units_of_score;
+use cards::{Pair, Side, Vulnerability};
+use movement::{Cell, Movement};
+use scoring::{Outcome, ns_score};
+use std::alloc::{AllocError, Global};
+
+/// The rows of a traveller: a row for each result, in their order.
+#[tactic(auto, unfolding(crate::specs::Traveller::traveller_rows))]
+pub fn traveller_rows(
+    alloc: Global,
+    movement: Movement,
+    vulnerability: Vulnerability,
+    results: &[TableResult],
+) -> Result<Vec<TravellerRow>, AllocError>
+    requires few { length results.now ≤ 16 }
+    requires cells { All (λ found. IsCell movement found.cell) results.now }
+    ensures { IfOk result (λ rows. rows.items ≡ traveller_rows movement vulnerability results.now) }
+{
+    let scores = scores_of(alloc, vulnerability, results)?;
+    let mut rows = Vec::with_capacity(alloc, results.len())?;
+    for found in results {
+        let row = traveller_row(movement, vulnerability, &scores, found);
+        push_copy(&mut rows, &row)?;
+    }
+    Ok(rows)
+}
+
+/// The scores of the results that were played.
+pub(crate) fn scores_of(
+    alloc: Global,
+    vulnerability: Vulnerability,
+    results: &[TableResult],
+) -> Result<Vec<i32>, AllocError>
+    ensures scores { IfOk result (λ scores. scores.items ≡ scores_of vulnerability results.now) }
+    ensures few { IfOk result (λ scores. vec_len scores ≤ length results.now) }
+{
+    results
+        .iter()
+        .filter_map(|found| score_of(vulnerability, found.result))
+        .collect(alloc)
+}
+
+/// What a result scores for North-South, if it was played.
+fn score_of(vulnerability: Vulnerability, found: CellResult) -> Option<i32>
+    ensures { result ≡ score_of vulnerability found }
+{
+    match found {
+        CellResult::Confirmed(outcome) => Some(ns_score(outcome, vulnerability)),
+        CellResult::Ruled { .. } => None,
+    }
+}
+
+/// A result with its pairs, and with its score and its units or its percentages.
+fn traveller_row(
+    movement: Movement,
+    vulnerability: Vulnerability,
+    scores: &[i32],
+    found: &TableResult,
+) -> TravellerRow
+    requires few { length scores.now ≤ 16 }
+    requires cell { IsCell movement found.now.cell }
+    ensures { result ≡ traveller_row movement vulnerability scores.now found.now }
+{
+    let cell = found.cell;
+    TravellerRow {
+        table: cell.table,
+        north_south: north_south_at(movement, cell),
+        east_west: east_west_at(movement, cell),
+        result: row_result(vulnerability, scores, &found.result),
+    }
+}
+
+/// A result with its score and its units among the scores, or with its percentages.
+fn row_result(vulnerability: Vulnerability, scores: &[i32], found: &CellResult) -> RowResult
+    requires { length scores.now ≤ 16 }
+    ensures { result ≡ row_result vulnerability scores.now found.now }
+{
+    match found {
+        CellResult::Confirmed(outcome) => played(vulnerability, scores, outcome),
+        CellResult::Ruled {
+            north_south,
+            east_west,
+        } => RowResult::Ruled {
+            north_south: *north_south,
+            east_west: *east_west,
+        },
+    }
+}
+
+/// A result that was played, with its score and its units among the scores.
+fn played(vulnerability: Vulnerability, scores: &[i32], outcome: &Outcome) -> RowResult
+    requires { length scores.now ≤ 16 }
+    ensures { result ≡ row_result vulnerability scores.now (Confirmed outcome.now) }
+{
+    let score = ns_score(*outcome, vulnerability);
+    RowResult::Played {
+        outcome: *outcome,
+        score,
+        points: units_of_score(scores, score),
+    }
+}
+
+/// The North-South pair of a cell.
+pub(crate) fn north_south_at(movement: Movement, cell: Cell) -> Pair
+    requires { IsCell movement cell }
+    ensures { result ≡ north_south_at movement cell }
+{
+    Pair {
+        side: Side::NorthSouth,
+        number: cell.table,
+    }
+}
+
+/// The East-West pair of a cell.
+pub(crate) fn east_west_at(movement: Movement, cell: Cell) -> Pair
+    requires { IsCell movement cell }
+    ensures { result ≡ east_west_at movement cell }
+{
+    movement.ew_at(cell.table, movement.round_of(cell))
+}

@@ -1,0 +1,5 @@
+//! Travellers and rankings, worked by hand.
+#![tactic(auto)]
+
+#[cfg(test)]
+mod tests;
