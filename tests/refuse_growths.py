@@ -1,14 +1,28 @@
 #!/usr/bin/env python3
-"""Refuses each growth of an opening in turn.
+"""Refuses each growth in turn: of a script's run, or of double-dummy tables and endings.
 
-    tests/refuse_growths.py crates/bridge_server/out/bridge_server crates/bridge_server/stdin
+    tests/refuse_growths.py crates/bridge_server/out/bridge_server crates/bridge_server_desk/stdin [COMMANDS]
+    tests/refuse_growths.py crates/deal_tables/out/deal_tables DEALS [endings]
 
-Takes the first line of the script, the session object, and runs `bridge_server script` on it alone: once with ample memory,
-which must end with status 0, and then with the Nth request for memory refused, for N from 1 until a run asks less often.
-Each of these must write nothing and end with status 4: want of memory is the last refusal, and no session is half open.
+Runs `bridge_server script` on the script, followed by so many more commands of its first director (none where no number is
+given), which hold and release board 1 in turn, in batches of 64: first with ample memory, and then with the Nth request for
+memory refused, for N from 1 until a run asks less often. What each of these must do:
+
+- In the first line, while the session is opened: write nothing, and end with status 4. No session is half open.
+- While another line is read: end with status 4; the lines before are answered as with ample memory.
+- While a message is read, tried and answered: that line is {"error":"OutOfMemory"}, or the command that found no room is answered
+  OutOfMemory and those after it in its batch NotTried, the ones before it as with ample memory. Then the script goes on: the rest
+  is answered as by a run with ample memory of the script in which the commands that weren't tried are left out.
+
+A refused request that changes nothing of the script's output is a fault too.
+
+Of `deal_tables` each line is run alone, a deal for `table` or an ending for `solve`: once with ample memory, which must solve
+it, and then with the Nth request refused, for each N. Each of these must write the same numbers or none: then the line is named
+as not solved (OutOfMemory), or the program ends with a status of its own, for it couldn't read the line or write the answer.
+
 It needs a C compiler (cc) for the allocator that refuses, which is loaded under the program (LD_PRELOAD).
 """
-import os, subprocess, sys, tempfile
+import json, os, subprocess, sys, tempfile
 
 REFUSING = r"""
 #define _GNU_SOURCE
@@ -39,29 +53,124 @@ void *realloc(void *p, size_t n) { return ++asked == refused_at ? (errno = ENOME
 int posix_memalign(void **p, size_t a, size_t n) { return ++asked == refused_at ? ENOMEM : real_memalign(p, a, n); }
 """
 
+NO_MEMORY = b'{"error":"OutOfMemory"}\n'
+
+
+def compact(value):
+    return (json.dumps(value, separators=(",", ":"), sort_keys=True) + "\n").encode()
+
+
+# the script's lines, with so many commands more
+def lines_of(script, commands):
+    with open(script, "rb") as it:
+        lines = it.readlines()
+    director = next((user["name"] for user in json.loads(lines[0])["users"] if "Director" in user["roles"]), None)
+    more = [{"board": 1, "cmd": ("Hold", "Release")[k % 2]} for k in range(commands)]
+    lines += [compact({"as": director, "do": more[k : k + 64]}) for k in range(0, commands, 64)]
+    return lines[:-1] + [lines[-1].rstrip() + b" " * 8192 + b"\n"]
+
+
+# the line with the first commands of its batch alone
+def with_first(line, count):
+    message = json.loads(line)
+    if "do" in message:
+        message["do"] = message["do"][:count]
+    return compact(message)
+
+
+# a run with the Nth request refused (0: none): the status, what it wrote, and how often it asked
+def run(command, given, room, n):
+    env = {**os.environ, "LD_PRELOAD": f"{room}/refusing.so", "REFUSED_AT": str(n), "ASKED_TO": f"{room}/asked"}
+    ran = subprocess.run(command, input=given, capture_output=True, env=env)
+    with open(f"{room}/asked") as it:
+        return ran.returncode, ran.stdout, ran.stderr, int(it.read())
+
+
+class Growths:
+    def __init__(self, program, room, lines):
+        self.program, self.room, self.lines, self.known = program, room, lines, {}
+
+    def run(self, lines, n):
+        status, out, err, asked = run([self.program, "script"], b"".join(lines), self.room, n)
+        return status, out.splitlines(keepends=True), err, asked
+
+    # the answers after a line of which so many commands were tried, with ample memory
+    def rest(self, at, tried):
+        if (at, tried) not in self.known:
+            lines = self.lines[: at + 1] + [with_first(self.lines[at + 1], tried)] + self.lines[at + 2 :]
+            status, out, err, _ = self.run(lines, 0)
+            assert (status, err) == (0, b""), (status, err)
+            self.known[at, tried] = out[at + 1 :]
+        return self.known[at, tried]
+
+    # what a run with one request refused did, in a word; `ample` is what it answers otherwise
+    def kind_of(self, ample, status, out, err):
+        assert err == b"", err
+        at = next((k for k, pair in enumerate(zip(out, ample)) if pair[0] != pair[1]), len(out))
+        if at == len(out):
+            assert status == 4 and at < len(ample), f"status {status} after {at} of {len(ample)} answers"
+            return "the script ended" if at else "nothing written"
+        assert status == 0, f"status {status}"
+        if out[at] == NO_MEMORY:
+            batch = json.loads(self.lines[at + 1]).get("do", [])
+            found = [tried for tried in {0, len(batch)} if out[at + 1 :] == self.rest(at, tried)]
+            assert found, f"answer {at + 1} is {out[at]!r}, and the rest fits neither all of its commands nor none"
+            return "nothing was tried" if 0 in found else "the commands stood"
+        answers, before = json.loads(out[at])["answers"], json.loads(ample[at])["answers"]
+        place = answers.index("OutOfMemory")
+        assert answers[:place] == before[:place] and answers[place + 1 :] == ["NotTried"] * (len(before) - place - 1), answers
+        assert out[at + 1 :] == self.rest(at, place), f"after answer {at + 1}, a command without memory"
+        return "a command found no room"
+
+
+def refuse_scripts(program, script, commands, room):
+    lines = lines_of(script, commands)
+    growths, kinds = Growths(program, room, lines), {}
+    _, _, _, opening = growths.run(lines[:1], 0)
+    status, ample, err, asked = growths.run(lines, 0)
+    assert (status, len(ample), err) == (0, len(lines) - 1, b""), f"with ample memory: status {status}, {len(ample)} answers, {err!r}"
+    assert asked >= opening > 0, "the program asked for no memory through this allocator: nothing is tried"
+    for n in range(1, asked + 1):
+        status, out, err, _ = growths.run(lines, n)
+        try:
+            kind = growths.kind_of(ample, status, out, err)
+            assert (kind == "nothing written") == (n <= opening), f"{kind}, and the opening asks {opening} times"
+        except AssertionError as fault:
+            raise SystemExit(f"with request {n} of {asked} refused: {fault}")
+        kinds[kind] = kinds.get(kind, 0) + 1
+    print(f"{asked} requests for memory, each refused in turn: " + ", ".join(f"{kind} {count}" for kind, count in kinds.items()))
+
+
+def refuse_tables(program, deals, words, room):
+    with open(deals, "rb") as it:
+        lines = [line.split(b"\t")[0].strip() for line in it if line.strip() and not line.startswith(b"#")]
+    for line in lines:
+        status, solved, err, asked = run([program, *words], line + b"\n", room, 0)
+        assert status == 0 and err == b"" and solved.startswith(line + b"\t"), f"with ample memory: status {status}, {err!r}"
+        assert asked > 0, "the program asked for no memory through this allocator: nothing is tried"
+        same = unsolved = ended = 0
+        for n in range(1, asked + 1):
+            status, out, err, _ = run([program, *words], line + b"\n", room, n)
+            if (status, out, err) == (0, solved, b""):
+                same += 1
+            elif (status, out, err) == (0, b"", b"line 1 is not solved\n"):
+                unsolved += 1
+            else:
+                assert status != 0 and out == b"", f"with request {n} of {asked} refused: status {status}, {out[:80]!r}, {err[:80]!r}"
+                ended += 1
+        print(f"{line.decode()}: {asked} requests: {unsolved} not solved, {ended} ended the program, {same} with the same numbers")
+
 
 def main():
-    program, script = sys.argv[1:3]
-    with open(script, "rb") as it:
-        first = it.readline()
+    program, given, *words = sys.argv[1:]
     with tempfile.TemporaryDirectory() as room:
         with open(f"{room}/refusing.c", "w") as it:
             it.write(REFUSING)
         subprocess.run(["cc", "-O1", "-shared", "-fPIC", "-o", f"{room}/refusing.so", f"{room}/refusing.c", "-ldl"], check=True)
-
-        def run(n):
-            env = {**os.environ, "LD_PRELOAD": f"{room}/refusing.so", "REFUSED_AT": str(n), "ASKED_TO": f"{room}/asked"}
-            ran = subprocess.run([program, "script"], input=first, capture_output=True, env=env)
-            with open(f"{room}/asked") as it:
-                return ran.returncode, ran.stdout, ran.stderr, int(it.read())
-
-        status, out, err, asked = run(0)
-        assert (status, out, err) == (0, b"", b""), f"with ample memory: status {status}, {err!r}"
-        assert asked > 0, "the program asked for no memory through this allocator: nothing is tried"
-        for n in range(1, asked + 1):
-            status, out, err, _ = run(n)
-            assert (status, out, err) == (4, b"", b""), f"with request {n} of {asked} refused: status {status}, {out[:80]!r}, {err[:80]!r}"
-    print(f"{asked} requests for memory, each refused in turn: nothing written, status 4")
+        if os.path.basename(program) == "deal_tables":
+            refuse_tables(program, given, words, room)
+        else:
+            refuse_scripts(program, given, int(words[0]) if words else 0, room)
 
 
 main()

@@ -7,7 +7,8 @@ use movement::Movement;
 use pbn_records::{DealsError, read_deals};
 use rbac::Role;
 use session_book::Book;
-use session_state::{Config, Digest, NewUser, NewUsers, RoleList};
+use session_opening::{Config, NewUser, NewUsers, RoleList};
+use session_state::Digest;
 use std::alloc::{AllocError, Global};
 use std::test::Fail;
 

@@ -1,3 +1,4 @@
+pub mod AuditLemmas
 pub mod FirstLineLemmas
 pub mod PartLemmas
 pub mod ScriptLemmas

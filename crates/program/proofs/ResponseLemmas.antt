@@ -35,7 +35,7 @@ module _ (opening : SessionState) (journal : List Entry) (line : List ℕ) where
       ap (λ b. if b then record { journal = journal; text = fault_text OutOfMemory } else response_to_request opening journal memory (meaning line)) goes_on
       ∙ ap (response_to_request opening journal memory) means
 
-  responds_by : (memory : Memory) (meant : Result Request RequestFault) → memory.refused_before ≡ false → meaning line ≡ meant →
+  pub responds_by : (memory : Memory) (meant : Result Request RequestFault) → memory.refused_before ≡ false → meaning line ≡ meant →
       Responds opening journal line (response_to_request opening journal memory meant).journal ((response_to_request opening journal memory meant).text ++ 10 ∷ [])
   responds_by memory meant goes_on means =
       let step = response_by memory meant goes_on means in

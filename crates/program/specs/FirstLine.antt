@@ -1,10 +1,10 @@
 -- What the first line of a script comes to: the session that it opens, or why it opens none.
 use Rattle.std.specs.Prelude.{◌≡◌, ◌≢◌, ℕ, List, None, Some}
 use Rattle.session_state.specs.SessionState.{SessionState}
-use Rattle.session_state.specs.Opening.{opening_of}
-use Rattle.session_state.specs.OpeningRefusal.{opening_refusal}
-use Rattle.session_state.specs.declared.opening_refusal.OpeningRefusal.{OpeningRefusal}
-use Rattle.session_state.specs.declared.opening_refusal.OpeningRefusal.TheVariants as refusal
+use Rattle.session_opening.specs.Opening.{opening_of}
+use Rattle.session_opening.specs.OpeningRefusal.{opening_refusal}
+use Rattle.session_opening.specs.declared.opening_refusal.OpeningRefusal.{OpeningRefusal}
+use Rattle.session_opening.specs.declared.opening_refusal.OpeningRefusal.TheVariants as refusal
 use Rattle.session_object.specs.declared.object.SessionObject.{SessionObject}
 use Rattle.session_object.specs.declared.session_fault.SessionFault.{SessionFault}
 use Rattle.session_object.specs.declared.session_fault.SessionFault.TheVariants as session

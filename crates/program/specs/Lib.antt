@@ -1,3 +1,4 @@
+pub mod Audit
 pub mod Script
 pub mod FirstLine
 pub mod Writes

@@ -21,6 +21,7 @@ use Rattle.wire.specs.declared.request.Request.TheVariants as request
 use Rattle.wire.specs.Request.{meaning}
 use Rattle.wire.specs.ReceiptText.{receipt_text, fault_text}
 use Rattle.wire.specs.ReplyText.{reply_text}
+use Rattle.program.specs.Audit.{audit_reply}
 
 -- ---- lines
 
@@ -101,7 +102,7 @@ abbrev pub reply_to : SessionState → ℕ → List ℕ → Query → ℕ → Re
 reply_to state version user (Board board) since = board_reply state version user board since
 reply_to state version user (Traveller board) since = traveller_reply state version user board since
 
--- a query has its reply, at the newest version, a batch its receipt, and what is no request its fault
+-- a query has its reply, at the newest version, a batch its receipt, an audit its rows, and what is no request its fault
 abbrev pub response_to_request : SessionState → List Entry → Memory → Result Request RequestFault → Response
 response_to_request opening journal memory (Ok (request.Query user query since)) = record {
   journal = journal;
@@ -109,6 +110,10 @@ response_to_request opening journal memory (Ok (request.Query user query since))
 }
 response_to_request opening journal memory (Ok (request.Batch user commands)) =
     response_to_batch memory journal (run_with memory.refused_at opening journal user commands)
+response_to_request opening journal memory (Ok (request.Audit user range)) = record {
+  journal = journal;
+  text = text_with memory (audit_reply opening journal user range);
+}
 response_to_request opening journal memory (Err fault) = record {
   journal = journal;
   text = text_with memory (fault_text fault);

@@ -1,6 +1,6 @@
 use rbac::SeparationSet;
 use session_object::SessionFault;
-use session_state::OpeningRefusal;
+use session_opening::OpeningRefusal;
 use thiserror::Error;
 
 /// Why a script's run ended before the script did.

@@ -7,7 +7,7 @@ ghost use Rattle.program.specs.declared.fault.Fault.TheVariants.{OutOfMemory};
 use crate::fault::Fault;
 use session_book::Book;
 use session_object::{SessionFault, SessionObject, read_session};
-use session_state::OpeningRefusal;
+use session_opening::OpeningRefusal;
 use std::alloc::Global;
 
 /// Opens the session of a script's first line.

@@ -1,6 +1,7 @@
 //! A results server's script, with a line that responds to each of its messages, and the program that is called with words.
 #![tactic(auto)]
 
+mod audit_response;
 mod calling;
 mod fault;
 mod first_line;

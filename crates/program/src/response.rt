@@ -11,6 +11,7 @@ ghost use Rattle.program.specs.Script.{reply_to};
 ghost use Rattle.program.specs.Standing.{line_of};
 ghost use Rattle.program.specs.Writes.{Responds};
 
+use crate::audit_response::response_to_audit;
 use cards::Name;
 use published_view::{Query, Reply, board_reply, traveller_reply};
 use script_lines::{WriteFault, write_text};
@@ -80,6 +81,7 @@ fn response_to_request(
             alloc, book, *user, *query, *since,
         ),
         Request::Batch { user, commands } => response_to_batch(alloc, book, *user, commands),
+        Request::Audit { user, range } => response_to_audit(alloc, book, *user, *range),
     }
 }
 
@@ -141,8 +143,8 @@ fn response_to_batch(
     }
 }
 
-// The text with the LF that ends its line.
-fn with_line_feed(text: String) -> Result<String, RequestFault>
+/// The text with the LF that ends its line.
+pub(crate) fn with_line_feed(text: String) -> Result<String, RequestFault>
     ensures line { IfOk result (λ line. string_bytes line ≡ string_bytes text ++ 10 ∷ []) }
     ensures err { IfErr result (λ fault. fault ≡ OutOfMemory) }
 {

@@ -1,9 +1,7 @@
 mod calling;
 mod devices;
 mod endings;
-mod limits;
 mod objects;
 mod requests;
-mod script;
 mod session;
 mod texts;

@@ -44,7 +44,7 @@ part_passes p [] (entry ∷ entries) passes = or_left (p []) _ passes
 part_passes p (entry ∷ first) later passes =
     or_right (p []) _ (any_map p (λ part. entry ∷ part) (first_parts (first ++ later)) ∙ part_passes (λ part. p (entry ∷ part)) first later passes)
 
-none_is : {A : Type 0} (found : Option A) → is_none found ≡ true → found ≡ None
+pub none_is : {A : Type 0} (found : Option A) → is_none found ≡ true → found ≡ None
 none_is None none = refl
 none_is (Some x) none = absurd (false≢true none)
 
@@ -78,7 +78,7 @@ parts_more (e ∷ es) entry =
     ap (λ parts. [] ∷ map (λ part. e ∷ part) parts) (parts_more es entry)
     ∙ ap (λ parts. [] ∷ parts) (map-append (λ part. e ∷ part) (first_parts es) ((es ++ entry ∷ []) ∷ []))
 
-or_none : (b : Bool) → (b || false) ≡ b
+pub or_none : (b : Bool) → (b || false) ≡ b
 or_none true = refl
 or_none false = refl
 

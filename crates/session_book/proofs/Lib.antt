@@ -7,3 +7,4 @@ pub mod RunLemmas
 pub mod SightLemmas
 pub mod SpoilerLemmas
 pub mod TouchedLemmas
+pub mod UntouchedLemmas

@@ -1,7 +1,7 @@
 -- The table after one entry more, where all were asked about whom the entry touches.
 use Rattle.std.proofs.Common.{◌≡◌, ℕ, ◌+◌, ◌<◌, ◌≤◌, ◌⊎◌, Bool, true, false, List, [], ◌∷◌, ◌++◌, length, nat_eq, refl, sym, ap, ◌∙◌, subst, inl, inr, arith}
 use Rattle.std.specs.Prelude.{◌||◌, ◌&&◌, nat_le, nat_lt}
-use Rattle.std.proofs.lemmas.Bool.{cases_eq, le-leb, lt-leb, lt-ltb, le-ltb, eq-eqb, ne_eqb, and_left, and_right}
+use Rattle.std.proofs.lemmas.Bool.{cases_Bool, cases_eq, le-leb, lt-leb, lt-ltb, le-ltb, eq-eqb, ne_eqb, and_left, and_right, or_left}
 use Rattle.movement.specs.Movement.{boards_of}
 use Rattle.rbac.specs.Account.{same_name}
 use Rattle.rbac.specs.Authorization.{IsValid}
@@ -14,11 +14,12 @@ use Rattle.session_book.specs.Exposure.{sees_hands, is_exposed, users_of}
 use Rattle.session_book.specs.ExposureTable.{is_noted, user_at, IsAsked, one_board, first_boards, IsNoted}
 use Rattle.session_book.specs.Replay.{replay}
 use Rattle.session_book.specs.Touched.{touched_by, is_touched, is_touched_at, touched_at, touched_before}
-use Rattle.session_book.proofs.ExposureLemmas.{exposed_now}
+use Rattle.session_book.proofs.ExposureLemmas.{exposed_now, exposed_more, or_none}
 use Rattle.session_book.proofs.ExposureTableLemmas.{noted_more, lt_same}
 use Rattle.session_book.proofs.JournalLemmas.{replayed_more}
 use Rattle.session_book.proofs.LastingLemmas.{Lasts, apply_lasts}
-use Rattle.session_book.proofs.SightLemmas.{sees_same, untouched_same}
+use Rattle.session_book.proofs.SightLemmas.{seen_before}
+use Rattle.session_book.proofs.UntouchedLemmas.{untouched_shows}
 
 -- two ways to say about whom was asked
 pub asked_as : (state : SessionState) (f g : ℕ → ℕ → Bool) (old new : List (List ℕ)) → ((p b : ℕ) → 1 ≤ b → g p b ≡ f p b) → IsAsked state f old new → IsAsked state g old new
@@ -108,6 +109,21 @@ touched_step state touched last n p b from =
 pub touched_none : (state : SessionState) (touched : Touched) (last p b : ℕ) → 1 ≤ b → touched_before state touched last 0 p b ≡ false
 touched_none state touched last p b from = and_left _ _ (le-ltb p 0 (omega arith))
 
+-- an entry exposes nobody anew to what it doesn't touch
+pub untouched_exposed : (opening : SessionState) (journal : List Entry) (entry : Entry) (user : List ℕ) (board : ℕ) → 1 ≤ board → board ≤ 64 → is_touched (touched_by entry.command) user board ≡ false →
+    is_exposed opening (journal ++ entry ∷ []) user board ≡ is_exposed opening journal user board
+untouched_exposed opening journal entry user board low high untouched =
+    let before = replay opening journal in
+    exposed_more opening journal entry user board
+    ∙ elim (cases_Bool (sees_hands (replay opening (journal ++ entry ∷ [])) user board)) [
+      | inl sees ↦
+          let shows = untouched_shows before entry user board low high untouched in
+          let seen = seen_before before (apply before entry) user board shows (ap (λ state. sees_hands state user board) (sym (replayed_more opening journal entry)) ∙ sees) in
+          let was = exposed_now opening journal user board seen in
+          or_left _ _ was ∙ sym was
+      | inr sees_not ↦ ap (λ b. is_exposed opening journal user board || b) sees_not ∙ or_none (is_exposed opening journal user board)
+    ]
+
 -- the table after one entry more, where all were asked about whom the entry touches
 pub noted_by_touched : (opening : SessionState) (journal : List Entry) (entry : Entry) (before after : SessionState) (old new : List (List ℕ)) (touched : Touched) (boards : ℕ) →
     before ≡ replay opening journal → after ≡ apply before entry → IsValid after.roles → touched ≡ touched_by entry.command → boards ≡ boards_of opening.public.movement → boards ≤ 64 →
@@ -125,6 +141,6 @@ noted_by_touched opening journal entry before after old new touched boards repla
         let user = user_at after p in
         let untouched : is_touched touched user b ≡ false =
         sym (λ i. lt-ltb p (length (users_of after)) there i && ((le-leb 1 b from i && le-leb b boards to i) && is_touched touched user b)) ∙ not_asked in
-        let same = sees_same before (apply before entry) user b (untouched_same before entry user b from (ap (λ t. is_touched t user b) (sym touches) ∙ untouched)) in
-        exposed_now opening journal user b
-        (ap (λ state. sees_hands state user b) (sym replayed) ∙ (sym same ∙ (ap (λ state. sees_hands state user b) (sym applied) ∙ sees)))
+        let shows = untouched_shows before entry user b from (omega (arith, to, few)) (ap (λ t. is_touched t user b) (sym touches) ∙ untouched) in
+        let seen_there = seen_before before (apply before entry) user b shows (ap (λ state. sees_hands state user b) (sym applied) ∙ sees) in
+        exposed_now opening journal user b (ap (λ state. sees_hands state user b) (sym replayed) ∙ seen_there)

@@ -11,26 +11,28 @@ use Rattle.session_book.specs.declared.touched.Touched.{Touched}
 use Rattle.session_book.specs.declared.touched.Touched.TheVariants.{Nothing, Board, User, Everything}
 use Rattle.session_book.specs.ExposureTable.{user_at}
 
--- what each command touches: a result may complete its board, for anybody; what is entered, a round and a phase let nobody
--- see more; of the other commands everything is asked about
+-- what each command touches: a result may complete its board, and a board that is released is shown again, to anybody; a user
+-- who takes a seat, or is assigned a role, may see more of any board; so may everybody who has a role that inherits another. What
+-- is entered, voided or held, a seat that is left, a role that is taken away, an inheritance that is deleted, a user with no
+-- role yet, a round and a phase let nobody see more
 abbrev pub touched_by : Command → Touched
 touched_by (Enter table board outcome play) = Nothing
 touched_by (Confirm table board outcome) = Board board
 touched_by (Correct table board outcome play) = Board board
 touched_by (Rule table board north_south east_west reason) = Board board
-touched_by (Void table board) = Everything
-touched_by (Hold board) = Everything
-touched_by (Release board) = Everything
-touched_by (Seat name pair place) = Everything
-touched_by (Unseat name) = Everything
+touched_by (Void table board) = Nothing
+touched_by (Hold board) = Nothing
+touched_by (Release board) = Board board
+touched_by (Seat name pair place) = User name
+touched_by (Unseat name) = Nothing
 touched_by NextRound = Nothing
 touched_by Close = Nothing
 touched_by Finalise = Nothing
-touched_by (AddUser name digest) = Everything
-touched_by (Assign name role) = Everything
-touched_by (Deassign name role) = Everything
+touched_by (AddUser name digest) = Nothing
+touched_by (Assign name role) = User name
+touched_by (Deassign name role) = Nothing
 touched_by (AddInheritance senior junior) = Everything
-touched_by (DeleteInheritance senior junior) = Everything
+touched_by (DeleteInheritance senior junior) = Nothing
 
 -- whether it touches what a user sees of a board
 abbrev pub is_touched : Touched → List ℕ → ℕ → Bool

@@ -9,9 +9,9 @@ ghost use Rattle.session_book.specs.declared.audit.AuditError.TheVariants.{NotPe
 ghost use Rattle.session_book.specs.Exposure.{Exposed, is_exposed, spoiler_of, spoiler_at, spoils, result_cell, users_of};
 ghost use Rattle.session_book.specs.ExposureTable.{user_at};
 ghost use Rattle.session_book.specs.Journal.{IsAccepted, MayFollow, refusal_at, state_of, entry_of};
-ghost use Rattle.session_state.specs.Opening.{opening_of};
-ghost use Rattle.session_state.specs.OpeningRefusal.{opening_refusal};
-ghost use Rattle.session_state.specs.declared.opening_refusal.OpeningRefusal.TheVariants as opening_cause;
+ghost use Rattle.session_opening.specs.Opening.{opening_of};
+ghost use Rattle.session_opening.specs.OpeningRefusal.{opening_refusal};
+ghost use Rattle.session_opening.specs.declared.opening_refusal.OpeningRefusal.TheVariants as opening_cause;
 ghost use Rattle.session_state.specs.Refusal.{most_entries};
 ghost use Rattle.session_book.specs.Run.{Runs, stops, answer_of, first_number, last_number, most_commands};
 ghost use Rattle.session_state.specs.declared.command.Command.{Command};
@@ -28,8 +28,9 @@ use cards::Name;
 use disclosure_rules::is_seated_at;
 use movement::Cell;
 use rbac::{Account, Operation};
+use session_opening::{Config, OpeningRefusal};
 use session_state::room::{push_copy, push_within};
-use session_state::{Command, Config, Entry, OpeningRefusal, Refusal, State};
+use session_state::{Command, Entry, Refusal, State};
 use std::alloc::{AllocError, Global};
 use std::marker::Model;
 
@@ -79,7 +80,7 @@ impl Book {
         ensures err { IfErr result (λ cause. (opening_refusal config ≡ Some cause)
             ⊎ ((cause ≡ opening_cause.OutOfMemory) × (opening_refusal config ≡ None))) }
     {
-        match State::open(alloc, &config) {
+        match config.open(alloc) {
             Ok(opening) => match Book::of(alloc, opening) {
                 Ok(book) => Ok(book),
                 Err(_) => Err(OpeningRefusal::OutOfMemory),

@@ -1,11 +1,13 @@
 //! Laws of the book: functions with nothing to do, whose clauses are the laws.
-ghost use Rattle.std.specs.Prelude.{◌≡◌, ℕ, List, ◌∷◌, ◌++◌, Some};
+ghost use Rattle.std.specs.Prelude.{◌≡◌, ◌≤◌, ℕ, false, List, [], ◌∷◌, ◌++◌, Some};
 ghost use Rattle.movement.specs.declared.cell.Cell.{Cell};
+ghost use Rattle.movement.specs.Movement.{most_boards};
 ghost use Rattle.disclosure_rules.specs.Seating.{IsSeatedAt};
 ghost use Rattle.session_state.specs.SessionState.{SessionState, viewer_of};
 ghost use Rattle.session_state.specs.declared.entry.Entry.{Entry};
-ghost use Rattle.session_book.specs.Exposure.{SomeAllowed, result_cell};
+ghost use Rattle.session_book.specs.Exposure.{SomeAllowed, is_exposed, result_cell};
 ghost use Rattle.session_book.specs.Journal.{replay, IsAccepted};
+ghost use Rattle.session_book.specs.Touched.{touched_by, is_touched};
 
 /// No foreknowledge: where some secret fact of a board was allowed to a user after some first part of an accepted journal,
 /// the empty one included, no later entry enters or confirms a result of that board at a cell in one of whose pairs the
@@ -16,4 +18,13 @@ pub fn no_foreknowledge()
         IsAccepted opening (first ++ later ++ entry ∷ after) → SomeAllowed (replay opening first) user board →
         result_cell entry.command ≡ Some cell → cell.board ≡ board →
         ¬ IsSeatedAt (replay opening (first ++ later)).public (viewer_of (replay opening (first ++ later)) user) cell }
+{}
+
+/// An entry exposes nobody anew but whom it touches, and to nothing but what it touches: a new result or a release its board,
+/// for anybody; a seat or an assigned role any board, for its user; a new inheritance anything. So after each other command
+/// nobody has to be asked about, and after these nobody else.
+pub fn only_the_touched_are_newly_exposed()
+    ensures { (opening : SessionState) (journal : List Entry) (entry : Entry) (user : List ℕ) (board : ℕ) →
+        1 ≤ board → board ≤ most_boards → is_touched (touched_by entry.command) user board ≡ false →
+        is_exposed opening (journal ++ entry ∷ []) user board ≡ is_exposed opening journal user board }
 {}

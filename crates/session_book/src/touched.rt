@@ -22,21 +22,21 @@ pub fn touched_by(command: &Command) -> Touched
     ensures { result ≡ touched_by command.now }
 {
     match *command {
-        Command::Enter { .. } | Command::NextRound | Command::Close | Command::Finalise => {
-            Touched::Nothing
-        }
         Command::Confirm { board, .. }
         | Command::Correct { board, .. }
-        | Command::Rule { board, .. } => Touched::Board(board),
-        Command::Void { .. }
+        | Command::Rule { board, .. }
+        | Command::Release { board } => Touched::Board(board),
+        Command::Seat { name, .. } | Command::Assign { name, .. } => Touched::User(name),
+        Command::AddInheritance { .. } => Touched::Everything,
+        Command::Enter { .. }
+        | Command::Void { .. }
         | Command::Hold { .. }
-        | Command::Release { .. }
-        | Command::Seat { .. }
         | Command::Unseat { .. }
+        | Command::NextRound
+        | Command::Close
+        | Command::Finalise
         | Command::AddUser { .. }
-        | Command::Assign { .. }
         | Command::Deassign { .. }
-        | Command::AddInheritance { .. }
-        | Command::DeleteInheritance { .. } => Touched::Everything,
+        | Command::DeleteInheritance { .. } => Touched::Nothing,
     }
 }

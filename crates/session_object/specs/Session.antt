@@ -2,9 +2,9 @@
 use Rattle.std.specs.Prelude.{ℕ, List, [], codes, Option, Some, None}
 use Rattle.serde_json.specs.Data.{Data}
 use Rattle.serde_json.specs.Find.{get}
-use Rattle.session_state.specs.declared.new_user.NewUser.{NewUser}
-use Rattle.wire.specs.Form.{Member, Form, form, ◌with◌, formed, HasForm}
-use Rattle.wire.specs.Field.{limited, numbered, written, listed}
+use Rattle.session_opening.specs.declared.new_user.NewUser.{NewUser}
+use Rattle.json_fields.specs.Form.{Member, Form, form, ◌with◌, formed, HasForm}
+use Rattle.json_fields.specs.Field.{limited, numbered, written, listed}
 use Rattle.wire.specs.User.{user_name, digest, user_roles, pair, place}
 
 -- ---- users

@@ -1,4 +1,4 @@
-use session_state::Config;
+use session_opening::Config;
 
 /// What a session object says.
 #[derive(Drop)]

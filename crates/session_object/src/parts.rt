@@ -2,16 +2,16 @@
 
 ghost use Rattle.std.specs.Prelude.{◌≡◌, [], Some, None, IfOk, IfErr, option_map};
 ghost use Rattle.serde_json.specs.View.{view};
-ghost use Rattle.wire.specs.Form.{formed};
+ghost use Rattle.json_fields.specs.Form.{formed};
 ghost use Rattle.session_object.specs.Session.{with_boards, beside_boards, session_of};
 ghost use Rattle.session_object.specs.Reading.{Fails, session_of_parts};
 
 use crate::session_fault::SessionFault;
 use crate::user::users_of;
+use json_fields::{has_only, limited_at, small_number_at, text_at};
 use serde_json::Value;
-use session_state::NewUsers;
+use session_opening::NewUsers;
 use std::alloc::Global;
-use wire::{has_only, limited_at, small_number_at, text_at};
 
 /// The most visits of a solver's call.
 const MOST_VISITS: u64 = 1_000_000_000_000_000_000;

@@ -10,7 +10,7 @@ use crate::session_fault::SessionFault;
 use movement::Movement;
 use pbn_records::{BoardSet, DealsError, read_deals};
 use serde_json::Value;
-use session_state::Config;
+use session_opening::Config;
 use std::alloc::Global;
 use std::str;
 

@@ -3,7 +3,7 @@
 ghost use Rattle.std.specs.Prelude.{◌≡◌, [], Some, None, IfOk, IfErr};
 ghost use Rattle.serde_json.specs.Find.{get};
 ghost use Rattle.serde_json.specs.View.{view, items_view};
-ghost use Rattle.wire.specs.Form.{each, formed};
+ghost use Rattle.json_fields.specs.Form.{each, formed};
 ghost use Rattle.wire.specs.User.{role_of, user_roles};
 ghost use Rattle.session_object.specs.Session.{seated, unseated, user_of, users};
 ghost use Rattle.session_object.specs.Reading.{Gives, Fails};
@@ -11,11 +11,13 @@ ghost use Rattle.session_object.specs.Reading.{Gives, Fails};
 use crate::session_fault::SessionFault;
 use cards::Name;
 use disclosure_rules::Seat;
+use json_fields::{has_only, name_at};
 use rbac::Role;
 use serde_json::Value;
-use session_state::{Digest, NewUser, NewUsers, RoleList};
+use session_opening::{NewUser, NewUsers, RoleList};
+use session_state::Digest;
 use std::alloc::Global;
-use wire::{digest_of, has_only, name_at, pair_of, place_of, role_of};
+use wire::{digest_of, pair_of, place_of, role_of};
 
 fn roles_in(alloc: Global, list: &[Value]) -> Result<Vec<Role>, SessionFault>
     ensures roles { IfOk result (λ roles. each role_of (items_view list.now) ≡ Some roles.items) }

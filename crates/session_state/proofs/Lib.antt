@@ -2,14 +2,8 @@ pub mod AccountCauseLemmas
 pub mod AccountLemmas
 pub mod CompleteLemmas
 pub mod HindranceLemmas
-pub mod JoiningLemmas
 pub mod LiveLemmas
-pub mod OpeningLawLemmas
-pub mod OpeningLemmas
-pub mod OpeningRefusalLemmas
-pub mod OpeningSeatLemmas
 pub mod PartLemmas
-pub mod PlayLemmas
 pub mod ReaderLemmas
 pub mod RefusalLemmas
 pub mod ScheduleLemmas

@@ -2,14 +2,8 @@ pub mod Accounts
 pub mod Apply
 pub mod CellState
 pub mod Command
-pub mod Joining
 pub mod KeptState
-pub mod NewUser
-pub mod Opening
-pub mod OpeningRefusal
 pub mod Parts
-pub mod Play
-pub mod PlayPlaces
 pub mod Readers
 pub mod Refusal
 pub mod Seats

@@ -40,7 +40,7 @@ use Rattle.session_state.specs.Accounts.{has_account, is_assigned, is_authorized
 use Rattle.session_state.specs.Accounts.{first_broken, has_pair}
 use Rattle.session_state.specs.CellState.{has_result, is_empty, is_entered_otherwise}
 use Rattle.session_state.specs.Command.{operation_of, phases_of, user_of, cell_of, board_of, is_told_by_table, is_among}
-use Rattle.session_state.specs.Play.{has_card, has_repeat}
+use Rattle.play_record.specs.Play.{has_card, has_repeat}
 use Rattle.session_state.specs.Seats.{is_pair, is_of_side, has_seat, is_taken}
 use Rattle.session_state.specs.SessionState.{SessionState, cell_at}
 

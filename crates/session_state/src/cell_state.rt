@@ -1,4 +1,4 @@
-use crate::play::Play;
+use play_record::Play;
 use scoring::Outcome;
 
 /// What is known of a board at a table.

@@ -1,9 +1,9 @@
 use crate::digest::Digest;
-use crate::play::Play;
 use crate::refusal::Refusal;
 use cards::{Name, Pair, Place};
 use disclosure_rules::Phase;
 use movement::Cell;
+use play_record::Play;
 use rbac::{Operation, Role};
 use scoring::Outcome;
 

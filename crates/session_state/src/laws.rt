@@ -1,21 +1,17 @@
 //! Laws of the state: functions with nothing to do, whose clauses are the laws.
-ghost use Rattle.std.specs.Prelude.{◌≡◌, ◌≢◌, ◌↔◌, ℕ, true, List, Option, Some, None};
+ghost use Rattle.std.specs.Prelude.{◌≡◌, ◌≢◌, ◌↔◌, ℕ, true, List, Option, Some};
 ghost use Rattle.movement.specs.declared.cell.Cell.{Cell};
 ghost use Rattle.movement.specs.Movement.{IsCell, IsSection};
-ghost use Rattle.rbac.specs.Authorization.{HasPermission, IsAuthorized, IsValid, KeepsSeparation};
-ghost use Rattle.rbac.specs.declared.role.Role.TheVariants.{Administrator};
+ghost use Rattle.rbac.specs.Authorization.{HasPermission, IsValid};
 ghost use Rattle.disclosure_rules.specs.declared.public.Public.{Public};
 ghost use Rattle.disclosure_rules.specs.LiveCells.{is_live};
 ghost use Rattle.session_state.specs.Apply.{apply};
 ghost use Rattle.session_state.specs.Command.{operation_of, cell_of};
-ghost use Rattle.session_state.specs.Opening.{opening_of};
-ghost use Rattle.session_state.specs.OpeningRefusal.{opening_refusal};
 ghost use Rattle.session_state.specs.Parts.{part_of, IsSameBut};
 ghost use Rattle.session_state.specs.Refusal.{refusal_of, are_all_live};
 ghost use Rattle.session_state.specs.SessionState.{SessionState, cell_at, IsPlaced};
 ghost use Rattle.session_state.specs.declared.entry.Entry.{Entry};
 ghost use Rattle.session_state.specs.declared.command.Command.{Command};
-ghost use Rattle.session_state.specs.declared.config.Config.{Config};
 ghost use Rattle.session_state.specs.declared.refusal.Refusal.TheVariants.{NotPermitted};
 
 /// A command is refused as not permitted just where the user hasn't the permission for its operation: where the user is
@@ -40,12 +36,4 @@ pub fn each_command_changes_its_own_part()
 pub fn all_live_is_each_cell()
     ensures { (public : Public) → (are_all_live public ≡ true)
         ↔ ((cell : Cell) → IsCell public.movement cell → is_live public.live cell ≡ true) }
-{}
-
-/// A session that opens has somebody who is authorized for Administrator, and nobody who is authorized for both roles of a
-/// separation set (static separation of duty of INCITS 359-2012).
-pub fn openings_are_sound()
-    ensures separation { (config : Config) → opening_refusal config ≡ None → KeepsSeparation (opening_of config).roles }
-    ensures administrator { (config : Config) → opening_refusal config ≡ None →
-        (name : List ℕ) × IsAuthorized (opening_of config).roles name Administrator }
 {}

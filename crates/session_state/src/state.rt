@@ -24,13 +24,13 @@ use crate::cell_state::CellState;
 use crate::command::Command;
 use crate::digest::Digest;
 use crate::entry::Entry;
-use crate::play::Play;
 use crate::refusal::Refusal;
 use crate::room::{filled, with_room};
 use crate::seated::Seated;
 use cards::{Deal, Name};
 use disclosure_rules::{Fact, Marks, Public, Rule, Seat, Viewer, decide};
 use movement::{Cell, Movement};
+use play_record::Play;
 use rbac::{Account, Operation, RoleSet, Roles};
 use scoring::Outcome;
 use std::alloc::{AllocError, Global};
@@ -73,7 +73,7 @@ impl Model for State {
 
 impl State {
     /// A state in which nothing is entered yet.
-    pub(crate) fn new(
+    pub fn new(
         alloc: Global,
         roles: Roles,
         digests: Vec<Digest>,

@@ -1,3 +1,5 @@
+pub mod AuditLemmas
+pub mod AuditTextLemmas
 pub mod LetterLemmas
 pub mod LineLemmas
 pub mod ListLemmas

@@ -7,14 +7,15 @@ use Rattle.serde_json.specs.Read.{read}
 use Rattle.serde_json.specs.Find.{as_object}
 use Rattle.session_state.specs.declared.command.Command.{Command}
 use Rattle.published_view.specs.declared.query.Query.{Query}
+use Rattle.wire.specs.declared.audit_range.AuditRange.{AuditRange}
 use Rattle.wire.specs.declared.request.Request.{Request}
 use Rattle.wire.specs.declared.request.Request.TheVariants as request
 use Rattle.wire.specs.declared.request_fault.RequestFault.{RequestFault}
 use Rattle.wire.specs.declared.request_fault.RequestFault.TheVariants.{Malformed, UnknownRequest, BadField, OutOfMemory}
 use Rattle.wire.specs.Reading.{Gives}
 use Rattle.wire.specs.Request.{request_of, object_of, text_meaning, meaning, HasFew}
-use Rattle.wire.specs.Grammar.{IsObject, IsUnknownRequest, IsQuery, IsBatch, IsNoRequest}
-use Rattle.wire.proofs.RequestLemmas.{query_object, batch_object, few_in_request, object_fault, unknown_object}
+use Rattle.wire.specs.Grammar.{IsObject, IsUnknownRequest, IsQuery, IsBatch, IsAudit, IsNoRequest}
+use Rattle.wire.proofs.RequestLemmas.{query_object, batch_object, audit_object, few_in_request, object_fault, unknown_object}
 
 same_number : (m n : ℕ) → m ≡ n → (m == n) ≡ true
 same_number m n h = grind arith
@@ -95,12 +96,19 @@ pub batch_line : (line : List ℕ) (d : Data) (user : List ℕ) (commands : List
 batch_line line d user commands object =
     subst (λ said. (said ≡ Ok (request.Batch user commands)) ↔ IsBatch d user commands) (sym (of_object line d object)) (batch_object d user commands)
 
+pub audit_line : (line : List ℕ) (d : Data) (user : List ℕ) (range : AuditRange) → IsObject line d
+    → (meaning line ≡ Ok (request.Audit user range)) ↔ IsAudit d user range
+audit_line line d user range object =
+    subst (λ said. (said ≡ Ok (request.Audit user range)) ↔ IsAudit d user range) (sym (of_object line d object)) (audit_object d user range)
+
 only_bad : (line : List ℕ) (d : Data) (said : Result Request RequestFault) → IsObject line d → meaning line ≡ said
     → ¬ IsUnknownRequest d → IsNoRequest d → said ≡ Err BadField
 only_bad line d (Ok (request.Query user query since)) object is known none =
     absurd (none.no_query user query since ((query_line line d user query since object).0 is))
 only_bad line d (Ok (request.Batch user commands)) object is known none =
     absurd (none.no_batch user commands ((batch_line line d user commands object).0 is))
+only_bad line d (Ok (request.Audit user range)) object is known none =
+    absurd (none.no_audit user range ((audit_line line d user range object).0 is))
 only_bad line d (Err Malformed) object is known none =
     absurd ((object_fault d Malformed (sym (of_object line d object) ∙ is)).read_well refl)
 only_bad line d (Err UnknownRequest) object is known none = absurd (known ((unknown_line line d object).0 is))
@@ -116,6 +124,7 @@ bad_line line d object = (
     record {
       no_query = λ user query since q. let h : meaning line ≡ Ok (request.Query user query since) = (query_line line d user query since object).1 q in cc;
       no_batch = λ user commands b. let h : meaning line ≡ Ok (request.Batch user commands) = (batch_line line d user commands object).1 b in cc;
+      no_audit = λ user range a. let h : meaning line ≡ Ok (request.Audit user range) = (audit_line line d user range object).1 a in cc;
     },
   ),
   λ both. only_bad line d (meaning line) object refl both.0 both.1,

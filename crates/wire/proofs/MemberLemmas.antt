@@ -17,11 +17,14 @@ use Rattle.scoring.specs.declared.doubling.Doubling.TheVariants.{Undoubled, Doub
 use Rattle.scoring.specs.declared.outcome.Outcome.{Outcome}
 use Rattle.scoring.specs.declared.outcome.Outcome.TheVariants.{PassedOut}
 use Rattle.scoring.specs.Doubling.{times_doubled}
-use Rattle.wire.specs.Form.{Member, Form, applied, form, ◌with◌, formed, HasForm, item_count, first_then, each, AreEach}
-use Rattle.wire.specs.Field.{text, number, below_256, small, numbered, at_most_32, user, whole_or_zero, IsSince, since, named}
-use Rattle.wire.specs.Result.{declarer, trumps, doubling_numbered, doubled, level_numbered, level, tricks_numbered, tricks, played, text_or_played, outcome_by, IsOutcome, outcome}
+use Rattle.json_fields.specs.Form.{Member, Form, applied, form, ◌with◌, formed, HasForm, item_count, first_then, each, AreEach}
+use Rattle.json_fields.specs.Field.{text, number, below_256, small, numbered, at_most_32, named}
+use Rattle.wire.specs.Field.{user, whole_or_zero, IsSince, since}
+use Rattle.json_fields.specs.Doubling.{doubling_numbered}
+use Rattle.wire.specs.Result.{declarer, trumps, doubled, level_numbered, level, tricks_numbered, tricks, played, text_or_played, outcome_by, IsOutcome, outcome}
 use Rattle.wire.specs.Play.{suit_named, rank_named, card_by, card_named, card_of, cards_in, cards_by, play_by, IsCard, IsPlay, play}
-use Rattle.wire.proofs.LetterLemmas.{place_found, strain_found, place_reads, strain_reads, suit_reads, rank_reads}
+use Rattle.json_fields.proofs.LetterLemmas.{place_found, strain_found, place_reads, strain_reads}
+use Rattle.wire.proofs.LetterLemmas.{suit_reads, rank_reads}
 
 -- what is read of the member is what it is
 pub record Agrees {A : Type 0} (m : Member A) : Type 0 where
@@ -182,7 +185,7 @@ doubled_agrees = record {
   reads = λ o x is. means_reads doubling_numbered o (times_doubled x) x is (doubling_small x) (doubling_back x);
 }
 
-both_true : (a b : Bool) → (a && b) ≡ true → (a ≡ true) × (b ≡ true)
+pub both_true : (a b : Bool) → (a && b) ≡ true → (a ≡ true) × (b ≡ true)
 both_true true b h = (refl, h)
 both_true false b h = absurd (cc)
 

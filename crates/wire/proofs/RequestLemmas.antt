@@ -1,4 +1,4 @@
--- A query and a batch are read from their members, and what has such members is read as they are.
+-- A query, a batch and an audit are read from their members, and what has such members is read as they are.
 use Rattle.std.proofs.Common.{◌≡◌, ◌≢◌, ◌⊎◌, ◌↔◌, ℕ, ◌≤◌, List, [], ◌∷◌, length, nat_le, Bool, true, false, not, cond, ◌||◌, is_some, IsSome, All, codes, Option, Some, None, option_and_then, Result, Ok, Err, refl, sym, ap, subst, ◌∙◌, inl, inr, arith}
 use Rattle.std.specs.Prelude.{count_by}
 use Rattle.serde_json.specs.Data.{Data, Items, no_items, item}
@@ -10,12 +10,16 @@ use Rattle.wire.specs.declared.request.Request.TheVariants as request
 use Rattle.wire.specs.declared.request_fault.RequestFault.{RequestFault}
 use Rattle.wire.specs.declared.request_fault.RequestFault.TheVariants.{Malformed, UnknownRequest, BadField, OutOfMemory}
 use Rattle.wire.specs.Reading.{wanted}
-use Rattle.wire.specs.Form.{applied, has_only, words, HasFormOf, item_count, AreEach}
-use Rattle.wire.specs.Field.{text_at, user, since}
+use Rattle.wire.specs.declared.audit_range.AuditRange.{AuditRange}
+use Rattle.json_fields.specs.Form.{applied, has_only, words, HasForm, HasFormOf, item_count, AreEach}
+use Rattle.json_fields.specs.Field.{text_at}
+use Rattle.wire.specs.Field.{user, since}
 use Rattle.wire.specs.Command.{commands, command_called, command_of, is_other_word, is_unknown, has_unknown, commands_in, IsCommand}
 use Rattle.wire.specs.Query.{queries, asking, query_called}
-use Rattle.wire.specs.Request.{a_query, query_of, query_by, doing, few_commands_in, a_batch, batch_of, batch_by, ask_or_do, request_of, HasFew}
-use Rattle.wire.specs.Grammar.{IsUnknownRequest, IsQuery, IsBatch}
+use Rattle.wire.specs.Audit.{audit_range, auditing, audit_of}
+use Rattle.wire.specs.Request.{a_query, query_of, query_by, doing, few_commands_in, a_batch, batch_of, batch_by, one_of, request_of, HasFew}
+use Rattle.wire.specs.Grammar.{IsUnknownRequest, IsQuery, IsBatch, IsAudit}
+use Rattle.wire.proofs.AuditLemmas.{audits, audited}
 use Rattle.wire.proofs.MemberLemmas.{kept, is_most, most_is, user_agrees, since_agrees, each_read, each_reads, each_count}
 use Rattle.wire.proofs.TableLemmas.{commands_agree, queries_agree, is_among, is_word, none_among, among_none, by_word_read, by_word_reads}
 
@@ -170,10 +174,14 @@ Makes ask list audit hello d (request.Batch name xs) =
     (count_by (λ member. is_some member) (ask ∷ list ∷ audit ∷ hello ∷ []) ≡ 1)
     × ((elements : Items) × (option_and_then as_array list ≡ Some elements) × AreEach IsCommand elements xs)
     × (length xs ≤ 64) × (has_only doing d ≡ true) × user.Is (get user.name d) name
+Makes ask list audit hello d (request.Audit name range) =
+    (count_by (λ member. is_some member) (ask ∷ list ∷ audit ∷ hello ∷ []) ≡ 1)
+    × ((rows : Data) × (audit ≡ Some rows) × HasForm [] audit_range rows range)
+    × (has_only auditing d ≡ true) × user.Is (get user.name d) name
 
 -- what a message says, by the four members
 abbrev said : Option Data → Option Data → Option Data → Option Data → Data → Result Request RequestFault
-said ask list audit hello d = cond (is_some audit || is_some hello) (Err UnknownRequest) (ask_or_do ask list d)
+said ask list audit hello d = cond (is_some hello) (Err UnknownRequest) (one_of ask list audit d)
 
 query_made : (ask : Data) (o : Option (List ℕ)) (d : Data) (y : Request) → as_str ask ≡ o → query_by o d ≡ Ok y
     → Makes (Some ask) None None None d y
@@ -191,14 +199,22 @@ batch_made list (Some ds) d y is h =
     let parts = wants ds d y read.1 in
     subst (Makes None (Some list) None None d) parts.makes (refl, (ds, is, parts.each), parts.few, parts.listed, parts.named)
 
+audit_made : (rows d : Data) (y : Request) → wanted (audit_of rows d) ≡ Ok y → Makes None None (Some rows) None d y
+audit_made rows d y h =
+    let parts = audits rows d y (wanted_read (audit_of rows d) y h) in
+    subst (Makes None None (Some rows) None d) parts.makes (refl, (rows, refl, parts.has), parts.listed, parts.named)
+
 made : (ask list audit hello : Option Data) (d : Data) (y : Request) → said ask list audit hello d ≡ Ok y
     → Makes ask list audit hello d y
-made ask list (Some x) hello d y h = absurd (cc)
-made ask list None (Some x) d y h = absurd (cc)
+made ask list audit (Some x) d y h = absurd (cc)
 made None None None None d y h = absurd (cc)
 made (Some ask) (Some list) None None d y h = absurd (cc)
+made (Some ask) (Some list) (Some rows) None d y h = absurd (cc)
+made (Some ask) None (Some rows) None d y h = absurd (cc)
+made None (Some list) (Some rows) None d y h = absurd (cc)
 made (Some ask) None None None d y h = query_made ask (as_str ask) d y refl h
 made None (Some list) None None d y h = batch_made list (as_array list) d y refl h
+made None None (Some rows) None d y h = audit_made rows d y h
 
 query_says : (ask : Data) (d : Data) (name : List ℕ) (query : Query) (version : ℕ)
     → Makes (Some ask) None None None d (request.Query name query version)
@@ -215,6 +231,13 @@ batch_says list d name xs (one, (elements, is, all), few, listed, named) =
     ap (λ o. batch_by o d) is
     ∙ ap (λ b. cond b (Err UnknownRequest) (wanted (batch_of elements d))) (all_known elements xs all)
     ∙ ap wanted (wanted_batch elements d name xs listed named all few)
+
+audit_says : (rows d : Data) (name : List ℕ) (range : AuditRange)
+    → Makes None None (Some rows) None d (request.Audit name range)
+    → wanted (audit_of rows d) ≡ Ok (request.Audit name range)
+audit_says rows d name range (one, (asked, is, has), listed, named) =
+    let same : asked ≡ rows = cc in
+    ap wanted (audited rows d name range (subst (λ r. HasForm [] audit_range r range) same has) listed named)
 
 query_said : (ask list audit hello : Option Data) (d : Data) (name : List ℕ) (query : Query) (version : ℕ)
     → Makes ask list audit hello d (request.Query name query version)
@@ -233,6 +256,16 @@ batch_said (Some ask) (Some list) audit hello d name xs m = absurd (omega (arith
 batch_said None (Some list) (Some x) hello d name xs m = absurd (omega (arith, m.0))
 batch_said None (Some list) None (Some x) d name xs m = absurd (omega (arith, m.0))
 batch_said None (Some list) None None d name xs m = batch_says list d name xs m
+
+audit_said : (ask list audit hello : Option Data) (d : Data) (name : List ℕ) (range : AuditRange)
+    → Makes ask list audit hello d (request.Audit name range)
+    → said ask list audit hello d ≡ Ok (request.Audit name range)
+audit_said ask list None hello d name range m = let none = m.1.1 in absurd (cc)
+audit_said (Some ask) (Some list) (Some rows) hello d name range m = absurd (omega (arith, m.0))
+audit_said (Some ask) None (Some rows) hello d name range m = absurd (omega (arith, m.0))
+audit_said None (Some list) (Some rows) hello d name range m = absurd (omega (arith, m.0))
+audit_said None None (Some rows) (Some x) d name range m = absurd (omega (arith, m.0))
+audit_said None None (Some rows) None d name range m = audit_says rows d name range m
 
 pub query_object : (d : Data) (name : List ℕ) (query : Query) (version : ℕ)
     → (request_of d ≡ Ok (request.Query name query version)) ↔ IsQuery d name query version
@@ -258,9 +291,22 @@ batch_object d name xs =
       λ b. batch_said ask list audit hello d name xs (b.one, b.list, b.few, b.listed, b.user),
     )
 
+pub audit_object : (d : Data) (name : List ℕ) (range : AuditRange)
+    → (request_of d ≡ Ok (request.Audit name range)) ↔ IsAudit d name range
+unfolding request_of
+audit_object d name range =
+    let ask = get (codes "ask") d in
+    let list = get (codes "do") d in
+    let audit = get (codes "audit") d in
+    let hello = get (codes "hello") d in (
+      λ h. let m = made ask list audit hello d (request.Audit name range) h in record { one = m.0; asked = m.1; listed = m.2; user = m.3 },
+      λ a. audit_said ask list audit hello d name range (a.one, a.asked, a.listed, a.user),
+    )
+
 pub few_in_request : (d : Data) (y : Request) → request_of d ≡ Ok y → HasFew y
 few_in_request d (request.Query name query version) h = tt
 few_in_request d (request.Batch name xs) h = ((batch_object d name xs).0 h).few
+few_in_request d (request.Audit name range) h = tt
 
 -- ---- faults
 
@@ -295,12 +341,15 @@ batch_fault (Some ds) d fault h = batch_at (has_unknown ds) (batch_of ds d) faul
 
 said_fault : (ask list audit hello : Option Data) (d : Data) (fault : RequestFault)
     → said ask list audit hello d ≡ Err fault → IsFaultOfObject fault
-said_fault ask list (Some x) hello d fault h = unknown_fault fault (cc)
-said_fault ask list None (Some x) d fault h = unknown_fault fault (cc)
+said_fault ask list audit (Some x) d fault h = unknown_fault fault (cc)
 said_fault None None None None d fault h = unknown_fault fault (cc)
 said_fault (Some ask) (Some list) None None d fault h = unknown_fault fault (cc)
+said_fault (Some ask) (Some list) (Some rows) None d fault h = unknown_fault fault (cc)
+said_fault (Some ask) None (Some rows) None d fault h = unknown_fault fault (cc)
+said_fault None (Some list) (Some rows) None d fault h = unknown_fault fault (cc)
 said_fault (Some ask) None None None d fault h = query_fault (as_str ask) d fault h
 said_fault None (Some list) None None d fault h = batch_fault (as_array list) d fault h
+said_fault None None (Some rows) None d fault h = member_fault fault (wanted_fails (audit_of rows d) fault h)
 
 pub object_fault : (d : Data) (fault : RequestFault) → request_of d ≡ Err fault → IsFaultOfObject fault
 unfolding request_of
@@ -317,7 +366,7 @@ abbrev WantsOther : Option Data → Type 0
 WantsOther list = (elements : Items) × (option_and_then as_array list ≡ Some elements) × (has_unknown elements ≡ true)
 
 abbrev IsOther : Option Data → Option Data → Option Data → Option Data → Type 0
-IsOther ask list audit hello = (count_by (λ member. is_some member) (ask ∷ list ∷ audit ∷ hello ∷ []) ≢ 1) ⊎ (IsSome audit ⊎ (IsSome hello ⊎ (AsksOther ask ⊎ WantsOther list)))
+IsOther ask list audit hello = (count_by (λ member. is_some member) (ask ∷ list ∷ audit ∷ hello ∷ []) ≢ 1) ⊎ (IsSome hello ⊎ (AsksOther ask ⊎ WantsOther list))
 
 other_where : {A : Type 0} (b : Bool) (o : Option A) → cond b (wanted o) (Err UnknownRequest) ≡ Err UnknownRequest
     → b ≡ false
@@ -342,39 +391,49 @@ wants_other (Some ds) d h = (ds, refl, other_unless (has_unknown ds) (batch_of d
 
 other_is : (ask list audit hello : Option Data) (d : Data) → said ask list audit hello d ≡ Err UnknownRequest
     → IsOther ask list audit hello
-other_is ask list (Some x) hello d h = inr (inl refl)
-other_is ask list None (Some x) d h = inr (inr (inl refl))
+other_is ask list audit (Some x) d h = inr (inl refl)
 other_is None None None None d h = inl (λ same. omega arith)
 other_is (Some ask) (Some list) None None d h = inl (λ same. omega arith)
-other_is (Some ask) None None None d h = inr (inr (inr (inl (asks_other (as_str ask) d h))))
-other_is None (Some list) None None d h = inr (inr (inr (inr (wants_other (as_array list) d h))))
+other_is (Some ask) (Some list) (Some rows) None d h = inl (λ same. omega arith)
+other_is (Some ask) None (Some rows) None d h = inl (λ same. omega arith)
+other_is None (Some list) (Some rows) None d h = inl (λ same. omega arith)
+other_is (Some ask) None None None d h = inr (inr (inl (asks_other (as_str ask) d h)))
+other_is None (Some list) None None d h = inr (inr (inr (wants_other (as_array list) d h)))
+other_is None None (Some rows) None d h = let bad = wanted_fails (audit_of rows d) UnknownRequest h in absurd (cc)
 
 one_asks : (ask : Data) (d : Data) → IsOther (Some ask) None None None → query_by (as_str ask) d ≡ Err UnknownRequest
 one_asks ask d (inl count) = absurd (count refl)
-one_asks ask d (inr (inl audit)) = absurd (cc)
-one_asks ask d (inr (inr (inl hello))) = absurd (cc)
-one_asks ask d (inr (inr (inr (inl other)))) =
+one_asks ask d (inr (inl hello)) = absurd (cc)
+one_asks ask d (inr (inr (inl other))) =
     ap (λ o. query_by o d) other.1
     ∙ ap (λ b. cond b (wanted (query_of other.0 d)) (Err UnknownRequest)) (among_none (words queries) other.0 other.2)
-one_asks ask d (inr (inr (inr (inr other)))) = let none = other.1 in absurd (cc)
+one_asks ask d (inr (inr (inr other))) = let none = other.1 in absurd (cc)
 
 one_wants : (list : Data) (d : Data) → IsOther None (Some list) None None
     → batch_by (as_array list) d ≡ Err UnknownRequest
 one_wants list d (inl count) = absurd (count refl)
-one_wants list d (inr (inl audit)) = absurd (cc)
-one_wants list d (inr (inr (inl hello))) = absurd (cc)
-one_wants list d (inr (inr (inr (inl other)))) = let none = other.1 in absurd (cc)
-one_wants list d (inr (inr (inr (inr other)))) =
+one_wants list d (inr (inl hello)) = absurd (cc)
+one_wants list d (inr (inr (inl other))) = let none = other.1 in absurd (cc)
+one_wants list d (inr (inr (inr other))) =
     ap (λ o. batch_by o d) other.1 ∙ ap (λ b. cond b (Err UnknownRequest) (wanted (batch_of other.0 d))) other.2
+
+one_audits : (rows d : Data) → IsOther None None (Some rows) None → wanted (audit_of rows d) ≡ Err UnknownRequest
+one_audits rows d (inl count) = absurd (count refl)
+one_audits rows d (inr (inl hello)) = absurd (cc)
+one_audits rows d (inr (inr (inl other))) = let none = other.1 in absurd (cc)
+one_audits rows d (inr (inr (inr other))) = let none = other.1 in absurd (cc)
 
 other_said : (ask list audit hello : Option Data) (d : Data) → IsOther ask list audit hello
     → said ask list audit hello d ≡ Err UnknownRequest
-other_said ask list (Some x) hello d h = refl
-other_said ask list None (Some x) d h = refl
+other_said ask list audit (Some x) d h = refl
 other_said None None None None d h = refl
 other_said (Some ask) (Some list) None None d h = refl
+other_said (Some ask) (Some list) (Some rows) None d h = refl
+other_said (Some ask) None (Some rows) None d h = refl
+other_said None (Some list) (Some rows) None d h = refl
 other_said (Some ask) None None None d h = one_asks ask d h
 other_said None (Some list) None None d h = one_wants list d h
+other_said None None (Some rows) None d h = one_audits rows d h
 
 pub unknown_object : (d : Data) → (request_of d ≡ Err UnknownRequest) ↔ IsUnknownRequest d
 unfolding request_of

@@ -5,8 +5,9 @@ use Rattle.std.specs.Str.{bytes_eq}
 use Rattle.std.proofs.lemmas.List.Elements.{All-nil, All-cons, All-head, All-tail}
 use Rattle.std.proofs.lemmas.Slice.Eq.{bytes_eq-Decides}
 use Rattle.serde_json.specs.Data.{Data}
-use Rattle.wire.specs.Form.{Form, formed, words, by_word, HasFormOf}
-use Rattle.wire.specs.Field.{text, table, board}
+use Rattle.json_fields.specs.Form.{Form, formed, words, by_word, HasFormOf}
+use Rattle.json_fields.specs.Field.{text}
+use Rattle.wire.specs.Field.{table, board}
 use Rattle.wire.specs.Command.{commands, north_south, east_west, reason, role_called, role, senior, junior}
 use Rattle.wire.specs.Result.{outcome}
 use Rattle.wire.specs.Play.{play}
@@ -14,7 +15,7 @@ use Rattle.wire.specs.User.{user_name, pair, place, digest, role_named}
 use Rattle.rbac.specs.declared.role.Role.{Role}
 use Rattle.rbac.specs.Role.{roles, role_name}
 use Rattle.wire.specs.Query.{queries}
-use Rattle.wire.proofs.LetterLemmas.{found_passes}
+use Rattle.json_fields.proofs.LetterLemmas.{found_passes}
 use Rattle.wire.proofs.UserLemmas.{called_agrees, pair_agrees, place_agrees, digest_agrees, role_at, role_back}
 use Rattle.wire.proofs.MemberLemmas.{Agrees, AgreesForm, named_agrees, form_agrees, with_agrees, numbered_agrees, outcome_agrees, play_agrees, formed_read, formed_reads}
 

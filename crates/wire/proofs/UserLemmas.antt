@@ -22,10 +22,10 @@ use Rattle.rbac.specs.declared.role.Role.{Role}
 use Rattle.rbac.specs.declared.role.Role.TheVariants.{Member, Spectator, Contestant, Scorer, Director, Administrator}
 use Rattle.rbac.specs.Role.{roles, role_name}
 use Rattle.session_state.specs.declared.digest.Digest.{Digest}
-use Rattle.wire.specs.Form.{each, AreEach}
-use Rattle.wire.specs.Field.{text, number, at_most, limited, called, written, elements, IsList, listed}
+use Rattle.json_fields.specs.Form.{each, AreEach}
+use Rattle.json_fields.specs.Field.{text, number, at_most, limited, called, written, elements, IsList, listed}
 use Rattle.wire.specs.User.{stood_for, digest_named, digest, role_named, role_of, IsRole, user_roles, pairs_of, pair_named, pair, place}
-use Rattle.wire.proofs.LetterLemmas.{place_found, place_reads, find_nothing, found_passes}
+use Rattle.json_fields.proofs.LetterLemmas.{place_found, place_reads, find_nothing, found_passes}
 use Rattle.wire.proofs.MemberLemmas.{Agrees, kept, is_most, most_is, name_read, name_reads, named_agrees, each_read, each_reads}
 
 -- ---- numbers, names, texts and lists

@@ -8,8 +8,9 @@ use Rattle.session_state.specs.declared.command.Command.TheVariants.{AddUser, As
 use Rattle.session_state.specs.declared.command.Command.TheVariants.{DeleteInheritance}
 use Rattle.rbac.specs.declared.role.Role.{Role}
 use Rattle.rbac.specs.Role.{role_name}
-use Rattle.wire.specs.Form.{Member, Form, form, ◌with◌, is_word_of, by_word, HasFormOf, each}
-use Rattle.wire.specs.Field.{text_at, numbered, named, table, board}
+use Rattle.json_fields.specs.Form.{Member, Form, form, ◌with◌, is_word_of, by_word, HasFormOf, each}
+use Rattle.json_fields.specs.Field.{text_at, numbered, named}
+use Rattle.wire.specs.Field.{table, board}
 use Rattle.wire.specs.Result.{outcome}
 use Rattle.wire.specs.Play.{play}
 use Rattle.wire.specs.User.{user_name, digest, role_named, pair, place}

@@ -6,11 +6,14 @@ use Rattle.serde_json.specs.Read.{read}
 use Rattle.serde_json.specs.Find.{get, as_array, as_object}
 use Rattle.session_state.specs.declared.command.Command.{Command}
 use Rattle.published_view.specs.declared.query.Query.{Query}
-use Rattle.wire.specs.Form.{has_only, words, HasFormOf, AreEach}
-use Rattle.wire.specs.Field.{text_at, user, since}
+use Rattle.wire.specs.declared.audit_range.AuditRange.{AuditRange}
+use Rattle.json_fields.specs.Form.{has_only, words, HasForm, HasFormOf, AreEach}
+use Rattle.json_fields.specs.Field.{text_at}
+use Rattle.wire.specs.Field.{user, since}
 use Rattle.wire.specs.Command.{has_unknown, IsCommand}
 use Rattle.wire.specs.Query.{queries, asking}
 use Rattle.wire.specs.Request.{doing}
+use Rattle.wire.specs.Audit.{audit_range, auditing}
 use Rattle.session_book.specs.Run.{most_commands}
 
 -- the line is a text, and the text is this object
@@ -35,11 +38,10 @@ abbrev pub WantsAnother : Data → Type 0
 WantsAnother d =
     (elements : Items) × (option_and_then as_array (get (codes "do") d) ≡ Some elements) × (has_unknown elements ≡ true)
 
--- not exactly one member makes a request, or that one isn't `ask` or `do`, or a word in it names nothing
+-- not exactly one member makes a request, or that one is `hello`, or a word in it names nothing
 abbrev pub IsUnknownRequest : Data → Type 0
 IsUnknownRequest d =
-    (request_count d ≢ 1)
-    ⊎ (IsSome (get (codes "audit") d) ⊎ (IsSome (get (codes "hello") d) ⊎ (AsksAnother d ⊎ WantsAnother d)))
+    (request_count d ≢ 1) ⊎ (IsSome (get (codes "hello") d) ⊎ (AsksAnother d ⊎ WantsAnother d))
 
 -- it asks for this, in this name and from this version on, and nothing else stands in it
 pub record IsQuery (d : Data) (name : List ℕ) (query : Query) (version : ℕ) : Type 0 where
@@ -57,7 +59,15 @@ pub record IsBatch (d : Data) (name : List ℕ) (commands : List Command) : Type
   pub listed : has_only doing d ≡ true
   pub user : user.Is (get user.name d) name
 
--- it is no query and no batch
+-- it asks for these rows of the audit, in this name, and nothing else stands in it
+pub record IsAudit (d : Data) (name : List ℕ) (range : AuditRange) : Type 0 where
+  pub one : request_count d ≡ 1
+  pub asked : (rows : Data) × (get (codes "audit") d ≡ Some rows) × HasForm [] audit_range rows range
+  pub listed : has_only auditing d ≡ true
+  pub user : user.Is (get user.name d) name
+
+-- it is no query, no batch and no audit
 pub record IsNoRequest (d : Data) : Type 0 where
   pub no_query : (name : List ℕ) (query : Query) (version : ℕ) → ¬ IsQuery d name query version
   pub no_batch : (name : List ℕ) (commands : List Command) → ¬ IsBatch d name commands
+  pub no_audit : (name : List ℕ) (range : AuditRange) → ¬ IsAudit d name range

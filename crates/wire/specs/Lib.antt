@@ -1,13 +1,14 @@
 pub mod Reading
-pub mod Form
 pub mod Field
 pub mod Result
 pub mod User
 pub mod Play
 pub mod Command
 pub mod Query
+pub mod Audit
 pub mod Request
 pub mod Grammar
 pub mod TravellerText
 pub mod ReplyText
 pub mod ReceiptText
+pub mod AuditText

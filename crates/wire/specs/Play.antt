@@ -9,7 +9,7 @@ use Rattle.cards.specs.declared.card.Card.{Card}
 use Rattle.cards.specs.Card.{card_text}
 use Rattle.cards.specs.Suit.{suits, suit_letter}
 use Rattle.cards.specs.Rank.{ranks_up, rank_letter}
-use Rattle.wire.specs.Form.{Member, item_count, each, AreEach}
+use Rattle.json_fields.specs.Form.{Member, item_count, each, AreEach}
 
 -- the suit whose letter it is
 abbrev pub suit_named : ℕ → Option Suit

@@ -3,7 +3,7 @@ use Rattle.std.specs.Prelude.{ℕ, List, [], ◌∷◌, codes, Option}
 use Rattle.serde_json.specs.Data.{Data}
 use Rattle.published_view.specs.declared.query.Query.{Query}
 use Rattle.published_view.specs.declared.query.Query.TheVariants.{Board, Traveller}
-use Rattle.wire.specs.Form.{Form, form, ◌with◌, by_word}
+use Rattle.json_fields.specs.Form.{Form, form, ◌with◌, by_word}
 use Rattle.wire.specs.Field.{board}
 
 -- each query: its word and its members

@@ -1,7 +1,7 @@
--- What a line says: a query or a batch of commands, as a JSON object.
--- own: of the faults the first in this order that applies: the text is no object; it is no query and no batch, or a word
+-- What a line says: a query, a batch of commands or an audit, as a JSON object.
+-- own: of the faults the first in this order that applies: the text is no object; it is none of the three, or a word
 -- in it names none; a member is missing, isn't listed, or hasn't the type or the range that it should.
-use Rattle.std.specs.Prelude.{ℕ, ◌≤◌, List, [], ◌∷◌, Bool, ◌||◌, ◌==◌, length, is_some, nat_le, if◌then◌else◌, codes, Option, Some, None, Result, Err}
+use Rattle.std.specs.Prelude.{ℕ, ◌≤◌, List, [], ◌∷◌, ◌==◌, length, is_some, nat_le, if◌then◌else◌, codes, Option, Some, None, Result, Err}
 use Rattle.std.specs.Str.Lossy.{utf8_valid_len}
 use Rattle.serde_json.specs.Data.{Data, Items}
 use Rattle.serde_json.specs.Read.{read}
@@ -14,10 +14,11 @@ use Rattle.wire.specs.declared.request.Request.TheVariants as request
 use Rattle.wire.specs.declared.request_fault.RequestFault.{RequestFault}
 use Rattle.wire.specs.declared.request_fault.RequestFault.TheVariants.{Malformed, UnknownRequest, BadField}
 use Rattle.wire.specs.Reading.{wanted}
-use Rattle.wire.specs.Form.{applied, has_only, is_word_of, item_count}
+use Rattle.json_fields.specs.Form.{applied, has_only, is_word_of, item_count}
 use Rattle.wire.specs.Field.{user, since}
 use Rattle.wire.specs.Query.{queries, query_called}
 use Rattle.wire.specs.Command.{has_unknown, commands_in}
+use Rattle.wire.specs.Audit.{audit_of}
 
 -- ---- queries
 
@@ -65,19 +66,18 @@ batch_by (Some ds) d = if has_unknown ds then Err UnknownRequest else wanted (ba
 
 -- ---- requests
 
--- exactly one of `ask` and `do` is there
-abbrev pub ask_or_do : Option Data → Option Data → Data → Result Request RequestFault
-ask_or_do None None d = Err UnknownRequest
-ask_or_do (Some ask) None d = query_by (as_str ask) d
-ask_or_do None (Some list) d = batch_by (as_array list) d
-ask_or_do (Some ask) (Some list) d = Err UnknownRequest
+-- exactly one of `ask`, `do` and `audit` is there
+abbrev pub one_of : Option Data → Option Data → Option Data → Data → Result Request RequestFault
+one_of (Some ask) None None d = query_by (as_str ask) d
+one_of None (Some list) None d = batch_by (as_array list) d
+one_of None None (Some rows) d = wanted (audit_of rows d)
+one_of ask list rows d = Err UnknownRequest
 
--- no request for the audit yet, and no greeting in a script
-abbrev pub is_other : Data → Bool
-is_other d = is_some (get (codes "audit") d) || is_some (get (codes "hello") d)
-
+-- and no greeting, in a script
 unfoldable pub request_of : Data → Result Request RequestFault
-request_of d = if is_other d then Err UnknownRequest else ask_or_do (get (codes "ask") d) (get (codes "do") d) d
+request_of d =
+    if is_some (get (codes "hello") d) then Err UnknownRequest
+    else one_of (get (codes "ask") d) (get (codes "do") d) (get (codes "audit") d) d
 
 -- what was read has to be an object
 abbrev pub object_of : Option Data → Result Request RequestFault
@@ -96,3 +96,4 @@ meaning line = if utf8_valid_len line == length line then text_meaning line else
 abbrev pub HasFew : Request → Type 0
 HasFew (request.Query name query version) = Unit {0}
 HasFew (request.Batch name commands) = length commands ≤ most_commands
+HasFew (request.Audit name range) = Unit {0}

@@ -1,36 +1,20 @@
 -- How a board ended, as a message has it: `"pass"`, or an object of five members.
 use Rattle.std.specs.Prelude.{◌≡◌, ◌⊎◌, ℕ, ◌≤◌, zero, suc, List, [], ◌∷◌, ◌==◌, ◌&&◌, nat_le, if◌then◌else◌, codes, Option, Some, None, option_and_then}
-use Rattle.std.specs.List.{find}
 use Rattle.std.specs.Str.{bytes_eq}
 use Rattle.serde_json.specs.Data.{Data}
 use Rattle.serde_json.specs.Find.{as_str}
 use Rattle.cards.specs.declared.place.Place.{Place}
-use Rattle.cards.specs.declared.place.Place.TheVariants.{North, East, South, West}
 use Rattle.cards.specs.declared.strain.Strain.{Strain}
-use Rattle.cards.specs.declared.strain.Strain.TheVariants as strain
 use Rattle.cards.specs.Place.{place_letter}
 use Rattle.cards.specs.Strain.{strain_letter}
 use Rattle.scoring.specs.declared.doubling.Doubling.{Doubling}
-use Rattle.scoring.specs.declared.doubling.Doubling.TheVariants.{Undoubled, Doubled, Redoubled}
 use Rattle.scoring.specs.declared.outcome.Outcome.{Outcome}
 use Rattle.scoring.specs.declared.outcome.Outcome.TheVariants.{PassedOut, Played}
 use Rattle.scoring.specs.Doubling.{times_doubled}
-use Rattle.wire.specs.Form.{Member, Form, form, ◌with◌, formed, HasForm}
-use Rattle.wire.specs.Field.{number, small, named}
-
--- the place whose letter the text is
-abbrev pub place_named : List ℕ → Option Place
-place_named [] = None
-place_named (letter ∷ []) = find (λ place. place_letter place == letter) (North ∷ East ∷ South ∷ West ∷ [])
-place_named (letter ∷ other ∷ rest) = None
-
--- the strain whose letter the text is
-abbrev pub strain_named : List ℕ → Option Strain
-strain_named [] = None
-strain_named (letter ∷ []) =
-    find (λ x. strain_letter x == letter)
-    (strain.Spades ∷ strain.Hearts ∷ strain.Diamonds ∷ strain.Clubs ∷ strain.NoTrump ∷ [])
-strain_named (letter ∷ other ∷ rest) = None
+use Rattle.json_fields.specs.Doubling.{doubling_numbered}
+use Rattle.json_fields.specs.Letter.{place_named, strain_named}
+use Rattle.json_fields.specs.Form.{Member, Form, form, ◌with◌, formed, HasForm}
+use Rattle.json_fields.specs.Field.{number, small, named}
 
 -- who declared, and in what
 abbrev pub declarer : Member Place
@@ -38,13 +22,6 @@ declarer = named (codes "by") place_named (λ place. place_letter place ∷ [])
 
 abbrev pub trumps : Member Strain
 trumps = named (codes "strain") strain_named (λ x. strain_letter x ∷ [])
-
--- the doubling by how often the contract was doubled
-abbrev pub doubling_numbered : ℕ → Option Doubling
-doubling_numbered zero = Some Undoubled
-doubling_numbered (suc zero) = Some Doubled
-doubling_numbered (suc (suc zero)) = Some Redoubled
-doubling_numbered (suc (suc (suc n))) = None
 
 -- how often the contract was doubled
 abbrev pub doubled : Member Doubling

@@ -15,9 +15,9 @@ use Rattle.cards.specs.Place.{place_letter}
 use Rattle.rbac.specs.declared.role.Role.{Role}
 use Rattle.rbac.specs.Role.{roles, role_name}
 use Rattle.session_state.specs.declared.digest.Digest.{Digest}
-use Rattle.wire.specs.Form.{Member}
-use Rattle.wire.specs.Field.{text, called, named, listed}
-use Rattle.wire.specs.Result.{place_named}
+use Rattle.json_fields.specs.Form.{Member}
+use Rattle.json_fields.specs.Field.{text, called, named, listed}
+use Rattle.json_fields.specs.Letter.{place_named}
 
 -- the name of a user
 abbrev pub user_name : Member (List ℕ)

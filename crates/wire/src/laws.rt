@@ -4,9 +4,10 @@ ghost use Rattle.std.specs.Prelude.{◌≡◌, ◌↔◌, ℕ, List, Ok, Err};
 ghost use Rattle.serde_json.specs.Data.{Data};
 ghost use Rattle.wire.specs.declared.request_fault.RequestFault.TheVariants.{Malformed, UnknownRequest, BadField};
 ghost use Rattle.published_view.specs.declared.query.Query.{Query};
+ghost use Rattle.wire.specs.declared.audit_range.AuditRange.{AuditRange};
 ghost use Rattle.wire.specs.declared.request.Request.TheVariants as request;
 ghost use Rattle.session_state.specs.declared.command.Command.{Command};
-ghost use Rattle.wire.specs.Grammar.{IsObject, IsUnknownRequest, IsQuery, IsBatch, IsNoRequest};
+ghost use Rattle.wire.specs.Grammar.{IsObject, IsUnknownRequest, IsQuery, IsBatch, IsAudit, IsNoRequest};
 ghost use Rattle.wire.specs.Request.{meaning};
 
 /// A line is malformed exactly where it is no object's text.
@@ -14,8 +15,8 @@ pub fn malformed_without_an_object()
     ensures { (line : List ℕ) → (meaning line ≡ Err Malformed) ↔ ((d : Data) → ¬ IsObject line d) }
 {}
 
-/// An object is an unknown request exactly where its members make it no query and no batch, or a word in it names
-/// nothing, whatever else is wrong with it.
+/// An object is an unknown request exactly where its members make it no query, no batch and no audit, or a word in it
+/// names nothing, whatever else is wrong with it.
 pub fn unknown_before_bad()
     ensures { (line : List ℕ) (d : Data) → IsObject line d →
         (meaning line ≡ Err UnknownRequest) ↔ IsUnknownRequest d }
@@ -31,6 +32,12 @@ pub fn queries_by_their_members()
 pub fn batches_by_their_members()
     ensures { (line : List ℕ) (d : Data) (user : List ℕ) (commands : List Command) → IsObject line d →
         (meaning line ≡ Ok (request.Batch user commands)) ↔ IsBatch d user commands }
+{}
+
+/// An object is a request for an audit exactly where its members are those of the audit.
+pub fn audits_by_their_members()
+    ensures { (line : List ℕ) (d : Data) (user : List ℕ) (range : AuditRange) → IsObject line d →
+        (meaning line ≡ Ok (request.Audit user range)) ↔ IsAudit d user range }
 {}
 
 /// Any other object has a bad member.

@@ -1,6 +1,9 @@
 //! A results server's messages: the request that a message is, read from its JSON text, and the texts of the replies.
 #![tactic(auto)]
 
+mod audit_range;
+mod audit_reading;
+mod audit_writing;
 mod command;
 mod commands;
 mod field;
@@ -16,8 +19,9 @@ mod result;
 mod traveller_writing;
 mod user;
 
+pub use audit_range::AuditRange;
+pub use audit_writing::{audit_refusal_text, audit_text};
 pub use commands::Commands;
-pub use field::{has_only, limited_at, name_at, small_number_at, text_at};
 pub use reading::read_request;
 pub use receipt_writing::{fault_line, receipt_text};
 pub use reply_writing::reply_text;

@@ -44,7 +44,7 @@ fn cards_in(alloc: Global, list: &[Value]) -> Result<Vec<Card>, RequestFault>
 }
 
 // The play of a list of cards, which is looked at only where it isn't too long.
-#[tactic(auto, using(crate::proofs::ListLemmas::item_count_of, crate::proofs::MemberLemmas::cards_as_many))]
+#[tactic(auto, using(json_fields::proofs::ListLemmas::item_count_of, crate::proofs::MemberLemmas::cards_as_many))]
 fn play_in(alloc: Global, list: &[Value]) -> Result<Play, RequestFault>
     ensures { Gives result (wanted (cards_by (Some (items_view list.now)))) }
 {

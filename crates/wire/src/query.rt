@@ -2,12 +2,13 @@
 
 ghost use Rattle.std.specs.Prelude.{◌≡◌, codes};
 ghost use Rattle.serde_json.specs.View.{view};
-ghost use Rattle.wire.specs.Form.{is_word_of};
+ghost use Rattle.json_fields.specs.Form.{is_word_of};
 ghost use Rattle.wire.specs.Query.{queries, query_called};
 ghost use Rattle.wire.specs.Reading.{wanted};
 
-use crate::field::{has_only, small_at};
+use crate::field::small_at;
 use crate::request_fault::RequestFault;
+use json_fields::has_only;
 use published_view::Query;
 use serde_json::Value;
 

@@ -6,11 +6,13 @@ ghost use Rattle.serde_json.specs.View.{view, items_view};
 ghost use Rattle.wire.specs.Reading.{wanted, Gives};
 ghost use Rattle.wire.specs.Request.{query_of, query_by, batch_of, batch_by, request_of, text_meaning, meaning, HasFew};
 
+use crate::audit_reading::audit_of;
 use crate::command::{commands_in, has_unknown};
-use crate::field::{has_only, since_of, user_of};
+use crate::field::{since_of, user_of};
 use crate::query::{is_query_word, query_called};
 use crate::request::Request;
 use crate::request_fault::RequestFault;
+use json_fields::has_only;
 use serde_json::Value;
 use session_book::Book;
 use std::alloc::Global;
@@ -36,7 +38,7 @@ fn query_by(ask: &Value, value: &Value) -> Result<Request, RequestFault>
     }
 }
 
-#[tactic(auto, using(crate::proofs::ListLemmas::item_count_of), unfolding(crate::specs::Request::batch_of))]
+#[tactic(auto, using(json_fields::proofs::ListLemmas::item_count_of), unfolding(crate::specs::Request::batch_of))]
 fn batch_of(alloc: Global, list: &[Value], value: &Value) -> Result<Request, RequestFault>
     ensures { Gives result (wanted (batch_of (items_view list.now) (view value.now))) }
 {
@@ -67,18 +69,14 @@ fn batch_by(alloc: Global, list: &Value, value: &Value) -> Result<Request, Reque
 fn request_of(alloc: Global, value: &Value) -> Result<Request, RequestFault>
     ensures { Gives result (request_of (view value.now)) }
 {
-    if value.get("audit").is_some() || value.get("hello").is_some() {
+    if value.get("hello").is_some() {
         return Err(RequestFault::UnknownRequest);
     }
-    match value.get("ask") {
-        Some(ask) => match value.get("do") {
-            Some(_) => Err(RequestFault::UnknownRequest),
-            None => query_by(ask, value),
-        },
-        None => match value.get("do") {
-            Some(list) => batch_by(alloc, list, value),
-            None => Err(RequestFault::UnknownRequest),
-        },
+    match (value.get("ask"), value.get("do"), value.get("audit")) {
+        (Some(ask), None, None) => query_by(ask, value),
+        (None, Some(list), None) => batch_by(alloc, list, value),
+        (None, None, Some(rows)) => audit_of(rows, value),
+        _ => Err(RequestFault::UnknownRequest),
     }
 }
 

@@ -1,3 +1,4 @@
+use crate::audit_range::AuditRange;
 use crate::commands::Commands;
 use cards::Name;
 use published_view::Query;
@@ -15,5 +16,10 @@ pub enum Request {
     Batch {
         user: Name,
         commands: Commands,
+    },
+    /// Asks for rows of the audit.
+    Audit {
+        user: Name,
+        range: AuditRange,
     },
 }

@@ -10,7 +10,7 @@ pub enum RequestFault {
     /// The text is no JSON object.
     #[error("Malformed")]
     Malformed,
-    /// It is no query and no batch of commands, or some word in it names none.
+    /// It is no query, no batch of commands and no audit, or some word in it names none.
     #[error("UnknownRequest")]
     UnknownRequest,
     /// A member is missing, isn't listed, or hasn't the type or the range that it should.

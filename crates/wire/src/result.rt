@@ -4,32 +4,15 @@ ghost use Rattle.std.specs.Prelude.{◌≡◌, [], Some};
 ghost use Rattle.serde_json.specs.Find.{get};
 ghost use Rattle.serde_json.specs.View.{view};
 ghost use Rattle.wire.specs.Reading.{wanted};
-ghost use Rattle.wire.specs.Form.{formed};
-ghost use Rattle.wire.specs.Result.{place_named, strain_named, declarer, trumps, doubled, level, tricks, played, text_or_played, outcome};
+ghost use Rattle.json_fields.specs.Form.{formed};
+ghost use Rattle.wire.specs.Result.{declarer, trumps, doubled, level, tricks, played, text_or_played, outcome};
 
-use crate::field::{has_only, small_at, text_at};
+use crate::field::small_at;
 use crate::request_fault::RequestFault;
 use cards::{Place, Strain};
+use json_fields::{doubling_numbered, has_only, place_named, strain_named, text_at};
 use scoring::{Contract, Doubling, Level, Outcome, Tricks};
 use serde_json::Value;
-
-pub(crate) fn place_named(text: &str) -> Option<Place>
-    ensures { result ≡ place_named text.now }
-{
-    match text.as_bytes() {
-        [letter] => Place::from_letter(char::from(*letter)),
-        _ => None,
-    }
-}
-
-fn strain_named(text: &str) -> Option<Strain>
-    ensures { result ≡ strain_named text.now }
-{
-    match text.as_bytes() {
-        [letter] => Strain::from_letter(char::from(*letter)),
-        _ => None,
-    }
-}
 
 fn declarer_of(value: &Value) -> Result<Place, RequestFault>
     ensures { result ≡ wanted (declarer.value (get declarer.name (view value.now))) }
@@ -52,12 +35,8 @@ fn strain_of(value: &Value) -> Result<Strain, RequestFault>
 fn doubling_of(value: &Value) -> Result<Doubling, RequestFault>
     ensures { result ≡ wanted (doubled.value (get doubled.name (view value.now))) }
 {
-    match small_at(value, "doubled")? {
-        0 => Ok(Doubling::Undoubled),
-        1 => Ok(Doubling::Doubled),
-        2 => Ok(Doubling::Redoubled),
-        _ => Err(RequestFault::BadField),
-    }
+    let number = small_at(value, "doubled")?;
+    doubling_numbered(number).ok_or(RequestFault::BadField)
 }
 
 fn level_of(value: &Value) -> Result<Level, RequestFault>

@@ -5,10 +5,9 @@ ghost use Rattle.serde_json.specs.Find.{get};
 ghost use Rattle.serde_json.specs.View.{view};
 ghost use Rattle.wire.specs.User.{digest_named, digest, role_named, role_of, pair_named, pair, place};
 
-use crate::field::text_at;
-use crate::result::place_named;
 use cards::{Pair, Place};
 use hex::FromHex;
+use json_fields::{place_named, text_at};
 use rbac::Role;
 use serde_json::Value;
 use session_state::Digest;

@@ -1,8 +1,9 @@
 use super::devices::{FailingReader, FailingWriter};
-use super::session::{SESSION, session_with};
+use super::session::SESSION;
 use program::run_words;
 use std::alloc::{AllocError, Global};
 use std::io::{BufWriter, ErrorKind};
+use std::process::Abort;
 use std::test::Fail;
 
 const MESSAGE: &str = "{\"as\":\"d\",\"ask\":\"board\",\"board\":4}";
@@ -28,33 +29,72 @@ fn script_of(alloc: Global) -> Result<String, AllocError> {
     format!(in alloc; "{SESSION}\n{MESSAGE}\n")
 }
 
+/// Runs the program with these words over a script, and compares its status, its answers, and what it says besides.
+fn ends(
+    rt: &impl Abort,
+    alloc: Global,
+    words: &[&str],
+    script: &str,
+    ended: (u8, &str, &str),
+) -> Result<(), Fail> {
+    let list = list_of(alloc, words)?;
+    let mut reader = script.as_bytes();
+    let mut writer = Vec::new(alloc);
+    let mut errors = Vec::new(alloc);
+    let status = run_words(
+        alloc,
+        list.as_slice(),
+        &mut reader,
+        &mut writer,
+        &mut errors,
+    );
+    assert_eq!(rt; status, ended.0, "{words:?} {script}");
+    assert_eq!(rt; writer.as_slice(), ended.1.as_bytes(), "{words:?} {script}");
+    assert_eq!(rt; errors.as_slice(), ended.2.as_bytes(), "{words:?} {script}");
+    Ok(())
+}
+
 #[test]
 fn answers_a_script_for_one_word_alone(rt: HostRuntime) -> Result<(), Fail> {
-    let rows: [(&[&str], u8, &str, &str); 7] = [
-        (&["bridge_server", "script"], 0, ANSWER, ""),
-        (&[], 2, "", USAGE),
-        (&["bridge_server"], 2, "", USAGE),
-        (&["bridge_server", "Script"], 2, "", USAGE),
-        (&["bridge_server", "script", "script"], 2, "", USAGE),
-        (&["bridge_server", "serve"], 2, "", USAGE),
-        (&["script"], 2, "", USAGE),
+    let script = script_of(rt.alloc())?;
+    let words = ["bridge_server", "script"];
+    ends(&rt, rt.alloc(), &words, script.as_str(), (0, ANSWER, ""))?;
+    let others: [&[&str]; 6] = [
+        &[],
+        &["bridge_server"],
+        &["bridge_server", "Script"],
+        &["bridge_server", "script", "script"],
+        &["bridge_server", "serve"],
+        &["script"],
     ];
-    for (words, status, answers, usage) in rows {
-        let list = list_of(rt.alloc(), words)?;
-        let script = script_of(rt.alloc())?;
-        let mut reader = script.as_bytes();
-        let mut writer = Vec::new(rt.alloc());
-        let mut errors = Vec::new(rt.alloc());
-        let ended = run_words(
+    for words in others {
+        ends(&rt, rt.alloc(), words, script.as_str(), (2, "", USAGE))?;
+    }
+    Ok(())
+}
+
+/// A session without a message.
+#[test]
+fn answers_nothing_where_nothing_is_asked(rt: HostRuntime) -> Result<(), Fail> {
+    for end in ["", "\n", "\n\n"] {
+        let script = format!(in rt.alloc(); "{SESSION}{end}")?;
+        ends(
+            &rt,
             rt.alloc(),
-            list.as_slice(),
-            &mut reader,
-            &mut writer,
-            &mut errors,
-        );
-        assert_eq!(rt; ended, status, "{words:?}");
-        assert_eq!(rt; writer.as_slice(), answers.as_bytes(), "{words:?}");
-        assert_eq!(rt; errors.as_slice(), usage.as_bytes(), "{words:?}");
+            &["bridge_server", "script"],
+            script.as_str(),
+            (0, "", ""),
+        )?;
+    }
+    Ok(())
+}
+
+/// An empty input, and an empty first line, are an empty session object, which is named on standard error.
+#[test]
+fn ends_with_the_status_of_a_refused_session(rt: HostRuntime) -> Result<(), Fail> {
+    let ended = (1, "", "bridge_server: Malformed\n");
+    for script in ["", "\n", "\r\n", "\n{}\n", "{\"budget\":0"] {
+        ends(&rt, rt.alloc(), &["bridge_server", "script"], script, ended)?;
     }
     Ok(())
 }
@@ -109,78 +149,6 @@ fn ends_with_the_status_of_a_fault(rt: HostRuntime) -> Result<(), Fail> {
         );
         assert_eq!(rt; ended, 3, "{good:?} {room:?}");
         assert_eq!(rt; errors.len(), 0, "{good:?} {room:?}");
-    }
-    Ok(())
-}
-
-/// A refused session is named on standard error, with its number or its set, and ends the program with status 1.
-#[test]
-fn ends_with_the_status_of_a_refused_session(rt: HostRuntime) -> Result<(), Fail> {
-    let rows = [
-        ("", "", ""),
-        (
-            r#""tables":3"#,
-            r#""tables":2"#,
-            "bridge_server: BadTables\n",
-        ),
-        (
-            r#""d","roles":["Director"]"#,
-            r#""d","roles":["Director","Contestant"]"#,
-            "bridge_server: Separation(S1)\n",
-        ),
-        (
-            r#"[Board \"3\"]"#,
-            r#"[Board 3]"#,
-            "bridge_server: BadTag(184)\n",
-        ),
-        (r#"{"budget":0"#, "", "bridge_server: Malformed\n"),
-        (r#"}]}"#, r#"}]"#, "bridge_server: Malformed\n"),
-    ];
-    let list = list_of(rt.alloc(), &["bridge_server", "script"])?;
-    for (old, new, told) in rows {
-        let first = session_with(rt.alloc(), old, new)?;
-        let script = format!(in rt.alloc(); "{first}\n{MESSAGE}\n")?;
-        let mut reader = script.as_bytes();
-        let mut writer = Vec::new(rt.alloc());
-        let mut errors = Vec::new(rt.alloc());
-        let ended = run_words(
-            rt.alloc(),
-            list.as_slice(),
-            &mut reader,
-            &mut writer,
-            &mut errors,
-        );
-        assert_eq!(rt; ended == 1, !told.is_empty(), "{new}");
-        assert_eq!(rt; writer.is_empty(), !told.is_empty(), "{new}");
-        assert_eq!(rt; errors.as_slice(), told.as_bytes(), "{new}");
-    }
-    Ok(())
-}
-
-/// An empty input, and an empty first line, are an empty session object.
-#[test]
-fn ends_with_the_status_of_a_refused_session_where_nothing_stands_first(
-    rt: HostRuntime,
-) -> Result<(), Fail> {
-    let list = list_of(rt.alloc(), &["bridge_server", "script"])?;
-    for script in ["", "\n", "\r\n", "\n{}\n", "{\"budget\":0"] {
-        let mut reader = script.as_bytes();
-        let mut writer = Vec::new(rt.alloc());
-        let mut errors = Vec::new(rt.alloc());
-        let ended = run_words(
-            rt.alloc(),
-            list.as_slice(),
-            &mut reader,
-            &mut writer,
-            &mut errors,
-        );
-        assert_eq!(rt; ended, 1, "{script}");
-        assert!(rt; writer.is_empty(), "{script}");
-        assert_eq!(rt;
-            errors.as_slice(),
-            b"bridge_server: Malformed\n".as_slice(),
-            "{script}"
-        );
     }
     Ok(())
 }

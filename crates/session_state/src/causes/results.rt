@@ -5,10 +5,10 @@ ghost use Rattle.session_state.specs.SessionState.{SessionState, IsPlaced};
 ghost use Rattle.session_state.specs.declared.command.Command.TheVariants.{Enter, Confirm, Correct, Rule, Void};
 
 use crate::causes::first_of;
-use crate::play::Play;
 use crate::refusal::Refusal;
 use crate::state::State;
 use movement::Cell;
+use play_record::Play;
 use scoring::Outcome;
 
 pub fn enter_cause(state: &State, cell: Cell, outcome: Outcome, play: &Play) -> Option<Refusal>

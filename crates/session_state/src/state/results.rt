@@ -7,9 +7,9 @@ ghost use Rattle.session_state.specs.SessionState.{IsPlaced};
 ghost use Rattle.session_state.specs.declared.command.Command.TheVariants.{Enter, Confirm, Correct, Rule, Void};
 
 use crate::cell_state::CellState;
-use crate::play::Play;
 use crate::state::{State, place_of};
 use movement::Cell;
+use play_record::Play;
 use scoring::Outcome;
 
 impl State {

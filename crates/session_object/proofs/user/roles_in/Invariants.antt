@@ -1,6 +1,6 @@
 use Rattle.std.proofs.Common.{◌≡◌, drop}
 use Rattle.serde_json.specs.View.{items_view}
-use Rattle.wire.specs.Form.{each}
+use Rattle.json_fields.specs.Form.{each}
 use Rattle.wire.specs.User.{role_of}
 use Rattle.wire.proofs.ListLemmas.{with_front}
 use Rattle.session_object.proofs.user.roles_in.Given as goal

@@ -1,0 +1,13 @@
+use Rattle.std.proofs.Common.{◌≡◌, ap, subst, ◌∙◌, length, get_or, arith, IfSome, IfNone, ◌≢◌}
+use Rattle.cards.specs.declared.place.Place.{Place}
+use Rattle.cards.specs.Place.{place_letter}
+use Rattle.json_fields.proofs.LetterLemmas.{place_of_letter}
+use Rattle.json_fields.proofs.letter.place_named.Goals as goal
+
+pub returns-in-len1 : goal.returns-in-len1
+returns-in-len1 c =
+    let text = c.as_bytes.ensures.value in
+    let same = c.from.ensures ∙ ap (λ bytes. get_or bytes 0 0) text in
+    place_of_letter c.args.text.now c.from_letter.result (omega (arith, ap length text))
+    (subst (λ letter. IfSome c.from_letter.result (λ place. place_letter place ≡ letter)) same c.from_letter.ensures.found)
+    (subst (λ letter. IfNone c.from_letter.result ((place : Place) → place_letter place ≢ letter)) same c.from_letter.ensures.none)

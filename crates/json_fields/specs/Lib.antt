@@ -1,0 +1,4 @@
+pub mod Doubling
+pub mod Field
+pub mod Form
+pub mod Letter

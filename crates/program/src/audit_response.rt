@@ -1,0 +1,48 @@
+//! The line that responds to a message that asks for an audit.
+
+ghost use Rattle.std.specs.Prelude.{◌≡◌, ℕ, List, Ok, IfOk, string_bytes};
+ghost use Rattle.wire.specs.declared.request.Request.TheVariants as request;
+ghost use Rattle.wire.specs.Request.{meaning};
+ghost use Rattle.program.specs.Audit.{audit_reply};
+ghost use Rattle.program.specs.Standing.{line_of};
+ghost use Rattle.program.specs.Writes.{Responds};
+
+use crate::response::with_line_feed;
+use cards::Name;
+use session_book::{AuditError, Book};
+use std::alloc::{AllocError, Global};
+use wire::{AuditRange, RequestFault, audit_refusal_text, audit_text};
+
+/// The line that responds to a message that asks for an audit. The book stays as it is.
+pub(crate) fn response_to_audit(
+    alloc: Global,
+    book: &Book,
+    user: Name,
+    range: AuditRange,
+) -> Result<String, RequestFault>
+    ensures response { (line : List ℕ) → meaning line ≡ Ok (request.Audit user range) →
+        Responds book.now.opening book.now.journal line book.now.journal (line_of string_bytes result) }
+{
+    match audit_reply(alloc, book, user, range) {
+        Ok(text) => with_line_feed(text),
+        Err(_) => Err(RequestFault::OutOfMemory),
+    }
+}
+
+// The rows of an audit at the newest version, or that the user has no permission for it.
+fn audit_reply(
+    alloc: Global,
+    book: &Book,
+    user: Name,
+    range: AuditRange,
+) -> Result<String, AllocError>
+    ensures { IfOk result (λ text. string_bytes text ≡ audit_reply book.now.opening book.now.journal user range) }
+{
+    // The reader's clause that the accounts are valid is what makes the test of a permission decide it.
+    let _accounts = book.state().accounts();
+    match book.audit(user, range.from as usize, range.limit as usize) {
+        Ok(rows) => audit_text(alloc, &rows, book.version()),
+        Err(AuditError::NotPermitted) => audit_refusal_text(alloc),
+        Err(AuditError::OutOfMemory) => Err(AllocError),
+    }
+}

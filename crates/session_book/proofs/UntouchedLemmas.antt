@@ -1,0 +1,355 @@
+-- What an entry doesn't touch, nobody sees who didn't see it before: one line for each command.
+use Rattle.std.proofs.Common.{◌≡◌, ◌≢◌, ℕ, zero, suc, ◌-◌, ◌≤◌, Bool, true, false, cond, List, [], ◌∷◌, ◌++◌, nat_eq, get_or, set, inl, inr, refl, sym, ap, ◌∙◌, subst, arith}
+use Rattle.std.specs.Prelude.{Option, Some, None, is_some, not, ◌&&◌, ◌||◌, ◌⊎◌, find, filter, option_map}
+use Rattle.std.specs.List.{range_with_len}
+use Rattle.std.specs.Bool.{then_some}
+use Rattle.std.specs.Option.{option_or}
+use Rattle.std.proofs.lemmas.Bool.{eq-eqb, eqb-true, false≢true, false_from_ne_true, cases_Bool, and_parts, and_from, or_right, not_from_false}
+use Rattle.std.proofs.lemmas.List.{get_or-set_other}
+use Rattle.std.proofs.lemmas.List.Folds.{find-append}
+use Rattle.cards.specs.CardBits.{any_filter}
+use Rattle.movement.specs.declared.cell.Cell.{Cell}
+use Rattle.movement.specs.Schedule.{is_scheduled}
+use Rattle.movement.proofs.CellLemmas.{cell_in_range}
+use Rattle.movement.proofs.ScheduleTests.{scheduled-cell}
+use Rattle.rbac.specs.Account.{same_name, assigned_roles, new_account, with_change}
+use Rattle.rbac.specs.Authorization.{reached}
+use Rattle.rbac.specs.Inheritance.{pair_of, without_pair}
+use Rattle.rbac.specs.Role.{has, with_role, without_role}
+use Rattle.rbac.specs.declared.account.Account.{Account}
+use Rattle.rbac.specs.declared.inheritance.Inheritance.{Inheritance}
+use Rattle.rbac.specs.declared.role.Role.{Role}
+use Rattle.rbac.proofs.AccountLemmas.{same_name_decides, changed, changed_other, name_kept, with_roles}
+use Rattle.rbac.proofs.AuthorizationLemmas.{decides_is_reached}
+use Rattle.rbac.proofs.InheritanceLemmas.{reaches_without}
+use Rattle.rbac.proofs.RoleLemmas.{has_without_role}
+use Rattle.disclosure_rules.specs.LiveCells.{is_live, tables_at, with_live, without_live}
+use Rattle.disclosure_rules.specs.Numbers.{has_number, with_number, without_number}
+use Rattle.disclosure_rules.specs.Policy.{is_authorized}
+use Rattle.disclosure_rules.specs.Seating.{some_that}
+use Rattle.disclosure_rules.specs.declared.seat.Seat as the_seat
+use Rattle.disclosure_rules.proofs.NumbersLemmas.{has_number-numbers_that}
+use Rattle.session_state.specs.Apply.{apply, effect, confirmed, with_result}
+use Rattle.session_state.specs.Command.{cell_of}
+use Rattle.session_state.specs.Refusal.{hindrance_of}
+use Rattle.session_state.specs.Seats.{without_seat}
+use Rattle.session_state.specs.SessionState.{SessionState, cell_at}
+use Rattle.session_state.specs.declared.cell_state.CellState.{CellState}
+use Rattle.session_state.specs.declared.cell_state.CellState.TheVariants.{Empty, Entered, Confirmed, Ruled}
+use Rattle.session_state.specs.declared.command.Command.{Command}
+use Rattle.session_state.specs.declared.command.Command.TheVariants.{Enter, Confirm, Correct, Void, Hold, Release}
+use Rattle.session_state.specs.declared.command.Command.TheVariants as command
+use Rattle.session_state.specs.declared.command.Command.TheVariants.{Seat, Unseat, NextRound, Close, Finalise}
+use Rattle.session_state.specs.declared.command.Command.TheVariants.{AddUser, Assign, Deassign, AddInheritance}
+use Rattle.session_state.specs.declared.command.Command.TheVariants.{DeleteInheritance}
+use Rattle.session_state.specs.declared.entry.Entry.{Entry}
+use Rattle.session_state.specs.declared.refusal.Refusal.{Refusal}
+use Rattle.session_state.specs.declared.refusal.Refusal.TheVariants.{NoSuchCell}
+use Rattle.session_state.specs.declared.seated.Seated.{Seated}
+use Rattle.session_book.specs.Touched.{touched_by, is_touched}
+use Rattle.session_book.proofs.SightLemmas.{ShowsNoMore}
+
+not_equal : (a b : ℕ) → nat_eq a b ≡ false → a ≢ b
+not_equal a b differ same = false≢true (sym differ ∙ eq-eqb a b same)
+
+-- results: one on another board, and one that is taken away
+other_board : (live : List (List ℕ)) (cell : Cell) (table board : ℕ) → 1 ≤ cell.board → 1 ≤ board → board ≢ cell.board →
+    is_live (with_live live cell) (record { table = table; board = board }) ≡ is_live live (record { table = table; board = board })
+other_board live cell table zero from from_other differ = absurd (omega arith)
+other_board live cell table (suc b) from from_other differ =
+    ap (λ tables. has_number tables table) (get_or-set_other live (cell.board - 1) b (with_number 16 (tables_at live cell.board) cell.table) [] (λ same. differ (omega (arith, same, from))))
+
+-- what stands at a place after a write is what was written, or what stood there
+written : {X : Type 0} (xs : List X) (i j : ℕ) (x d : X) → (get_or (set xs i x) j d ≡ get_or xs j d) ⊎ ((j ≡ i) × (get_or (set xs i x) j d ≡ x))
+written [] i j x d = inl refl
+written (y ∷ ys) zero zero x d = inr (refl, refl)
+written (y ∷ ys) zero (suc j) x d = inl refl
+written (y ∷ ys) (suc i) zero x d = inl refl
+written (y ∷ ys) (suc i) (suc j) x d =
+    elim (written ys i j x d) [
+      | inl same ↦ inl same
+      | inr here ↦ inr (ap suc here.0, here.1)
+    ]
+
+fewer : (most : ℕ) (numbers : List ℕ) (k n : ℕ) → has_number (without_number most numbers k) n ≡ true → has_number numbers n ≡ true
+fewer most numbers k n left =
+    let test : ℕ → Bool = λ m. not (nat_eq m k) && has_number numbers m in
+    let passes = (and_parts _ _ (sym (any_filter (nat_eq n) test n (λ m same. ap test (sym (eqb-true n m same))) (range_with_len 1 most)) ∙ left)).1 in
+    (and_parts (not (nat_eq n k)) (has_number numbers n) passes).1
+
+fewer_live : (live : List (List ℕ)) (cell : Cell) (table board : ℕ) → 1 ≤ cell.board →
+    is_live (without_live live cell) (record { table = table; board = board }) ≡ true → is_live live (record { table = table; board = board }) ≡ true
+fewer_live live cell table zero from left = left
+fewer_live live cell table (suc b) from left =
+    let tables = without_number 16 (tables_at live cell.board) cell.table in
+    elim (written live (cell.board - 1) b tables []) [
+      | inl same ↦ ap (λ numbers. has_number numbers table) (sym same) ∙ left
+      | inr here ↦
+          let number : cell.board ≡ suc b = omega (arith, here.0, from) in
+          ap (λ n. has_number (tables_at live n) table) (sym number)
+          ∙ fewer 16 (tables_at live cell.board) cell.table table (ap (λ numbers. has_number numbers table) (sym here.1) ∙ left)
+    ]
+
+-- boards that are held: one more, and another one less
+still_held : (held : List ℕ) (number board : ℕ) → 1 ≤ board → board ≤ 64 → has_number held board ≡ true → has_number (with_number 64 held number) board ≡ true
+still_held held number board from to is =
+    has_number-numbers_that 64 (λ n. nat_eq n number || has_number held n) board from to ∙ or_right _ _ is
+
+other_held : (held : List ℕ) (number board : ℕ) → 1 ≤ board → board ≤ 64 → nat_eq board number ≡ false → has_number held board ≡ true → has_number (without_number 64 held number) board ≡ true
+other_held held number board from to differ is =
+    has_number-numbers_that 64 (λ n. not (nat_eq n number) && has_number held n) board from to ∙ and_from _ _ (not_from_false _ differ) is
+
+-- seats: another user's, and one that is left
+not_named : (user name : List ℕ) → same_name user name ≡ false → same_name name user ≡ false
+not_named user name differ =
+    false_from_ne_true _ (λ same. false≢true (sym differ ∙ (same_name_decides user name).1 (sym ((same_name_decides name user).0 same))))
+
+abbrev seat_in : List Seated → List ℕ → Option the_seat.Seat
+seat_in seats user = option_map (λ seated. seated.seat) (find (λ (seated : Seated). same_name seated.name user) seats)
+
+other_sits : (seats : List Seated) (seated : Seated) (user : List ℕ) → same_name seated.name user ≡ false → seat_in (seats ++ seated ∷ []) user ≡ seat_in seats user
+other_sits seats seated user other =
+    let p : Seated → Bool = λ s. same_name s.name user in
+    ap (option_map (λ (s : Seated). s.seat))
+    (find-append p seats (seated ∷ []) ∙ ap (λ b. option_or (find p seats) (cond b (Some seated) None)) other ∙ no_other (find p seats))
+  where
+    no_other : (found : Option Seated) → option_or found None ≡ found
+    no_other None = refl
+    no_other (Some s) = refl
+
+gone : {X : Type 0} (p : X → Bool) (xs : List X) → find p (filter (λ x. not (p x)) xs) ≡ None
+gone p [] = refl
+gone {X} p (x ∷ xs) = by_test (p x) refl (gone p xs)
+  where
+    by_test : (b : Bool) → b ≡ p x → find p (filter (λ y. not (p y)) xs) ≡ None → find p (cond (not b) (x ∷ filter (λ y. not (p y)) xs) (filter (λ y. not (p y)) xs)) ≡ None
+    by_test true is rest = rest
+    by_test false is rest = ap (λ b. cond b (Some x) (find p (filter (λ y. not (p y)) xs))) (sym is) ∙ rest
+
+others_found : {X : Type 0} (p q : X → Bool) → ((x : X) → p x ≡ true → q x ≡ true) → (xs : List X) → find p (filter q xs) ≡ find p xs
+others_found p q passes [] = refl
+others_found {X} p q passes (x ∷ xs) = by_tests (p x) (q x) refl refl (others_found p q passes xs)
+  where
+    by_tests : (a b : Bool) → a ≡ p x → b ≡ q x → find p (filter q xs) ≡ find p xs → find p (cond b (x ∷ filter q xs) (filter q xs)) ≡ cond a (Some x) (find p xs)
+    by_tests true true is kept rest = ap (λ c. cond c (Some x) (find p (filter q xs))) (sym is)
+    by_tests true false is left rest = absurd (false≢true (left ∙ passes x (sym is)))
+    by_tests false true is kept rest = ap (λ c. cond c (Some x) (find p (filter q xs))) (sym is) ∙ rest
+    by_tests false false is left rest = rest
+
+stands_up : (seats : List Seated) (name user : List ℕ) → (seat_in (without_seat seats name) user ≡ seat_in seats user) ⊎ (seat_in (without_seat seats name) user ≡ None)
+stands_up seats name user =
+    elim (cases_Bool (same_name user name)) [
+      | inl same ↦
+          inr (ap (λ n. seat_in (without_seat seats n) user) (sym ((same_name_decides user name).0 same))
+          ∙ ap (option_map (λ (s : Seated). s.seat)) (gone (λ (s : Seated). same_name s.name user) seats))
+      | inr other ↦
+          inl (ap (option_map (λ (s : Seated). s.seat))
+          (others_found (λ (s : Seated). same_name s.name user) (λ (s : Seated). not (same_name s.name name))
+          (λ s is. not_from_false _ (ap (λ n. same_name n name) ((same_name_decides s.name user).0 is) ∙ other)) seats))
+    ]
+
+-- roles: those of the account that is found
+abbrev roles_in : List Inheritance → Option Account → Option (List Role)
+roles_in pairs found = option_map (reached pairs) (option_map (λ account. account.assigned) found)
+
+reached_less : (pairs : List Inheritance) (assigned less : List Role) (role : Role) → ((r : Role) → has less r ≡ true → has assigned r ≡ true) →
+    has (reached pairs less) role ≡ true → has (reached pairs assigned) role ≡ true
+reached_less pairs assigned less role within is =
+    let some = (decides_is_reached pairs less role).0 is in
+    (decides_is_reached pairs assigned role).1 (some.0, within some.0 some.1, some.2)
+
+-- a user who joins has no role
+joined_none : (pairs : List Inheritance) (accounts : List Account) (name user : List ℕ) (role : Role) →
+    is_authorized (option_map (reached pairs) (assigned_roles (accounts ++ new_account name ∷ []) user)) role ≡ true → is_authorized (option_map (reached pairs) (assigned_roles accounts user)) role ≡ true
+unfolding assigned_roles
+joined_none pairs accounts name user role is =
+    by_found (find p accounts) (sym (ap (λ found. is_authorized (roles_in pairs found) role) (find-append p accounts (new_account name ∷ []))) ∙ is)
+  where
+    p : Account → Bool
+    p = λ account. same_name account.name user
+
+    by_name : (b : Bool) → is_authorized (roles_in pairs (cond b (Some (new_account name)) None)) role ≡ true → ⊥
+    by_name true is = let some = (decides_is_reached pairs [] role).0 is in false≢true some.1
+    by_name false is = false≢true is
+
+    by_found : (found : Option Account) → is_authorized (roles_in pairs (option_or found (find p (new_account name ∷ [])))) role ≡ true → is_authorized (roles_in pairs found) role ≡ true
+    by_found (Some account) is = is
+    by_found None is = absurd (by_name (same_name name user) is)
+
+-- a change of assigned roles that gives the user none leaves the user none more
+changed_less : (pairs : List Inheritance) (change : List Role → List Role) (name user : List ℕ) (role : Role) →
+    ((account : Account) → account.name ≡ user → (r : Role) → has (changed change name account).assigned r ≡ true → has account.assigned r ≡ true) → (accounts : List Account) →
+    is_authorized (option_map (reached pairs) (assigned_roles (with_change change name accounts) user)) role ≡ true → is_authorized (option_map (reached pairs) (assigned_roles accounts user)) role ≡ true
+unfolding assigned_roles
+changed_less pairs change name user role within [] is = is
+changed_less pairs change name user role within (account ∷ accounts) is =
+    by_name (same_name account.name user) refl (changed_less pairs change name user role within accounts)
+    (ap (λ n. is_authorized (roles_in pairs (cond (same_name n user) (Some (changed change name account)) (find p (with_change change name accounts)))) role) (sym (name_kept change name account)) ∙ is)
+  where
+    p : Account → Bool
+    p = λ other. same_name other.name user
+
+    by_name : (b : Bool) → b ≡ same_name account.name user →
+        (is_authorized (roles_in pairs (find p (with_change change name accounts))) role ≡ true → is_authorized (roles_in pairs (find p accounts)) role ≡ true) →
+        is_authorized (roles_in pairs (cond b (Some (changed change name account)) (find p (with_change change name accounts)))) role ≡ true →
+        is_authorized (roles_in pairs (cond b (Some account) (find p accounts))) role ≡ true
+    by_name true named rest is = reached_less pairs account.assigned (changed change name account).assigned role (within account ((same_name_decides account.name user).0 (sym named))) is
+    by_name false other rest is = rest is
+
+one_role_less : (b : Bool) (account : Account) (less role : Role) → has (cond b (with_roles account (without_role account.assigned less)) account).assigned role ≡ true → has account.assigned role ≡ true
+one_role_less true account less role is = (and_parts _ _ (sym (has_without_role account.assigned less role) ∙ is)).1
+one_role_less false account less role is = is
+
+-- nor does a hierarchy with one pair less
+one_pair_less : (pairs : List Inheritance) (pair : Inheritance) (role : Role) (assigned : Option (List Role)) →
+    is_authorized (option_map (reached (without_pair pairs pair)) assigned) role ≡ true → is_authorized (option_map (reached pairs) assigned) role ≡ true
+one_pair_less pairs pair role None is = is
+one_pair_less pairs pair role (Some assigned) is =
+    let some = (decides_is_reached (without_pair pairs pair) assigned role).0 is in
+    (decides_is_reached pairs assigned role).1 (some.0, some.1, reaches_without pairs pair some.0 role some.2)
+
+-- states that differ in one part
+nothing_changed : (state : SessionState) (user : List ℕ) (board : ℕ) → ShowsNoMore state state user board
+nothing_changed state user board = record { movement = refl; roles = λ role is. is; seat = inl refl; held = λ is. is; live = λ table is. is }
+
+result_elsewhere : (state : SessionState) (cell : Cell) (known : CellState) (user : List ℕ) (board : ℕ) → 1 ≤ cell.board → 1 ≤ board → board ≢ cell.board →
+    ShowsNoMore state (with_result state cell known) user board
+result_elsewhere state cell known user board from from_other differ = record {
+  movement = refl;
+  roles = λ role is. is;
+  seat = inl refl;
+  held = λ is. is;
+  live = λ table is. sym (other_board state.public.live cell table board from from_other differ) ∙ is;
+}
+
+confirmed_elsewhere : (state : SessionState) (cell : Cell) (known : CellState) (user : List ℕ) (board : ℕ) → 1 ≤ cell.board → 1 ≤ board → board ≢ cell.board →
+    ShowsNoMore state (confirmed state cell known) user board
+confirmed_elsewhere state cell Empty user board from from_other differ = nothing_changed state user board
+confirmed_elsewhere state cell (Entered outcome play) user board from from_other differ =
+    result_elsewhere state cell (Confirmed outcome play) user board from from_other differ
+confirmed_elsewhere state cell (Confirmed outcome play) user board from from_other differ = nothing_changed state user board
+confirmed_elsewhere state cell (Ruled north_south east_west reason) user board from from_other differ =
+    nothing_changed state user board
+
+-- one line for each command: of what it doesn't touch it shows no more
+effect_shows : (state : SessionState) (command : Command) (user : List ℕ) (board : ℕ) → ((cell : Cell) → cell_of command ≡ Some cell → 1 ≤ cell.board) → 1 ≤ board → board ≤ 64 →
+    is_touched (touched_by command) user board ≡ false → ShowsNoMore state (effect state command) user board
+effect_shows state (Enter table number outcome play) user board from low high untouched =
+    record { movement = refl; roles = λ role is. is; seat = inl refl; held = λ is. is; live = λ place is. is }
+effect_shows state (Confirm table number outcome) user board from low high untouched =
+    let cell : Cell = record { table = table; board = number } in
+    confirmed_elsewhere state cell (cell_at state cell) user board (from cell refl) low (not_equal board number untouched)
+effect_shows state (Correct table number outcome play) user board from low high untouched =
+    let cell : Cell = record { table = table; board = number } in
+    result_elsewhere state cell (Confirmed outcome play) user board (from cell refl) low (not_equal board number untouched)
+effect_shows state (command.Rule table number north_south east_west reason) user board from low high untouched =
+    let cell : Cell = record { table = table; board = number } in
+    result_elsewhere state cell (Ruled north_south east_west reason) user board (from cell refl) low (not_equal board number untouched)
+effect_shows state (Void table number) user board from low high untouched =
+    let cell : Cell = record { table = table; board = number } in
+    record {
+      movement = refl;
+      roles = λ role is. is;
+      seat = inl refl;
+      held = λ is. is;
+      live = λ place is. fewer_live state.public.live cell place board (from cell refl) is;
+    }
+effect_shows state (Hold number) user board from low high untouched = record {
+  movement = refl;
+  roles = λ role is. is;
+  seat = inl refl;
+  held = still_held state.public.held number board low high;
+  live = λ place is. is;
+}
+effect_shows state (Release number) user board from low high untouched = record {
+  movement = refl;
+  roles = λ role is. is;
+  seat = inl refl;
+  held = other_held state.public.held number board low high untouched;
+  live = λ place is. is;
+}
+effect_shows state (Seat name pair place) user board from low high untouched = record {
+  movement = refl;
+  roles = λ role is. is;
+  seat = inl (other_sits state.seats (record { name = name; seat = record { pair = pair; place = place } }) user (not_named user name untouched));
+  held = λ is. is;
+  live = λ place is. is;
+}
+effect_shows state (Unseat name) user board from low high untouched = record {
+  movement = refl;
+  roles = λ role is. is;
+  seat = stands_up state.seats name user;
+  held = λ is. is;
+  live = λ place is. is;
+}
+effect_shows state NextRound user board from low high untouched =
+    record { movement = refl; roles = λ role is. is; seat = inl refl; held = λ is. is; live = λ place is. is }
+effect_shows state Close user board from low high untouched =
+    record { movement = refl; roles = λ role is. is; seat = inl refl; held = λ is. is; live = λ place is. is }
+effect_shows state Finalise user board from low high untouched =
+    record { movement = refl; roles = λ role is. is; seat = inl refl; held = λ is. is; live = λ place is. is }
+effect_shows state (AddUser name digest) user board from low high untouched = record {
+  movement = refl;
+  roles = λ role is. joined_none state.roles.pairs state.roles.accounts name user role is;
+  seat = inl refl;
+  held = λ is. is;
+  live = λ place is. is;
+}
+effect_shows state (Assign name more) user board from low high untouched = record {
+  movement = refl;
+  roles = λ role is.
+      changed_less state.roles.pairs (λ set. with_role set more) name user role
+      (λ account named r has_it. ap (λ (a : Account). has a.assigned r)
+      (sym (changed_other (λ set. with_role set more) name account (λ same. false≢true (sym untouched ∙ (same_name_decides user name).1 (sym named ∙ same))))) ∙ has_it)
+      state.roles.accounts is;
+  seat = inl refl;
+  held = λ is. is;
+  live = λ place is. is;
+}
+effect_shows state (Deassign name less) user board from low high untouched = record {
+  movement = refl;
+  roles = λ role is.
+      changed_less state.roles.pairs (λ set. without_role set less) name user role
+      (λ account named r has_it. one_role_less (same_name account.name name) account less r has_it) state.roles.accounts is;
+  seat = inl refl;
+  held = λ is. is;
+  live = λ place is. is;
+}
+effect_shows state (AddInheritance senior junior) user board from low high untouched = absurd (false≢true (sym untouched))
+effect_shows state (DeleteInheritance senior junior) user board from low high untouched = record {
+  movement = refl;
+  roles = λ role is. one_pair_less state.roles.pairs (pair_of senior junior) role (assigned_roles state.roles.accounts user) is;
+  seat = inl refl;
+  held = λ is. is;
+  live = λ place is. is;
+}
+
+second_free : (a b rest : Option Refusal) → option_or a (option_or b rest) ≡ None → b ≡ None
+second_free None None rest none = refl
+second_free None (Some cause) rest none = absurd cc
+second_free (Some cause) b rest none = absurd cc
+
+met_not : (scheduled : Bool) → then_some (not scheduled) NoSuchCell ≡ None → scheduled ≡ true
+met_not true none = refl
+met_not false none = absurd cc
+
+is_scheduled_there : (at : Option Cell) (cell : Cell) (scheduled : Cell → Bool) → at ≡ Some cell → then_some (some_that at (λ c. not (scheduled c))) NoSuchCell ≡ None → scheduled cell ≡ true
+is_scheduled_there (Some other) cell scheduled at none =
+    let same : other ≡ cell = cc in subst (λ c. scheduled c ≡ true) same (met_not (scheduled other) none)
+is_scheduled_there None cell scheduled at none = absurd cc
+
+-- an entry that nothing hinders, and that is about a cell, has a board
+has_board : (state : SessionState) (command : Command) → hindrance_of state command ≡ None → (cell : Cell) → cell_of command ≡ Some cell → 1 ≤ cell.board
+unfolding hindrance_of
+has_board state command none cell at =
+    let free = second_free _ _ _ none in
+    let scheduled = is_scheduled_there (cell_of command) cell (is_scheduled state.public.movement) at free in
+    (cell_in_range state.public.movement cell (scheduled-cell state.public.movement cell scheduled)).from_board
+
+-- of what an entry doesn't touch it shows no more
+pub untouched_shows : (state : SessionState) (entry : Entry) (user : List ℕ) (board : ℕ) → 1 ≤ board → board ≤ 64 → is_touched (touched_by entry.command) user board ≡ false →
+    ShowsNoMore state (apply state entry) user board
+untouched_shows state entry user board low high untouched = by_hindrance (hindrance_of state entry.command) refl
+  where
+    by_hindrance : (found : Option Refusal) → found ≡ hindrance_of state entry.command → ShowsNoMore state (cond (is_some found) state (effect state entry.command)) user board
+    by_hindrance (Some cause) found = nothing_changed state user board
+    by_hindrance None found = effect_shows state entry.command user board (has_board state entry.command (sym found)) low high untouched

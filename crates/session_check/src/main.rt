@@ -1,0 +1,50 @@
+//! How a script ends that begins with a session object, for each line of standard input: to check a session before an evening.
+//! A line has the status, and then what the program writes: why the session isn't opened, or its answer to a first message.
+#![tactic(auto)]
+
+use program::run_words;
+use std::alloc::{AllocError, Global};
+use std::io::{self, BufRead, BufReader, Write};
+use std::process::ExitCode;
+
+/// A message that each session answers alike: no session has a board 0.
+const MESSAGE: &str = "{\"as\":\"a\",\"ask\":\"board\",\"board\":0}";
+
+fn main(rt: HostRuntime) -> ExitCode {
+    match check_all(&rt) {
+        Ok(()) => ExitCode::SUCCESS,
+        Err(_) => ExitCode::from(3),
+    }
+}
+
+// Writes a line for each session object.
+fn check_all(rt: &HostRuntime) -> io::Result<()> {
+    let mut writer = io::writer(rt);
+    for object in BufReader::new(rt.alloc(), rt.reader())?.lines(rt.alloc()) {
+        let line = line_of(rt.alloc(), object?.as_str())?;
+        writer.write_all(line.as_slice())?;
+    }
+    Ok(())
+}
+
+// The status with which a script ends, and what is written.
+fn line_of(alloc: Global, object: &str) -> Result<Vec<u8>, AllocError> {
+    let script = format!(in alloc; "{object}\n{MESSAGE}\n")?;
+    let mut words = Vec::new(alloc);
+    words.push(String::from_str(alloc, "bridge_server")?)?;
+    words.push(String::from_str(alloc, "script")?)?;
+    let mut answers = Vec::new(alloc);
+    let mut errors = Vec::new(alloc);
+    let status = run_words(
+        alloc,
+        words.as_slice(),
+        &mut script.as_bytes(),
+        &mut answers,
+        &mut errors,
+    );
+    let status = format!(in alloc; "{status} ")?;
+    let mut line = Vec::from_slice(alloc, status.as_bytes())?;
+    line.extend_from_slice(errors.as_slice())?;
+    line.extend_from_slice(answers.as_slice())?;
+    Ok(line)
+}

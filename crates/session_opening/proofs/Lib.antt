@@ -1,0 +1,5 @@
+pub mod JoiningLemmas
+pub mod OpeningLawLemmas
+pub mod OpeningLemmas
+pub mod OpeningRefusalLemmas
+pub mod OpeningSeatLemmas

@@ -1,0 +1,4 @@
+pub mod Joining
+pub mod NewUser
+pub mod Opening
+pub mod OpeningRefusal

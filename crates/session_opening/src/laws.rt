@@ -1,0 +1,15 @@
+//! Laws of the opening: functions with nothing to do, whose clauses are the laws.
+ghost use Rattle.std.specs.Prelude.{◌≡◌, ℕ, List, None};
+ghost use Rattle.rbac.specs.Authorization.{IsAuthorized, KeepsSeparation};
+ghost use Rattle.rbac.specs.declared.role.Role.TheVariants.{Administrator};
+ghost use Rattle.session_opening.specs.Opening.{opening_of};
+ghost use Rattle.session_opening.specs.OpeningRefusal.{opening_refusal};
+ghost use Rattle.session_opening.specs.declared.config.Config.{Config};
+
+/// A session that opens has somebody who is authorized for Administrator, and nobody who is authorized for both roles of a
+/// separation set (static separation of duty of INCITS 359-2012).
+pub fn openings_are_sound()
+    ensures separation { (config : Config) → opening_refusal config ≡ None → KeepsSeparation (opening_of config).roles }
+    ensures administrator { (config : Config) → opening_refusal config ≡ None →
+        (name : List ℕ) × IsAuthorized (opening_of config).roles name Administrator }
+{}

@@ -1,0 +1,17 @@
+//! What a session opens with, when it isn't opened, and the state in which it opens.
+#![tactic(auto)]
+
+mod config;
+pub mod laws;
+mod new_user;
+mod new_users;
+mod opening;
+mod opening_acceptance;
+mod opening_refusal;
+mod role_list;
+
+pub use config::Config;
+pub use new_user::NewUser;
+pub use new_users::NewUsers;
+pub use opening_refusal::OpeningRefusal;
+pub use role_list::RoleList;

@@ -1,0 +1,15 @@
+use crate::role_list::RoleList;
+use cards::Name;
+use disclosure_rules::Seat;
+use session_state::Digest;
+
+/// A user with whom a session opens.
+#[derive(Debug, Drop)]
+pub struct NewUser {
+    pub name: Name,
+    pub digest: Digest,
+    /// The roles to be assigned, in their order.
+    pub roles: RoleList,
+    /// Where the user sits, if the user plays.
+    pub seat: Option<Seat>,
+}

@@ -1,6 +1,0 @@
-use Rattle.std.proofs.Common.{◌≡◌, take}
-use Rattle.session_state.specs.Opening.{opening_marks}
-use Rattle.session_state.proofs.opening.marks.Given as goal
-
-abbrev pub invariant-loop-place : goal.invariant-loop-place
-invariant-loop-place l = l.marks ≡ opening_marks (take l.place l.config.boards)

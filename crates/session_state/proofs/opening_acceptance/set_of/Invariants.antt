@@ -1,6 +1,0 @@
-use Rattle.std.proofs.Common.{◌≡◌, take}
-use Rattle.session_state.specs.NewUser.{set_of}
-use Rattle.session_state.proofs.opening_acceptance.set_of.Given as goal
-
-abbrev pub invariant-loop-role : goal.invariant-loop-role
-invariant-loop-role l = l.set ≡ set_of (take l.role-index l.list)

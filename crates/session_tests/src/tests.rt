@@ -1,2 +1,0 @@
-mod book;
-mod opening;

@@ -1,0 +1,13 @@
+-- What is written of an audit has no float.
+use Rattle.std.proofs.Common.{◌≡◌, ℕ, List, [], ◌∷◌, ◌||◌, map, false, refl, ap}
+use Rattle.serde_json.specs.View.{items_of}
+use Rattle.serde_json.specs.Written.{has_float, items_have_float}
+use Rattle.session_book.specs.declared.audit.AuditRow.{AuditRow}
+use Rattle.wire.specs.AuditText.{row_data, audit_data}
+
+no_float_in_rows : (rows : List AuditRow) → items_have_float (items_of (map row_data rows)) ≡ false
+no_float_in_rows [] = refl
+no_float_in_rows (row ∷ rows) = no_float_in_rows rows
+
+pub no_float_in_an_audit : (rows : List AuditRow) (version : ℕ) → has_float (audit_data rows version) ≡ false
+no_float_in_an_audit rows version = ap (λ b. b || false) (no_float_in_rows rows)

@@ -1,0 +1,5 @@
+use Rattle.wire.proofs.LineLemmas.{audit_line}
+use Rattle.wire.proofs.laws.audits_by_their_members.Goals as goal
+
+pub returns : goal.returns
+returns c = audit_line

@@ -1,0 +1,113 @@
+//! What is written of an audit.
+
+ghost use Rattle.std.specs.Prelude.{◌≡◌, map, IfOk, string_bytes};
+ghost use Rattle.serde_json.specs.Data.{array};
+ghost use Rattle.serde_json.specs.View.{view, items_of};
+ghost use Rattle.wire.specs.AuditText.{command_word, target, row_data, audit_data, audit_text, refusal_data, audit_refusal_text};
+
+use serde_json::{Value, json};
+use session_book::{AuditRow, AuditRows};
+use session_state::Command;
+use std::alloc::{AllocError, Global};
+
+/// The text of an audit's rows, where the journal has this version.
+pub fn audit_text(alloc: Global, rows: &AuditRows, version: usize) -> Result<String, AllocError>
+    ensures { IfOk result (λ text. string_bytes text ≡ audit_text rows.now version) }
+{
+    let value = audit_value(alloc, rows, version)?;
+    value.to_string(alloc)
+}
+
+/// The text for a user who has no permission for the audit.
+pub fn audit_refusal_text(alloc: Global) -> Result<String, AllocError>
+    ensures { IfOk result (λ text. string_bytes text ≡ audit_refusal_text) }
+{
+    let value = refusal_value(alloc)?;
+    value.to_string(alloc)
+}
+
+fn refusal_value(alloc: Global) -> Result<Value, AllocError>
+    ensures { IfOk result (λ value. view value ≡ refusal_data) }
+{
+    json!(in alloc; {"error": "NotPermitted"})
+}
+
+fn audit_value(alloc: Global, rows: &AuditRows, version: usize) -> Result<Value, AllocError>
+    ensures { IfOk result (λ value. view value ≡ audit_data rows.now version) }
+{
+    let rows = rows_value(alloc, rows.as_slice())?;
+    json!(in alloc; {"audit": rows, "version": version})
+}
+
+fn rows_value(alloc: Global, rows: &[AuditRow]) -> Result<Value, AllocError>
+    ensures { IfOk result (λ value. view value ≡ array (items_of (map row_data rows.now))) }
+{
+    let mut values = Vec::with_capacity(alloc, rows.len())?;
+    for row in rows {
+        let value = row_value(alloc, row)?;
+        values.push(value)?;
+    }
+    Ok(Value::Array(values))
+}
+
+fn row_value(alloc: Global, row: &AuditRow) -> Result<Value, AllocError>
+    ensures { IfOk result (λ value. view value ≡ row_data row.now) }
+{
+    let target = target_text(alloc, &row.entry.command)?;
+    json!(in alloc; [
+        row.number,
+        row.entry.actor.as_str(),
+        command_word(&row.entry.command),
+        target
+    ])
+}
+
+// How a command is called.
+fn command_word(command: &Command) -> &'static str
+    ensures { result.now ≡ command_word command.now }
+{
+    match command {
+        Command::Enter { .. } => "Enter",
+        Command::Confirm { .. } => "Confirm",
+        Command::Correct { .. } => "Correct",
+        Command::Rule { .. } => "Rule",
+        Command::Void { .. } => "Void",
+        Command::Hold { .. } => "Hold",
+        Command::Release { .. } => "Release",
+        Command::Seat { .. } => "Seat",
+        Command::Unseat { .. } => "Unseat",
+        Command::NextRound => "NextRound",
+        Command::Close => "Close",
+        Command::Finalise => "Finalise",
+        Command::AddUser { .. } => "AddUser",
+        Command::Assign { .. } => "Assign",
+        Command::Deassign { .. } => "Deassign",
+        Command::AddInheritance { .. } => "AddInheritance",
+        Command::DeleteInheritance { .. } => "DeleteInheritance",
+    }
+}
+
+// What a command is about.
+fn target_text(alloc: Global, command: &Command) -> Result<String, AllocError>
+    ensures { IfOk result (λ text. string_bytes text ≡ target command.now) }
+{
+    match command {
+        Command::Enter { table, board, .. }
+        | Command::Confirm { table, board, .. }
+        | Command::Correct { table, board, .. }
+        | Command::Rule { table, board, .. }
+        | Command::Void { table, board } => format!(in alloc; "{table}/{board}"),
+        Command::Hold { board } | Command::Release { board } => board.to_string(alloc),
+        Command::Seat { name, .. } | Command::Unseat { name } | Command::AddUser { name, .. } => {
+            name.to_string(alloc)
+        }
+        Command::Assign { name, role } | Command::Deassign { name, role } => {
+            format!(in alloc; "{name}:{role}")
+        }
+        Command::AddInheritance { senior, junior }
+        | Command::DeleteInheritance { senior, junior } => {
+            format!(in alloc; "{senior}>{junior}")
+        }
+        Command::NextRound | Command::Close | Command::Finalise => Ok(String::new(alloc)),
+    }
+}

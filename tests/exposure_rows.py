@@ -1,0 +1,362 @@
+#!/usr/bin/env python3
+"""Writes the stored run of crates/bridge_server_exposure: a session in which users are shown boards and then sit down to play them.
+
+    tests/exposure_rows.py crates/bridge_server_exposure
+
+Each row below has its answer, worked by hand from the laws of the session and the policy, and why. A plain model of the
+session then works each answer out once more: it keeps the whole journal, and looks for a user's exposure through every state
+that the journal led through, at every secret fact of the board, by the twelve rules. Nothing of the program is used.
+"""
+import json
+import pathlib
+import sys
+
+DIGEST = "ba7816bf8f01cfea414140de5dae2223b00361a396177a9cb410ff61f20015ad"
+HANDS = "AKQJT98765432... .AKQJT98765432.. ..AKQJT98765432. ...AKQJT98765432"
+DEALS = {1: "N:" + HANDS, 2: "E:" + HANDS, 3: "S:" + HANDS}
+SHOWN = {  # the hands of each deal, from North
+    1: "N:AKQJT98765432... .AKQJT98765432.. ..AKQJT98765432. ...AKQJT98765432",
+    2: "N:...AKQJT98765432 AKQJT98765432... .AKQJT98765432.. ..AKQJT98765432.",
+    3: "N:..AKQJT98765432. ...AKQJT98765432 AKQJT98765432... .AKQJT98765432..",
+}
+MARKS = {1: ("N", "none"), 2: ("E", "ns"), 3: ("S", "ew")}
+R420 = {"by": "N", "doubled": 0, "level": 4, "strain": "S", "tricks": 10}
+# who plays what: round, table, board, the number of the East-West pair; North-South pair k stays at table k
+ROWS = [(1, 1, 1, 1), (1, 2, 2, 2), (1, 3, 3, 3), (2, 1, 2, 3), (2, 2, 3, 1), (2, 3, 1, 2), (3, 1, 3, 2), (3, 2, 1, 3), (3, 3, 2, 1)]
+WHY = {
+    2: "not a member",
+    4: "the board is held",
+    5: "your pair has still to play this board",
+    6: "the board isn't complete and you don't play it",
+    7: "neither a contestant nor a spectator",
+    8: "the board isn't complete",
+}
+USERS = [
+    ("a", "Administrator", None),
+    ("d", "Director", None),
+    ("d2", "Director", None),
+    ("k", "Scorer", None),
+    ("s", "Spectator", None),
+    ("n1", "Contestant", ("NS1", "N")),
+    ("n2", "Contestant", ("NS2", "N")),
+]
+INHERITS = [
+    ("Spectator", "Member"),
+    ("Contestant", "Member"),
+    ("Scorer", "Member"),
+    ("Administrator", "Member"),
+    ("Director", "Scorer"),
+    ("Director", "Spectator"),
+]
+
+
+def enter(table, board):
+    return {"board": board, "cmd": "Enter", "result": R420, "table": table}
+
+
+def confirm(table, board):
+    return {"board": board, "cmd": "Confirm", "result": R420, "table": table}
+
+
+def void(table, board):
+    return {"board": board, "cmd": "Void", "table": table}
+
+
+def rule(table, board):
+    return {"board": board, "cmd": "Rule", "ew": 40, "ns": 60, "reason": 7, "table": table}
+
+
+def hold(board):
+    return {"board": board, "cmd": "Hold"}
+
+
+def release(board):
+    return {"board": board, "cmd": "Release"}
+
+
+def seat(name, pair, place):
+    return {"cmd": "Seat", "name": name, "pair": pair, "place": place}
+
+
+def unseat(name):
+    return {"cmd": "Unseat", "name": name}
+
+
+def add(name):
+    return {"cmd": "AddUser", "digest": DIGEST, "name": name}
+
+
+def assign(name, role):
+    return {"cmd": "Assign", "name": name, "role": role}
+
+
+def deassign(name, role):
+    return {"cmd": "Deassign", "name": name, "role": role}
+
+
+def inherit(senior, junior):
+    return {"cmd": "AddInheritance", "junior": junior, "senior": senior}
+
+
+def disinherit(senior, junior):
+    return {"cmd": "DeleteInheritance", "junior": junior, "senior": senior}
+
+
+NEXT = {"cmd": "NextRound"}
+OK = "ok"
+
+
+def do(name, *commands_and_answers):
+    half = len(commands_and_answers) // 2
+    return name, list(commands_and_answers[:half]), list(commands_and_answers[half:])
+
+
+def ask(name, board, answer):
+    return name, board, answer
+
+
+# In session S, round 1: table 1 plays board 1, table 2 board 2, table 3 board 3. Each row: who, what, and the answer.
+SCRIPT = [
+    # A board that a pair has played and seen is voided: the pair is denied it, and enters and confirms it no more.
+    do("k", enter(1, 1), confirm(1, 1), OK, OK),
+    ask("n1", 1, "shown"),
+    do("d", void(1, 1), OK),
+    ask("n1", 1, (5, 1)),
+    do("k", enter(1, 1), "Spoiled(n1)"),
+    # Who has left the seat spoils nothing there; who sits down again does. The entry of the meantime can't be confirmed.
+    do("d", unseat("n1"), OK),
+    do("k", enter(1, 1), OK),
+    do("d", seat("n1", "NS1", "N"), OK),
+    do("k", confirm(1, 1), "Spoiled(n1)"),
+    do("d", rule(1, 1), OK),
+    # A director, who is shown every board, becomes a contestant and sits down: exposed since the opening.
+    do("k", enter(3, 3), OK),
+    do("a", deassign("d", "Director"), assign("d", "Contestant"), OK, OK),
+    do("d2", seat("d", "NS3", "N"), OK),
+    do("k", confirm(3, 3), "Spoiled(d)"),
+    do("k", enter(3, 3), "Spoiled(d)"),
+    do("d2", unseat("d"), OK),
+    do("k", confirm(3, 3), OK),
+    # While board 2 is held, n2's result there shows n2 nothing: after a Void n2 may enter it again.
+    do("d2", hold(2), OK),
+    do("k", enter(2, 2), confirm(2, 2), OK, OK),
+    ask("n2", 2, (4, 0)),
+    do("d2", void(2, 2), OK),
+    do("k", enter(2, 2), confirm(2, 2), OK, OK),
+    # Released and held again in one batch, it was shown to n2 for one version: that is enough.
+    do("d2", release(2), hold(2), OK, OK),
+    ask("n2", 2, (4, 0)),
+    do("d2", void(2, 2), OK),
+    do("k", enter(2, 2), "Spoiled(n2)"),
+    do("d2", release(2), OK),
+    ask("n2", 2, (5, 2)),
+    do("k", enter(2, 2), "Spoiled(n2)"),
+    # A contestant who joins now was shown nothing of it.
+    do("a", add("v"), assign("v", "Contestant"), OK, OK),
+    do("d2", unseat("n2"), seat("v", "NS2", "N"), OK, OK),
+    do("k", enter(2, 2), confirm(2, 2), OK, OK),
+    ask("v", 2, "shown"),
+    # Who takes the seat of a pair that has its result is shown the board at once.
+    do("d2", seat("n2", "NS3", "N"), OK),
+    do("d2", void(3, 3), OK),
+    do("k", enter(3, 3), "Spoiled(n2)"),
+    do("d2", unseat("n2"), OK),
+    do("k", enter(3, 3), confirm(3, 3), OK, OK),
+    # A spectator is shown board 1 once it is complete, then plays. Of several the first of the accounts is named.
+    do("d2", NEXT, NEXT, OK, OK),
+    ask("s", 1, (8, 2)),
+    do("k", enter(3, 1), confirm(3, 1), enter(2, 1), confirm(2, 1), OK, OK, OK, OK),
+    ask("s", 1, "shown"),
+    do("a", assign("s", "Contestant"), OK),
+    do("d2", seat("s", "EW3", "E"), OK),
+    do("d2", void(2, 1), OK),
+    ask("s", 1, (5, 2)),
+    do("k", enter(2, 1), "Spoiled(s)"),
+    do("d2", unseat("s"), OK),
+    do("k", enter(2, 1), "Spoiled(v)"),
+    do("d2", unseat("v"), OK),
+    do("k", enter(2, 1), confirm(2, 1), OK, OK),
+    # A user who was a spectator for one version, and asked for nothing: what counts is what was allowed, not what was asked.
+    do("a", add("x"), assign("x", "Spectator"), OK, OK),
+    do("a", deassign("x", "Spectator"), OK),
+    ask("x", 1, (2, 0)),
+    do("d2", void(2, 1), OK),
+    do("a", assign("x", "Contestant"), OK),
+    ask("x", 1, (6, 2)),
+    do("d2", seat("x", "NS2", "N"), OK),
+    do("k", enter(2, 1), "Spoiled(x)"),
+    do("d2", unseat("x"), OK),
+    do("k", enter(2, 1), confirm(2, 1), OK, OK),
+    # The board is complete: a pair of the hierarchy shows it to administrators, and is deleted again.
+    do("a", add("w"), assign("w", "Administrator"), OK, OK),
+    ask("w", 1, (7, 0)),
+    do("a", inherit("Administrator", "Spectator"), OK),
+    do("a", disinherit("Administrator", "Spectator"), OK),
+    ask("w", 1, (7, 0)),
+    do("d2", void(2, 1), OK),
+    do("a", deassign("w", "Administrator"), assign("w", "Contestant"), OK, OK),
+    do("d2", seat("w", "EW3", "W"), OK),
+    do("k", enter(2, 1), "Spoiled(w)"),
+    # Without a further pair w isn't even a member, and stays exposed.
+    do("a", disinherit("Contestant", "Member"), OK),
+    ask("w", 1, (2, 0)),
+    do("k", enter(2, 1), "Spoiled(w)"),
+    do("a", inherit("Contestant", "Member"), OK),
+    do("d2", unseat("w"), OK),
+    # A contestant who joins while the board is incomplete plays it.
+    do("a", add("y"), assign("y", "Contestant"), OK, OK),
+    do("d2", seat("y", "EW3", "E"), OK),
+    ask("y", 1, (5, 2)),
+    do("k", enter(2, 1), confirm(2, 1), OK, OK),
+    ask("y", 1, "shown"),
+    # A ruling shows the board as any result does, and a Void after it in the same batch takes nothing back.
+    do("d2", unseat("y"), void(2, 1), OK, OK),
+    do("a", add("u"), assign("u", "Contestant"), OK, OK),
+    do("d2", seat("u", "NS2", "N"), rule(2, 1), void(2, 1), OK, OK, OK),
+    do("k", enter(2, 1), "Spoiled(u)"),
+]
+
+
+class Model:
+    def __init__(self):
+        self.assigned = {name: {role} for name, role, _ in USERS}
+        self.inherits = set(INHERITS)
+        self.seats = {name: at for name, _, at in USERS if at}
+        self.round, self.held, self.live, self.entered = 1, set(), set(), set()
+        self.version, self.exposed = 0, set()
+        self.look()
+
+    def roles(self, name):
+        found = set(self.assigned[name])
+        while True:
+            more = found | {junior for senior, junior in self.inherits if senior in found}
+            if more == found:
+                return found
+            found = more
+
+    def cells(self, board):
+        return sorted((table, f"NS{table}", f"EW{east_west}") for _, table, at, east_west in ROWS if at == board)
+
+    # The first rule that forbids a secret fact, with the table of the evidence. A fact is its kind, its board and its table.
+    def denied(self, name, kind, board, table):
+        if name not in self.assigned:
+            return 1, 0
+        roles = self.roles(name)
+        if "Member" not in roles:
+            return 2, 0
+        if "Director" in roles:
+            return None
+        cells = self.cells(board)
+        waiting = [at for at, _, _ in cells if (at, board) not in self.live]
+        pair = self.seats.get(name, (None,))[0]
+        own = [at for at, north_south, east_west in cells if pair in (north_south, east_west)]
+        sits_there = table in own
+        contestant = "Contestant" in roles
+        rules = [
+            (4, board in self.held, 0),
+            (5, contestant and bool(own) and own[0] in waiting, own[0] if own else 0),
+            (6, contestant and not own and bool(waiting), min(waiting, default=0)),
+            (7, not contestant and "Spectator" not in roles, 0),
+            (8, not contestant and bool(waiting), min(waiting, default=0)),
+            (9, kind in ("Analysis", "Cost") and bool(waiting), min(waiting, default=0)),
+            (10, kind in ("Play", "Cost") and not sits_there, table),
+            (11, kind == "Reason" and not sits_there, table),
+            (12, bool(table) and (table, board) not in self.live, table),
+        ]
+        return next(((number, at) for number, forbids, at in rules if forbids), None)
+
+    # who is allowed some secret fact of which board now is exposed to it from now on
+    def look(self):
+        for name in self.assigned:
+            for board in DEALS:
+                facts = [("Hands", board, 0), ("Analysis", board, 0)]
+                facts += [(kind, board, table) for kind in ("Result", "Play", "Cost", "Reason") for table, _, _ in self.cells(board)]
+                if any(self.denied(name, *fact) is None for fact in facts):
+                    self.exposed.add((name, board))
+
+    def spoiler(self, table, board):
+        pairs = next(cell[1:] for cell in self.cells(board) if cell[0] == table)
+        return next((name for name in self.assigned if self.seats.get(name, (None,))[0] in pairs and (name, board) in self.exposed), None)
+
+    def command(self, actor, command):
+        kind, cell = command["cmd"], (command.get("table"), command.get("board"))
+        if kind in ("Enter", "Confirm"):
+            assert "Scorer" in self.roles(actor) and cell not in self.live
+            assert next(r for r, table, board, _ in ROWS if (table, board) == cell) <= self.round
+            assert kind == "Enter" or cell in self.entered
+            name = self.spoiler(*cell)
+            if name:
+                return f"Spoiled({name})"
+            if kind == "Enter":
+                self.entered.add(cell)
+            else:
+                self.entered.discard(cell)
+                self.live.add(cell)
+            return OK
+        needed = "Administrator" if kind in ("AddUser", "Assign", "Deassign", "AddInheritance", "DeleteInheritance") else "Director"
+        assert needed in self.roles(actor)
+        {
+            "Rule": lambda: (self.entered.discard(cell), self.live.add(cell)),
+            "Void": lambda: self.live.remove(cell),
+            "Hold": lambda: self.held.add(command["board"]),
+            "Release": lambda: self.held.remove(command["board"]),
+            "NextRound": lambda: setattr(self, "round", self.round + 1),
+            "Seat": lambda: self.seats.__setitem__(command["name"], (command["pair"], command["place"])),
+            "Unseat": lambda: self.seats.pop(command["name"]),
+            "AddUser": lambda: self.assigned.__setitem__(command["name"], set()),
+            "Assign": lambda: self.assigned[command["name"]].add(command["role"]),
+            "Deassign": lambda: self.assigned[command["name"]].remove(command["role"]),
+            "AddInheritance": lambda: self.inherits.add((command["senior"], command["junior"])),
+            "DeleteInheritance": lambda: self.inherits.remove((command["senior"], command["junior"])),
+        }[kind]()
+        return OK
+
+    def do(self, actor, commands):
+        answers, before = [], self.version
+        for command in commands:
+            answer = self.command(actor, command)
+            answers.append(answer)
+            if answer == OK:
+                self.version += 1
+                self.look()
+        ends = {"first": before + 1, "last": self.version} if self.version > before else {"first": 0, "last": 0}
+        return {"answers": answers, **ends, "version": self.version}
+
+    def ask(self, name, board):
+        denied = self.denied(name, "Hands", board, 0)
+        if denied:
+            number, table = denied
+            return {"denied": {"board": board if number > 3 else 0, "rule": number, "table": table, "why": WHY[number]}, "version": self.version}
+        dealer, vulnerability = MARKS[board]
+        return {"board": {"deal": SHOWN[board], "dealer": dealer, "number": board, "vul": vulnerability}, "version": self.version}
+
+
+def compact(value):
+    return json.dumps(value, separators=(",", ":"), sort_keys=True) + "\n"
+
+
+def session():
+    users = [{"digest": DIGEST, "name": name, "roles": [role], **({"pair": at[0], "place": at[1]} if at else {})} for name, role, at in USERS]
+    pbn = "".join(f'[Board "{board}"]\n[Deal "{deal}"]\n\n' for board, deal in DEALS.items())
+    return {"budget": 0, "pbn": pbn, "per_set": 1, "rounds": 3, "tables": 3, "users": users}
+
+
+def main():
+    to = pathlib.Path(sys.argv[1])
+    model, script, answers = Model(), [compact(session())], []
+    for name, what, by_hand in SCRIPT:
+        if isinstance(what, list):
+            answer = model.do(name, what)
+            assert answer["answers"] == by_hand, (name, what, answer, by_hand)
+            script.append(compact({"as": name, "do": what}))
+        else:
+            answer = model.ask(name, what)
+            denied = answer.get("denied")
+            assert ((denied["rule"], denied["table"]) if denied else "shown") == by_hand, (name, what, answer, by_hand)
+            script.append(compact({"as": name, "ask": "board", "board": what}))
+        answers.append(compact(answer))
+    (to / "stdin").write_text("".join(script))
+    (to / "stdout").write_text("".join(answers))
+
+
+main()
