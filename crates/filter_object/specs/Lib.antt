@@ -1,0 +1,4 @@
+pub mod Atom
+pub mod Filter
+pub mod Reading
+pub mod SoleMember

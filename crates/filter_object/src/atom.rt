@@ -1,0 +1,154 @@
+//! Atoms, each by the name of its one member.
+
+ghost use Rattle.std.specs.Prelude.{◌≡◌, Some, [], option_map, option_and_then};
+ghost use Rattle.serde_json.specs.Find.{get, as_str};
+ghost use Rattle.serde_json.specs.View.{view};
+ghost use Rattle.json_fields.specs.Doubling.{doubling_numbered};
+ghost use Rattle.json_fields.specs.Field.{small, at_most};
+ghost use Rattle.json_fields.specs.Form.{formed};
+ghost use Rattle.json_fields.specs.Letter.{place_named, strain_named};
+ghost use Rattle.filter_object.specs.Atom.{marking_named, most, least, bounds, score, score_bounds, declarer, trumps, double_dummy, atom_called};
+
+use cards::{Place, Strain, Vulnerability};
+use json_fields::{
+    doubling_numbered, has_only, place_named, small_number_at, strain_named, text_at,
+};
+use query_filter::{Atom, Bounds, ScoreBounds};
+use scoring::Doubling;
+use serde_json::Value;
+
+fn marking_named(text: &str) -> Option<Vulnerability>
+    ensures { result ≡ marking_named text.now }
+{
+    match text {
+        "none" => Some(Vulnerability::Neither),
+        "ns" => Some(Vulnerability::NorthSouth),
+        "ew" => Some(Vulnerability::EastWest),
+        "both" => Some(Vulnerability::Both),
+        _ => None,
+    }
+}
+
+fn marking(value: &Value) -> Option<Vulnerability>
+    ensures { result ≡ option_and_then marking_named (as_str (view value.now)) }
+{
+    marking_named(value.as_str()?)
+}
+
+fn place(value: &Value) -> Option<Place>
+    ensures { result ≡ option_and_then place_named (as_str (view value.now)) }
+{
+    place_named(value.as_str()?)
+}
+
+fn strain(value: &Value) -> Option<Strain>
+    ensures { result ≡ option_and_then strain_named (as_str (view value.now)) }
+{
+    strain_named(value.as_str()?)
+}
+
+fn doubling(value: &Value) -> Option<Doubling>
+    ensures { result ≡ option_and_then doubling_numbered (small (Some (view value.now))) }
+{
+    match value.as_u64()? {
+        number if number < 256 => doubling_numbered(number as u8),
+        _ => None,
+    }
+}
+
+fn up_to_13(number: u8) -> Option<u8>
+    ensures { result ≡ at_most 13 (Some number) }
+{
+    if number <= 13 { Some(number) } else { None }
+}
+
+fn most_of(value: &Value) -> Option<u8>
+    ensures { result ≡ most.value (get most.name (view value.now)) }
+{
+    up_to_13(small_number_at(value, "max")?)
+}
+
+fn least_of(value: &Value) -> Option<u8>
+    ensures { result ≡ least.value (get least.name (view value.now)) }
+{
+    up_to_13(small_number_at(value, "min")?)
+}
+
+fn bounds(value: &Value) -> Option<Bounds>
+    ensures { result ≡ formed [] bounds (view value.now) }
+{
+    if !has_only(value, &["max", "min"]) {
+        return None;
+    }
+    let max = most_of(value)?;
+    let min = least_of(value)?;
+    Some(Bounds { min, max })
+}
+
+fn score(value: &Value, name: &str) -> Option<i32>
+    ensures { result ≡ score (get name.now (view value.now)) }
+{
+    match value.get(name)?.as_i64()? {
+        points if -10000 <= points && points <= 10000 => Some(points as i32),
+        _ => None,
+    }
+}
+
+fn score_bounds(value: &Value) -> Option<ScoreBounds>
+    ensures { result ≡ score_bounds (view value.now) }
+{
+    if !has_only(value, &["max", "min"]) {
+        return None;
+    }
+    let max = score(value, "max")?;
+    let min = score(value, "min")?;
+    Some(ScoreBounds { min, max })
+}
+
+fn declarer_of(value: &Value) -> Option<Place>
+    ensures { result ≡ declarer.value (get declarer.name (view value.now)) }
+{
+    place_named(text_at(value, "by")?)
+}
+
+fn trumps_of(value: &Value) -> Option<Strain>
+    ensures { result ≡ trumps.value (get trumps.name (view value.now)) }
+{
+    strain_named(text_at(value, "strain")?)
+}
+
+fn double_dummy(value: &Value) -> Option<Atom>
+    ensures { result ≡ formed [] double_dummy (view value.now) }
+{
+    if !has_only(value, &["by", "max", "min", "strain"]) {
+        return None;
+    }
+    let declarer = declarer_of(value)?;
+    let max = most_of(value)?;
+    let min = least_of(value)?;
+    let strain = trumps_of(value)?;
+    let tricks = Bounds { min, max };
+    Some(Atom::DoubleDummy {
+        declarer,
+        strain,
+        tricks,
+    })
+}
+
+/// The atom that a member of this name is.
+#[tactic(auto, unfolding(crate::specs::Atom::atom_called))]
+pub(crate) fn atom_called(name: &str, value: &Value) -> Option<Atom>
+    ensures { result ≡ atom_called name.now (view value.now) }
+{
+    match name {
+        "vul" => Some(Atom::Vulnerability(marking(value)?)),
+        "dealer" => Some(Atom::Dealer(place(value)?)),
+        "level" => Some(Atom::Level(bounds(value)?)),
+        "strain" => Some(Atom::Strain(strain(value)?)),
+        "doubled" => Some(Atom::Doubled(doubling(value)?)),
+        "made" => Some(Atom::Made(value.as_bool()?)),
+        "score" => Some(Atom::Score(score_bounds(value)?)),
+        "dd" => double_dummy(value),
+        _ => None,
+    }
+}
