@@ -1,0 +1,57 @@
+-- Two states that agree for a user show the user the same, and so give the same replies.
+use Rattle.std.proofs.Common.{◌≡◌, ℕ, Bool, true, List, [], ◌∷◌, refl, sym, ap, ◌∙◌, inl, inr}
+use Rattle.std.specs.Prelude.{Some, cond, map, filter}
+use Rattle.std.specs.Option.{unwrap_or}
+use Rattle.std.proofs.lemmas.Bool.{cases_Bool}
+use Rattle.disclosure_rules.specs.declared.fact.Fact.{Fact}
+use Rattle.disclosure_rules.specs.declared.public.Public.{Public}
+use Rattle.session_state.specs.SessionState.{SessionState, viewer_of}
+use Rattle.shown_facts.specs.Content.{content}
+use Rattle.shown_facts.specs.Facts.{facts}
+use Rattle.shown_facts.specs.Reading.{as_public}
+use Rattle.shown_facts.specs.Shown.{is_allowed, said, shown}
+use Rattle.session_view.specs.declared.query.Query.{Query}
+use Rattle.session_view.specs.Agreement.{Agree}
+use Rattle.session_view.specs.Answers.{answer_from}
+use Rattle.session_view.specs.Query.{fact_of}
+use Rattle.session_view.specs.Reply.{before_answer, body_of, reply_of}
+
+-- what is kept of some facts is the same where each that is kept says the same
+same_kept : (one other : SessionState) (keeps : Fact → Bool) → ((asked : Fact) → keeps asked ≡ true → content one asked ≡ content other asked) →
+    (items : List Fact) → map (said one) (filter keeps items) ≡ map (said other) (filter keeps items)
+same_kept one other keeps agree [] = refl
+same_kept one other keeps agree (item ∷ items) =
+    elim (cases_Bool (keeps item)) [
+      | inl kept ↦
+          ap (λ b. map (said one) (cond b (item ∷ filter keeps items) (filter keeps items))) kept
+          ∙ ((λ i. record { fact = item; content = agree item kept i } ∷ same_kept one other keeps agree items i)
+          ∙ sym (ap (λ b. map (said other) (cond b (item ∷ filter keeps items) (filter keeps items))) kept))
+      | inr denied ↦
+          ap (λ b. map (said one) (cond b (item ∷ filter keeps items) (filter keeps items))) denied
+          ∙ (same_kept one other keeps agree items
+          ∙ sym (ap (λ b. map (said other) (cond b (item ∷ filter keeps items) (filter keeps items))) denied))
+    ]
+
+module _ (one other : SessionState) (user : List ℕ) (agree : Agree one other user) where
+  -- what every member may see is the same
+  same_public : one.public ≡ other.public
+  same_public = some_same (ap as_public agree.public)
+    where
+      some_same : {a b : Public} → Some a ≡ Some b → a ≡ b
+      some_same same = cc
+
+  -- the user is shown the same
+  same_shown : shown one (viewer_of one user) ≡ shown other (viewer_of other user)
+  unfolding shown
+  same_shown =
+      same_kept one other (is_allowed one.public (viewer_of one user)) agree.contents (facts one.public.movement)
+      ∙ (λ i. map (said other) (filter (is_allowed (same_public i) (agree.viewer i)) (facts (same_public i).movement)))
+
+  -- two states that agree for a user give the user the same reply to every query
+  pub same_replies : (version : ℕ) (query : Query) (since : ℕ) → reply_of one version user query since ≡ reply_of other version user query since
+  unfolding body_of
+  same_replies version query since =
+      λ i. record {
+        version = version;
+        body = unwrap_or (before_answer (same_public i) version (agree.viewer i) (fact_of query) since) (answer_from query (same_shown i));
+      }

@@ -1,0 +1,4 @@
+pub mod AgreementLemmas
+pub mod AnswerLemmas
+pub mod StandingLemmas
+pub mod ListLemmas

@@ -1,0 +1,6 @@
+pub mod Query
+pub mod Listing
+pub mod Answers
+pub mod Reply
+pub mod Agreement
+pub mod View

@@ -1,0 +1,3 @@
+pub mod FactLemmas
+pub mod ShownLemmas
+pub mod ResultLemmas

@@ -1,0 +1,75 @@
+-- What a fact says of a state, as plain data.
+use Rattle.std.specs.Prelude.{ℕ, ◌-◌, if◌then◌else◌, Option, Some, None, List, [], slice_get}
+use Rattle.cards.specs.Hands.{Hands}
+use Rattle.cards.specs.declared.card.Card.{Card}
+use Rattle.movement.specs.declared.cell.Cell.{Cell}
+use Rattle.rbac.specs.declared.account.Account.{Account}
+use Rattle.rbac.specs.declared.inheritance.Inheritance.{Inheritance}
+use Rattle.disclosure_rules.specs.declared.fact.Fact.{Fact}
+use Rattle.disclosure_rules.specs.declared.fact.Fact.TheVariants as fact
+use Rattle.disclosure_rules.specs.declared.public.Public.{Public}
+use Rattle.query_filter.specs.declared.trick_table.TrickTable.{TrickTable}
+use Rattle.session_state.specs.declared.cell_state.CellState.{CellState}
+use Rattle.session_state.specs.declared.cell_state.CellState.TheVariants.{Empty, Entered, Confirmed, Ruled}
+use Rattle.session_state.specs.declared.seated.Seated.{Seated}
+use Rattle.play_record.specs.Play.{has_card}
+use Rattle.session_state.specs.Readers.{seats_in_order}
+use Rattle.session_state.specs.SessionState.{SessionState, cell_at}
+use Rattle.shown_facts.specs.declared.card_costs.CardCosts.{CardCosts}
+use Rattle.shown_facts.specs.declared.card_costs.CardCosts.TheVariants.{Pending, NoCards}
+use Rattle.standings.specs.declared.cell_result.CellResult.{CellResult}
+use Rattle.standings.specs.declared.cell_result.CellResult.TheVariants as cell_result
+
+-- what a fact says: a fact of a cell says nothing where the cell has no result
+pub data Content : Type 0 where
+  says_public : Public → List Seated → Content
+  says_accounts : List Account → List Inheritance → Content
+  says_hands : Option Hands → Content
+  says_analysis : Option TrickTable → Content
+  says_result : Option CellResult → Content
+  says_play : Option (List Card) → Content
+  says_costs : Option CardCosts → Content
+  says_reason : Option ℕ → Content
+
+-- the result of a cell: its confirmed outcome, or how it was ruled
+abbrev pub result_of : CellState → Option CellResult
+result_of Empty = None
+result_of (Entered outcome play) = None
+result_of (Confirmed outcome play) = Some (cell_result.Confirmed outcome)
+result_of (Ruled north_south east_west reason) = Some (cell_result.Ruled north_south east_west)
+
+-- the cards as they were played at a cell; a ruling has none
+abbrev pub play_of : CellState → Option (List Card)
+play_of Empty = None
+play_of (Entered outcome play) = None
+play_of (Confirmed outcome play) = Some play
+play_of (Ruled north_south east_west reason) = Some []
+
+-- what the cards of a play cost: where no card was noted there is nothing to count
+abbrev pub costs_of_play : List Card → CardCosts
+costs_of_play play = if has_card play then Pending else NoCards
+
+-- what the cards that were played at a cell cost
+abbrev pub costs_of : CellState → Option CardCosts
+costs_of Empty = None
+costs_of (Entered outcome play) = None
+costs_of (Confirmed outcome play) = Some (costs_of_play play)
+costs_of (Ruled north_south east_west reason) = Some NoCards
+
+-- the reason of a ruling, which is 0 where a result is confirmed
+abbrev pub reason_of : CellState → Option ℕ
+reason_of Empty = None
+reason_of (Entered outcome play) = None
+reason_of (Confirmed outcome play) = Some 0
+reason_of (Ruled north_south east_west reason) = Some reason
+
+-- what each fact says of a state: the analysis of a board is still to come
+abbrev pub content : SessionState → Fact → Content
+content state fact.Public = says_public state.public (seats_in_order state)
+content state fact.Accounts = says_accounts state.roles.accounts state.roles.pairs
+content state (fact.Hands board) = says_hands (slice_get state.deals (board - 1))
+content state (fact.Analysis board) = says_analysis None
+content state (fact.Result cell) = says_result (result_of (cell_at state cell))
+content state (fact.Play cell) = says_play (play_of (cell_at state cell))
+content state (fact.Cost cell) = says_costs (costs_of (cell_at state cell))
+content state (fact.Reason cell) = says_reason (reason_of (cell_at state cell))

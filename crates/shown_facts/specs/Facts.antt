@@ -1,0 +1,66 @@
+-- The facts of a section, in their order.
+use Rattle.std.specs.Prelude.{ℕ, Bool, true, ◌&&◌, nat_eq, nat_le, List, [], ◌∷◌, ◌++◌, map, filter}
+use Rattle.std.specs.List.{flat_map, range_with_len}
+use Rattle.movement.specs.declared.cell.Cell.{Cell}
+use Rattle.movement.specs.Movement.{Section, boards_of}
+use Rattle.movement.specs.Schedule.{is_scheduled}
+use Rattle.denials.specs.Evidence.{board_number, table_number}
+use Rattle.disclosure_rules.specs.declared.fact.Fact.{Fact}
+use Rattle.disclosure_rules.specs.declared.fact.Fact.TheVariants.{Public, Accounts, Hands, Analysis, Result, Play, Cost}
+use Rattle.disclosure_rules.specs.declared.fact.Fact.TheVariants.{Reason}
+
+-- a table on a board
+abbrev pub cell_on : ℕ → ℕ → Cell
+cell_on board table = record { table = table; board = board }
+
+-- the cells of a board, table by table
+abbrev pub cells_of_board : Section → ℕ → List Cell
+cells_of_board section board = filter (is_scheduled section) (map (cell_on board) (range_with_len 1 section.tables))
+
+-- the facts of a cell
+abbrev pub facts_of_cell : Cell → List Fact
+facts_of_cell cell = Result cell ∷ Play cell ∷ Cost cell ∷ Reason cell ∷ []
+
+-- the facts of a board: its hands, its analysis, and those of its cells
+abbrev pub facts_of_board : Section → ℕ → List Fact
+facts_of_board section board = Hands board ∷ Analysis board ∷ flat_map facts_of_cell (cells_of_board section board)
+
+-- the boards of a section
+abbrev pub boards : Section → List ℕ
+boards section = range_with_len 1 (boards_of section)
+
+-- the facts of a section: what every member may see, the accounts, and those of each board
+abbrev pub facts : Section → List Fact
+facts section = Public ∷ Accounts ∷ flat_map (facts_of_board section) (boards section)
+
+-- what kind of fact it is
+abbrev pub kind_of : Fact → ℕ
+kind_of Public = 0
+kind_of Accounts = 1
+kind_of (Hands board) = 2
+kind_of (Analysis board) = 3
+kind_of (Result cell) = 4
+kind_of (Play cell) = 5
+kind_of (Cost cell) = 6
+kind_of (Reason cell) = 7
+
+-- whether two facts are one: of one kind, of one board and of one table
+unfoldable pub same_fact : Fact → Fact → Bool
+same_fact a b =
+    nat_eq (kind_of a) (kind_of b)
+    && (nat_eq (board_number a) (board_number b) && nat_eq (table_number a) (table_number b))
+
+-- whether the section has the board
+abbrev pub has_board : Section → ℕ → Bool
+has_board section board = nat_le 1 board && nat_le board (boards_of section)
+
+-- whether the section has what a fact belongs to: its board, or its table on its board
+abbrev pub has_place : Section → Fact → Bool
+has_place section Public = true
+has_place section Accounts = true
+has_place section (Hands board) = has_board section board
+has_place section (Analysis board) = has_board section board
+has_place section (Result cell) = is_scheduled section cell
+has_place section (Play cell) = is_scheduled section cell
+has_place section (Cost cell) = is_scheduled section cell
+has_place section (Reason cell) = is_scheduled section cell

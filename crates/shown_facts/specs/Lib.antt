@@ -1,0 +1,5 @@
+pub mod Content
+pub mod Facts
+pub mod Shown
+pub mod Reading
+pub mod Results
