@@ -88,19 +88,6 @@ pub position_bound : (p : Position) (left : ℕ) → IsPosition p → 4 * left �
 position_bound p left valid quarter =
     omega (arith, tricks_bound (cards_left p) p (under_way_short p.hands p.table valid.trick))
 
--- nor more than thirteen of a deal
-pub deal_bound : (deal : Hands) (strain : Strain) (declarer : Place) → IsDeal deal →
-    double_dummy (start deal strain declarer) ≤ 13
-deal_bound deal strain declarer is =
-    omega (
-      arith,
-      tricks_bound (cards_left (start deal strain declarer)) (start deal strain declarer) (omega arith),
-      is.thirteen North,
-      is.thirteen East,
-      is.thirteen South,
-      is.thirteen West,
-    )
-
 -- a deal has 52 cards
 pub deal_cards : (p : Position) (deal : Hands) (strain : Strain) (declarer : Place) → p ≡ start deal strain declarer →
     IsDeal deal → cards_left p ≡ 52

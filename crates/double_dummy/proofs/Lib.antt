@@ -2,5 +2,4 @@ pub mod BoundLemmas
 pub mod ClaimLemmas
 pub mod RunLemmas
 pub mod SearchLemmas
-pub mod CostsLemmas
 pub mod PlayedLemmas

@@ -1,6 +1,6 @@
 -- The cards of a player's that are alike.
 use Rattle.std.proofs.Common.{◌≤◌, ◌≡◌, ◌<◌, true, refl, sym, ap, ◌∙◌, inl, inr, arith}
-use Rattle.std.specs.Prelude.{not, nat_lt, ◌&&◌, Bool, false}
+use Rattle.std.specs.Prelude.{nat_lt, ◌&&◌}
 use Rattle.std.proofs.lemmas.Bool.{cases_eq, ltb-true, and_from, lt-ltb, and_parts, true≢false, eq-eqb}
 use Rattle.cards.specs.declared.card.Card.{Card}
 use Rattle.cards.specs.Card.{card_cmp, number_in_pack}
@@ -12,7 +12,7 @@ use Rattle.cards.specs.Rank.{height}
 use Rattle.cards.specs.Hands.{hand_of}
 use Rattle.std.specs.FinSet as set
 use Rattle.cards.specs.Play.{Position, is_of, legal, to_play}
-use Rattle.position_patterns.proofs.SetLemmas.{in_difference, inserted, just_inserted, still_inserted}
+use Rattle.position_patterns.proofs.SetLemmas.{inserted, just_inserted, still_inserted}
 use Rattle.double_dummy.specs.Search.{HasOthers, IsRunOf}
 use Rattle.double_dummy_laws.proofs.HandLemmas.{legal_follows, in_suit}
 use Rattle.double_dummy_laws.proofs.WinnerLemmas.{both_of}
@@ -20,19 +20,6 @@ use Rattle.double_dummy_laws.proofs.NeighbourLemmas.{no_between}
 use Rattle.double_dummy_laws.specs.Found.{IsOwned, IsTight}
 use Rattle.double_dummy_laws.specs.Known.{IsLike}
 use Rattle.double_dummy_laws.specs.Renaming.{Ownership}
-
-both_or_neither : (a b : Bool) → (a && not (a && not b)) ≡ (a && b)
-both_or_neither true true = refl
-both_or_neither true false = refl
-both_or_neither false b = refl
-
--- the cards that are in both sets
-pub in_common : (s t rest u : Cards) → rest ≡ set.difference s t → u ≡ set.difference s rest → (card : Card) →
-    set.contains u card ≡ (set.contains s card && set.contains t card)
-in_common s t rest u rest_is u_is card =
-    in_difference s rest u u_is card
-    ∙ ap (λ b. set.contains s card && not b) (in_difference s t rest rest_is card)
-    ∙ both_or_neither (set.contains s card) (set.contains t card)
 
 -- legal cards of the suit above a card, with no card of the others between, are like it
 pub run_up : (p : Position) (others playable suited free both run : Cards) (card : Card) → HasOthers p others →

@@ -1,6 +1,2 @@
-pub mod CostPlaces
-pub mod DdTable
-pub mod DdTableInside
-pub mod PlayAnswer
 pub mod Played
 pub mod Search

@@ -1,7 +1,6 @@
 ghost use Rattle.std.specs.Prelude.{◌≡◌, ◌+◌, ◌≤◌, OnOk, OnErr};
 
 use std::marker::Model;
-use thiserror::Error;
 
 /// How many positions may still be visited.
 #[derive(Debug, Drop)]
@@ -23,8 +22,7 @@ impl Model for Budget {
 }
 
 /// The budget is spent.
-#[derive(Clone, Copy, Debug, PartialEq, Eq, Error)]
-#[error("the budget is spent")]
+#[derive(Clone, Copy)]
 pub struct BudgetSpent;
 
 impl Budget {

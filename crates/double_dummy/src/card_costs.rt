@@ -8,12 +8,12 @@ ghost use Rattle.double_dummy.specs.declared.error.CostsError.TheVariants.{NotAP
 ghost use Rattle.double_dummy_laws.specs.DoubleDummy.{double_dummy, cost_list, first_illegal};
 
 use crate::budget::{Budget, BudgetSpent};
-use crate::cost_numbers::Costs;
 use crate::error::CostsError;
 use crate::value::value;
 use cards::{Card, Deal, Place, Position, Side, Strain};
 use position_patterns::{DealPatterns, Holders, Memory};
 use scoring::Contract;
+use solver_results::Costs;
 use std::alloc::Global;
 
 /// What each card of a play costs the side that plays it: the tricks that the side takes less, when all play their best
@@ -142,7 +142,7 @@ fn cost_each(
 }
 
 /// A card that was played: the position after it, the tricks that North and South take from there, and its cost.
-#[derive(Clone, Copy, Debug)]
+#[derive(Clone, Copy)]
 pub struct Played {
     pub position: Position,
     pub tricks: u8,

@@ -1,93 +1,16 @@
 ghost use Rattle.std.specs.Prelude.{◌≡◌, ◌<◌, ◌≤◌, Ok, Err, IfOk, IfErr, OnErr};
-ghost use Rattle.cards.specs.Hands.{IsDeal};
 ghost use Rattle.double_dummy.specs.declared.error.SolveError.TheVariants.{OutOfBudget};
 ghost use Rattle.position_patterns.specs.Remainder.{IsLeftOf};
 ghost use Rattle.double_dummy_laws.specs.DoubleDummy.{declarer_tricks, tricks_for};
-ghost use Rattle.double_dummy.specs.DdTable.{IsTricksIn, tricks_of};
+ghost use Rattle.solver_results.specs.DdTable.{IsTricksIn};
 
 use crate::budget::{Budget, BudgetSpent};
 use crate::error::SolveError;
 use crate::value::value;
 use cards::{Deal, Place, Position, Side, Strain};
 use position_patterns::{DealPatterns, Holders, Memory};
+use solver_results::{DdTable, DeclarerTricks};
 use std::alloc::Global;
-use std::marker::Model;
-
-/// The tricks that each player takes as declarer in one strain.
-#[derive(Clone, Copy, Debug, PartialEq, Eq)]
-pub struct DeclarerTricks {
-    pub north: u8,
-    pub east: u8,
-    pub south: u8,
-    pub west: u8,
-}
-
-/// A deal's double-dummy table: the tricks of each declarer in each strain. Clauses see the deal alone, since the type
-/// keeps that the twenty numbers are the deal's.
-#[derive(Clone, Copy, Debug)]
-pub struct DdTable {
-    deal: Deal,
-    spades: DeclarerTricks,
-    hearts: DeclarerTricks,
-    diamonds: DeclarerTricks,
-    clubs: DeclarerTricks,
-    no_trump: DeclarerTricks,
-}
-
-impl Model for DdTable {
-    ghost use Rattle.cards.specs.Hands.{Hands, hands_code};
-
-    ghost Value = { Hands };
-
-    ghost coded = { hands_code };
-
-    ghost use Rattle.double_dummy.specs.DdTableInside.{IsTable, table_of, table_of-deal};
-
-    ghost view = { λ table. table.deal };
-
-    ghost invariant = { IsTable };
-
-    ghost inverse = { table_of };
-
-    ghost inverse_ok = { table_of-deal };
-}
-
-impl DdTable {
-    /// The deal that the table is of.
-    pub fn deal(&self) -> Deal
-        ensures { result ≡ self.now }
-    {
-        self.deal
-    }
-
-    /// The tricks that a declarer takes in a strain, from the opening lead.
-    pub fn tricks(&self, strain: Strain, declarer: Place) -> u8
-        ensures { result ≡ declarer_tricks self.now strain declarer }
-    {
-        let tricks = match strain {
-            Strain::Spades => self.spades,
-            Strain::Hearts => self.hearts,
-            Strain::Diamonds => self.diamonds,
-            Strain::Clubs => self.clubs,
-            Strain::NoTrump => self.no_trump,
-        };
-        tricks.of(declarer)
-    }
-}
-
-impl DeclarerTricks {
-    /// The number of this declarer.
-    pub(crate) fn of(self, declarer: Place) -> u8
-        ensures { result ≡ tricks_of self declarer }
-    {
-        match declarer {
-            Place::North => self.north,
-            Place::East => self.east,
-            Place::South => self.south,
-            Place::West => self.west,
-        }
-    }
-}
 
 /// The deal's double-dummy table.
 pub fn table(alloc: Global, deal: Deal, budget: &mut Budget) -> Result<DdTable, SolveError>
@@ -119,7 +42,6 @@ fn solve_strains(
     budget: &mut Budget,
 ) -> Result<DdTable, BudgetSpent>
     requires dealt { IsLeftOf patterns.now.whole deal }
-    requires deal { IsDeal deal }
     ensures table { IfOk result (λ table. table ≡ deal) }
     ensures err { OnErr result (budget.new ≡ 0) }
     ensures spent { budget.new ≤ budget.old }
@@ -129,14 +51,7 @@ fn solve_strains(
     let diamonds = solve_strain(deal, Strain::Diamonds, patterns, memory, budget)?;
     let clubs = solve_strain(deal, Strain::Clubs, patterns, memory, budget)?;
     let no_trump = solve_strain(deal, Strain::NoTrump, patterns, memory, budget)?;
-    Ok(DdTable {
-        deal,
-        spades,
-        hearts,
-        diamonds,
-        clubs,
-        no_trump,
-    })
+    Ok(DdTable::new(deal, spades, hearts, diamonds, clubs, no_trump))
 }
 
 /// The tricks of the four declarers in a strain, who share what the search remembers. Partners mostly take as many.
@@ -148,7 +63,6 @@ fn solve_strain(
     budget: &mut Budget,
 ) -> Result<DeclarerTricks, BudgetSpent>
     requires dealt { IsLeftOf patterns.now.whole deal }
-    requires deal { IsDeal deal }
     ensures tricks { IfOk result (IsTricksIn deal strain) }
     ensures err { OnErr result (budget.new ≡ 0) }
     ensures spent { budget.new ≤ budget.old }
@@ -160,7 +74,7 @@ fn solve_strain(
         deal,
         strain,
         Place::East,
-        13 - south,
+        tricks_for(Side::EastWest, south),
         patterns,
         memory,
         budget,
@@ -185,10 +99,7 @@ fn solve_declarer(
     budget: &mut Budget,
 ) -> Result<u8, BudgetSpent>
     requires dealt { IsLeftOf patterns.now.whole deal }
-    requires deal { IsDeal deal }
-    requires guess { guess ≤ 13 }
     ensures tricks { IfOk result (λ tricks. tricks ≡ declarer_tricks deal strain declarer) }
-    ensures few { IfOk result (λ tricks. tricks ≤ 13) }
     ensures err { OnErr result (budget.new ≡ 0) }
     ensures spent { budget.new ≤ budget.old }
 {
@@ -200,12 +111,10 @@ fn solve_declarer(
 
 /// The tricks of a side, where North and South take so many of thirteen.
 fn tricks_for(side: Side, tricks: u8) -> u8
-    requires { tricks ≤ 13 }
-    ensures tricks { result ≡ tricks_for side tricks }
-    ensures few { result ≤ 13 }
+    ensures { result ≡ tricks_for side tricks }
 {
     match side {
         Side::NorthSouth => tricks,
-        Side::EastWest => 13 - tricks,
+        Side::EastWest => 13u8.saturating_sub(tricks),
     }
 }

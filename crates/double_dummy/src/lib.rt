@@ -4,11 +4,9 @@
 
 mod budget;
 mod card_costs;
-mod cost_numbers;
 mod dd_table;
 mod error;
 mod order;
-mod play_answer;
 mod played_costs;
 mod run;
 mod search;
@@ -19,9 +17,8 @@ mod weights;
 
 pub use budget::Budget;
 pub use card_costs::costs;
-pub use cost_numbers::Costs;
-pub use dd_table::{DdTable, DeclarerTricks, table};
+pub use dd_table::table;
 pub use error::{CostsError, SolveError};
-pub use play_answer::PlayAnswer;
-pub use played_costs::{PlayCosts, play_costs};
+pub use played_costs::play_costs;
 pub use solver::solve;
+pub use solver_results::{Costs, DdTable, DeclarerTricks, PlayAnswer, PlayCosts};

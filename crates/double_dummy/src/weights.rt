@@ -1,6 +1,6 @@
 ghost use Rattle.std.specs.Prelude.{◌≤◌};
 
-use cards::{Card, Hand, Place, Position, Rank, Strain, Suit, Trick, strength};
+use cards::{Card, Hand, Position, Strain, Suit, Trick, strength};
 
 /// What the weights of a player's cards are read off: the hands round the table from his own, all cards in play, and
 /// the trick under way.
@@ -77,7 +77,7 @@ impl Weights {
             return base + 26 - rank;
         }
         let second = top(self.all.of_suit(suit).without(first));
-        let builds = second.is_some_and(|card| self.mine.union(self.partner).contains(card));
+        let builds = has(self.mine.union(self.partner), second);
         let weight = if builds { base + 2 - rank } else { base - rank };
         if self.right.contains(first) {
             weight - 16
@@ -126,8 +126,7 @@ impl Weights {
             return if is_safe { 324 - rank } else { 286 - rank };
         }
         let base = if is_safe { 357 - rank } else { 312 - rank };
-        let partner = top(self.partner.of_suit(led));
-        let is_covered = partner.is_some_and(|card| self.power(card, led) > answer);
+        let is_covered = self.greatest(self.partner.of_suit(led), led) > answer;
         if played == 1 && !is_safe && is_covered {
             base - 12
         } else {
@@ -163,17 +162,23 @@ impl Weights {
             return base - 11;
         }
         let second = top(self.all.of_suit(suit).without(first));
-        let guards = held == 2 && second.is_some_and(|card| self.mine.contains(card));
+        let guards = held == 2 && has(self.mine, second);
         if guards { base - 8 } else { base }
     }
 
     /// How strong the next opponent's strongest answer is.
     fn answer(&self, led: Suit) -> u8 {
-        if let Some(card) = top(self.left.of_suit(led)) {
-            return self.power(card, led);
-        }
+        let followed = self.greatest(self.left.of_suit(led), led);
         match self.strain.trump() {
-            Some(trump) => top(self.left.of_suit(trump)).map_or(0, |card| self.power(card, led)),
+            Some(trump) if followed == 0 => self.greatest(self.left.of_suit(trump), led),
+            _ => followed,
+        }
+    }
+
+    /// How strong the top card of a suit's is, 0 where there is none.
+    fn greatest(&self, cards: Hand, led: Suit) -> u8 {
+        match top(cards) {
+            Some(card) => self.power(card, led),
             None => 0,
         }
     }
@@ -225,11 +230,19 @@ fn best_of(strain: Strain, trick: Trick) -> (Option<Card>, bool) {
     }
 }
 
+/// Whether the hand has the card, if there is one.
+fn has(hand: Hand, card: Option<Card>) -> bool {
+    match card {
+        Some(card) => hand.contains(card),
+        None => false,
+    }
+}
+
 /// How many cards a hand has of a suit.
 fn length(hand: Hand, suit: Suit) -> u16
-    ensures { result ≤ 15 }
+    ensures { result ≤ 13 }
 {
-    (hand.of_suit(suit).len() & 15) as u16
+    hand.of_suit(suit).len().min(13) as u16
 }
 
 /// The last card of a set in the order of the pack: of one suit's cards the highest.
@@ -238,9 +251,5 @@ pub fn top(hand: Hand) -> Option<Card> {
     if word == 0 {
         return None;
     }
-    let number = (63 - word.leading_zeros()).min(51);
-    Some(Card {
-        suit: Suit::from_number((number / 13) as u8),
-        rank: Rank::from_height((number % 13) as u8),
-    })
+    Some(Card::from_number(word.ilog2().min(51) as u8))
 }

@@ -1,6 +1,6 @@
 -- A suit's pattern is known from the cards that are left of it.
 use Rattle.std.proofs.Common.{◌≡◌, ◌≢◌, Bool, true, false, List, [], ◌∷◌, refl, sym, ap, ◌∙◌, subst, inl, inr, Some, None}
-use Rattle.std.specs.Prelude.{if◌then◌else◌}
+use Rattle.std.specs.Prelude.{◌&&◌, if◌then◌else◌}
 use Rattle.std.proofs.lemmas.Bool.{or_cases, or_left, or_right, and_parts, and_from, true≢false, false_from_ne_true, eq-eqb}
 use Rattle.cards.specs.declared.card.Card.{Card}
 use Rattle.cards.specs.declared.suit.Suit.{Suit}
@@ -14,7 +14,7 @@ use Rattle.cards.specs.CardBits.{card_cmp_total}
 use Rattle.std.specs.FinSet as set
 use Rattle.position_patterns.specs.declared.deal_patterns.Remainder.{Remainder}
 use Rattle.cards.specs.Play.{IsApart, is_of, without}
-use Rattle.position_patterns.specs.Remainder.{IsLeftOf, IsPartOf, IsTrueRemainder, all_held}
+use Rattle.position_patterns.specs.Remainder.{IsAmong, IsLeftOf, IsPartOf, IsTrueRemainder, all_held}
 use Rattle.position_patterns.specs.Tops.{IsPatternOf}
 use Rattle.double_dummy_laws.proofs.HandLemmas.{in_suit, without_had}
 use Rattle.double_dummy_laws.specs.Pattern.{held_before, held_of, holder_of, holding}
@@ -157,16 +157,21 @@ both_sides_apart hands s t e e' ns ew sides =
     all_apart hands ns ew (λ card in_s. ap (λ u. set.contains u card) (sym e')
     ∙ sides card (ap (λ u. set.contains u card) e ∙ in_s))
 
--- a part of a deal, hand by hand
-pub parts_of : (whole part : Hands) →
-    ((card : Card) → set.contains part.north card ≡ true → set.contains whole.north card ≡ true) →
-    ((card : Card) → set.contains part.east card ≡ true → set.contains whole.east card ≡ true) →
-    ((card : Card) → set.contains part.south card ≡ true → set.contains whole.south card ≡ true) →
-    ((card : Card) → set.contains part.west card ≡ true → set.contains whole.west card ≡ true) → IsPartOf part whole
-parts_of whole part n e s w North card held = n card held
-parts_of whole part n e s w East card held = e card held
-parts_of whole part n e s w South card held = s card held
-parts_of whole part n e s w West card held = w card held
+-- each player's cards among some, hand by hand
+pub among_of : (whole part : Hands) (cards : Cards) →
+    ((card : Card) → set.contains part.north card ≡ (set.contains whole.north card && set.contains cards card)) →
+    ((card : Card) → set.contains part.east card ≡ (set.contains whole.east card && set.contains cards card)) →
+    ((card : Card) → set.contains part.south card ≡ (set.contains whole.south card && set.contains cards card)) →
+    ((card : Card) → set.contains part.west card ≡ (set.contains whole.west card && set.contains cards card)) →
+    IsAmong part cards whole
+among_of whole part cards n e s w North = n
+among_of whole part cards n e s w East = e
+among_of whole part cards n e s w South = s
+among_of whole part cards n e s w West = w
+
+-- cards among a player's are that player's
+pub among_is_part : (whole part : Hands) (cards : Cards) → IsAmong part cards whole → IsPartOf part whole
+among_is_part whole part cards among place card held = (and_parts _ _ (sym (among place card) ∙ held)).0
 
 -- no card of a deal is in two hands
 pub deal_apart : (deal : Hands) → IsDeal deal → IsApart deal

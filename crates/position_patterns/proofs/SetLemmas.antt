@@ -1,6 +1,6 @@
 -- Sets of cards: what an inserted card, a removed one, a union and a difference have.
 use Rattle.std.proofs.Common.{◌≡◌, ◌≢◌, true, ◌⊎◌, refl, sym, ap, ◌∙◌, inl, inr}
-use Rattle.std.specs.Prelude.{not, ◌&&◌}
+use Rattle.std.specs.Prelude.{Bool, false, not, ◌&&◌}
 use Rattle.std.proofs.lemmas.Bool.{or_cases, or_left, or_right, and_parts, true≢false, not-true}
 use Rattle.cards.specs.declared.card.Card.{Card}
 use Rattle.cards.specs.Cards.{Cards}
@@ -54,3 +54,16 @@ in_second s t u e card held = ap (λ v. set.contains v card) e ∙ set.contains-
 pub still_held : (s t u : Cards) → u ≡ set.difference s t → (card : Card) → set.contains u card ≡ true →
     set.contains s card ≡ true
 still_held s t u e card held = (and_parts _ _ (sym (in_difference s t u e card) ∙ held)).0
+
+both_or_neither : (a b : Bool) → (a && not (a && not b)) ≡ (a && b)
+both_or_neither true true = refl
+both_or_neither true false = refl
+both_or_neither false b = refl
+
+-- the cards that are in both sets
+pub in_common : (s t rest u : Cards) → rest ≡ set.difference s t → u ≡ set.difference s rest → (card : Card) →
+    set.contains u card ≡ (set.contains s card && set.contains t card)
+in_common s t rest u rest_is u_is card =
+    in_difference s rest u u_is card
+    ∙ ap (λ b. set.contains s card && not b) (in_difference s t rest rest_is card)
+    ∙ both_or_neither (set.contains s card) (set.contains t card)

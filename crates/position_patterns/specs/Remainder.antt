@@ -1,5 +1,5 @@
 -- The patterns of the cards that are left of a deal, by suit.
-use Rattle.std.specs.Prelude.{◌≡◌, true}
+use Rattle.std.specs.Prelude.{◌≡◌, ◌&&◌, true}
 use Rattle.cards.specs.Cards.{Cards}
 use Rattle.cards.specs.Hands.{Hands, hand_of}
 use Rattle.cards.specs.declared.card.Card.{Card}
@@ -18,6 +18,11 @@ all_held hands = set.union (set.union hands.north hands.east) (set.union hands.s
 abbrev pub IsPartOf : Hands → Hands → Type 0
 IsPartOf hands whole = (place : Place) (card : Card) → set.contains (hand_of hands place) card ≡ true →
     set.contains (hand_of whole place) card ≡ true
+
+-- each player's cards that are among these
+abbrev pub IsAmong : Hands → Cards → Hands → Type 0
+IsAmong hands cards whole = (place : Place) (card : Card) →
+    set.contains (hand_of hands place) card ≡ (set.contains (hand_of whole place) card && set.contains cards card)
 
 -- hands that are left of a deal
 pub record IsLeftOf (whole hands : Hands) : Type 0 where

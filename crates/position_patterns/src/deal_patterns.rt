@@ -13,7 +13,7 @@ use cards::{Card, Hand, Rank, Suit};
 use std::alloc::{AllocError, Global};
 
 /// The cards that are left of a suit, and their pattern.
-#[derive(Clone, Copy, Debug)]
+#[derive(Clone, Copy)]
 pub struct Remainder {
     pub suit: Suit,
     pub cards: Hand,

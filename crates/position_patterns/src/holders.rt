@@ -2,7 +2,7 @@ ghost use Rattle.std.specs.Prelude.{◌≡◌};
 ghost use Rattle.std.specs.FinSet as set;
 ghost use Rattle.cards.specs.Hands.{IsDeal};
 ghost use Rattle.cards.specs.Play.{IsApart, is_of};
-ghost use Rattle.position_patterns.specs.Remainder.{IsPartOf, all_held};
+ghost use Rattle.position_patterns.specs.Remainder.{IsAmong, IsPartOf, all_held};
 ghost use Rattle.double_dummy_laws.specs.Pattern.{holder_of};
 
 use cards::{Card, Deal, Hand, Place, Position, Suit};
@@ -103,7 +103,8 @@ impl Holders {
 
     /// The hands with only these cards.
     pub fn part(&self, cards: Hand) -> Holders
-        ensures { IsPartOf result self.now }
+        ensures cards { IsAmong result cards self.now }
+        ensures part { IsPartOf result self.now }
     {
         Holders {
             north: self.north.difference(self.north.difference(cards)),

@@ -39,10 +39,10 @@ struct Hit {
 }
 
 impl Memory {
-    /// Room for so many tricks: twice as many entries for each trick more, and at most 2^20.
+    /// Room for so many tricks: twice as many entries for each trick more, and at most 2^21.
     pub fn new(alloc: Global, tricks: u8) -> Result<Memory, AllocError> {
         let tricks = tricks.min(13);
-        let room = 1 << (tricks + 7);
+        let room = 1 << (tricks + 8);
         let entries = Vec::with_capacity(alloc, room)?;
         let blocks = Vec::with_capacity(alloc, room / 2)?;
         let chains: u32 = 1 << (tricks + 5);

@@ -30,7 +30,7 @@ pub struct Pattern {
 }
 
 /// The holders of so many top cards of a suit, and how many cards each player has.
-#[derive(Clone, Copy, Debug)]
+#[derive(Clone, Copy)]
 pub struct SuitTops {
     pub owners: u32,
     pub lengths: u16,
@@ -38,7 +38,7 @@ pub struct SuitTops {
 }
 
 /// What was found out of every position of a pattern.
-#[derive(Clone, Copy, Debug)]
+#[derive(Clone, Copy)]
 pub struct Entry {
     pub target: u8,
     pub holds: bool,

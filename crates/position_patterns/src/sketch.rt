@@ -8,7 +8,7 @@ const NONE: u32 = u32::MAX;
 
 /// A sketch of an entry: the holders of its top cards, up to four of each suit. Most entries that do not match are passed over
 /// by their sketch, unread; which are decides nothing but the time.
-#[derive(Clone, Copy, Debug)]
+#[derive(Clone, Copy)]
 pub struct Slot {
     mask: u32,
     holders: u32,
@@ -16,7 +16,7 @@ pub struct Slot {
 }
 
 /// A few slots of a chain, and the number of the block after it.
-#[derive(Clone, Copy, Debug)]
+#[derive(Clone, Copy)]
 pub struct Block {
     pub next: u32,
     pub slots: [Slot; SLOTS],

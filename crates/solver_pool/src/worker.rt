@@ -58,7 +58,7 @@ fn solve_work(alloc: Global, work: Work, budget: u64) -> Found
             contract,
             play,
             ..
-        } => match play_costs(alloc, deal, contract, play.as_slice(), &mut budget) {
+        } => match play_costs(alloc, deal, contract, &play, &mut budget) {
             Ok(costs) => Found::Costs(costs),
             Err(SolveError::OutOfBudget) => Found::OutOfBudget,
             Err(SolveError::OutOfMemory) => Found::OutOfMemory,

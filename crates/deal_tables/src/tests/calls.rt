@@ -1,5 +1,6 @@
 use cards::{Card, Deal, Hand, Place, Position, Strain};
 use double_dummy::{Budget, CostsError, PlayAnswer, SolveError, costs, play_costs, solve, table};
+use play_record::Play;
 use scoring::{Contract, Doubling, Level};
 use std::test::Fail;
 
@@ -134,15 +135,81 @@ fn costs_the_cards_of_a_play(rt: HostRuntime) -> Result<(), Fail> {
     assert_eq!(rt; unpaid.err(), Some(CostsError::OutOfBudget));
     let empty = costs(rt.alloc(), deal, contract, &[], &mut Budget::new(0))?;
     assert!(rt; empty.as_slice().is_empty());
+    let play = Play::new(&trick).ok_or("a play")?;
     let held = play_costs(
+        rt.alloc(),
+        deal,
+        contract,
+        &play,
+        &mut Budget::new(1_000_000),
+    )?;
+    assert_eq!(rt; held.play().len(), 4);
+    assert!(rt; matches!(held.answer(), PlayAnswer::Costs(_)));
+    Ok(())
+}
+
+/// Holds whichever growth is refused.
+#[test]
+fn costs_a_play_or_says_that_memory_was_refused(rt: HostRuntime) -> Result<(), Fail> {
+    let deal = "N:AKQJT9876543.2.. 2.AKQJT9876543.. ..AKQJT98765432. ...AKQJT98765432".parse::<
+        Deal,
+    >()?;
+    let contract = one_no_trump().ok_or("a contract")?;
+    let trick = [
+        "S2".parse::<Card>()?,
+        "D2".parse::<Card>()?,
+        "C2".parse::<Card>()?,
+        "SA".parse::<Card>()?,
+    ];
+    let found = costs(
         rt.alloc(),
         deal,
         contract,
         &trick,
         &mut Budget::new(1_000_000),
-    )?;
-    assert_eq!(rt; held.play().len(), 4);
-    assert!(rt; matches!(held.answer(), PlayAnswer::Costs(_)));
+    );
+    match found {
+        Ok(costs) => assert_eq!(rt; costs.as_slice(), [11, 0, 0, 0].as_slice()),
+        Err(refusal) => assert_eq!(rt; refusal, CostsError::OutOfMemory),
+    }
+    let play = Play::new(&trick).ok_or("a play")?;
+    let found = play_costs(
+        rt.alloc(),
+        deal,
+        contract,
+        &play,
+        &mut Budget::new(1_000_000),
+    );
+    match found {
+        Ok(held) => {
+            assert_eq!(rt; held.play().len(), 4);
+            match held.answer() {
+                PlayAnswer::Costs(costs) => {
+                    assert_eq!(rt; costs.as_slice(), [11, 0, 0, 0].as_slice())
+                }
+                PlayAnswer::NotAPlay(number) => assert_eq!(rt; number, 0),
+            }
+        }
+        Err(refusal) => assert_eq!(rt; refusal, SolveError::OutOfMemory),
+    }
+    Ok(())
+}
+
+/// Holds whichever growth is refused.
+#[test]
+fn names_the_illegal_card_or_says_that_memory_was_refused(rt: HostRuntime) -> Result<(), Fail> {
+    let deal = "N:AKQJT9876543.2.. 2.AKQJT9876543.. ..AKQJT98765432. ...AKQJT98765432".parse::<
+        Deal,
+    >()?;
+    let contract = one_no_trump().ok_or("a contract")?;
+    let cards = ["S2".parse::<Card>()?, "H2".parse::<Card>()?];
+    let refused = costs(rt.alloc(), deal, contract, &cards, &mut Budget::new(0));
+    assert_eq!(rt; refused.err(), Some(CostsError::NotAPlay(2)));
+    let play = Play::new(&cards).ok_or("a play")?;
+    match play_costs(rt.alloc(), deal, contract, &play, &mut Budget::new(0)) {
+        Ok(held) => assert!(rt; matches!(held.answer(), PlayAnswer::NotAPlay(2))),
+        Err(refusal) => assert_eq!(rt; refusal, SolveError::OutOfMemory),
+    }
     Ok(())
 }
 

@@ -1,4 +1,4 @@
-use Rattle.double_dummy.proofs.RunLemmas.{in_common}
+use Rattle.position_patterns.proofs.SetLemmas.{in_common}
 use Rattle.double_dummy.proofs.run.common.Goals as goal
 
 pub returns : goal.returns

@@ -81,3 +81,6 @@ search-returns-then-tricks_left-target-clause-found t c =
     let few = c.if-tricks_left-target.true in
     let count = c.tricks_left-tricks_left.ensures.quarter in
     too_many c.args.position.now c.args.target _ (omega arith)
+
+pub search-store-requires-clause-found : goal.search-store-requires-clause-found
+search-store-requires-clause-found t c = c.in_ok-found.ensures.found

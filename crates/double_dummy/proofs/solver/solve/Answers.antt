@@ -8,3 +8,6 @@ returns-then-tricks_left-eq0-clause-tricks c =
     let quarter = c.tricks_left-tricks_left.ensures.quarter in
     let none : cards_left c.args.position.now ≡ 0 = omega arith in
     sym (nothing_left c.args.position.now none)
+
+pub returns-in-Ok-value-clause-tricks : goal.returns-in-Ok-value-clause-tricks
+returns-in-Ok-value-clause-tricks c = c.in-Ok-value.ensures.tricks

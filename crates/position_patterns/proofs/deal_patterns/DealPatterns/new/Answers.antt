@@ -1,10 +1,8 @@
-use Rattle.std.proofs.Common.{sym, subst, All}
-use Rattle.std.proofs.lemmas.List.Elements.{All-push}
+use Rattle.position_patterns.proofs.KeptLemmas.{all_added}
 use Rattle.position_patterns.proofs.deal_patterns.DealPatterns.new.Goals as goal
 use Rattle.position_patterns.specs.Remainder.{IsTrueRemainder}
 
 pub masks-preserved : goal.masks-preserved
 masks-preserved c =
-    let whole = c.args.whole.now in
-    subst (All (IsTrueRemainder whole)) (sym c.in_ok-push.ensures.items)
-    (All-push (IsTrueRemainder whole) c.masks.slots.items c.remainder.result c.masks.invariant c.remainder.ensures)
+    all_added (IsTrueRemainder c.args.whole.now) _ _ c.remainder.result c.in_ok-push.ensures.items c.masks.invariant
+    c.remainder.ensures

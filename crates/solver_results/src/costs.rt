@@ -14,7 +14,7 @@ impl Model for Costs {
 
     ghost Value = { List ℕ };
 
-    ghost use Rattle.double_dummy.specs.CostPlaces.{IsCosts, numbers_of, places_of, places_of-numbers_of};
+    ghost use Rattle.solver_results.specs.CostPlaces.{IsCosts, numbers_of, places_of, places_of-numbers_of};
 
     ghost view = { numbers_of };
 
@@ -28,7 +28,7 @@ impl Model for Costs {
 impl Costs {
     /// The costs of a play without cards.
     #[tactic(auto, using(crate::proofs::CostsLemmas::no_places))]
-    pub(crate) fn none() -> Costs
+    pub fn none() -> Costs
         ensures { result ≡ [] }
     {
         Costs {
@@ -38,7 +38,7 @@ impl Costs {
     }
 
     /// These numbers.
-    pub(crate) fn of(numbers: &[u8]) -> Costs
+    pub fn of(numbers: &[u8]) -> Costs
         requires { length numbers.now ≤ 52 }
         ensures { result ≡ numbers.now }
     {

@@ -1,7 +1,7 @@
 -- The costs of a play in their 52 places.
 use Rattle.std.specs.Prelude.{◌≡◌, ◌-◌, ◌≤◌, ℕ, List, ◌++◌, length, take, drop, replicate}
 use Rattle.std.proofs.Common.{sym, ap, subst, ◌∙◌, take-append-drop, length-take-le}
-use Rattle.double_dummy.specs.declared.cost_numbers.Costs.TheInside.{Inside}
+use Rattle.solver_results.specs.declared.costs.Costs.TheInside.{Inside}
 
 -- the numbers fill the front of the 52 places, and the others hold 0
 pub record IsCosts (costs : Inside) : Type 0 where

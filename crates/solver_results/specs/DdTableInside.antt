@@ -3,8 +3,8 @@ use Rattle.std.specs.Prelude.{◌≡◌}
 use Rattle.std.proofs.Common.{sym}
 use Rattle.cards.specs.declared.strain.Strain.TheVariants.{Spades, Hearts, Diamonds, Clubs, NoTrump}
 use Rattle.cards.specs.Hands.{Hands}
-use Rattle.double_dummy.specs.DdTable.{tricks_in}
-use Rattle.double_dummy.specs.declared.dd_table.DdTable.TheInside.{Inside}
+use Rattle.solver_results.specs.DdTable.{tricks_in}
+use Rattle.solver_results.specs.declared.dd_table.DdTable.TheInside.{Inside}
 
 -- the numbers are the deal's
 pub record IsTable (table : Inside) : Type 0 where

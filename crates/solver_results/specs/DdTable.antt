@@ -4,7 +4,7 @@ use Rattle.cards.specs.declared.place.Place.{Place}
 use Rattle.cards.specs.declared.place.Place.TheVariants.{North, East, South, West}
 use Rattle.cards.specs.declared.strain.Strain.{Strain}
 use Rattle.cards.specs.Hands.{Hands}
-use Rattle.double_dummy.specs.declared.dd_table.DeclarerTricks.{DeclarerTricks}
+use Rattle.solver_results.specs.declared.dd_table.DeclarerTricks.{DeclarerTricks}
 use Rattle.double_dummy_laws.specs.DoubleDummy.{declarer_tricks}
 
 -- the number of a declarer

@@ -6,8 +6,8 @@ use Rattle.scoring.specs.contracts.contract.Contract as the_contract
 use Rattle.cards.specs.declared.card.Card.{Card}
 use Rattle.cards.specs.Hands.{Hands, hands_code}
 use Rattle.cards.specs.Play.{start}
-use Rattle.double_dummy.specs.declared.play_answer.PlayAnswer.{PlayAnswer}
-use Rattle.double_dummy.specs.declared.play_answer.PlayAnswer.TheVariants.{Costs, NotAPlay}
+use Rattle.solver_results.specs.declared.play_answer.PlayAnswer.{PlayAnswer}
+use Rattle.solver_results.specs.declared.play_answer.PlayAnswer.TheVariants.{Costs, NotAPlay}
 use Rattle.double_dummy_laws.specs.DoubleDummy.{cost_list, first_illegal}
 use Rattle.scoring.specs.declared.contract.Contract.{Contract}
 

@@ -1,4 +1,4 @@
-use crate::cost_numbers::Costs;
+use crate::costs::Costs;
 
 /// What is found of a play.
 #[derive(Clone, Copy, Debug)]

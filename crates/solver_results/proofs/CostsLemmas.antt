@@ -2,7 +2,7 @@
 use Rattle.std.proofs.Common.{◌≡◌, ℕ, ◌+◌, ◌-◌, ◌≤◌, List, ◌++◌, length, drop, replicate, refl, ap, ◌∙◌, arith, length-append, length-drop}
 use Rattle.std.proofs.Math.Seq.{drop-append_seam}
 use Rattle.std.proofs.lemmas.List.{drop-replicate}
-use Rattle.double_dummy.specs.CostPlaces.{IsCosts}
+use Rattle.solver_results.specs.CostPlaces.{IsCosts}
 
 back_up : (n : ℕ) → n ≤ 52 → n + (52 - n) ≡ 52
 back_up n h = omega arith

@@ -1,6 +1,6 @@
 use Rattle.std.proofs.Common.{arith}
-use Rattle.double_dummy.proofs.CostsLemmas.{places_filled}
-use Rattle.double_dummy.proofs.cost_numbers.Costs.of.Goals as goal
+use Rattle.solver_results.proofs.CostsLemmas.{places_filled}
+use Rattle.solver_results.proofs.costs.Costs.of.Goals as goal
 
 pub invariant_of-result : goal.invariant_of-result
 invariant_of-result c =

@@ -1,0 +1,76 @@
+ghost use Rattle.std.specs.Prelude.{◌≡◌};
+ghost use Rattle.solver_results.specs.PlayAnswer.{answer_of};
+
+use crate::play_answer::PlayAnswer;
+use cards::{Card, Deal};
+use play_record::Play;
+use scoring::Contract;
+use std::marker::Model;
+
+/// What is found of a play, with its deal, its contract and its cards. Clauses see those three alone, since the type
+/// keeps that the answer is theirs.
+#[derive(Clone, Copy, Debug)]
+pub struct PlayCosts {
+    deal: Deal,
+    contract: Contract,
+    play: Play,
+    answer: PlayAnswer,
+}
+
+impl Model for PlayCosts {
+    ghost use Rattle.solver_results.specs.PlayAnswer.{PlayedDeal, played_code};
+    ghost use Rattle.solver_results.specs.PlayCostsInside.{played_of, IsAnswered, inside_of, inside_of-played_of};
+
+    ghost Value = { PlayedDeal };
+
+    ghost coded = { played_code };
+
+    ghost view = { played_of };
+
+    ghost invariant = { IsAnswered };
+
+    ghost inverse = { inside_of };
+
+    ghost inverse_ok = { inside_of-played_of };
+}
+
+impl PlayCosts {
+    /// The answer for a play, with its deal, its contract and its cards.
+    pub fn new(deal: Deal, contract: Contract, play: Play, answer: PlayAnswer) -> PlayCosts
+        requires { answer ≡ answer_of (record { deal = deal; contract = contract; play = play }) }
+        ensures { result ≡ record { deal = deal; contract = contract; play = play } }
+    {
+        PlayCosts {
+            deal,
+            contract,
+            play,
+            answer,
+        }
+    }
+
+    pub fn deal(&self) -> Deal
+        ensures { result ≡ self.now.deal }
+    {
+        self.deal
+    }
+
+    pub fn contract(&self) -> Contract
+        ensures { result ≡ self.now.contract }
+    {
+        self.contract
+    }
+
+    /// The cards that were played.
+    pub fn play(&self) -> &[Card]
+        ensures { result.now ≡ self.now.play }
+    {
+        self.play.as_slice()
+    }
+
+    /// What is found of them.
+    pub fn answer(&self) -> PlayAnswer
+        ensures { result ≡ answer_of self.now }
+    {
+        self.answer
+    }
+}
