@@ -1,2 +1,4 @@
+pub mod FormLemmas
 pub mod LetterLemmas
 pub mod ListLemmas
+pub mod TableLemmas

@@ -9,7 +9,7 @@ use Rattle.movement.specs.declared.movement_error.MovementError.{MovementError}
 use Rattle.pbn_records.specs.Reads as pbn
 use Rattle.pbn_records.specs.declared.deals_error.DealsError.{DealsError}
 use Rattle.pbn_records.specs.declared.deals_error.DealsError.TheVariants as deals
-use Rattle.wire.specs.Grammar.{IsObject}
+use Rattle.message_fields.specs.Object.{IsObject}
 use Rattle.session_object.specs.declared.object.SessionObject.{SessionObject}
 use Rattle.session_object.specs.declared.parts.Parts.{Parts}
 use Rattle.session_object.specs.declared.session_fault.SessionFault.{SessionFault}

@@ -4,7 +4,7 @@ ghost use Rattle.std.specs.Prelude.{◌≡◌, [], Some, None, IfOk, IfErr};
 ghost use Rattle.serde_json.specs.Find.{get};
 ghost use Rattle.serde_json.specs.View.{view, items_view};
 ghost use Rattle.json_fields.specs.Form.{each, formed};
-ghost use Rattle.wire.specs.User.{role_of, user_roles};
+ghost use Rattle.user_fields.specs.User.{role_of, user_roles};
 ghost use Rattle.session_object.specs.Session.{seated, unseated, user_of, users};
 ghost use Rattle.session_object.specs.Reading.{Gives, Fails};
 
@@ -17,7 +17,7 @@ use serde_json::Value;
 use session_opening::{NewUser, NewUsers, RoleList};
 use session_state::Digest;
 use std::alloc::Global;
-use wire::{digest_of, pair_of, place_of, role_of};
+use user_fields::{digest_of, pair_of, place_of, role_of};
 
 fn roles_in(alloc: Global, list: &[Value]) -> Result<Vec<Role>, SessionFault>
     ensures roles { IfOk result (λ roles. each role_of (items_view list.now) ≡ Some roles.items) }

@@ -1,8 +1,8 @@
 use Rattle.std.proofs.Common.{◌≡◌, drop}
 use Rattle.serde_json.specs.View.{items_view}
 use Rattle.json_fields.specs.Form.{each}
-use Rattle.wire.specs.User.{role_of}
-use Rattle.wire.proofs.ListLemmas.{with_front}
+use Rattle.user_fields.specs.User.{role_of}
+use Rattle.json_fields.proofs.ListLemmas.{with_front}
 use Rattle.session_object.proofs.user.roles_in.Given as goal
 
 -- the roles so far, and those of what is left

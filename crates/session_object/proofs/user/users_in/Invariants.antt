@@ -2,7 +2,7 @@ use Rattle.std.proofs.Common.{◌≡◌, drop}
 use Rattle.serde_json.specs.View.{items_view}
 use Rattle.json_fields.specs.Form.{each}
 use Rattle.session_object.specs.Session.{user_of}
-use Rattle.wire.proofs.ListLemmas.{with_front}
+use Rattle.json_fields.proofs.ListLemmas.{with_front}
 use Rattle.session_object.proofs.user.users_in.Given as goal
 
 -- the users so far, and those of what is left

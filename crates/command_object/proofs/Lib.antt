@@ -1,0 +1,3 @@
+pub mod LetterLemmas
+pub mod MemberLemmas
+pub mod TableLemmas
