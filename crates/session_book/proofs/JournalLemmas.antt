@@ -8,6 +8,7 @@ use Rattle.session_book.specs.Exposure.{spoiler_of}
 use Rattle.session_book.specs.Journal.{replay, MayFollow, Follow, IsAccepted, refusal_after}
 use Rattle.session_state.specs.Refusal.{most_entries}
 use Rattle.session_state.specs.SessionState.{SessionState}
+use Rattle.session_state.specs.declared.actor.Actor.{Actor}
 use Rattle.session_state.specs.declared.command.Command.{Command}
 use Rattle.session_state.proofs.RefusalLemmas.{room_left}
 
@@ -30,7 +31,7 @@ follow_more opening before (first ∷ entries) entry follow may =
 pub accepted_more : (opening : SessionState) (journal : List Entry) (entry : Entry) → IsAccepted opening journal → MayFollow opening journal entry → IsAccepted opening (journal ++ entry ∷ [])
 accepted_more opening journal entry accepted may = follow_more opening [] journal entry accepted may
 
-room_after : (opening : SessionState) (journal : List Entry) (actor : List ℕ) (command : Command) → refusal_after opening journal actor command ≡ None → length journal < most_entries
+room_after : (opening : SessionState) (journal : List Entry) (actor : Actor) (command : Command) → refusal_after opening journal actor command ≡ None → length journal < most_entries
 unfolding refusal_after
 room_after opening journal actor command none = room_left (replay opening journal) (spoiler_of opening journal command) actor command (length journal) none
 

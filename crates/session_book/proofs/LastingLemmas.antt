@@ -17,7 +17,7 @@ use Rattle.session_state.specs.declared.command.Command.{Command}
 use Rattle.session_state.specs.declared.command.Command.TheVariants.{Enter, Confirm, Correct, Rule, Void, Hold, Release}
 use Rattle.session_state.specs.declared.command.Command.TheVariants.{Seat, Unseat, NextRound, Close, Finalise}
 use Rattle.session_state.specs.declared.command.Command.TheVariants.{AddUser, Assign, Deassign, AddInheritance}
-use Rattle.session_state.specs.declared.command.Command.TheVariants.{DeleteInheritance}
+use Rattle.session_state.specs.declared.command.Command.TheVariants.{DeleteInheritance, Solved, Analysed}
 use Rattle.session_state.specs.declared.entry.Entry.{Entry}
 use Rattle.session_book.specs.Exposure.{users_of}
 use Rattle.session_book.specs.Replay.{replay}
@@ -35,7 +35,7 @@ nobody before after users movement = record { joined = []; users = users ∙ sym
 confirmed_lasts : (state : SessionState) (cell : Cell) (known : CellState) → Lasts state (confirmed state cell known)
 confirmed_lasts state cell Empty = nobody state state refl refl
 confirmed_lasts state cell (Entered outcome play) = nobody state _ refl refl
-confirmed_lasts state cell (Confirmed outcome play) = nobody state state refl refl
+confirmed_lasts state cell (Confirmed outcome play costs) = nobody state state refl refl
 confirmed_lasts state cell (Ruled north_south east_west reason) = nobody state state refl refl
 
 -- whatever roles are assigned, users keep their names
@@ -73,6 +73,8 @@ effect_lasts state (Deassign name role) =
     nobody state _ (names_kept (λ set. without_role set role) name state.roles.accounts) refl
 effect_lasts state (AddInheritance senior junior) = nobody state _ refl refl
 effect_lasts state (DeleteInheritance senior junior) = nobody state _ refl refl
+effect_lasts state (Solved board table) = nobody state _ refl refl
+effect_lasts state (Analysed table board costs) = nobody state _ refl refl
 
 pub apply_lasts : (state : SessionState) (entry : Entry) → Lasts state (apply state entry)
 apply_lasts state entry = by_hindrance (is_some (hindrance_of state entry.command))

@@ -8,3 +8,4 @@ pub mod SightLemmas
 pub mod SpoilerLemmas
 pub mod TouchedLemmas
 pub mod UntouchedLemmas
+pub mod OwnNumberLemmas

@@ -4,6 +4,8 @@ use Rattle.std.specs.Prelude.{Option, Some, None, ◌||◌}
 use Rattle.std.proofs.lemmas.List.Sums.{fold-append}
 use Rattle.session_book.specs.declared.answer.Answer.{Answer}
 use Rattle.session_book.specs.declared.answer.Answer.TheVariants.{Accepted, Refused}
+use Rattle.session_state.specs.declared.actor.Actor.{Actor}
+use Rattle.session_state.specs.declared.actor.Actor.TheVariants.{User}
 use Rattle.session_state.specs.declared.command.Command.{Command}
 use Rattle.session_state.specs.declared.entry.Entry.{Entry}
 use Rattle.session_state.specs.declared.refusal.Refusal.{Refusal}
@@ -22,21 +24,21 @@ run_more opening before actor tried command = fold-append (step opening actor) (
 
 -- a command is answered as the journal so far says
 pub runs_answered : (opening : SessionState) (before : List Entry) (actor : List ℕ) (tried : List Command) (command : Command) (so_far : Progress) (found : Option Refusal) →
-    Runs false opening before actor tried so_far → refusal_after opening so_far.journal actor command ≡ found →
+    Runs false opening before actor tried so_far → refusal_after opening so_far.journal (User actor) command ≡ found →
     Runs false opening before actor (tried ++ command ∷ []) (answered so_far actor command found)
 runs_answered opening before actor tried command so_far found ran refused =
     sym (ap (answered so_far actor command) refused) ∙ (ap (λ progress. step opening actor progress command) ran ∙ sym (run_more opening before actor tried command))
 
 -- memory is refused at a command that nothing else refuses
 pub runs_stopped : (opening : SessionState) (before : List Entry) (actor : List ℕ) (tried : List Command) (command : Command) (so_far : Progress) →
-    Runs false opening before actor tried so_far → refusal_after opening so_far.journal actor command ≡ None →
+    Runs false opening before actor tried so_far → refusal_after opening so_far.journal (User actor) command ≡ None →
     Runs true opening before actor (tried ++ command ∷ []) (record { journal = so_far.journal; answers = so_far.answers ++ Refused OutOfMemory ∷ [] })
 runs_stopped opening before actor tried command so_far ran accepted = record {
   tried = tried;
   command = command;
   later = [];
   split = refl;
-  accepted = sym (ap (λ progress. refusal_after opening progress.journal actor command) ran) ∙ accepted;
+  accepted = sym (ap (λ progress. refusal_after opening progress.journal (User actor) command) ran) ∙ accepted;
   journal = ap (λ progress. progress.journal) ran;
   answers = ap (λ progress. progress.answers ++ Refused OutOfMemory ∷ []) ran;
 }
@@ -62,7 +64,7 @@ later_not_tried opening before actor tried command so_far until = record {
       ∙ ap (λ answers. (run opening before actor until.tried).answers ++ Refused OutOfMemory ∷ answers) (sym (map_more until.later command)));
 }
 
-never_memory_after : (opening : SessionState) (journal : List Entry) (actor : List ℕ) (command : Command) (cause : Refusal) → refusal_after opening journal actor command ≡ Some cause → is_out_of_memory cause ≡ false
+never_memory_after : (opening : SessionState) (journal : List Entry) (actor : Actor) (command : Command) (cause : Refusal) → refusal_after opening journal actor command ≡ Some cause → is_out_of_memory cause ≡ false
 unfolding refusal_after
 never_memory_after opening journal actor command cause refused = never_memory (replay opening journal) (spoiler_of opening journal command) actor command (length journal) cause refused
 
@@ -80,7 +82,7 @@ module _ (opening : SessionState) (before : List Entry) (actor : List ℕ) (trie
       subst (λ b. Runs (b || stops (Some NotTried)) opening before actor (tried ++ command ∷ []) (record { journal = journal; answers = answers ++ Refused NotTried ∷ [] })) (sym is_stopped)
       (later_not_tried opening before actor tried command (record { journal = journal; answers = answers }) (subst (λ b. Runs b opening before actor tried (record { journal = journal; answers = answers })) is_stopped until))
 
-  pub runs_accepted : (after : List Entry) → stopped ≡ false → refusal_after opening journal actor command ≡ None → after ≡ journal ++ record { actor = actor; command = command } ∷ [] →
+  pub runs_accepted : (after : List Entry) → stopped ≡ false → refusal_after opening journal (User actor) command ≡ None → after ≡ journal ++ record { actor = User actor; command = command } ∷ [] →
       Runs stopped opening before actor tried (record { journal = journal; answers = answers }) →
       Runs (stopped || stops None) opening before actor (tried ++ command ∷ []) (record { journal = after; answers = answers ++ Accepted ∷ [] })
   runs_accepted after goes_on accepted more ran =
@@ -89,11 +91,11 @@ module _ (opening : SessionState) (before : List Entry) (actor : List ℕ) (trie
       ∙ runs_answered opening before actor tried command (record { journal = journal; answers = answers }) None (subst (λ b. Runs b opening before actor tried (record { journal = journal; answers = answers })) goes_on ran) accepted)
 
   pub runs_refused : (after : List Entry) (cause : Refusal) → stopped ≡ false → after ≡ journal →
-      (refusal_after opening journal actor command ≡ Some cause) ⊎ ((cause ≡ OutOfMemory) × (refusal_after opening journal actor command ≡ None)) →
+      (refusal_after opening journal (User actor) command ≡ Some cause) ⊎ ((cause ≡ OutOfMemory) × (refusal_after opening journal (User actor) command ≡ None)) →
       Runs stopped opening before actor tried (record { journal = journal; answers = answers }) →
       Runs (stopped || stops (Some cause)) opening before actor (tried ++ command ∷ []) (record { journal = after; answers = answers ++ Refused cause ∷ [] })
   runs_refused after cause goes_on same (inl refused) ran =
-      let stops_not : (stopped || is_out_of_memory cause) ≡ false = λ i. goes_on i || never_memory_after opening journal actor command cause refused i in
+      let stops_not : (stopped || is_out_of_memory cause) ≡ false = λ i. goes_on i || never_memory_after opening journal (User actor) command cause refused i in
       subst (λ b. Runs b opening before actor (tried ++ command ∷ []) (record { journal = after; answers = answers ++ Refused cause ∷ [] })) (sym stops_not)
       ((λ i. record { journal = same i; answers = answers ++ Refused cause ∷ [] })
       ∙ runs_answered opening before actor tried command (record { journal = journal; answers = answers }) (Some cause)

@@ -66,7 +66,7 @@ none_spoils : (command : Command) (cell : Cell) (spoiler : Cell → Option (List
 none_spoils command cell spoiler at free = told_spoils (is_told_by_table command) (cell_of command) cell spoiler at free
 
 -- each entry of an accepted journal may follow those before it
-follows : (opening : SessionState) (before entries : List Entry) (entry : Entry) (after : List Entry) → Follow opening before (entries ++ entry ∷ after) → MayFollow opening (before ++ entries) entry
+pub follows : (opening : SessionState) (before entries : List Entry) (entry : Entry) (after : List Entry) → Follow opening before (entries ++ entry ∷ after) → MayFollow opening (before ++ entries) entry
 follows opening before [] entry after follow = subst (λ journal. MayFollow opening journal entry) (sym (append-nil before)) follow.0
 follows opening before (first ∷ entries) entry after follow =
     subst (λ journal. MayFollow opening journal entry) (append_assoc before (first ∷ []) entries) (follows opening (before ++ first ∷ []) entries entry after follow.1)

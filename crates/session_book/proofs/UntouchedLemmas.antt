@@ -41,7 +41,7 @@ use Rattle.session_state.specs.declared.command.Command.TheVariants.{Enter, Conf
 use Rattle.session_state.specs.declared.command.Command.TheVariants as command
 use Rattle.session_state.specs.declared.command.Command.TheVariants.{Seat, Unseat, NextRound, Close, Finalise}
 use Rattle.session_state.specs.declared.command.Command.TheVariants.{AddUser, Assign, Deassign, AddInheritance}
-use Rattle.session_state.specs.declared.command.Command.TheVariants.{DeleteInheritance}
+use Rattle.session_state.specs.declared.command.Command.TheVariants.{DeleteInheritance, Solved, Analysed}
 use Rattle.session_state.specs.declared.entry.Entry.{Entry}
 use Rattle.session_state.specs.declared.refusal.Refusal.{Refusal}
 use Rattle.session_state.specs.declared.refusal.Refusal.TheVariants.{NoSuchCell}
@@ -225,8 +225,8 @@ confirmed_elsewhere : (state : SessionState) (cell : Cell) (known : CellState) (
     ShowsNoMore state (confirmed state cell known) user board
 confirmed_elsewhere state cell Empty user board from from_other differ = nothing_changed state user board
 confirmed_elsewhere state cell (Entered outcome play) user board from from_other differ =
-    result_elsewhere state cell (Confirmed outcome play) user board from from_other differ
-confirmed_elsewhere state cell (Confirmed outcome play) user board from from_other differ = nothing_changed state user board
+    result_elsewhere state cell (Confirmed outcome play None) user board from from_other differ
+confirmed_elsewhere state cell (Confirmed outcome play costs) user board from from_other differ = nothing_changed state user board
 confirmed_elsewhere state cell (Ruled north_south east_west reason) user board from from_other differ =
     nothing_changed state user board
 
@@ -240,7 +240,7 @@ effect_shows state (Confirm table number outcome) user board from low high untou
     confirmed_elsewhere state cell (cell_at state cell) user board (from cell refl) low (not_equal board number untouched)
 effect_shows state (Correct table number outcome play) user board from low high untouched =
     let cell : Cell = record { table = table; board = number } in
-    result_elsewhere state cell (Confirmed outcome play) user board (from cell refl) low (not_equal board number untouched)
+    result_elsewhere state cell (Confirmed outcome play None) user board (from cell refl) low (not_equal board number untouched)
 effect_shows state (command.Rule table number north_south east_west reason) user board from low high untouched =
     let cell : Cell = record { table = table; board = number } in
     result_elsewhere state cell (Ruled north_south east_west reason) user board (from cell refl) low (not_equal board number untouched)
@@ -322,6 +322,10 @@ effect_shows state (DeleteInheritance senior junior) user board from low high un
   held = λ is. is;
   live = λ place is. is;
 }
+effect_shows state (Solved number table) user board from low high untouched =
+    record { movement = refl; roles = λ role is. is; seat = inl refl; held = λ is. is; live = λ place is. is }
+effect_shows state (Analysed table number costs) user board from low high untouched =
+    record { movement = refl; roles = λ role is. is; seat = inl refl; held = λ is. is; live = λ place is. is }
 
 second_free : (a b rest : Option Refusal) → option_or a (option_or b rest) ≡ None → b ≡ None
 second_free None None rest none = refl

@@ -1,6 +1,7 @@
 -- A journal, and when it is accepted.
 use Rattle.std.specs.Prelude.{◌≡◌, ℕ, zero, suc, Option, None, slice_get, List, [], ◌∷◌, ◌++◌, length, refl}
 use Rattle.std.specs.Coded.{Coded, code_by, coded×, coded_list, coded_ℕ}
+use Rattle.session_state.specs.declared.actor.Actor.{Actor}
 use Rattle.session_state.specs.declared.command.Command.{Command}
 use Rattle.session_state.specs.declared.entry.Entry.{Entry}
 use Rattle.session_state.specs.contracts.entry.Entry as the_entry
@@ -11,7 +12,7 @@ use Rattle.session_book.specs.Exposure.{spoiler_of}
 unfoldable pub use Rattle.session_book.specs.Replay.{replay}
 
 -- why a command is refused after a journal, if it is
-unfoldable pub refusal_after : SessionState → List Entry → List ℕ → Command → Option Refusal
+unfoldable pub refusal_after : SessionState → List Entry → Actor → Command → Option Refusal
 refusal_after opening journal actor command =
     refusal_of (replay opening journal) (spoiler_of opening journal command) actor command (length journal)
 
@@ -47,7 +48,7 @@ abbrev pub state_of : Ledger → SessionState
 state_of ledger = replay ledger.opening ledger.journal
 
 -- why a book refuses a command, if it does
-abbrev pub refusal_at : Ledger → List ℕ → Command → Option Refusal
+abbrev pub refusal_at : Ledger → Actor → Command → Option Refusal
 refusal_at ledger actor command = refusal_after ledger.opening ledger.journal actor command
 
 -- the entry of a number, counted from 1

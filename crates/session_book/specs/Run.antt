@@ -1,14 +1,16 @@
 -- What becomes of a batch of commands.
-use Rattle.std.specs.Prelude.{◌≡◌, ℕ, ◌+◌, nat_lt, if◌then◌else◌, Option, Some, None, Bool, true, false, List, [], ◌∷◌, ◌++◌, map}
+use Rattle.std.specs.Prelude.{◌≡◌, ℕ, ◌+◌, ◌⊎◌, nat_lt, if◌then◌else◌, Option, Some, None, Bool, true, false, List, [], ◌∷◌, ◌++◌, map}
 use Rattle.std.specs.List.{fold}
 use Rattle.session_book.specs.declared.answer.Answer.{Answer}
 use Rattle.session_book.specs.declared.answer.Answer.TheVariants.{Accepted, Refused}
+use Rattle.session_state.specs.declared.actor.Actor.{Actor}
+use Rattle.session_state.specs.declared.actor.Actor.TheVariants.{User}
 use Rattle.session_state.specs.declared.command.Command.{Command}
 use Rattle.session_state.specs.declared.entry.Entry.{Entry}
 use Rattle.session_state.specs.declared.refusal.Refusal.{Refusal}
 use Rattle.session_state.specs.declared.refusal.Refusal.TheVariants.{OutOfMemory, NotTried}
 use Rattle.session_state.specs.Refusal.{is_out_of_memory}
-use Rattle.session_book.specs.Journal.{refusal_after}
+use Rattle.session_book.specs.Journal.{Ledger, refusal_after, refusal_at}
 use Rattle.session_state.specs.SessionState.{SessionState}
 
 -- how many commands a batch has at most
@@ -30,11 +32,11 @@ abbrev pub stops : Option Refusal → Bool
 stops None = false
 stops (Some cause) = is_out_of_memory cause
 
--- a command that nothing refuses joins the journal; another is answered why it is refused
+-- a user's command that nothing refuses joins the journal; another is answered why it is refused
 abbrev pub answered : Progress → List ℕ → Command → Option Refusal → Progress
 answered so_far actor command None =
     record {
-      journal = so_far.journal ++ record { actor = actor; command = command } ∷ [];
+      journal = so_far.journal ++ record { actor = User actor; command = command } ∷ [];
       answers = so_far.answers ++ Accepted ∷ [];
     }
 answered so_far actor command (Some cause) =
@@ -42,9 +44,10 @@ answered so_far actor command (Some cause) =
 
 -- one command more
 abbrev pub step : SessionState → List ℕ → Progress → Command → Progress
-step opening actor so_far command = answered so_far actor command (refusal_after opening so_far.journal actor command)
+step opening actor so_far command =
+    answered so_far actor command (refusal_after opening so_far.journal (User actor) command)
 
--- the commands of a batch in their order, after a journal
+-- the commands of a user's batch in their order, after a journal
 unfoldable pub run : SessionState → List Entry → List ℕ → List Command → Progress
 run opening journal actor batch = fold (step opening actor) (record { journal = journal; answers = [] }) batch
 
@@ -55,7 +58,7 @@ pub record RunsUntil (opening : SessionState) (before : List Entry) (actor : Lis
   pub command : Command
   pub later : List Command
   pub split : batch ≡ tried ++ command ∷ later
-  pub accepted : refusal_after opening (run opening before actor tried).journal actor command ≡ None
+  pub accepted : refusal_after opening (run opening before actor tried).journal (User actor) command ≡ None
   pub journal : after.journal ≡ (run opening before actor tried).journal
   pub answers :
       after.answers ≡ (run opening before actor tried).answers ++ Refused OutOfMemory ∷ map (λ _. Refused NotTried) later
@@ -64,6 +67,17 @@ pub record RunsUntil (opening : SessionState) (before : List Entry) (actor : Lis
 abbrev pub Runs : Bool → SessionState → List Entry → List ℕ → List Command → Progress → Type 0
 Runs false opening journal actor batch after = after ≡ run opening journal actor batch
 Runs true opening journal actor batch after = RunsUntil opening journal actor batch after
+
+-- what becomes of one command that is tried by itself: it joins the journal, or it is answered why it is refused, where
+-- memory may be refused that nothing else refuses
+abbrev pub IsTried : Ledger → Actor → Command → Answer → Ledger → Type 0
+IsTried before actor command Accepted after =
+    (refusal_at before actor command ≡ None)
+    × (after.journal ≡ before.journal ++ record { actor = actor; command = command } ∷ [])
+IsTried before actor command (Refused cause) after =
+    ((refusal_at before actor command ≡ Some cause)
+    ⊎ ((cause ≡ OutOfMemory) × (refusal_at before actor command ≡ None)))
+    × (after.journal ≡ before.journal)
 
 -- the numbers of the first and the last entry that joined a journal, or 0 where none did, from its lengths before and
 -- after

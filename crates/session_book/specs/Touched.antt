@@ -6,7 +6,7 @@ use Rattle.session_state.specs.declared.command.Command.{Command}
 use Rattle.session_state.specs.declared.command.Command.TheVariants.{Enter, Confirm, Correct, Rule, Void, Hold, Release}
 use Rattle.session_state.specs.declared.command.Command.TheVariants.{Seat, Unseat, NextRound, Close, Finalise}
 use Rattle.session_state.specs.declared.command.Command.TheVariants.{AddUser, Assign, Deassign, AddInheritance}
-use Rattle.session_state.specs.declared.command.Command.TheVariants.{DeleteInheritance}
+use Rattle.session_state.specs.declared.command.Command.TheVariants.{DeleteInheritance, Solved, Analysed}
 use Rattle.session_book.specs.declared.touched.Touched.{Touched}
 use Rattle.session_book.specs.declared.touched.Touched.TheVariants.{Nothing, Board, User, Everything}
 use Rattle.session_book.specs.ExposureTable.{user_at}
@@ -14,7 +14,7 @@ use Rattle.session_book.specs.ExposureTable.{user_at}
 -- what each command touches: a result may complete its board, and a board that is released is shown again, to anybody; a user
 -- who takes a seat, or is assigned a role, may see more of any board; so may everybody who has a role that inherits another. What
 -- is entered, voided or held, a seat that is left, a role that is taken away, an inheritance that is deleted, a user with no
--- role yet, a round and a phase let nobody see more
+-- role yet, a round and a phase let nobody see more; nor do the solver's numbers, since no rule looks at what a fact says
 abbrev pub touched_by : Command → Touched
 touched_by (Enter table board outcome play) = Nothing
 touched_by (Confirm table board outcome) = Board board
@@ -33,6 +33,8 @@ touched_by (Assign name role) = User name
 touched_by (Deassign name role) = Nothing
 touched_by (AddInheritance senior junior) = Everything
 touched_by (DeleteInheritance senior junior) = Nothing
+touched_by (Solved board table) = Nothing
+touched_by (Analysed table board costs) = Nothing
 
 -- whether it touches what a user sees of a board
 abbrev pub is_touched : Touched → List ℕ → ℕ → Bool

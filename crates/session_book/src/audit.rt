@@ -23,9 +23,13 @@ pub struct AuditRows {
 
 impl Model for AuditRows {
     ghost use Rattle.std.specs.Prelude.{List};
+    ghost use Rattle.std.specs.Coded.{coded_list};
+    ghost use Rattle.session_book.specs.contracts.audit.AuditRow as the_audit_row;
     ghost use Rattle.session_book.specs.declared.audit.AuditRow.{AuditRow};
 
     ghost Value = { List AuditRow };
+
+    ghost coded = { coded_list the_audit_row.the_row.coded };
 
     ghost view = { λ audit. audit.rows.items };
 }

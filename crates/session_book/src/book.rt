@@ -13,8 +13,10 @@ ghost use Rattle.session_opening.specs.Opening.{opening_of};
 ghost use Rattle.session_opening.specs.OpeningRefusal.{opening_refusal};
 ghost use Rattle.session_opening.specs.declared.opening_refusal.OpeningRefusal.TheVariants as opening_cause;
 ghost use Rattle.session_state.specs.Refusal.{most_entries};
-ghost use Rattle.session_book.specs.Run.{Runs, stops, answer_of, first_number, last_number, most_commands};
+ghost use Rattle.session_book.specs.Run.{Runs, IsTried, stops, answer_of, first_number, last_number, most_commands};
+ghost use Rattle.session_state.specs.declared.actor.Actor.TheVariants.{Solver};
 ghost use Rattle.session_state.specs.declared.command.Command.{Command};
+ghost use Rattle.session_state.specs.declared.command.Command.TheVariants.{Solved, Analysed};
 ghost use Rattle.session_book.specs.declared.answer.Answer.{Answer};
 ghost use Rattle.session_state.specs.declared.entry.Entry.{Entry};
 ghost use Rattle.session_state.specs.declared.refusal.Refusal.TheVariants.{OutOfMemory};
@@ -30,7 +32,7 @@ use movement::Cell;
 use rbac::{Account, Operation};
 use session_opening::{Config, OpeningRefusal};
 use session_state::room::{push_copy, push_within};
-use session_state::{Command, Entry, Refusal, State};
+use session_state::{Actor, Command, DdTable, Entry, PlayCosts, Refusal, State};
 use std::alloc::{AllocError, Global};
 use std::marker::Model;
 
@@ -150,9 +152,8 @@ impl Book {
         }
     }
 
-    /// Whether a command of a user is accepted now: then its entry, for which there is room. This changes nothing but
-    /// the room.
-    pub fn check(&mut self, actor: Name, command: &Command) -> Result<Entry, Refusal>
+    /// Whether a command is accepted now: then its entry, for which there is room. This changes nothing but the room.
+    pub fn check(&mut self, actor: Actor, command: &Command) -> Result<Entry, Refusal>
         ensures ok { IfOk result (λ entry. entry ≡ record { actor = actor; command = command.now }) }
         ensures accepted { IfOk result (λ entry. refusal_at self.old actor command.now ≡ None) }
         ensures room { IfOk result (λ entry. 1 ≤ self.new.spare) }
@@ -160,25 +161,26 @@ impl Book {
             ⊎ ((cause ≡ OutOfMemory) × (refusal_at self.old actor command.now ≡ None))) }
         ensures same { self.new ≡ record self.old { spare = self.new.spare } }
     {
-        if let Some(cause) = self.refusal(actor, command) {
+        let entry = Entry {
+            actor,
+            command: *command,
+        };
+        if let Some(cause) = self.refusal(&entry) {
             return Err(cause);
         }
         if self.journal.reserve(1).is_err() {
             return Err(Refusal::OutOfMemory);
         }
-        Ok(Entry {
-            actor,
-            command: *command,
-        })
+        Ok(entry)
     }
 
-    /// Why a command of a user is refused now, if it is.
-    fn refusal(&self, actor: Name, command: &Command) -> Option<Refusal>
-        ensures { result ≡ refusal_at self.now actor command.now }
+    /// Why what would be the next entry is refused now, if it is.
+    fn refusal(&self, entry: &Entry) -> Option<Refusal>
+        ensures { result ≡ refusal_at self.now entry.now.actor entry.now.command }
     {
-        let spoiler = self.spoiler(command);
+        let spoiler = self.spoiler(&entry.command);
         self.state
-            .refusal(spoiler, actor, command, self.journal.len())
+            .refusal(spoiler, entry.actor, &entry.command, self.journal.len())
     }
 
     // Who spoils the result that a command enters or confirms, if somebody does.
@@ -308,6 +310,41 @@ impl Book {
         Ok(Submission::new(answers, before, self.version()))
     }
 
+    /// Tries the double-dummy table of a board, as the solver tells it.
+    pub fn submit_solved(&mut self, board: u8, table: DdTable) -> Answer
+        ensures tried { IsTried self.old Solver (Solved board table) result self.new }
+        ensures opening { self.new.opening ≡ self.old.opening }
+    {
+        self.submit_found(&Command::Solved { board, table })
+    }
+
+    /// Tries what the cards cost that were played at a cell, as the solver tells it.
+    pub fn submit_analysed(&mut self, cell: Cell, costs: PlayCosts) -> Answer
+        ensures tried { IsTried self.old Solver (Analysed cell.table cell.board costs) result self.new }
+        ensures opening { self.new.opening ≡ self.old.opening }
+    {
+        let Cell { table, board } = cell;
+        self.submit_found(&Command::Analysed {
+            table,
+            board,
+            costs,
+        })
+    }
+
+    // Tries a command of the solver's.
+    fn submit_found(&mut self, command: &Command) -> Answer
+        ensures tried { IsTried self.old Solver command.now result self.new }
+        ensures opening { self.new.opening ≡ self.old.opening }
+    {
+        match self.check(Actor::Solver, command) {
+            Ok(entry) => {
+                self.commit(entry);
+                Answer::Accepted
+            }
+            Err(cause) => Answer::Refused(cause),
+        }
+    }
+
     // Why one command of a batch is refused, if it is: none is tried once memory was refused.
     fn attempt(&mut self, actor: Name, command: &Command, stopped: bool) -> Option<Refusal>
         ensures runs { (before : List Entry) (tried : List Command) (answers : List Answer) →
@@ -320,7 +357,7 @@ impl Book {
         if stopped {
             return Some(Refusal::NotTried);
         }
-        match self.check(actor, command) {
+        match self.check(Actor::User(actor), command) {
             Ok(entry) => {
                 self.commit(entry);
                 None

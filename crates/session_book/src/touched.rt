@@ -37,6 +37,8 @@ pub fn touched_by(command: &Command) -> Touched
         | Command::Finalise
         | Command::AddUser { .. }
         | Command::Deassign { .. }
-        | Command::DeleteInheritance { .. } => Touched::Nothing,
+        | Command::DeleteInheritance { .. }
+        | Command::Solved { .. }
+        | Command::Analysed { .. } => Touched::Nothing,
     }
 }

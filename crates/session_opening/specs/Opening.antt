@@ -1,5 +1,5 @@
 -- The state in which a session opens, of what it opens with.
-use Rattle.std.specs.Prelude.{◌-◌, List, [], ◌++◌, map, take, length, replicate}
+use Rattle.std.specs.Prelude.{◌-◌, None, List, [], ◌++◌, map, take, length, replicate}
 use Rattle.std.specs.List.{filter_map}
 use Rattle.cards.specs.declared.place.Place.TheVariants.{North}
 use Rattle.cards.specs.declared.vulnerability.Vulnerability.TheVariants.{Neither}
@@ -55,7 +55,7 @@ opening_public config =
     }
 
 -- the opening state: the users with their digests, their seats, and the hands of the boards; nothing is known of any
--- cell
+-- cell, and no board is solved
 abbrev pub opening_of : Config → SessionState
 opening_of config =
     record {
@@ -65,4 +65,5 @@ opening_of config =
       public = opening_public config;
       cells = replicate most_cells Empty;
       deals = map (λ board. board.deal) (boards_in_play config);
+      tables = replicate most_boards None;
     }

@@ -5,7 +5,7 @@ use Rattle.std.specs.Bool.{then_some}
 use Rattle.std.specs.Option.{option_or}
 use Rattle.std.proofs.lemmas.Bool.{false≢true, cases_lt, le-leb}
 use Rattle.cards.specs.declared.card.Card.{Card}
-use Rattle.movement.specs.Schedule.{is_scheduled, is_later}
+use Rattle.movement.specs.Schedule.{is_scheduled}
 use Rattle.scoring.specs.declared.outcome.Outcome.{Outcome}
 use Rattle.disclosure_rules.specs.Seating.{some_that}
 use Rattle.session_state.specs.declared.command.Command.{Command}
@@ -15,7 +15,7 @@ use Rattle.session_state.specs.declared.refusal.Refusal.TheVariants.{NoSuchUser,
 use Rattle.session_state.specs.Accounts.{has_account}
 use Rattle.session_state.specs.CellState.{has_result}
 use Rattle.session_state.specs.Command.{phases_of, user_of, cell_of, board_of, is_among}
-use Rattle.session_state.specs.Refusal.{first_of, is_board, is_bad_result, own_causes, hindrance_of}
+use Rattle.session_state.specs.Refusal.{first_of, is_board, is_bad_result, is_early, own_causes, hindrance_of}
 use Rattle.session_state.specs.SessionState.{SessionState, cell_at}
 
 -- what nothing refuses, no cause refuses
@@ -51,7 +51,7 @@ module _ (state : SessionState) (command : Command) (unhindered : hindrance_of s
   other_phase = then_some (not (is_among (phases_of command) state.public.phase)) WrongPhase
 
   too_early : Option Refusal
-  too_early = then_some (some_that (cell_of command) (λ cell. is_later state.public.movement cell state.public.round)) RoundNotStarted
+  too_early = then_some (is_early state command) RoundNotStarted
 
   pub user_unhindered : some_that (user_of command) (λ name. not (has_account state.roles name)) ≡ false
   unfolding hindrance_of stranger no_cell no_board other_phase too_early

@@ -9,3 +9,4 @@ pub mod RefusalLemmas
 pub mod ScheduleLemmas
 pub mod SeatCauseLemmas
 pub mod SeatLemmas
+pub mod OwnNumberLemmas

@@ -8,8 +8,9 @@ use Rattle.disclosure_rules.specs.LiveCells.{tables_at, is_live, with_live, with
 use Rattle.disclosure_rules.specs.Numbers.{has_number, numbers_that}
 use Rattle.disclosure_rules.proofs.NumbersLemmas.{has_number-numbers_that}
 use Rattle.session_state.specs.declared.cell_state.CellState.{CellState}
-use Rattle.session_state.specs.declared.cell_state.CellState.TheVariants.{Empty}
-use Rattle.session_state.specs.CellState.{has_result}
+use Rattle.session_state.specs.declared.cell_state.CellState.TheVariants.{Empty, Entered, Confirmed, Ruled}
+use Rattle.solver_results.specs.PlayAnswer.{PlayedDeal}
+use Rattle.session_state.specs.CellState.{has_result, with_costs}
 use Rattle.session_state.specs.SessionState.{most_cells, place_of, IsPlaced, AreLive}
 
 -- nothing is live where nothing is known
@@ -112,7 +113,8 @@ module _ (cells : List CellState) (cell other : Cell) (known : CellState) where
   pub known_elsewhere : place_of other ≢ place_of cell → get_or (slice_set cells (place_of cell) known) (place_of other) Empty ≡ get_or cells (place_of other) Empty
   known_elsewhere differ = get_or-set_other cells (place_of cell) (place_of other) known Empty differ
 
--- the live bits stay those of the results: where a result is set, where none is, and where there was none and is none
+-- the live bits stay those of the results: where a result is set, where none is, and where
+-- there is one just where there was
 module _ (live : List (List ℕ)) (cells : List CellState) (cell : Cell) (known : CellState)
     (placed : IsPlaced cell) (below : place_of cell < length cells) (boards : length live ≡ 64) (kept : AreLive live cells) where
   pub result_live : has_result known ≡ true → AreLive (with_live live cell) (slice_set cells (place_of cell) known)
@@ -129,11 +131,21 @@ module _ (live : List (List ℕ)) (cells : List CellState) (cell : Cell) (known 
         | inr differ ↦ other_bit_without live cell other boards placed placed_other differ ∙ kept other placed_other ∙ sym (ap has_result (known_elsewhere cells cell other known differ))
       ]
 
-  pub entered_live : has_result known ≡ false → has_result (get_or cells (place_of cell) Empty) ≡ false → AreLive live (slice_set cells (place_of cell) known)
-  entered_live no_result was_none other placed_other =
+  pub same_live : has_result known ≡ has_result (get_or cells (place_of cell) Empty) → AreLive live (slice_set cells (place_of cell) known)
+  same_live as_before other placed_other =
       elim (cases_eq (place_of other) (place_of cell)) [
         | inl same ↦
-            kept other placed_other ∙ ap (λ place. has_result (get_or cells place Empty)) same ∙ was_none
-            ∙ sym (ap has_result (known_there cells cell other known below same) ∙ no_result)
+            kept other placed_other ∙ ap (λ place. has_result (get_or cells place Empty)) same ∙ sym as_before
+            ∙ sym (ap has_result (known_there cells cell other known below same))
         | inr differ ↦ kept other placed_other ∙ sym (ap has_result (known_elsewhere cells cell other known differ))
       ]
+
+  pub entered_live : has_result known ≡ false → has_result (get_or cells (place_of cell) Empty) ≡ false → AreLive live (slice_set cells (place_of cell) known)
+  entered_live no_result was_none = same_live (no_result ∙ sym was_none)
+
+-- costs make no result, and take none away
+pub costs_live : (known : CellState) (costs : PlayedDeal) → has_result (with_costs known costs) ≡ has_result known
+costs_live Empty costs = refl
+costs_live (Entered outcome play) costs = refl
+costs_live (Confirmed outcome play old) costs = refl
+costs_live (Ruled north_south east_west reason) costs = refl

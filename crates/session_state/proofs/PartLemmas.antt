@@ -3,6 +3,7 @@ use Rattle.std.proofs.Common.{◌≡◌, ◌≢◌, ℕ, Bool, true, false, List
 use Rattle.std.specs.Prelude.{Option, Some, None, is_some, not, if◌then◌else◌}
 use Rattle.std.specs.Bool.{then_some}
 use Rattle.std.proofs.lemmas.Bool.{false≢true, cases_Bool}
+use Rattle.cards.specs.Hands.{Hands}
 use Rattle.movement.specs.declared.cell.Cell.{Cell}
 use Rattle.movement.specs.Movement.{IsSection}
 use Rattle.movement.specs.Schedule.{is_scheduled}
@@ -16,14 +17,14 @@ use Rattle.disclosure_rules.specs.declared.phase.Phase.{Phase}
 use Rattle.session_state.specs.declared.cell_state.CellState.{CellState}
 use Rattle.session_state.specs.declared.cell_state.CellState.TheVariants.{Empty, Entered, Confirmed, Ruled}
 use Rattle.session_state.specs.declared.command.Command.{Command}
-use Rattle.session_state.specs.declared.command.Command.TheVariants.{Enter, Confirm, Correct, Rule, Void, Hold, Release, Seat, Unseat, NextRound, Close, Finalise, AddUser, Assign, Deassign, AddInheritance, DeleteInheritance}
+use Rattle.session_state.specs.declared.command.Command.TheVariants.{Enter, Confirm, Correct, Rule, Void, Hold, Release, Seat, Unseat, NextRound, Close, Finalise, AddUser, Assign, Deassign, AddInheritance, DeleteInheritance, Solved, Analysed}
 use Rattle.session_state.specs.declared.digest.Digest.{Digest}
 use Rattle.session_state.specs.declared.entry.Entry.{Entry}
 use Rattle.session_state.specs.declared.refusal.Refusal.{Refusal}
 use Rattle.session_state.specs.declared.seated.Seated.{Seated}
 use Rattle.session_state.specs.Apply.{apply, effect, confirmed}
 use Rattle.session_state.specs.Command.{cell_of}
-use Rattle.session_state.specs.Parts.{Part, Results, HeldBoards, Seats, Rounds, Phases, Accounts, Hierarchy, part_of, IsSameBut}
+use Rattle.session_state.specs.Parts.{Part, Results, HeldBoards, Seats, Rounds, Phases, Accounts, Hierarchy, Tables, part_of, IsSameBut}
 use Rattle.session_state.specs.Refusal.{hindrance_of}
 use Rattle.session_state.specs.SessionState.{SessionState, cell_at, with_cell, place_of, IsPlaced}
 use Rattle.session_state.proofs.HindranceLemmas.{cell_unhindered}
@@ -46,6 +47,7 @@ module _ (state : SessionState) where
     accounts = λ _. refl;
     digests = λ _. refl;
     pairs = λ _. refl;
+    tables = λ _. refl;
   }
 
   same_but_cells : (cells : List CellState) (live : List (List ℕ)) → IsSameBut Results state (record state { cells = cells; public = record state.public { live = live } })
@@ -62,6 +64,7 @@ module _ (state : SessionState) where
     accounts = λ _. refl;
     digests = λ _. refl;
     pairs = λ _. refl;
+    tables = λ _. refl;
   }
 
   same_but_held : (held : List ℕ) → IsSameBut HeldBoards state (record state { public = record state.public { held = held } })
@@ -78,6 +81,7 @@ module _ (state : SessionState) where
     accounts = λ _. refl;
     digests = λ _. refl;
     pairs = λ _. refl;
+    tables = λ _. refl;
   }
 
   same_but_seats : (seats : List Seated) → IsSameBut Seats state (record state { seats = seats })
@@ -94,6 +98,7 @@ module _ (state : SessionState) where
     accounts = λ _. refl;
     digests = λ _. refl;
     pairs = λ _. refl;
+    tables = λ _. refl;
   }
 
   same_but_round : (round : ℕ) → IsSameBut Rounds state (record state { public = record state.public { round = round } })
@@ -110,6 +115,7 @@ module _ (state : SessionState) where
     accounts = λ _. refl;
     digests = λ _. refl;
     pairs = λ _. refl;
+    tables = λ _. refl;
   }
 
   same_but_phase : (phase : Phase) → IsSameBut Phases state (record state { public = record state.public { phase = phase } })
@@ -126,6 +132,7 @@ module _ (state : SessionState) where
     accounts = λ _. refl;
     digests = λ _. refl;
     pairs = λ _. refl;
+    tables = λ _. refl;
   }
 
   same_but_accounts : (accounts : List Account) (digests : List Digest) → IsSameBut Accounts state (record state { roles = record state.roles { accounts = accounts }; digests = digests })
@@ -142,6 +149,7 @@ module _ (state : SessionState) where
     accounts = λ other. absurd (other refl);
     digests = λ other. absurd (other refl);
     pairs = λ _. refl;
+    tables = λ _. refl;
   }
 
   same_but_pairs : (pairs : List Inheritance) → IsSameBut Hierarchy state (record state { roles = record state.roles { pairs = pairs } })
@@ -158,12 +166,30 @@ module _ (state : SessionState) where
     accounts = λ _. refl;
     digests = λ _. refl;
     pairs = λ other. absurd (other refl);
+    tables = λ _. refl;
+  }
+
+  same_but_tables : (tables : List (Option Hands)) → IsSameBut Tables state (record state { tables = tables })
+  same_but_tables tables = record {
+    movement = refl;
+    marks = refl;
+    deals = refl;
+    cells = λ _. refl;
+    live = λ _. refl;
+    held = λ _. refl;
+    seats = λ _. refl;
+    round = λ _. refl;
+    phase = λ _. refl;
+    accounts = λ _. refl;
+    digests = λ _. refl;
+    pairs = λ _. refl;
+    tables = λ other. absurd (other refl);
   }
 
   confirmed_part : (cell : Cell) (known : CellState) → IsSameBut Results state (confirmed state cell known)
   confirmed_part cell Empty = same Results
   confirmed_part cell (Entered outcome play) = same_but_cells _ _
-  confirmed_part cell (Confirmed outcome play) = same Results
+  confirmed_part cell (Confirmed outcome play costs) = same Results
   confirmed_part cell (Ruled north_south east_west reason) = same Results
 
   effect_part : (command : Command) → IsSameBut (part_of command) state (effect state command)
@@ -184,6 +210,8 @@ module _ (state : SessionState) where
   effect_part (Deassign name role) = same_but_accounts _ _
   effect_part (AddInheritance senior junior) = same_but_pairs _
   effect_part (DeleteInheritance senior junior) = same_but_pairs _
+  effect_part (Solved board table) = same_but_tables _
+  effect_part (Analysed table board costs) = same_but_cells _ _
 
 -- an entry changes one part at most
 pub entry_part : (state : SessionState) (entry : Entry) → IsSameBut (part_of entry.command) state (apply state entry)
@@ -203,8 +231,8 @@ module _ (state : SessionState) (own cell : Cell) (placed_own : IsPlaced own) (p
 
   kept_confirmed : (known : CellState) → cell_at (confirmed state own known) cell ≡ cell_at state cell
   kept_confirmed Empty = refl
-  kept_confirmed (Entered outcome play) = kept_elsewhere (Confirmed outcome play)
-  kept_confirmed (Confirmed outcome play) = refl
+  kept_confirmed (Entered outcome play) = kept_elsewhere (Confirmed outcome play None)
+  kept_confirmed (Confirmed outcome play costs) = refl
   kept_confirmed (Ruled north_south east_west reason) = refl
 
 no_other : {cell : Cell} (own : Cell) → Some own ≢ Some cell → own ≢ cell
@@ -214,13 +242,17 @@ not_false : (b : Bool) → not b ≡ false → b ≡ true
 not_false true none = refl
 not_false false none = absurd (false≢true (sym none))
 
+-- a place is kept for a scheduled cell
+pub scheduled_placed : (state : SessionState) (own : Cell) → IsSection state.public.movement → not (is_scheduled state.public.movement own) ≡ false → IsPlaced own
+scheduled_placed state own is_section scheduled =
+    placed state.public.movement own is_section (cell_in_range state.public.movement own (scheduled-cell state.public.movement own (not_false _ scheduled)))
+
 effect_elsewhere : (state : SessionState) (command : Command) (cell : Cell) → IsSection state.public.movement → IsPlaced cell → hindrance_of state command ≡ None →
     cell_of command ≢ Some cell → cell_at (effect state command) cell ≡ cell_at state cell
 effect_elsewhere state command cell is_section placed_cell unhindered other = by_command command (cell_unhindered state command unhindered) other
   where
     own_placed : (own : Cell) → not (is_scheduled state.public.movement own) ≡ false → IsPlaced own
-    own_placed own scheduled =
-        placed state.public.movement own is_section (cell_in_range state.public.movement own (scheduled-cell state.public.movement own (not_false _ scheduled)))
+    own_placed own scheduled = scheduled_placed state own is_section scheduled
 
     by_command : (command : Command) → some_that (cell_of command) (λ own. not (is_scheduled state.public.movement own)) ≡ false →
         cell_of command ≢ Some cell → cell_at (effect state command) cell ≡ cell_at state cell
@@ -241,6 +273,8 @@ effect_elsewhere state command cell is_section placed_cell unhindered other = by
     by_command (Deassign name role) there other = refl
     by_command (AddInheritance senior junior) there other = refl
     by_command (DeleteInheritance senior junior) there other = refl
+    by_command (Solved board table) there other = refl
+    by_command (Analysed table board costs) there other = kept_elsewhere state _ cell (own_placed _ there) placed_cell (no_other _ other) _
 
 -- an entry changes what is known of its own cell alone
 pub entry_elsewhere : (state : SessionState) (entry : Entry) (cell : Cell) → IsSection state.public.movement → IsPlaced cell →

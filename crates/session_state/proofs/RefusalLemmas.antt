@@ -1,6 +1,6 @@
 -- The first cause that refuses a command.
 use Rattle.std.proofs.Common.{◌≡◌, ℕ, ◌<◌, Bool, true, false, List, [], ◌∷◌, ◌++◌, refl, sym, ap, ◌∙◌, inl, inr}
-use Rattle.std.specs.Prelude.{Option, Some, None, is_some, option_map, nat_le, not, ◌||◌, ◌↔◌, if◌then◌else◌}
+use Rattle.std.specs.Prelude.{Option, Some, None, IsSomeAnd, is_none, is_some, option_map, nat_le, not, ◌||◌, ◌↔◌, if◌then◌else◌}
 use Rattle.std.specs.Bool.{then_some}
 use Rattle.std.specs.Option.{option_or}
 use Rattle.std.proofs.lemmas.Bool.{cases_lt, le-leb, false≢true, false_from_ne_true}
@@ -9,12 +9,16 @@ use Rattle.rbac.specs.RoleData.{RoleData, assign_user, deassign_user, add_inheri
 use Rattle.rbac.specs.declared.separation_set.SeparationSet.{SeparationSet}
 use Rattle.rbac.proofs.LawLemmas.{permission_exact}
 use Rattle.session_state.specs.declared.command.Command.{Command}
-use Rattle.session_state.specs.declared.command.Command.TheVariants.{Enter, Confirm, Correct, Rule, Void, Hold, Release, Seat, Unseat, NextRound, Close, Finalise, AddUser, Assign, Deassign, AddInheritance, DeleteInheritance}
+use Rattle.session_state.specs.declared.command.Command.TheVariants.{Enter, Confirm, Correct, Rule, Void, Hold, Release, Seat, Unseat, NextRound, Close, Finalise, AddUser, Assign, Deassign, AddInheritance, DeleteInheritance, Solved, Analysed}
 use Rattle.session_state.specs.declared.refusal.Refusal.{Refusal}
-use Rattle.session_state.specs.declared.refusal.Refusal.TheVariants.{NotPermitted, NoSuchUser, NoSuchCell, NoSuchBoard, WrongPhase, RoundNotStarted, BadResult, AlreadyLive, NothingEntered, Mismatch, Spoiled, NotLive, BadRuling, AlreadyHeld, NotHeld, NoSuchPair, WrongDirection, NotContestant, AlreadySeated, SeatTaken, NotSeated, NoMoreRounds, NotAllLive, BadName, UserExists, TooManyUsers, AlreadyAssigned, Separation, NotAssigned, StillSeated, LastAdministrator, Cycle, AlreadyThere, NotThere, JournalFull}
+use Rattle.session_state.specs.declared.refusal.Refusal.TheVariants.{NotPermitted, NoSuchUser, NoSuchCell, NoSuchBoard, WrongPhase, RoundNotStarted, BadResult, AlreadyLive, NothingEntered, Mismatch, Spoiled, NotLive, BadRuling, AlreadyHeld, NotHeld, NoSuchPair, WrongDirection, NotContestant, AlreadySeated, SeatTaken, NotSeated, NoMoreRounds, NotAllLive, BadName, UserExists, TooManyUsers, AlreadyAssigned, Separation, NotAssigned, StillSeated, LastAdministrator, Cycle, AlreadyThere, NotThere, StrangeDeal, AlreadySolved, StrangePlay, JournalFull}
 use Rattle.session_state.specs.Accounts.{first_broken}
 use Rattle.session_state.specs.Command.{operation_of, is_told_by_table}
-use Rattle.session_state.specs.Refusal.{first_of, needed_causes, own_causes, hindrances, spoiled, causes, hindrance_of, refusal_of, most_entries, is_out_of_memory}
+use Rattle.session_state.specs.declared.actor.Actor.{Actor}
+use Rattle.session_state.specs.declared.actor.Actor.TheVariants.{User, Solver}
+use Rattle.rbac.specs.declared.operation.Operation.{Operation}
+use Rattle.disclosure_rules.specs.Seating.{some_that}
+use Rattle.session_state.specs.Refusal.{is_permitted, IsPermitted, first_of, needed_causes, own_causes, hindrances, spoiled, causes, hindrance_of, refusal_of, most_entries, is_out_of_memory}
 use Rattle.session_state.specs.SessionState.{SessionState}
 
 or_false : (a b : Bool) → (a || b) ≡ false → (a ≡ false) × (b ≡ false)
@@ -31,28 +35,28 @@ first_of-append (Some cause ∷ xs) ys = refl
 abbrev pub last_causes : Option (List ℕ) → Command → ℕ → List (Option Refusal)
 last_causes spoiler command entries = spoiled command spoiler ∷ then_some (nat_le most_entries entries) JournalFull ∷ []
 
-module _ (state : SessionState) (spoiler : Option (List ℕ)) (actor : List ℕ) (command : Command) (entries : ℕ) where
+module _ (state : SessionState) (spoiler : Option (List ℕ)) (actor : Actor) (command : Command) (entries : ℕ) where
   -- who hasn't the permission is refused
-  pub refused_actor : has_permission state.roles actor (operation_of command) ≡ false → refusal_of state spoiler actor command entries ≡ Some NotPermitted
+  pub refused_actor : is_permitted state.roles actor command ≡ false → refusal_of state spoiler actor command entries ≡ Some NotPermitted
   unfolding refusal_of
   refused_actor denied =
       ap (λ b. option_or (then_some (not b) NotPermitted) (first_of (hindrances state command ++ last_causes spoiler command entries))) denied
 
   -- who has it is refused what the state hinders, or what is spoiled, or where the journal is full
-  pub refused_else : has_permission state.roles actor (operation_of command) ≡ true →
+  pub refused_else : is_permitted state.roles actor command ≡ true →
       refusal_of state spoiler actor command entries ≡ option_or (hindrance_of state command) (first_of (last_causes spoiler command entries))
   unfolding refusal_of hindrance_of
   refused_else allowed =
       ap (λ b. option_or (then_some (not b) NotPermitted) (first_of (hindrances state command ++ last_causes spoiler command entries))) allowed
       ∙ first_of-append (hindrances state command) (last_causes spoiler command entries)
 
-  pub refused_hindrance : (found : Option Refusal) → has_permission state.roles actor (operation_of command) ≡ true →
+  pub refused_hindrance : (found : Option Refusal) → is_permitted state.roles actor command ≡ true →
       found ≡ hindrance_of state command → is_some found ≡ true → refusal_of state spoiler actor command entries ≡ found
   refused_hindrance None allowed hindered some = absurd (false≢true some)
   refused_hindrance (Some cause) allowed hindered some =
       refused_else allowed ∙ ap (λ found. option_or found (first_of (last_causes spoiler command entries))) (sym hindered)
 
-  pub refused_last : (found : Option Refusal) → has_permission state.roles actor (operation_of command) ≡ true →
+  pub refused_last : (found : Option Refusal) → is_permitted state.roles actor command ≡ true →
       found ≡ hindrance_of state command → is_some found ≡ false → refusal_of state spoiler actor command entries ≡ first_of (last_causes spoiler command entries)
   refused_last (Some cause) allowed hindered none = absurd (false≢true (sym none))
   refused_last None allowed hindered none =
@@ -65,18 +69,18 @@ last_free None (Some cause) full none = absurd cc
 last_free None None true none = absurd cc
 last_free None None false none = (refl, refl)
 
-pub free_at_last : (state : SessionState) (spoiler : Option (List ℕ)) (actor : List ℕ) (command : Command) (entries : ℕ) → refusal_of state spoiler actor command entries ≡ None →
+pub free_at_last : (state : SessionState) (spoiler : Option (List ℕ)) (actor : Actor) (command : Command) (entries : ℕ) → refusal_of state spoiler actor command entries ≡ None →
     (spoiled command spoiler ≡ None) × (nat_le most_entries entries ≡ false)
-free_at_last state spoiler actor command entries none = by_permission (has_permission state.roles actor (operation_of command)) refl
+free_at_last state spoiler actor command entries none = by_permission (is_permitted state.roles actor command) refl
   where
-    by_permission : (b : Bool) → has_permission state.roles actor (operation_of command) ≡ b → (spoiled command spoiler ≡ None) × (nat_le most_entries entries ≡ false)
+    by_permission : (b : Bool) → is_permitted state.roles actor command ≡ b → (spoiled command spoiler ≡ None) × (nat_le most_entries entries ≡ false)
     by_permission true allowed =
         last_free (hindrance_of state command) (spoiled command spoiler) (nat_le most_entries entries) (sym (refused_else state spoiler actor command entries allowed) ∙ none)
     by_permission false denied =
         let refused : Some NotPermitted ≡ None = sym (refused_actor state spoiler actor command entries denied) ∙ none in
         absurd cc
 
-pub room_left : (state : SessionState) (spoiler : Option (List ℕ)) (actor : List ℕ) (command : Command) (entries : ℕ) → refusal_of state spoiler actor command entries ≡ None → entries < most_entries
+pub room_left : (state : SessionState) (spoiler : Option (List ℕ)) (actor : Actor) (command : Command) (entries : ℕ) → refusal_of state spoiler actor command entries ≡ None → entries < most_entries
 room_left state spoiler actor command entries none =
     elim (cases_lt entries most_entries) [
       | inl below ↦ below
@@ -143,6 +147,8 @@ own_not_apart state (Deassign name role) = (of _ NotAssigned refl, none_needed s
 own_not_apart state (AddInheritance senior junior) =
     (of _ Cycle refl, (of _ AlreadyThere refl, (of_set (first_broken (add_inheritance state.roles senior junior)), tt)))
 own_not_apart state (DeleteInheritance senior junior) = (of _ NotThere refl, none_needed state (delete_inheritance state.roles senior junior))
+own_not_apart state (Solved board table) = (of _ StrangeDeal refl, (of _ AlreadySolved refl, tt))
+own_not_apart state (Analysed table board costs) = (of _ NotLive refl, (of _ StrangePlay refl, (of _ AlreadySolved refl, tt)))
 
 -- nor of the others
 later_not_apart : (state : SessionState) (spoiler : Option (List ℕ)) (command : Command) (entries : ℕ) → NoneApart (hindrances state command ++ last_causes spoiler command entries)
@@ -152,11 +158,11 @@ later_not_apart state spoiler command entries =
     (of_spoiler (is_told_by_table command) spoiler, (of _ JournalFull refl, tt))
 
 -- no state refuses a command for want of memory
-pub never_memory : (state : SessionState) (spoiler : Option (List ℕ)) (actor : List ℕ) (command : Command) (entries : ℕ) (cause : Refusal) → refusal_of state spoiler actor command entries ≡ Some cause → is_out_of_memory cause ≡ false
+pub never_memory : (state : SessionState) (spoiler : Option (List ℕ)) (actor : Actor) (command : Command) (entries : ℕ) (cause : Refusal) → refusal_of state spoiler actor command entries ≡ Some cause → is_out_of_memory cause ≡ false
 unfolding refusal_of
-never_memory state spoiler actor command entries cause found = by_permission (has_permission state.roles actor (operation_of command)) refl
+never_memory state spoiler actor command entries cause found = by_permission (is_permitted state.roles actor command) refl
   where
-    by_permission : (b : Bool) → has_permission state.roles actor (operation_of command) ≡ b → is_out_of_memory cause ≡ false
+    by_permission : (b : Bool) → is_permitted state.roles actor command ≡ b → is_out_of_memory cause ≡ false
     by_permission true allowed =
         let later = hindrances state command ++ last_causes spoiler command entries in
         let apart = first_not_apart later cause (later_not_apart state spoiler command entries)
@@ -168,7 +174,7 @@ never_memory state spoiler actor command entries cause found = by_permission (ha
         sym (ap is_out_of_memory same)
 
 -- who has the permission is refused for another cause, if at all
-pub permitted_else : (state : SessionState) (spoiler : Option (List ℕ)) (actor : List ℕ) (command : Command) (entries : ℕ) → has_permission state.roles actor (operation_of command) ≡ true →
+pub permitted_else : (state : SessionState) (spoiler : Option (List ℕ)) (actor : Actor) (command : Command) (entries : ℕ) → is_permitted state.roles actor command ≡ true →
     ¬ (refusal_of state spoiler actor command entries ≡ Some NotPermitted)
 unfolding refusal_of
 permitted_else state spoiler actor command entries allowed refused =
@@ -176,11 +182,24 @@ permitted_else state spoiler actor command entries allowed refused =
     let found = sym (ap (λ b. option_or (then_some (not b) NotPermitted) (first_of later)) allowed) ∙ refused in
     false≢true (sym (first_not_apart later NotPermitted (later_not_apart state spoiler command entries) found))
 
--- the refusal is for the permission just where the user hasn't it
-pub refused_permission : (state : SessionState) (spoiler : Option (List ℕ)) (actor : List ℕ) (command : Command) (entries : ℕ) → IsValid state.roles →
-    (refusal_of state spoiler actor command entries ≡ Some NotPermitted) ↔ (¬ HasPermission state.roles actor (operation_of command))
+-- the test says whether it is permitted
+permitted_exact : (roles : RoleData) (actor : Actor) (command : Command) → IsValid roles → (is_permitted roles actor command ≡ true) ↔ IsPermitted roles actor command
+permitted_exact roles (User name) command valid = by_operation (operation_of command)
+  where
+    by_operation : (operation : Option Operation) → (some_that operation (has_permission roles name) ≡ true) ↔ IsSomeAnd operation (HasPermission roles name)
+    by_operation None = ((λ never. false≢true never), (λ never. absurd never))
+    by_operation (Some operation) = permission_exact roles name operation valid
+permitted_exact roles Solver command valid = by_operation (operation_of command)
+  where
+    by_operation : (operation : Option Operation) → (is_none operation ≡ true) ↔ (operation ≡ None)
+    by_operation None = ((λ _. refl), (λ _. refl))
+    by_operation (Some operation) = ((λ never. absurd (false≢true never)), (λ never. absurd cc))
+
+-- it is refused as not permitted just where it isn't
+pub refused_permission : (state : SessionState) (spoiler : Option (List ℕ)) (actor : Actor) (command : Command) (entries : ℕ) → IsValid state.roles →
+    (refusal_of state spoiler actor command entries ≡ Some NotPermitted) ↔ (¬ IsPermitted state.roles actor command)
 refused_permission state spoiler actor command entries valid =
-    let exact = permission_exact state.roles actor (operation_of command) valid in (
-      λ refused has. permitted_else state spoiler actor command entries (exact.1 has) refused,
+    let exact = permitted_exact state.roles actor command valid in (
+      λ refused is. permitted_else state spoiler actor command entries (exact.1 is) refused,
       λ missing. refused_actor state spoiler actor command entries (false_from_ne_true _ (λ test. missing (exact.0 test))),
     )

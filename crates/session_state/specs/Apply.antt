@@ -1,5 +1,5 @@
 -- What an entry makes of a state.
-use Rattle.std.specs.Prelude.{ℕ, ◌+◌, ◌++◌, [], ◌∷◌, is_some, if◌then◌else◌}
+use Rattle.std.specs.Prelude.{ℕ, ◌+◌, ◌-◌, ◌++◌, [], ◌∷◌, Some, None, is_some, slice_set, if◌then◌else◌}
 use Rattle.movement.specs.declared.cell.Cell.{Cell}
 use Rattle.movement.specs.Movement.{most_boards}
 use Rattle.rbac.specs.RoleData.{RoleData, add_user, assign_user, deassign_user, add_inheritance, delete_inheritance}
@@ -11,10 +11,11 @@ use Rattle.session_state.specs.declared.command.Command.{Command}
 use Rattle.session_state.specs.declared.command.Command.TheVariants.{Enter, Confirm, Correct, Rule, Void, Hold, Release}
 use Rattle.session_state.specs.declared.command.Command.TheVariants.{Seat, Unseat, NextRound, Close, Finalise}
 use Rattle.session_state.specs.declared.command.Command.TheVariants.{AddUser, Assign, Deassign, AddInheritance}
-use Rattle.session_state.specs.declared.command.Command.TheVariants.{DeleteInheritance}
+use Rattle.session_state.specs.declared.command.Command.TheVariants.{DeleteInheritance, Solved, Analysed}
 use Rattle.session_state.specs.declared.cell_state.CellState.{CellState}
 use Rattle.session_state.specs.declared.cell_state.CellState.TheVariants.{Empty, Entered, Confirmed, Ruled}
 use Rattle.session_state.specs.declared.entry.Entry.{Entry}
+use Rattle.session_state.specs.CellState.{with_costs}
 use Rattle.session_state.specs.Refusal.{hindrance_of}
 use Rattle.session_state.specs.Seats.{without_seat}
 use Rattle.session_state.specs.SessionState.{SessionState, cell_at, with_cell}
@@ -40,8 +41,8 @@ without_result state cell =
 -- what is entered, if anything is, becomes the result, with its play
 abbrev pub confirmed : SessionState → Cell → CellState → SessionState
 confirmed state cell Empty = state
-confirmed state cell (Entered outcome play) = with_result state cell (Confirmed outcome play)
-confirmed state cell (Confirmed outcome play) = state
+confirmed state cell (Entered outcome play) = with_result state cell (Confirmed outcome play None)
+confirmed state cell (Confirmed outcome play costs) = state
 confirmed state cell (Ruled north_south east_west reason) = state
 
 -- what each command does
@@ -51,9 +52,9 @@ effect state (Enter table board outcome play) =
     with_cell state (record { table = table; board = board }) (Entered outcome play)
 effect state (Confirm table board outcome) =
     let cell : Cell = record { table = table; board = board } in confirmed state cell (cell_at state cell)
--- a correction and a ruling are results; to void takes the result away
+-- a correction and a ruling are results, and what was counted of the one before is gone; to void takes the result away
 effect state (Correct table board outcome play) =
-    with_result state (record { table = table; board = board }) (Confirmed outcome play)
+    with_result state (record { table = table; board = board }) (Confirmed outcome play None)
 effect state (Rule table board north_south east_west reason) =
     with_result state (record { table = table; board = board }) (Ruled north_south east_west reason)
 effect state (Void table board) = without_result state (record { table = table; board = board })
@@ -73,6 +74,11 @@ effect state (Assign name role) = with_roles state (assign_user state.roles name
 effect state (Deassign name role) = with_roles state (deassign_user state.roles name role)
 effect state (AddInheritance senior junior) = with_roles state (add_inheritance state.roles senior junior)
 effect state (DeleteInheritance senior junior) = with_roles state (delete_inheritance state.roles senior junior)
+-- what is solved is kept: a board's table for good, a cell's costs until its result is another
+effect state (Solved board table) = record state { tables = slice_set state.tables (board - 1) (Some table) }
+effect state (Analysed table board costs) =
+    let cell : Cell = record { table = table; board = board } in
+    with_cell state cell (with_costs (cell_at state cell) costs)
 
 -- what an entry does: nothing where the state hinders it
 abbrev pub apply : SessionState → Entry → SessionState

@@ -2,7 +2,7 @@
 -- One line for each command, in the order of the commands.
 --
 -- own: the commands and what they need are this project's.
-use Rattle.std.specs.Prelude.{ℕ, Bool, true, false, Option, Some, None, List, [], ◌∷◌}
+use Rattle.std.specs.Prelude.{ℕ, Bool, true, false, Option, Some, None, is_none, List, [], ◌∷◌}
 use Rattle.std.specs.List.{list_any}
 use Rattle.movement.specs.declared.cell.Cell.{Cell}
 use Rattle.rbac.specs.declared.operation.Operation.{Operation}
@@ -13,27 +13,33 @@ use Rattle.session_state.specs.declared.command.Command.{Command}
 use Rattle.session_state.specs.declared.command.Command.TheVariants.{Enter, Confirm, Correct, Rule, Void, Hold, Release}
 use Rattle.session_state.specs.declared.command.Command.TheVariants.{Seat, Unseat, NextRound, Close, Finalise}
 use Rattle.session_state.specs.declared.command.Command.TheVariants.{AddUser, Assign, Deassign, AddInheritance}
-use Rattle.session_state.specs.declared.command.Command.TheVariants.{DeleteInheritance}
+use Rattle.session_state.specs.declared.command.Command.TheVariants.{DeleteInheritance, Solved, Analysed}
 
--- the operation for which the user needs the permission
-abbrev pub operation_of : Command → Operation
-operation_of (Enter table board outcome play) = operation.Enter
-operation_of (Confirm table board outcome) = operation.Confirm
-operation_of (Correct table board outcome play) = operation.Correct
-operation_of (Rule table board north_south east_west reason) = operation.Rule
-operation_of (Void table board) = operation.Void
-operation_of (Hold board) = operation.Hold
-operation_of (Release board) = operation.Release
-operation_of (Seat name pair place) = operation.Seat
-operation_of (Unseat name) = operation.Unseat
-operation_of NextRound = operation.NextRound
-operation_of Close = operation.Close
-operation_of Finalise = operation.Finalise
-operation_of (AddUser name digest) = operation.AddUser
-operation_of (Assign name role) = operation.Assign
-operation_of (Deassign name role) = operation.Deassign
-operation_of (AddInheritance senior junior) = operation.AddInheritance
-operation_of (DeleteInheritance senior junior) = operation.DeleteInheritance
+-- the operation for which a user needs the permission; the solver's commands have none
+abbrev pub operation_of : Command → Option Operation
+operation_of (Enter table board outcome play) = Some operation.Enter
+operation_of (Confirm table board outcome) = Some operation.Confirm
+operation_of (Correct table board outcome play) = Some operation.Correct
+operation_of (Rule table board north_south east_west reason) = Some operation.Rule
+operation_of (Void table board) = Some operation.Void
+operation_of (Hold board) = Some operation.Hold
+operation_of (Release board) = Some operation.Release
+operation_of (Seat name pair place) = Some operation.Seat
+operation_of (Unseat name) = Some operation.Unseat
+operation_of NextRound = Some operation.NextRound
+operation_of Close = Some operation.Close
+operation_of Finalise = Some operation.Finalise
+operation_of (AddUser name digest) = Some operation.AddUser
+operation_of (Assign name role) = Some operation.Assign
+operation_of (Deassign name role) = Some operation.Deassign
+operation_of (AddInheritance senior junior) = Some operation.AddInheritance
+operation_of (DeleteInheritance senior junior) = Some operation.DeleteInheritance
+operation_of (Solved board table) = None
+operation_of (Analysed table board costs) = None
+
+-- whether it is one of the solver's
+abbrev pub is_solvers : Command → Bool
+is_solvers command = is_none (operation_of command)
 
 -- every phase
 abbrev pub any_phase : List Phase
@@ -58,6 +64,8 @@ phases_of (Assign name role) = any_phase
 phases_of (Deassign name role) = any_phase
 phases_of (AddInheritance senior junior) = any_phase
 phases_of (DeleteInheritance senior junior) = any_phase
+phases_of (Solved board table) = any_phase
+phases_of (Analysed table board costs) = any_phase
 
 -- the user that it is about, who must have an account
 abbrev pub user_of : Command → Option (List ℕ)
@@ -78,8 +86,10 @@ user_of (Assign name role) = Some name
 user_of (Deassign name role) = Some name
 user_of (AddInheritance senior junior) = None
 user_of (DeleteInheritance senior junior) = None
+user_of (Solved board table) = None
+user_of (Analysed table board costs) = None
 
--- the table and the board that it is about, which must be scheduled, and whose round must have come
+-- the table and the board that it is about, which must be scheduled
 abbrev pub cell_of : Command → Option Cell
 cell_of (Enter table board outcome play) = Some (record { table = table; board = board })
 cell_of (Confirm table board outcome) = Some (record { table = table; board = board })
@@ -98,6 +108,8 @@ cell_of (Assign name role) = None
 cell_of (Deassign name role) = None
 cell_of (AddInheritance senior junior) = None
 cell_of (DeleteInheritance senior junior) = None
+cell_of (Solved board table) = None
+cell_of (Analysed table board costs) = Some (record { table = table; board = board })
 
 -- the board that it is about as a whole, which must be one of the session
 abbrev pub board_of : Command → Option ℕ
@@ -118,6 +130,8 @@ board_of (Assign name role) = None
 board_of (Deassign name role) = None
 board_of (AddInheritance senior junior) = None
 board_of (DeleteInheritance senior junior) = None
+board_of (Solved board table) = Some board
+board_of (Analysed table board costs) = None
 
 -- whether it tells a result that was played: a spoiled table may not
 abbrev pub is_told_by_table : Command → Bool
@@ -138,6 +152,8 @@ is_told_by_table (Assign name role) = false
 is_told_by_table (Deassign name role) = false
 is_told_by_table (AddInheritance senior junior) = false
 is_told_by_table (DeleteInheritance senior junior) = false
+is_told_by_table (Solved board table) = false
+is_told_by_table (Analysed table board costs) = false
 
 -- whether two phases are one
 abbrev pub same_phase : Phase → Phase → Bool

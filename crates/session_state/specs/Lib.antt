@@ -3,6 +3,7 @@ pub mod Apply
 pub mod CellState
 pub mod Command
 pub mod KeptState
+pub mod OwnNumbers
 pub mod Parts
 pub mod Readers
 pub mod Refusal

@@ -4,7 +4,7 @@ use Rattle.session_state.specs.declared.command.Command.{Command}
 use Rattle.session_state.specs.declared.command.Command.TheVariants.{Enter, Confirm, Correct, Rule, Void, Hold, Release}
 use Rattle.session_state.specs.declared.command.Command.TheVariants.{Seat, Unseat, NextRound, Close, Finalise}
 use Rattle.session_state.specs.declared.command.Command.TheVariants.{AddUser, Assign, Deassign, AddInheritance}
-use Rattle.session_state.specs.declared.command.Command.TheVariants.{DeleteInheritance}
+use Rattle.session_state.specs.declared.command.Command.TheVariants.{DeleteInheritance, Solved, Analysed}
 use Rattle.session_state.specs.SessionState.{SessionState}
 
 -- the parts that commands change
@@ -16,6 +16,7 @@ pub data Part : Type 0 where
   Phases : Part
   Accounts : Part
   Hierarchy : Part
+  Tables : Part
 
 -- the part that it is about
 abbrev pub part_of : Command → Part
@@ -36,6 +37,8 @@ part_of (Assign name role) = Accounts
 part_of (Deassign name role) = Accounts
 part_of (AddInheritance senior junior) = Hierarchy
 part_of (DeleteInheritance senior junior) = Hierarchy
+part_of (Solved board table) = Tables
+part_of (Analysed table board costs) = Results
 
 -- two states differ in one part at most; the movement, the marks and the deals are none
 pub record IsSameBut (part : Part) (before after : SessionState) : Type 0 where
@@ -51,3 +54,4 @@ pub record IsSameBut (part : Part) (before after : SessionState) : Type 0 where
   pub accounts : part ≢ Accounts → after.roles.accounts ≡ before.roles.accounts
   pub digests : part ≢ Accounts → after.digests ≡ before.digests
   pub pairs : part ≢ Hierarchy → after.roles.pairs ≡ before.roles.pairs
+  pub tables : part ≢ Tables → after.tables ≡ before.tables

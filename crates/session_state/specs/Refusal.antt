@@ -3,8 +3,8 @@
 -- own: the causes and their order are this project's. Nobody but who has the permission gives a command; a result is told only
 -- of a board that the table is scheduled to play and that has come up, what is confirmed is what was entered, and nobody sits
 -- there who was shown something of the board before.
-use Rattle.std.specs.Prelude.{ℕ, ◌-◌, Bool, true, false, not, ◌&&◌, ◌||◌, nat_le, nat_lt, if◌then◌else◌}
-use Rattle.std.specs.Prelude.{Option, None, option_map, List, [], ◌∷◌, ◌++◌, length}
+use Rattle.std.specs.Prelude.{◌≡◌, ℕ, ◌-◌, Bool, true, false, not, ◌&&◌, ◌||◌, nat_le, nat_lt, if◌then◌else◌}
+use Rattle.std.specs.Prelude.{Option, None, IsSomeAnd, is_some, option_map, List, [], ◌∷◌, ◌++◌, length}
 use Rattle.std.specs.Bool.{then_some}
 use Rattle.std.specs.List.{list_all, range_with_len}
 use Rattle.std.specs.Option.{option_or}
@@ -12,7 +12,7 @@ use Rattle.cards.specs.declared.card.Card.{Card}
 use Rattle.movement.specs.Movement.{Section, boards_of}
 use Rattle.movement.specs.Schedule.{is_scheduled, is_later}
 use Rattle.rbac.specs.Account.{most_users, is_user_name}
-use Rattle.rbac.specs.Authorization.{has_permission}
+use Rattle.rbac.specs.Authorization.{HasPermission, has_permission}
 use Rattle.rbac.specs.Inheritance.{reaches}
 use Rattle.rbac.specs.RoleData.{RoleData, assign_user, deassign_user, add_inheritance, delete_inheritance}
 use Rattle.rbac.specs.declared.role.Role.TheVariants.{Contestant}
@@ -25,7 +25,7 @@ use Rattle.session_state.specs.declared.command.Command.{Command}
 use Rattle.session_state.specs.declared.command.Command.TheVariants.{Enter, Confirm, Correct, Rule, Void, Hold, Release}
 use Rattle.session_state.specs.declared.command.Command.TheVariants.{Seat, Unseat, NextRound, Close, Finalise}
 use Rattle.session_state.specs.declared.command.Command.TheVariants.{AddUser, Assign, Deassign, AddInheritance}
-use Rattle.session_state.specs.declared.command.Command.TheVariants.{DeleteInheritance}
+use Rattle.session_state.specs.declared.command.Command.TheVariants.{DeleteInheritance, Solved, Analysed}
 use Rattle.session_state.specs.declared.refusal.Refusal.{Refusal}
 use Rattle.session_state.specs.declared.refusal.Refusal.TheVariants.{NotPermitted, NoSuchUser, NoSuchCell, NoSuchBoard}
 use Rattle.session_state.specs.declared.refusal.Refusal.TheVariants.{WrongPhase, RoundNotStarted, BadResult, AlreadyLive}
@@ -35,14 +35,18 @@ use Rattle.session_state.specs.declared.refusal.Refusal.TheVariants.{NotContesta
 use Rattle.session_state.specs.declared.refusal.Refusal.TheVariants.{NoMoreRounds, NotAllLive, BadName, UserExists}
 use Rattle.session_state.specs.declared.refusal.Refusal.TheVariants.{TooManyUsers, AlreadyAssigned, Separation}
 use Rattle.session_state.specs.declared.refusal.Refusal.TheVariants.{NotAssigned, StillSeated, LastAdministrator, Cycle}
-use Rattle.session_state.specs.declared.refusal.Refusal.TheVariants.{AlreadyThere, NotThere, JournalFull, OutOfMemory}
+use Rattle.session_state.specs.declared.refusal.Refusal.TheVariants.{AlreadyThere, NotThere, StrangeDeal, AlreadySolved, StrangePlay}
+use Rattle.session_state.specs.declared.refusal.Refusal.TheVariants.{JournalFull, OutOfMemory}
 use Rattle.session_state.specs.Accounts.{has_account, is_assigned, is_authorized_for, has_administrator, seats_a_stranger}
 use Rattle.session_state.specs.Accounts.{first_broken, has_pair}
-use Rattle.session_state.specs.CellState.{has_result, is_empty, is_entered_otherwise}
-use Rattle.session_state.specs.Command.{operation_of, phases_of, user_of, cell_of, board_of, is_told_by_table, is_among}
+use Rattle.session_state.specs.CellState.{has_result, is_empty, is_entered_otherwise, is_played_as, is_counted}
+use Rattle.session_state.specs.Command.{operation_of, is_solvers, phases_of, user_of, cell_of, board_of}
+use Rattle.session_state.specs.Command.{is_told_by_table, is_among}
+use Rattle.session_state.specs.declared.actor.Actor.{Actor}
+use Rattle.session_state.specs.declared.actor.Actor.TheVariants.{User, Solver}
 use Rattle.play_record.specs.Play.{has_card, has_repeat}
 use Rattle.session_state.specs.Seats.{is_pair, is_of_side, has_seat, is_taken}
-use Rattle.session_state.specs.SessionState.{SessionState, cell_at}
+use Rattle.session_state.specs.SessionState.{SessionState, cell_at, table_at, is_dealt}
 
 -- how many entries a journal has at most
 abbrev pub most_entries : ℕ
@@ -136,6 +140,23 @@ own_causes state (AddInheritance senior junior) =
 own_causes state (DeleteInheritance senior junior) =
     then_some (not (has_pair state.roles senior junior)) NotThere
     ∷ needed_causes state (delete_inheritance state.roles senior junior)
+-- a table is of the board's own hands; costs are of the cell's own hands, contract and play
+own_causes state (Solved board table) =
+    then_some (not (is_dealt state board table)) StrangeDeal
+    ∷ then_some (is_some (table_at state board)) AlreadySolved
+    ∷ []
+own_causes state (Analysed table board costs) =
+    let known = cell_at state (record { table = table; board = board }) in
+    then_some (not (has_result known)) NotLive
+    ∷ then_some (not (is_dealt state board costs.deal && is_played_as known costs.contract costs.play)) StrangePlay
+    ∷ then_some (is_counted known) AlreadySolved
+    ∷ []
+
+-- whether the round of its cell is still to come; the solver's commands wait for none, since a result is there or isn't
+abbrev pub is_early : SessionState → Command → Bool
+is_early state command =
+    not (is_solvers command)
+    && some_that (cell_of command) (λ cell. is_later state.public.movement cell state.public.round)
 
 -- the causes that lie in the command and the state, in their order: an entry that meets one of them leaves the state as
 -- it is
@@ -145,8 +166,7 @@ hindrances state command =
     ∷ then_some (some_that (cell_of command) (λ cell. not (is_scheduled state.public.movement cell))) NoSuchCell
     ∷ then_some (some_that (board_of command) (λ board. not (is_board state.public.movement board))) NoSuchBoard
     ∷ then_some (not (is_among (phases_of command) state.public.phase)) WrongPhase
-    ∷ then_some (some_that (cell_of command) (λ cell. is_later state.public.movement cell state.public.round))
-    RoundNotStarted
+    ∷ then_some (is_early state command) RoundNotStarted
     ∷ own_causes state command
 
 -- whether a result is spoiled by who sits at its cell: by the first user there who was shown something of the board, if
@@ -154,10 +174,21 @@ hindrances state command =
 abbrev pub spoiled : Command → Option (List ℕ) → Option Refusal
 spoiled command spoiler = if is_told_by_table command then option_map Spoiled spoiler else None
 
--- all causes, in their order: first whether the user has the permission, last whether the journal is full
-abbrev pub causes : SessionState → Option (List ℕ) → List ℕ → Command → ℕ → List (Option Refusal)
+-- whether who gives a command may: a user who has the permission for its operation, or the solver for one of its own. No
+-- role holds a permission for what is the solver's, so no user tells the numbers
+abbrev pub is_permitted : RoleData → Actor → Command → Bool
+is_permitted roles (User name) command = some_that (operation_of command) (has_permission roles name)
+is_permitted roles Solver command = is_solvers command
+
+-- the same, as the standard states it
+abbrev pub IsPermitted : RoleData → Actor → Command → Type 0
+IsPermitted roles (User name) command = IsSomeAnd (operation_of command) (HasPermission roles name)
+IsPermitted roles Solver command = operation_of command ≡ None
+
+-- all causes, in their order: first whether it is permitted, last whether the journal is full
+abbrev pub causes : SessionState → Option (List ℕ) → Actor → Command → ℕ → List (Option Refusal)
 causes state spoiler actor command entries =
-    then_some (not (has_permission state.roles actor (operation_of command))) NotPermitted
+    then_some (not (is_permitted state.roles actor command)) NotPermitted
     ∷ (hindrances state command
     ++ spoiled command spoiler ∷ then_some (nat_le most_entries entries) JournalFull ∷ [])
 
@@ -167,7 +198,7 @@ hindrance_of state command = first_of (hindrances state command)
 
 -- the first cause to refuse a command, over a state to which a journal of so many entries leads, if one is met; the spoiler
 -- is the first user who sits at the command's cell and was shown something of its board, if there is one
-unfoldable pub refusal_of : SessionState → Option (List ℕ) → List ℕ → Command → ℕ → Option Refusal
+unfoldable pub refusal_of : SessionState → Option (List ℕ) → Actor → Command → ℕ → Option Refusal
 refusal_of state spoiler actor command entries = first_of (causes state spoiler actor command entries)
 
 -- whether the refusal is that memory was refused, which no state is a cause of

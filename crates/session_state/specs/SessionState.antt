@@ -1,9 +1,10 @@
 -- The state of a session, as plain lists.
-use Rattle.std.specs.Prelude.{◌≡◌, ◌≤◌, ℕ, ◌+◌, ◌-◌, ◌*◌, nat_eq, Option, List, slice_index_or, slice_set, refl}
+use Rattle.std.specs.Prelude.{◌≡◌, ◌≤◌, ℕ, ◌+◌, ◌-◌, ◌*◌, Bool, ◌&&◌, nat_eq, Option, None, List, slice_get, slice_index_or, slice_set, refl}
 use Rattle.std.specs.List.{find}
 use Rattle.std.specs.Option.{option_map}
 use Rattle.std.specs.Cmp.Lexicographic.{pointwise}
-use Rattle.std.specs.Coded.{Coded, code_by, coded×, coded_list}
+use Rattle.std.specs.Coded.{Coded, code_by, coded×, coded_list, coded_option}
+use Rattle.cards.specs.Cards.{are_same}
 use Rattle.cards.specs.Hands.{Hands, hands_code}
 use Rattle.rbac.specs.declared.role.Role.{Role}
 use Rattle.rbac.specs.Authorization.{authorized_roles}
@@ -14,6 +15,7 @@ use Rattle.movement.specs.Movement.{most_tables, most_boards}
 use Rattle.disclosure_rules.specs.declared.public.Public.{Public}
 use Rattle.disclosure_rules.specs.contracts.public.Public as the_public
 use Rattle.disclosure_rules.specs.LiveCells.{is_live}
+use Rattle.disclosure_rules.specs.Seating.{some_that}
 use Rattle.disclosure_rules.specs.declared.seat.Seat.{Seat}
 use Rattle.disclosure_rules.specs.declared.viewer.Viewer.{Viewer}
 use Rattle.session_state.specs.declared.digest.Digest.{Digest}
@@ -26,7 +28,8 @@ use Rattle.session_state.specs.contracts.cell_state.CellState as the_cell_state
 use Rattle.session_state.specs.CellState.{has_result}
 
 -- the users with their roles and the role hierarchy, the digest of each user's token in the order of the accounts,
--- where users sit, what every member may see, what is known of each cell, and the hands of board 1, 2, ..
+-- where users sit, what every member may see, what is known of each cell, and of board 1, 2, .. the hands, and the
+-- double-dummy table, if it is solved. A table is seen as the deal that it is of, since its type keeps the numbers
 pub record SessionState : Type 0 where
   pub roles : RoleData
   pub digests : List Digest
@@ -34,22 +37,25 @@ pub record SessionState : Type 0 where
   pub public : Public
   pub cells : List CellState
   pub deals : List Hands
+  pub tables : List (Option Hands)
 
 -- a state is stored as the tuple of its parts
 abbrev pub session_code : Coded SessionState
 session_code =
-    code_by (RoleData × (List Digest × (List Seated × (Public × (List CellState × List Hands)))))
+    code_by (RoleData × (List Digest × (List Seated × (Public × (List CellState × (List Hands × List (Option Hands)))))))
     (coded× the_roles.the_row.coded (coded× (coded_list the_digest.the_row.coded)
     (coded× (coded_list the_seated.the_row.coded) (coded× the_public.the_row.coded
-    (coded× (coded_list the_cell_state.the_row.coded) (coded_list hands_code))))))
-    (λ s. (s.roles, (s.digests, (s.seats, (s.public, (s.cells, s.deals))))))
+    (coded× (coded_list the_cell_state.the_row.coded) (coded× (coded_list hands_code)
+    (coded_list (coded_option hands_code))))))))
+    (λ s. (s.roles, (s.digests, (s.seats, (s.public, (s.cells, (s.deals, s.tables)))))))
     (λ p. record {
       roles = p.0;
       digests = p.1.0;
       seats = p.1.1.0;
       public = p.1.1.1.0;
       cells = p.1.1.1.1.0;
-      deals = p.1.1.1.1.1;
+      deals = p.1.1.1.1.1.0;
+      tables = p.1.1.1.1.1.1;
     })
     (λ _. refl)
 
@@ -79,6 +85,19 @@ cell_at state cell = slice_index_or state.cells (place_of cell) Empty
 -- with something else known of a cell
 abbrev pub with_cell : SessionState → Cell → CellState → SessionState
 with_cell state cell known = record state { cells = slice_set state.cells (place_of cell) known }
+
+-- the table of a board, if it is solved
+abbrev pub table_at : SessionState → ℕ → Option Hands
+table_at state board = slice_index_or state.tables (board - 1) None
+
+-- whether two deals are one
+abbrev pub same_hands : Hands → Hands → Bool
+same_hands a b =
+    are_same a.north b.north && (are_same a.east b.east && (are_same a.south b.south && are_same a.west b.west))
+
+-- whether these are the hands of a board
+abbrev pub is_dealt : SessionState → ℕ → Hands → Bool
+is_dealt state board hands = some_that (slice_get state.deals (board - 1)) (same_hands hands)
 
 -- the live bits are set just where a cell has a result
 abbrev pub AreLive : List (List ℕ) → List CellState → Type 0

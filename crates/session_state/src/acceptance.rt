@@ -3,10 +3,12 @@ ghost use Rattle.std.specs.Prelude.{◌≡◌, not, IfSome, IfNone};
 ghost use Rattle.disclosure_rules.specs.Seating.{some_that};
 ghost use Rattle.session_state.specs.Accounts.{has_account};
 ghost use Rattle.session_state.specs.Command.{cell_of, board_of};
-ghost use Rattle.session_state.specs.Refusal.{first_of, own_causes, hindrance_of, refusal_of};
+ghost use Rattle.rbac.specs.Authorization.{has_permission};
+ghost use Rattle.session_state.specs.Refusal.{first_of, own_causes, is_permitted, hindrance_of, refusal_of};
 ghost use Rattle.session_state.specs.SessionState.{IsPlaced, IsKeptBoard};
 
-use crate::causes::{accounts, first_of, progress, results, seats};
+use crate::actor::Actor;
+use crate::causes::{accounts, first_of, progress, results, seats, solved};
 use crate::command::Command;
 use crate::refusal::Refusal;
 use crate::schedule::{awaits_round, misses_board, misses_cell};
@@ -14,22 +16,23 @@ use crate::state::State;
 use cards::Name;
 use disclosure_rules::Seat;
 use movement::Cell;
+use rbac::Operation;
 
 /// How many entries a journal has at most.
 pub const MOST_ENTRIES: usize = 60000;
 
-/// Why a command of a user is refused over a state to which a journal of so many entries leads, if it is. The spoiler is
+/// Why a command is refused over a state to which a journal of so many entries leads, if it is. The spoiler is
 /// the first user who sits at the command's cell and was shown something of its board.
 pub fn refusal(
     state: &State,
     spoiler: Option<Name>,
-    actor: Name,
+    actor: Actor,
     command: &Command,
     entries: usize,
 ) -> Option<Refusal>
     ensures { result ≡ refusal_of state.now spoiler actor command.now entries }
 {
-    if !state.check_access(actor, command.operation()) {
+    if !is_permitted(state, actor, command) {
         return Some(Refusal::NotPermitted);
     }
     let hindered = hindrance(state, command);
@@ -63,10 +66,30 @@ pub fn hindrance(state: &State, command: &Command) -> Option<Refusal>
     if !command.is_taken_in(public.phase) {
         return Some(Refusal::WrongPhase);
     }
-    if awaits_round(public.movement, cell, public.round) {
+    if !command.is_solvers() && awaits_round(public.movement, cell, public.round) {
         return Some(Refusal::RoundNotStarted);
     }
     own_cause(state, command)
+}
+
+// Whether who gives a command may: a user who has the permission, or the solver for one of its own.
+fn is_permitted(state: &State, actor: Actor, command: &Command) -> bool
+    ensures { result ≡ is_permitted state.now.roles actor command.now }
+{
+    match actor {
+        Actor::User(name) => is_permitted_user(state, name, command.operation()),
+        Actor::Solver => command.is_solvers(),
+    }
+}
+
+// Whether there is an operation, and a user has the permission for it.
+fn is_permitted_user(state: &State, name: Name, operation: Option<Operation>) -> bool
+    ensures { result ≡ some_that operation (has_permission state.now.roles name) }
+{
+    match operation {
+        Some(operation) => state.check_access(name, operation),
+        None => false,
+    }
 }
 
 // Whether there is a user without an account.
@@ -81,7 +104,8 @@ fn misses_user(state: &State, user: Option<Name>) -> bool
 
 // The first of a command's own causes that is met.
 fn own_cause(state: &State, command: &Command) -> Option<Refusal>
-    requires { IfSome (cell_of command.now) IsPlaced }
+    requires cell { IfSome (cell_of command.now) IsPlaced }
+    requires board { IfSome (board_of command.now) IsKeptBoard }
     ensures { result ≡ first_of (own_causes state.now command.now) }
 {
     match command {
@@ -131,6 +155,12 @@ fn own_cause(state: &State, command: &Command) -> Option<Refusal>
         Command::DeleteInheritance { senior, junior } => {
             accounts::delete_inheritance_cause(state, *senior, *junior)
         }
+        Command::Solved { board, table } => solved::solved_cause(state, *board, table),
+        Command::Analysed {
+            table,
+            board,
+            costs,
+        } => solved::analysed_cause(state, at(*table, *board), costs),
     }
 }
 

@@ -3,6 +3,7 @@ pub mod accounts;
 pub mod progress;
 pub mod results;
 pub mod seats;
+pub mod solved;
 
 ghost use Rattle.std.specs.Prelude.{◌≡◌};
 ghost use Rattle.session_state.specs.Refusal.{first_of};

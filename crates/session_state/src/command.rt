@@ -6,8 +6,9 @@ use movement::Cell;
 use play_record::Play;
 use rbac::{Operation, Role};
 use scoring::Outcome;
+use solver_results::{DdTable, PlayCosts};
 
-/// What a user wants done.
+/// What a user wants done, or what the solver found.
 #[derive(Clone, Copy, Debug)]
 pub enum Command {
     /// Enters how a board ended at a table, and the cards as they were played, in place of what was entered before.
@@ -92,19 +93,30 @@ pub enum Command {
         senior: Role,
         junior: Role,
     },
+    /// Tells a board's double-dummy table: a command of the solver's.
+    Solved {
+        board: u8,
+        table: DdTable,
+    },
+    /// Tells what each card cost that was played of a board at a table: a command of the solver's.
+    Analysed {
+        table: u8,
+        board: u8,
+        costs: PlayCosts,
+    },
 }
 
 impl Command {
     ghost use Rattle.std.specs.Prelude.{◌≡◌};
-    ghost use Rattle.session_state.specs.Command.{operation_of, phases_of, user_of, cell_of, board_of};
+    ghost use Rattle.session_state.specs.Command.{operation_of, is_solvers, phases_of, user_of, cell_of, board_of};
     ghost use Rattle.session_state.specs.Command.{is_told_by_table, is_among};
     ghost use Rattle.session_state.specs.Refusal.{spoiled};
 
-    /// The operation for which the user needs the permission.
-    pub fn operation(&self) -> Operation
+    /// The operation for which a user needs the permission; the solver's commands have none.
+    pub fn operation(&self) -> Option<Operation>
         ensures { result ≡ operation_of self.now }
     {
-        match self {
+        let operation = match self {
             Command::Enter { .. } => Operation::Enter,
             Command::Confirm { .. } => Operation::Confirm,
             Command::Correct { .. } => Operation::Correct,
@@ -122,7 +134,16 @@ impl Command {
             Command::Deassign { .. } => Operation::Deassign,
             Command::AddInheritance { .. } => Operation::AddInheritance,
             Command::DeleteInheritance { .. } => Operation::DeleteInheritance,
-        }
+            Command::Solved { .. } | Command::Analysed { .. } => return None,
+        };
+        Some(operation)
+    }
+
+    /// Whether it is one of the solver's.
+    pub fn is_solvers(&self) -> bool
+        ensures { result ≡ is_solvers self.now }
+    {
+        matches!(self, Command::Solved { .. } | Command::Analysed { .. })
     }
 
     /// The phases in which it is taken.
@@ -146,7 +167,9 @@ impl Command {
             | Command::Assign { .. }
             | Command::Deassign { .. }
             | Command::AddInheritance { .. }
-            | Command::DeleteInheritance { .. } => &[Phase::Running, Phase::Closed, Phase::Final],
+            | Command::DeleteInheritance { .. }
+            | Command::Solved { .. }
+            | Command::Analysed { .. } => &[Phase::Running, Phase::Closed, Phase::Final],
         }
     }
 
@@ -179,7 +202,8 @@ impl Command {
             | Command::Confirm { table, board, .. }
             | Command::Correct { table, board, .. }
             | Command::Rule { table, board, .. }
-            | Command::Void { table, board } => Some(Cell { table, board }),
+            | Command::Void { table, board }
+            | Command::Analysed { table, board, .. } => Some(Cell { table, board }),
             _ => None,
         }
     }
@@ -189,7 +213,8 @@ impl Command {
         ensures { result ≡ board_of self.now }
     {
         match *self {
-            Command::Hold { board } | Command::Release { board } => Some(board),
+            Command::Hold { board } | Command::Release { board } | Command::Solved { board, .. } =>
+                Some(board),
             _ => None,
         }
     }

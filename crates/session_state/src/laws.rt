@@ -1,26 +1,29 @@
 //! Laws of the state: functions with nothing to do, whose clauses are the laws.
-ghost use Rattle.std.specs.Prelude.{◌≡◌, ◌≢◌, ◌↔◌, ℕ, true, List, Option, Some};
+ghost use Rattle.std.specs.Prelude.{◌≡◌, ◌≢◌, ◌↔◌, ℕ, true, List, Option, Some, None};
 ghost use Rattle.movement.specs.declared.cell.Cell.{Cell};
 ghost use Rattle.movement.specs.Movement.{IsCell, IsSection};
-ghost use Rattle.rbac.specs.Authorization.{HasPermission, IsValid};
+ghost use Rattle.rbac.specs.Authorization.{IsValid};
 ghost use Rattle.disclosure_rules.specs.declared.public.Public.{Public};
 ghost use Rattle.disclosure_rules.specs.LiveCells.{is_live};
 ghost use Rattle.session_state.specs.Apply.{apply};
-ghost use Rattle.session_state.specs.Command.{operation_of, cell_of};
+ghost use Rattle.session_state.specs.Command.{cell_of};
+ghost use Rattle.session_state.specs.OwnNumbers.{TellsOwn, KeepsOwn};
 ghost use Rattle.session_state.specs.Parts.{part_of, IsSameBut};
-ghost use Rattle.session_state.specs.Refusal.{refusal_of, are_all_live};
+ghost use Rattle.session_state.specs.Refusal.{hindrance_of, refusal_of, are_all_live, IsPermitted};
 ghost use Rattle.session_state.specs.SessionState.{SessionState, cell_at, IsPlaced};
+ghost use Rattle.session_state.specs.declared.actor.Actor.{Actor};
 ghost use Rattle.session_state.specs.declared.entry.Entry.{Entry};
 ghost use Rattle.session_state.specs.declared.command.Command.{Command};
 ghost use Rattle.session_state.specs.declared.refusal.Refusal.TheVariants.{NotPermitted};
 
-/// A command is refused as not permitted just where the user hasn't the permission for its operation: where the user is
-/// authorized for no role that holds it (CheckAccess of INCITS 359-2012).
+/// A command is refused as not permitted just where who gives it may not: a user who is authorized for no role that holds the
+/// permission for its operation (CheckAccess of INCITS 359-2012), a user who gives what is the solver's, and the solver
+/// where it gives what is a user's.
 pub fn permissions_guard_commands()
-    ensures { (state : SessionState) (spoiler : Option (List ℕ)) (actor : List ℕ) (command : Command) (entries : ℕ) →
+    ensures { (state : SessionState) (spoiler : Option (List ℕ)) (actor : Actor) (command : Command) (entries : ℕ) →
         IsValid state.roles →
         (refusal_of state spoiler actor command entries ≡ Some NotPermitted)
-        ↔ (¬ HasPermission state.roles actor (operation_of command)) }
+        ↔ (¬ IsPermitted state.roles actor command) }
 {}
 
 /// A command changes the part of the state that it is about, and no other; a command on a result changes what is known of its
@@ -36,4 +39,14 @@ pub fn each_command_changes_its_own_part()
 pub fn all_live_is_each_cell()
     ensures { (public : Public) → (are_all_live public ≡ true)
         ↔ ((cell : Cell) → IsCell public.movement cell → is_live public.live cell ≡ true) }
+{}
+
+/// What the solver tells is of its own: a table that nothing hinders is of its board's hands, and costs are of the hands, the
+/// contract and the play of a confirmed result. So are the table that is kept of a board, and the costs that are kept of a
+/// cell, after every entry. As their types keep the numbers, those are the exhaustive ones.
+pub fn numbers_are_of_their_own_deal()
+    ensures told { (state : SessionState) (command : Command) →
+        hindrance_of state command ≡ None → TellsOwn state command }
+    ensures kept { (state : SessionState) (entry : Entry) → IsSection state.public.movement → KeepsOwn state →
+        KeepsOwn (apply state entry) }
 {}

@@ -2,6 +2,7 @@
 #![tactic(auto)]
 
 mod acceptance;
+mod actor;
 mod causes;
 mod cell_state;
 mod command;
@@ -15,6 +16,7 @@ mod seated;
 mod state;
 
 pub use acceptance::MOST_ENTRIES;
+pub use actor::Actor;
 pub use causes::first_of;
 pub use cell_state::CellState;
 pub use command::Command;
@@ -23,4 +25,5 @@ pub use entry::Entry;
 pub use play_record::Play;
 pub use refusal::Refusal;
 pub use seated::Seated;
+pub use solver_results::{DdTable, PlayCosts};
 pub use state::State;

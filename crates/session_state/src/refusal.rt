@@ -73,6 +73,12 @@ pub enum Refusal {
     AlreadyThere,
     #[error("the pair is not there")]
     NotThere,
+    #[error("the table is of another deal")]
+    StrangeDeal,
+    #[error("it is solved already")]
+    AlreadySolved,
+    #[error("the costs are of another deal, contract or play")]
+    StrangePlay,
     #[error("the journal is full")]
     JournalFull,
     #[error("out of memory")]

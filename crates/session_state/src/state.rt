@@ -10,7 +10,7 @@ ghost use Rattle.session_state.specs.Apply.{apply, effect};
 ghost use Rattle.session_state.specs.CellState.{has_result};
 ghost use Rattle.session_state.specs.Command.{cell_of, board_of};
 ghost use Rattle.session_state.specs.Refusal.{hindrance_of, refusal_of};
-ghost use Rattle.session_state.specs.SessionState.{authorized_of, seat_of, viewer_of, cell_at, with_cell, place_of, most_cells, IsPlaced, IsKeptBoard, AreLive};
+ghost use Rattle.session_state.specs.SessionState.{authorized_of, seat_of, viewer_of, cell_at, table_at, is_dealt, with_cell, place_of, most_cells, IsPlaced, IsKeptBoard, AreLive};
 ghost use Rattle.session_state.specs.declared.cell_state.CellState.TheVariants.{Empty};
 
 mod accounts;
@@ -18,8 +18,10 @@ mod progress;
 mod readers;
 mod results;
 mod seats;
+mod solved;
 
 use crate::acceptance::{hindrance, refusal};
+use crate::actor::Actor;
 use crate::cell_state::CellState;
 use crate::command::Command;
 use crate::digest::Digest;
@@ -33,11 +35,15 @@ use movement::{Cell, Movement};
 use play_record::Play;
 use rbac::{Account, Operation, RoleSet, Roles};
 use scoring::Outcome;
+use solver_results::{DdTable, PlayCosts};
 use std::alloc::{AllocError, Global};
 use std::marker::Model;
 
+/// How many boards there is room for.
+const MOST_BOARDS: usize = Movement::MOST_BOARDS as usize;
+
 /// How many cells there is room for: each table on each board.
-const MOST_CELLS: usize = Movement::MOST_TABLES as usize * Movement::MOST_BOARDS as usize;
+const MOST_CELLS: usize = Movement::MOST_TABLES as usize * MOST_BOARDS;
 
 /// What a session has come to.
 #[derive(Drop)]
@@ -48,6 +54,7 @@ pub struct State {
     public: Public,
     cells: Vec<CellState>,
     deals: Vec<Deal>,
+    tables: Vec<Option<DdTable>>,
 }
 
 impl Model for State {
@@ -66,6 +73,7 @@ impl Model for State {
       public = s.public;
       cells = s.cells.items;
       deals = s.deals.items;
+      tables = s.tables.items;
     } };
 
     ghost invariant = { IsKept };
@@ -96,9 +104,11 @@ impl State {
           public = public;
           cells = replicate most_cells Empty;
           deals = deals.items;
+          tables = replicate most_boards None;
         }) }
     {
         let cells = filled(alloc, CellState::Empty, MOST_CELLS)?;
+        let tables = filled(alloc, None, MOST_BOARDS)?;
         Ok(State {
             roles,
             digests,
@@ -106,6 +116,7 @@ impl State {
             public,
             cells,
             deals,
+            tables,
         })
     }
 
@@ -118,6 +129,7 @@ impl State {
         let seats = with_room(alloc, &self.seats, Roles::MOST_USERS)?;
         let cells = with_room(alloc, &self.cells, MOST_CELLS)?;
         let deals = with_room(alloc, &self.deals, self.deals.len())?;
+        let tables = with_room(alloc, &self.tables, MOST_BOARDS)?;
         Ok(State {
             roles,
             digests,
@@ -125,6 +137,7 @@ impl State {
             public: self.public.copy(),
             cells,
             deals,
+            tables,
         })
     }
 
@@ -207,6 +220,26 @@ impl State {
         self.deals[board as usize - 1]
     }
 
+    /// Whether these are the hands of a board.
+    pub fn is_dealt(&self, board: u8, deal: Deal) -> bool
+        requires { 1 ≤ board }
+        ensures { result ≡ is_dealt self.now board deal }
+    {
+        match self.deals.get(board as usize - 1) {
+            Some(own) => deal == *own,
+            None => false,
+        }
+    }
+
+    /// The double-dummy table of a board, if it is solved.
+    pub fn table(&self, board: u8) -> Option<DdTable>
+        requires from { 1 ≤ board }
+        requires to { board ≤ most_boards }
+        ensures { result ≡ table_at self.now board }
+    {
+        self.tables[board as usize - 1]
+    }
+
     /// What is marked on a board.
     pub fn marks(&self, board: u8) -> Marks
         requires from { 1 ≤ board }
@@ -234,12 +267,12 @@ impl State {
         decide(&self.public, &self.viewer(name), fact)
     }
 
-    /// Why a command of a user is refused here, where the journal has so many entries, if it is. The spoiler is the first
+    /// Why a command is refused here, where the journal has so many entries, if it is. The spoiler is the first
     /// user who sits at the command's cell and was shown something of its board.
     pub fn refusal(
         &self,
         spoiler: Option<Name>,
-        actor: Name,
+        actor: Actor,
         command: &Command,
         entries: usize,
     ) -> Option<Refusal>
@@ -304,6 +337,12 @@ impl State {
             Command::DeleteInheritance { senior, junior } => {
                 self.delete_inheritance(senior, junior)
             }
+            Command::Solved { board, table } => self.solve(board, table),
+            Command::Analysed {
+                table,
+                board,
+                costs,
+            } => self.analyse(Cell { table, board }, costs),
         }
     }
 }

@@ -29,7 +29,15 @@ impl State {
         ensures { self.new ≡ effect self.old (Confirm cell.table cell.board outcome) }
     {
         if let CellState::Entered { outcome, play } = self.cell(cell) {
-            self.set_result(cell, CellState::Confirmed { outcome, play });
+            let costs = None;
+            self.set_result(
+                cell,
+                CellState::Confirmed {
+                    outcome,
+                    play,
+                    costs,
+                },
+            );
         }
     }
 
@@ -38,7 +46,15 @@ impl State {
         requires placed { IsPlaced cell }
         ensures { self.new ≡ effect self.old (Correct cell.table cell.board outcome play) }
     {
-        self.set_result(cell, CellState::Confirmed { outcome, play });
+        let costs = None;
+        self.set_result(
+            cell,
+            CellState::Confirmed {
+                outcome,
+                play,
+                costs,
+            },
+        );
     }
 
     // Makes a ruling the result.

@@ -40,6 +40,7 @@ invariant_of-self c =
       cells = kept.cells;
       marks = kept.marks;
       boards = kept.boards;
+      tables = kept.tables;
       deals = kept.deals;
       digests = c.push_within.ensures.len ∙ ap (λ n. n + 1) kept.digests ∙ sym more;
       digest_room = omega (arith, kept.digest_room, c.push_within.ensures.capacity);

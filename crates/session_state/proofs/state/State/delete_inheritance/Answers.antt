@@ -26,6 +26,7 @@ invariant_of-self c =
       cells = kept.cells;
       marks = kept.marks;
       boards = kept.boards;
+      tables = kept.tables;
       deals = kept.deals;
       digests = kept.digests ∙ sym as_many;
       digest_room = kept.digest_room;

@@ -8,6 +8,7 @@ invariant_of-result c = record {
   cells = c.in_ok-cells.ensures.len;
   marks = c.requires.marks;
   boards = ap length c.requires.live ∙ length-replicate {A = List ℕ} 64 [];
+  tables = c.in_ok-tables.ensures.len;
   deals = omega (arith, c.args.deals.ok.0, c.requires.deals);
   digests = omega (arith, c.args.digests.ok.0, c.requires.digests);
   digest_room = c.requires.digest_room;
@@ -19,4 +20,4 @@ invariant_of-result c = record {
 
 pub returns : goal.returns
 returns c =
-    λ i. record { roles = c.args.roles; digests = c.args.digests.items; seats = c.args.seats.items; public = c.args.public; cells = c.in_ok-cells.ensures.items i; deals = c.args.deals.items }
+    λ i. record { roles = c.args.roles; digests = c.args.digests.items; seats = c.args.seats.items; public = c.args.public; cells = c.in_ok-cells.ensures.items i; deals = c.args.deals.items; tables = c.in_ok-tables.ensures.items i }

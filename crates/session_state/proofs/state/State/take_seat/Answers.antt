@@ -32,6 +32,7 @@ invariant_of-self c =
       cells = kept.cells;
       marks = kept.marks;
       boards = kept.boards;
+      tables = kept.tables;
       deals = kept.deals;
       digests = kept.digests;
       digest_room = kept.digest_room;

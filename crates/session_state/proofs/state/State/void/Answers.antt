@@ -26,6 +26,7 @@ invariant_of-self c =
     record {
       cells = kept.cells;
       marks = kept.marks;
+      tables = kept.tables;
       deals = kept.deals;
       digests = kept.digests;
       digest_room = kept.digest_room;
