@@ -1,5 +1,4 @@
-mod AgreementLemmas
-mod PairLemmas
-mod ResultLemmas
-mod ShownLemmas
-mod TravellerLemmas
+pub mod AgreementLemmas
+pub mod AnswerLemmas
+pub mod StandingLemmas
+pub mod ListLemmas

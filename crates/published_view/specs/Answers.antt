@@ -1,68 +1,96 @@
--- The replies to queries. What they tell of a state is read from what the user is shown of it, and from nothing else.
-use Rattle.std.specs.Prelude.{ℕ, Bool, not, ◌&&◌, nat_le, nat_lt, if◌then◌else◌, Option, Some, None, List}
-use Rattle.std.specs.Option.{option_map, unwrap_or}
+-- The answers to queries. Each is read from what the user is shown of a state, and from nothing else.
+use Rattle.std.specs.Prelude.{ℕ, nat_lt, Option, Some, None, List, [], length, take}
+use Rattle.std.specs.List.{flat_map}
 use Rattle.cards.specs.Hands.{Hands}
-use Rattle.movement.specs.Movement.{Section, boards_of}
-use Rattle.disclosure_rules.specs.declared.fact.Fact.TheVariants as fact
+use Rattle.movement.specs.Movement.{Section}
 use Rattle.disclosure_rules.specs.declared.marks.Marks.{Marks}
 use Rattle.disclosure_rules.specs.declared.public.Public.{Public}
-use Rattle.disclosure_rules.specs.declared.viewer.Viewer.{Viewer}
-use Rattle.disclosure_rules.specs.declared.fact.Fact.{Fact}
-use Rattle.denials.specs.Evidence.{denial_of}
-use Rattle.session_state.specs.SessionState.{SessionState, viewer_of}
-use Rattle.published_view.specs.Shown.{Shown, shown, shown_hands, shown_public, shown_marks, shown_results}
-use Rattle.published_view.specs.Traveller.{traveller_rows}
-use Rattle.published_view.specs.declared.table_result.TableResult.{TableResult}
-use Rattle.published_view.specs.declared.reply.Reply.{Reply}
-use Rattle.published_view.specs.declared.reply.Reply.TheVariants as reply
+use Rattle.query_filter.specs.Formula.{Formula}
+use Rattle.query_filter.specs.declared.trick_table.TrickTable.{TrickTable}
+use Rattle.rbac.specs.declared.account.Account.{Account}
+use Rattle.rbac.specs.declared.inheritance.Inheritance.{Inheritance}
+use Rattle.session_state.specs.declared.seated.Seated.{Seated}
+use Rattle.shown_facts.specs.Facts.{boards}
+use Rattle.shown_facts.specs.Reading.{shown_public, shown_seats, shown_accounts, shown_pairs, shown_hands, shown_marks}
+use Rattle.shown_facts.specs.Reading.{shown_analysis, shown_play, shown_costs, shown_reason, shown_results}
+use Rattle.shown_facts.specs.Shown.{Shown}
+use Rattle.session_queries.specs.declared.query.Query.{Query}
+use Rattle.session_queries.specs.declared.query.Query.TheVariants as query
+use Rattle.session_queries.specs.declared.body.Body.{Body}
+use Rattle.session_queries.specs.declared.body.Body.TheVariants as body
+use Rattle.standings.specs.declared.earning.Earning.{Earning}
+use Rattle.standings.specs.Traveller.{traveller_rows}
+use Rattle.published_view.specs.Listing.{listed_from}
+use Rattle.standings.specs.Ranking.{earnings_of, ranking_of}
+
+-- what every member may see
+abbrev pub status_by : Option Public → Option (List Seated) → Body
+status_by None seats = body.NoSuchBoard
+status_by (Some public) None = body.NoSuchBoard
+status_by (Some public) (Some seats) = body.Status public seats
 
 -- a board with its marks, where both are shown; what isn't shown can't be told from what isn't there
-abbrev pub board_by : ℕ → ℕ → Option Hands → Option Marks → Reply
-board_by number version None marks = reply.NoSuchBoard version
-board_by number version (Some hands) None = reply.NoSuchBoard version
-board_by number version (Some hands) (Some marks) = reply.Board number hands marks version
-
--- the answer to a query of a board, from what is shown
-abbrev pub board_answer : ℕ → ℕ → List Shown → Reply
-board_answer number version items = board_by number version (shown_hands items number) (shown_marks items number)
+abbrev pub board_by : ℕ → Option Hands → Option Marks → Body
+board_by board None marks = body.NoSuchBoard
+board_by board (Some hands) None = body.NoSuchBoard
+board_by board (Some hands) (Some marks) = body.Board board hands marks
 
 -- a traveller, where what every member may see, and with it the board's marks, is shown
-abbrev pub traveller_by : ℕ → ℕ → List TableResult → Option Public → Option Marks → Reply
-traveller_by number version results None marks = reply.NoSuchBoard version
-traveller_by number version results (Some public) None = reply.NoSuchBoard version
-traveller_by number version results (Some public) (Some marks) =
-    reply.Traveller number (traveller_rows public.movement marks.vulnerability results) version
+abbrev pub traveller_by : List Shown → ℕ → Option Public → Option Marks → Body
+traveller_by items board None marks = body.NoSuchBoard
+traveller_by items board (Some public) None = body.NoSuchBoard
+traveller_by items board (Some public) (Some marks) =
+    body.Traveller board
+    (traveller_rows public.movement marks.vulnerability (shown_results public.movement items board))
 
--- the answer to a query of a board's traveller, from what is shown
-abbrev pub traveller_answer : ℕ → ℕ → List Shown → Reply
-traveller_answer number version items =
-    traveller_by number version (shown_results items number) (shown_public items) (shown_marks items number)
+-- an analysis, where it is shown
+abbrev pub analysis_by : ℕ → Option (Option TrickTable) → Body
+analysis_by board None = body.NoSuchBoard
+analysis_by board (Some tricks) = body.Analysis board tricks
 
--- whether the movement has the board
-abbrev pub has_board : Section → ℕ → Bool
-has_board section board = nat_le 1 board && nat_le board (boards_of section)
+-- the boards from one on that are listed, at most so many, and whether more follow
+abbrev pub list_by : List Shown → Option Formula → ℕ → ℕ → Option Public → Body
+list_by items formula from limit None = body.NoSuchBoard
+list_by items formula from limit (Some public) =
+    let listed = listed_from public.movement items formula from in
+    body.List (take limit listed) (nat_lt limit (length listed))
 
--- what is replied in place of an answer to a query about a board, which a fact decides, at a version: a board that
--- isn't there comes first, then a version that is older than the user wants, then a rule that forbids the fact
-unfoldable pub preface : Public → ℕ → Viewer → Fact → ℕ → ℕ → Option Reply
-preface public version viewer asked board since =
-    if not (has_board public.movement board) then Some (reply.NoSuchBoard version)
-    else if nat_lt version since then Some (reply.Behind version)
-    else option_map (λ denial. reply.Denied denial version) (denial_of public viewer asked)
+-- what the results of a board earn, where its hands and its marks are shown
+abbrev pub earnings_by : Section → List Shown → ℕ → Option Hands → Option Marks → List Earning
+earnings_by section items board None marks = []
+earnings_by section items board (Some hands) None = []
+earnings_by section items board (Some hands) (Some marks) =
+    earnings_of section marks.vulnerability (shown_results section items board)
 
--- what comes before the answer to a query that a board's hands decide, at a state and its version
-abbrev pub board_preface : SessionState → ℕ → List ℕ → ℕ → ℕ → Option Reply
-board_preface state version user board since =
-    preface state.public version (viewer_of state user) (fact.Hands board) board since
+-- what the results of a board earn, so far as they are shown
+abbrev pub board_earnings : Section → List Shown → ℕ → List Earning
+board_earnings section items board =
+    earnings_by section items board (shown_hands items board) (shown_marks items board)
 
--- the reply to a query of a board
-unfoldable pub board_reply : SessionState → ℕ → List ℕ → ℕ → ℕ → Reply
-board_reply state version user board since =
-    unwrap_or (board_preface state version user board since)
-    (board_answer board version (shown state (viewer_of state user)))
+-- what the results of all boards earn, so far as they are shown
+unfoldable pub all_earnings : Section → List Shown → List Earning
+all_earnings section items = flat_map (board_earnings section items) (boards section)
 
--- the reply to a query of a board's traveller
-unfoldable pub traveller_reply : SessionState → ℕ → List ℕ → ℕ → ℕ → Reply
-traveller_reply state version user board since =
-    unwrap_or (board_preface state version user board since)
-    (traveller_answer board version (shown state (viewer_of state user)))
+-- the ranking of all pairs, over what is shown
+abbrev pub ranking_by : List Shown → Option Public → Body
+ranking_by items None = body.NoSuchBoard
+ranking_by items (Some public) = body.Ranking (ranking_of public.movement (all_earnings public.movement items))
+
+-- the accounts with their roles, and the inheritance of roles
+abbrev pub accounts_by : Option (List Account) → Option (List Inheritance) → Body
+accounts_by None pairs = body.NoSuchBoard
+accounts_by (Some users) None = body.NoSuchBoard
+accounts_by (Some users) (Some pairs) = body.Accounts users pairs
+
+-- the answer to each query, from what is shown
+unfoldable pub answer_from : Query → List Shown → Body
+answer_from query.Status items = status_by (shown_public items) (shown_seats items)
+answer_from (query.Board board) items = board_by board (shown_hands items board) (shown_marks items board)
+answer_from (query.Traveller board) items = traveller_by items board (shown_public items) (shown_marks items board)
+answer_from (query.Analysis board) items = analysis_by board (shown_analysis items board)
+answer_from (query.Play cell) items = body.Play cell (shown_play items cell)
+answer_from (query.Costs cell) items = body.Costs cell (shown_costs items cell)
+answer_from (query.Reason cell) items = body.Reason cell (shown_reason items cell)
+answer_from (query.List formula from limit) items = list_by items formula from limit (shown_public items)
+answer_from query.Ranking items = ranking_by items (shown_public items)
+answer_from query.Accounts items = accounts_by (shown_accounts items) (shown_pairs items)

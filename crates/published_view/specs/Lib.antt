@@ -1,4 +1,5 @@
-pub mod Shown
-pub mod Agreement
-pub mod Traveller
+pub mod Listing
 pub mod Answers
+pub mod Reply
+pub mod Agreement
+pub mod View

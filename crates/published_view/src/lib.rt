@@ -1,19 +1,10 @@
-//! Queries and their replies: what a user is told of a state is read from what the policy lets that user see of it.
+//! The replies to queries: what a user is told of a state is read from what the policy lets that user see of it.
 #![tactic(auto)]
 
-mod answer;
+mod bodies;
 pub mod laws;
-mod query;
-mod reply;
-mod table_result;
-mod traveller;
-mod traveller_row;
-mod traveller_rows;
+mod listing;
+mod preface;
+mod view;
 
-pub use answer::board_reply;
-pub use query::Query;
-pub use reply::Reply;
-pub use table_result::TableResult;
-pub use traveller::traveller_reply;
-pub use traveller_row::TravellerRow;
-pub use traveller_rows::TravellerRows;
+pub use view::View;

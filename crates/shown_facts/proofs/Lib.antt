@@ -1,3 +1,4 @@
 pub mod FactLemmas
 pub mod ShownLemmas
 pub mod ResultLemmas
+pub mod NumberLemmas

@@ -3,3 +3,4 @@ pub mod Facts
 pub mod Shown
 pub mod Reading
 pub mod Results
+pub mod Numbers

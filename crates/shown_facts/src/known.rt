@@ -1,8 +1,12 @@
-ghost use Rattle.std.specs.Prelude.{◌≡◌};
-ghost use Rattle.shown_facts.specs.Content.{costs_of, costs_of_play, play_of, reason_of, result_of};
+ghost use Rattle.std.specs.Prelude.{◌≡◌, ◌≤◌};
+ghost use Rattle.movement.specs.Movement.{most_boards};
+ghost use Rattle.shown_facts.specs.Content.{analysis_of, costs_of, costs_of_play, found_of, play_of, reason_of, result_of, strain_of_deal, tricks_of_deal};
 
 use crate::card_costs::CardCosts;
-use session_state::{CellState, Play};
+use cards::{Place, Strain};
+use query_filter::{StrainTricks, TrickTable};
+use session_state::{CellState, DdTable, Play, PlayCosts, State};
+use solver_results::PlayAnswer;
 use standings::CellResult;
 
 /// The result of what is known of a cell, if there is one.
@@ -40,19 +44,34 @@ pub fn costs_of(known: &CellState) -> Option<CardCosts>
 {
     match known {
         CellState::Empty | CellState::Entered { .. } => None,
-        CellState::Confirmed { play, .. } => Some(costs_of_play(play)),
+        CellState::Confirmed { play, costs, .. } => Some(costs_of_play(play, costs)),
         CellState::Ruled { .. } => Some(CardCosts::NoCards),
     }
 }
 
-// What the cards of a play cost.
-fn costs_of_play(play: &Play) -> CardCosts
-    ensures { result ≡ costs_of_play play.now }
+// What the cards of a play cost, once they are counted.
+fn costs_of_play(play: &Play, counted: &Option<PlayCosts>) -> CardCosts
+    ensures { result ≡ costs_of_play play.now counted.now }
 {
-    if play.is_empty() {
-        CardCosts::NoCards
-    } else {
-        CardCosts::Pending
+    match counted {
+        Some(counted) => found_of(counted.answer()),
+        None => {
+            if play.is_empty() {
+                CardCosts::NoCards
+            } else {
+                CardCosts::Pending
+            }
+        }
+    }
+}
+
+// What was found of a play.
+fn found_of(answer: PlayAnswer) -> CardCosts
+    ensures { result ≡ found_of answer }
+{
+    match answer {
+        PlayAnswer::Costs(costs) => CardCosts::Each(costs),
+        PlayAnswer::NotAPlay(number) => CardCosts::NotAPlay(number),
     }
 }
 
@@ -64,5 +83,42 @@ pub fn reason_of(known: &CellState) -> Option<u8>
         CellState::Empty | CellState::Entered { .. } => None,
         CellState::Confirmed { .. } => Some(0),
         CellState::Ruled { reason, .. } => Some(*reason),
+    }
+}
+
+/// The double-dummy tricks of a board, once it is solved.
+pub fn analysis_of(state: &State, board: u8) -> Option<TrickTable>
+    requires from { 1 ≤ board }
+    requires to { board ≤ most_boards }
+    ensures { result ≡ analysis_of state.now board }
+{
+    match &state.table(board) {
+        Some(table) => Some(tricks_of_table(table)),
+        None => None,
+    }
+}
+
+// The twenty numbers of a table.
+fn tricks_of_table(table: &DdTable) -> TrickTable
+    ensures { result ≡ tricks_of_deal table.now }
+{
+    TrickTable {
+        spades: tricks_in(table, Strain::Spades),
+        hearts: tricks_in(table, Strain::Hearts),
+        diamonds: tricks_in(table, Strain::Diamonds),
+        clubs: tricks_in(table, Strain::Clubs),
+        no_trump: tricks_in(table, Strain::NoTrump),
+    }
+}
+
+// The tricks of the four declarers in a strain.
+fn tricks_in(table: &DdTable, strain: Strain) -> StrainTricks
+    ensures { result ≡ strain_of_deal table.now strain }
+{
+    StrainTricks {
+        north: table.tricks(strain, Place::North),
+        east: table.tricks(strain, Place::East),
+        south: table.tricks(strain, Place::South),
+        west: table.tricks(strain, Place::West),
     }
 }

@@ -4,11 +4,12 @@
 mod card_costs;
 mod items;
 mod known;
+pub mod laws;
 mod push;
 mod results;
 
 pub use card_costs::CardCosts;
 pub use items::Items;
-pub use known::{costs_of, play_of, reason_of, result_of};
+pub use known::{analysis_of, costs_of, play_of, reason_of, result_of};
 pub use push::push_found;
 pub use results::shown_results;

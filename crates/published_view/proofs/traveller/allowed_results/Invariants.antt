@@ -1,9 +1,0 @@
-use Rattle.std.proofs.Common.{◌≡◌, ◌≤◌, vec_len}
-use Rattle.published_view.specs.Shown.{allowed_results}
-use Rattle.published_view.proofs.traveller.allowed_results.Given as goal
-
-abbrev pub invariant-loop-below : goal.invariant-loop-below
-invariant-loop-below l = record {
-  so_far : l.results.items ≡ allowed_results l.state l.viewer l.board l.below;
-  few : vec_len l.results ≤ l.below;
-}

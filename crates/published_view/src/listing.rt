@@ -1,0 +1,150 @@
+ghost use Rattle.std.specs.Prelude.{◌≡◌, ◌++◌, ◌∷◌, [], ◌&&◌, nat_le, true, cond, IfOk, OnOk};
+ghost use Rattle.disclosure_rules.specs.declared.fact.Fact.TheVariants as fact;
+ghost use Rattle.disclosure_rules.specs.Policy.{first_rule};
+ghost use Rattle.movement.specs.Movement.{IsSection};
+ghost use Rattle.shown_facts.specs.Facts.{has_board};
+ghost use Rattle.shown_facts.specs.Reading.{shown_analysis};
+ghost use Rattle.shown_facts.specs.Shown.{shown};
+ghost use Rattle.published_view.specs.Listing.{facts_for, is_listed, listed_from, outcome_of, outcomes_of, tricks_shown};
+
+use disclosure_rules::{Fact, Marks, Viewer, decide};
+use query_filter::{BoardFacts, Filter, Outcomes, TrickTable};
+use scoring::Outcome;
+use session_state::State;
+use shown_facts::{analysis_of, push_found, shown_results};
+use standings::{CellResult, TableResult};
+use std::alloc::{AllocError, Global};
+
+/// The boards from one on that are listed.
+pub(crate) fn listed_from(
+    alloc: Global,
+    state: &State,
+    viewer: &Viewer,
+    filter: &Option<Filter>,
+    from: u8,
+) -> Result<Vec<u8>, AllocError>
+    ensures { IfOk result (λ boards. boards.items ≡
+        listed_from state.now.public.movement (shown state.now viewer.now) filter.now from) }
+{
+    let last = state.public().movement.boards();
+    let mut boards = Vec::new(alloc);
+    for before in 0..last {
+        let board = before + 1;
+        let listed = is_listed_from(alloc, state, viewer, filter, from, board)?;
+        push_where(&mut boards, board, listed)?;
+    }
+    Ok(boards)
+}
+
+/// Adds a board where a test holds.
+fn push_where(boards: &mut Vec<u8>, board: u8, test: bool) -> Result<(), AllocError>
+    ensures { OnOk result (boards.new.items ≡ boards.old.items ++ cond test (board ∷ []) []) }
+{
+    if test {
+        boards.push(board)?;
+    }
+    Ok(())
+}
+
+/// Whether a board is listed among those from one on.
+fn is_listed_from(
+    alloc: Global,
+    state: &State,
+    viewer: &Viewer,
+    filter: &Option<Filter>,
+    from: u8,
+    board: u8,
+) -> Result<bool, AllocError>
+    requires section { IsSection state.now.public.movement }
+    requires there { has_board state.now.public.movement board ≡ true }
+    ensures { IfOk result (λ listed. listed ≡ (nat_le from board
+        && is_listed state.now.public.movement (shown state.now viewer.now) filter.now board)) }
+{
+    if board < from {
+        return Ok(false);
+    }
+    is_listed(alloc, state, viewer, filter, board)
+}
+
+/// Whether a board is listed.
+fn is_listed(
+    alloc: Global,
+    state: &State,
+    viewer: &Viewer,
+    filter: &Option<Filter>,
+    board: u8,
+) -> Result<bool, AllocError>
+    requires section { IsSection state.now.public.movement }
+    requires there { has_board state.now.public.movement board ≡ true }
+    ensures { IfOk result (λ listed. listed ≡
+        is_listed state.now.public.movement (shown state.now viewer.now) filter.now board) }
+{
+    if decide(state.public(), viewer, Fact::Hands(board)).is_some() {
+        return Ok(false);
+    }
+    let marks = state.marks(board);
+    match filter {
+        None => Ok(true),
+        Some(filter) => {
+            let facts = facts_for(alloc, state, viewer, board, marks)?;
+            Ok(filter.holds(&facts))
+        }
+    }
+}
+
+/// What is shown of a board with these marks, for a filter.
+fn facts_for(
+    alloc: Global,
+    state: &State,
+    viewer: &Viewer,
+    board: u8,
+    marks: Marks,
+) -> Result<BoardFacts, AllocError>
+    requires section { IsSection state.now.public.movement }
+    requires there { has_board state.now.public.movement board ≡ true }
+    ensures { IfOk result (λ facts. facts ≡
+        facts_for state.now.public.movement (shown state.now viewer.now) board marks) }
+{
+    let results = shown_results(alloc, state, viewer, board)?;
+    let outcomes = outcomes_of(alloc, &results)?;
+    Ok(BoardFacts {
+        vulnerability: marks.vulnerability,
+        dealer: marks.dealer,
+        outcomes: Outcomes::new(outcomes),
+        tricks: tricks_shown(state, viewer, board),
+    })
+}
+
+/// The double-dummy tricks of a board, where the user may see them and they are there.
+#[tactic(auto, using(crate::proofs::AnswerLemmas::tricks_hidden, crate::proofs::AnswerLemmas::tricks_free))]
+fn tricks_shown(state: &State, viewer: &Viewer, board: u8) -> Option<TrickTable>
+    requires section { IsSection state.now.public.movement }
+    requires there { has_board state.now.public.movement board ≡ true }
+    ensures { result ≡ tricks_shown (shown_analysis (shown state.now viewer.now) board) }
+{
+    if decide(state.public(), viewer, Fact::Analysis(board)).is_some() {
+        return None;
+    }
+    analysis_of(state, board)
+}
+
+/// The outcomes of the results that were played.
+fn outcomes_of(alloc: Global, results: &[TableResult]) -> Result<Vec<Outcome>, AllocError>
+    ensures { IfOk result (λ outcomes. outcomes.items ≡ outcomes_of results.now) }
+{
+    let mut outcomes = Vec::with_capacity(alloc, results.len())?;
+    for found in results {
+        push_found(&mut outcomes, outcome_of(found.result))?;
+    }
+    Ok(outcomes)
+}
+
+/// The outcome of a result, if it was played.
+fn outcome_of(found: CellResult) -> Option<Outcome>
+    ensures { result ≡ outcome_of found }
+{
+    match found {
+        CellResult::Confirmed(outcome) => Some(outcome),
+        CellResult::Ruled { .. } => None,
+    }
+}

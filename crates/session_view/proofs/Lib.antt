@@ -1,4 +1,0 @@
-pub mod AgreementLemmas
-pub mod AnswerLemmas
-pub mod StandingLemmas
-pub mod ListLemmas

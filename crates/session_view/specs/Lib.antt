@@ -1,6 +1,0 @@
-pub mod Query
-pub mod Listing
-pub mod Answers
-pub mod Reply
-pub mod Agreement
-pub mod View

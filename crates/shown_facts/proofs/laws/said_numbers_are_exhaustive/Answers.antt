@@ -1,0 +1,8 @@
+use Rattle.shown_facts.proofs.NumberLemmas.{analysis_own, costs_own}
+use Rattle.shown_facts.proofs.laws.said_numbers_are_exhaustive.Goals as goal
+
+pub returns-clause-analysis : goal.returns-clause-analysis
+returns-clause-analysis c = analysis_own
+
+pub returns-clause-costs : goal.returns-clause-costs
+returns-clause-costs c = costs_own

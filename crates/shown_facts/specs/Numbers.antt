@@ -1,0 +1,32 @@
+-- Whose the double-dummy numbers are that facts say: those of the hands, the contract and the cards that other facts say.
+use Rattle.std.specs.Prelude.{◌≡◌, ℕ, Some, List}
+use Rattle.cards.specs.Hands.{Hands}
+use Rattle.cards.specs.declared.card.Card.{Card}
+use Rattle.movement.specs.declared.cell.Cell.{Cell}
+use Rattle.query_filter.specs.declared.trick_table.TrickTable.{TrickTable}
+use Rattle.scoring.specs.declared.contract.Contract.{Contract}
+use Rattle.scoring.specs.declared.outcome.Outcome.TheVariants.{Played}
+use Rattle.session_state.specs.OwnNumbers.{IsHandsOf}
+use Rattle.session_state.specs.SessionState.{SessionState, cell_at}
+use Rattle.solver_results.specs.PlayAnswer.{answer_of}
+use Rattle.shown_facts.specs.Content.{found_of, play_of, result_of, tricks_of_deal}
+use Rattle.shown_facts.specs.declared.card_costs.CardCosts.{CardCosts}
+use Rattle.standings.specs.declared.cell_result.CellResult.TheVariants.{Confirmed}
+
+-- the twenty numbers are those of the board's hands
+pub record IsAnalysisOf (state : SessionState) (board : ℕ) (tricks : TrickTable) : Type 0 where
+  pub hands : Hands
+  pub dealt : IsHandsOf state.deals board hands
+  pub numbers : tricks ≡ tricks_of_deal hands
+
+-- what is said of the costs is the answer for the board's hands, the contract of the result and the cards as they were
+-- played
+pub record IsCountOf (state : SessionState) (cell : Cell) (counted : CardCosts) : Type 0 where
+  pub hands : Hands
+  pub contract : Contract
+  pub tricks : ℕ
+  pub cards : List Card
+  pub dealt : IsHandsOf state.deals cell.board hands
+  pub result : result_of (cell_at state cell) ≡ Some (Confirmed (Played contract tricks))
+  pub play : play_of (cell_at state cell) ≡ Some cards
+  pub numbers : counted ≡ found_of (answer_of (record { deal = hands; contract = contract; play = cards }))
