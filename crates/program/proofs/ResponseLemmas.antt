@@ -8,16 +8,17 @@ use Rattle.session_state.specs.declared.refusal.Refusal.TheVariants as refusal
 use Rattle.session_book.specs.Journal.{replay}
 use Rattle.session_book.specs.Run.{Progress, run, Runs, first_number, last_number}
 use Rattle.session_state.specs.SessionState.{SessionState}
-use Rattle.published_view.specs.declared.query.Query.{Query}
-use Rattle.wire.specs.declared.request_fault.RequestFault.{RequestFault}
-use Rattle.wire.specs.declared.request_fault.RequestFault.TheVariants.{Malformed, UnknownRequest, BadField, OutOfMemory}
+use Rattle.session_queries.specs.declared.query.Query.{Query}
+use Rattle.message_fields.specs.declared.request_fault.RequestFault.{RequestFault}
+use Rattle.message_fields.specs.declared.request_fault.RequestFault.TheVariants.{Malformed, UnknownRequest, BadField, OutOfMemory}
 use Rattle.wire.specs.declared.request.Request.{Request}
 use Rattle.wire.specs.declared.request.Request.TheVariants as request
 use Rattle.wire.specs.Request.{meaning}
-use Rattle.wire.specs.Reading.{Fails}
+use Rattle.message_fields.specs.Reading.{Fails}
 use Rattle.wire.specs.ReceiptText.{receipt_text, fault_text}
-use Rattle.wire.specs.ReplyText.{reply_text}
-use Rattle.program.specs.Script.{Memory, ample, Response, reply_to, response_to_request, response_to_line, stopped_at, run_with}
+use Rattle.published_view.specs.Reply.{reply_of}
+use Rattle.reply_texts.specs.ReplyText.{reply_text}
+use Rattle.program.specs.Script.{Memory, ample, Response, response_to_request, response_to_line, stopped_at, run_with}
 use Rattle.program.specs.Standing.{line_of}
 use Rattle.program.specs.Writes.{Responds}
 
@@ -50,7 +51,7 @@ module _ (opening : SessionState) (journal : List Entry) (line : List ℕ) where
 
   -- a query is answered by its reply
   pub responds_reply : (user : List ℕ) (query : Query) (since : ℕ) (text : List ℕ) → meaning line ≡ Ok (request.Query user query since) →
-      text ≡ reply_text (reply_to (replay opening journal) (length journal) user query since) → Responds opening journal line journal (text ++ 10 ∷ [])
+      text ≡ reply_text (reply_of (replay opening journal) (length journal) user query since) → Responds opening journal line journal (text ++ 10 ∷ [])
   responds_reply user query since text means is_reply =
       subst (λ t. Responds opening journal line journal (t ++ 10 ∷ [])) (sym is_reply) (responds_by ample (Ok (request.Query user query since)) refl means)
 

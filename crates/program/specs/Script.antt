@@ -2,25 +2,23 @@
 use Rattle.std.specs.Prelude.{ℕ, Bool, true, false, is_some, if◌then◌else◌, Option, Some, None, Result, Ok, Err, List, [], ◌∷◌, ◌++◌, map, filter, take, drop, length}
 use Rattle.std.specs.List.{fold}
 use Rattle.script_lines.specs.Lines.{lines_of}
-use Rattle.published_view.specs.declared.query.Query.{Query}
-use Rattle.published_view.specs.declared.query.Query.TheVariants.{Board, Traveller}
-use Rattle.published_view.specs.declared.reply.Reply.{Reply}
-use Rattle.published_view.specs.Answers.{board_reply, traveller_reply}
+use Rattle.published_view.specs.Reply.{reply_of}
 use Rattle.session_book.specs.declared.answer.Answer.{Answer}
 use Rattle.session_book.specs.declared.answer.Answer.TheVariants.{Refused}
+use Rattle.session_state.specs.declared.actor.Actor.TheVariants.{User}
 use Rattle.session_state.specs.declared.command.Command.{Command}
 use Rattle.session_state.specs.declared.entry.Entry.{Entry}
 use Rattle.session_state.specs.declared.refusal.Refusal.TheVariants as refusal
 use Rattle.session_book.specs.Journal.{replay, refusal_after}
 use Rattle.session_book.specs.Run.{Progress, run, first_number, last_number}
 use Rattle.session_state.specs.SessionState.{SessionState}
-use Rattle.wire.specs.declared.request_fault.RequestFault.{RequestFault}
-use Rattle.wire.specs.declared.request_fault.RequestFault.TheVariants.{OutOfMemory}
+use Rattle.message_fields.specs.declared.request_fault.RequestFault.{RequestFault}
+use Rattle.message_fields.specs.declared.request_fault.RequestFault.TheVariants.{OutOfMemory}
 use Rattle.wire.specs.declared.request.Request.{Request}
 use Rattle.wire.specs.declared.request.Request.TheVariants as request
 use Rattle.wire.specs.Request.{meaning}
 use Rattle.wire.specs.ReceiptText.{receipt_text, fault_text}
-use Rattle.wire.specs.ReplyText.{reply_text}
+use Rattle.reply_texts.specs.ReplyText.{reply_text}
 use Rattle.program.specs.Audit.{audit_reply}
 
 -- ---- lines
@@ -63,7 +61,7 @@ with_ample_memory line = record { line = line; memory = ample }
 abbrev pub stopped_at : SessionState → List ℕ → Progress → Progress → List Command → Progress
 stopped_at opening actor whole so_far [] = whole
 stopped_at opening actor whole so_far (command ∷ later) =
-    if is_some (refusal_after opening so_far.journal actor command) then whole
+    if is_some (refusal_after opening so_far.journal (User actor) command) then whole
     else record {
       journal = so_far.journal;
       answers = so_far.answers ++ Refused refusal.OutOfMemory ∷ map (λ _. Refused refusal.NotTried) later;
@@ -97,16 +95,11 @@ response_to_batch memory journal after = record {
   text = text_with memory (receipt_between (length journal) (length after.journal) after.answers);
 }
 
--- the reply to a query, at a state and its version
-abbrev pub reply_to : SessionState → ℕ → List ℕ → Query → ℕ → Reply
-reply_to state version user (Board board) since = board_reply state version user board since
-reply_to state version user (Traveller board) since = traveller_reply state version user board since
-
 -- a query has its reply, at the newest version, a batch its receipt, an audit its rows, and what is no request its fault
 abbrev pub response_to_request : SessionState → List Entry → Memory → Result Request RequestFault → Response
 response_to_request opening journal memory (Ok (request.Query user query since)) = record {
   journal = journal;
-  text = text_with memory (reply_text (reply_to (replay opening journal) (length journal) user query since));
+  text = text_with memory (reply_text (reply_of (replay opening journal) (length journal) user query since));
 }
 response_to_request opening journal memory (Ok (request.Batch user commands)) =
     response_to_batch memory journal (run_with memory.refused_at opening journal user commands)

@@ -9,21 +9,23 @@ ghost use Rattle.program.specs.Writes.{Responds};
 
 use crate::response::with_line_feed;
 use cards::Name;
-use session_book::{AuditError, Book};
+use message_fields::RequestFault;
+use session_book::AuditError;
+use session_keeper::PlainKeeper;
 use std::alloc::{AllocError, Global};
-use wire::{AuditRange, RequestFault, audit_refusal_text, audit_text};
+use wire::{AuditRange, audit_refusal_text, audit_text};
 
-/// The line that responds to a message that asks for an audit. The book stays as it is.
+/// The line that responds to a message that asks for an audit. The session stays as it is.
 pub(crate) fn response_to_audit(
     alloc: Global,
-    book: &Book,
+    keeper: &PlainKeeper,
     user: Name,
     range: AuditRange,
 ) -> Result<String, RequestFault>
     ensures response { (line : List ℕ) → meaning line ≡ Ok (request.Audit user range) →
-        Responds book.now.opening book.now.journal line book.now.journal (line_of string_bytes result) }
+        Responds keeper.now.opening keeper.now.journal line keeper.now.journal (line_of string_bytes result) }
 {
-    match audit_reply(alloc, book, user, range) {
+    match audit_reply(alloc, keeper, user, range) {
         Ok(text) => with_line_feed(text),
         Err(_) => Err(RequestFault::OutOfMemory),
     }
@@ -32,16 +34,16 @@ pub(crate) fn response_to_audit(
 // The rows of an audit at the newest version, or that the user has no permission for it.
 fn audit_reply(
     alloc: Global,
-    book: &Book,
+    keeper: &PlainKeeper,
     user: Name,
     range: AuditRange,
 ) -> Result<String, AllocError>
-    ensures { IfOk result (λ text. string_bytes text ≡ audit_reply book.now.opening book.now.journal user range) }
+    ensures { IfOk result (λ text. string_bytes text ≡ audit_reply keeper.now.opening keeper.now.journal user range) }
 {
     // The reader's clause that the accounts are valid is what makes the test of a permission decide it.
-    let _accounts = book.state().accounts();
-    match book.audit(user, range.from as usize, range.limit as usize) {
-        Ok(rows) => audit_text(alloc, &rows, book.version()),
+    let _accounts = keeper.state().accounts();
+    match keeper.audit(user, range.from as usize, range.limit as usize) {
+        Ok(rows) => audit_text(alloc, &rows, keeper.version()),
         Err(AuditError::NotPermitted) => audit_refusal_text(alloc),
         Err(AuditError::OutOfMemory) => Err(AllocError),
     }

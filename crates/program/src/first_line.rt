@@ -5,20 +5,20 @@ ghost use Rattle.program.specs.FirstLine.{Opens, OpensNone, fault_of_session, fa
 ghost use Rattle.program.specs.declared.fault.Fault.TheVariants.{OutOfMemory};
 
 use crate::fault::Fault;
-use session_book::Book;
+use session_keeper::PlainKeeper;
 use session_object::{SessionFault, SessionObject, read_session};
 use session_opening::OpeningRefusal;
 use std::alloc::Global;
 
 /// Opens the session of a script's first line.
-pub(crate) fn open_session(alloc: Global, line: &[u8]) -> Result<Book, Fault>
-    ensures opens { IfOk result (λ book. Opens line.now book.opening) }
-    ensures journal { IfOk result (λ book. book.journal ≡ []) }
+pub(crate) fn open_session(alloc: Global, line: &[u8]) -> Result<PlainKeeper, Fault>
+    ensures opens { IfOk result (λ keeper. Opens line.now keeper.opening) }
+    ensures journal { IfOk result (λ keeper. keeper.journal ≡ []) }
     ensures none { IfErr result (λ fault. OpensNone fault line.now ⊎ (fault ≡ OutOfMemory)) }
 {
     match read_session(alloc, line, None) {
-        Ok(SessionObject { config, .. }) => match Book::open(alloc, config) {
-            Ok(book) => Ok(book),
+        Ok(SessionObject { config, .. }) => match PlainKeeper::open(alloc, config) {
+            Ok(keeper) => Ok(keeper),
             Err(cause) => Err(fault_of_opening(cause)),
         },
         Err(fault) => Err(fault_of_session(fault)),

@@ -3,37 +3,38 @@
 ghost use Rattle.std.specs.Prelude.{◌≡◌, ◌++◌, ◌∷◌, [], ◌≤◌, ℕ, List, Ok, IfOk, IfErr, OnOk, OnErr, length, string_bytes};
 ghost use Rattle.std.specs.Io.KnownBytes.{Appends};
 ghost use Rattle.script_lines.specs.Writing.{WritesPart};
-ghost use Rattle.wire.specs.declared.request_fault.RequestFault.TheVariants.{OutOfMemory};
+ghost use Rattle.message_fields.specs.declared.request_fault.RequestFault.TheVariants.{OutOfMemory};
 ghost use Rattle.wire.specs.declared.request.Request.TheVariants as request;
 ghost use Rattle.session_book.specs.Run.{most_commands};
 ghost use Rattle.wire.specs.Request.{meaning, HasFew};
-ghost use Rattle.program.specs.Script.{reply_to};
 ghost use Rattle.program.specs.Standing.{line_of};
 ghost use Rattle.program.specs.Writes.{Responds};
 
 use crate::audit_response::response_to_audit;
 use cards::Name;
-use published_view::{Query, Reply, board_reply, traveller_reply};
+use command_object::Commands;
+use message_fields::RequestFault;
+use reply_texts::reply_text;
 use script_lines::{WriteFault, write_text};
-use session_book::Book;
-use session_state::State;
-use std::alloc::{AllocError, Global};
+use session_keeper::PlainKeeper;
+use session_queries::Query;
+use std::alloc::Global;
 use std::io::Write;
-use wire::{Commands, Request, RequestFault, fault_line, read_request, receipt_text, reply_text};
+use wire::{Request, fault_line, read_request, receipt_text};
 
-/// Responds to a message: its effect joins the book, and the line that responds is written.
+/// Responds to a message: its effect joins the session, and the line that responds is written.
 pub(crate) fn respond<W: Write>(
     alloc: Global,
-    book: &mut Book,
+    keeper: &mut PlainKeeper,
     line: &[u8],
     writer: &mut W,
 ) -> Result<(), WriteFault>
-    ensures response { (text : List ℕ) × Responds book.old.opening book.old.journal line.now book.new.journal text
+    ensures response { (text : List ℕ) × Responds keeper.old.opening keeper.old.journal line.now keeper.new.journal text
         × OnOk result (Appends (W.contents writer.old) (W.contents writer.new) text)
         × OnErr result (WritesPart (W.contents writer.old) (W.contents writer.new) text) }
-    ensures opening { book.new.opening ≡ book.old.opening }
+    ensures opening { keeper.new.opening ≡ keeper.old.opening }
 {
-    match response_to(alloc, book, line) {
+    match response_to(alloc, keeper, line) {
         Ok(text) => send(writer, text.as_bytes()),
         Err(fault) => send(writer, fault_line(fault).as_bytes()),
     }
@@ -55,12 +56,12 @@ fn send<W: Write>(writer: &mut W, line: &[u8]) -> Result<(), WriteFault>
 
 // The line that responds to a message, or the fault whose line does.
 #[tactic(auto, using(crate::proofs::ResponseLemmas::responds_fault))]
-fn response_to(alloc: Global, book: &mut Book, line: &[u8]) -> Result<String, RequestFault>
-    ensures response { Responds book.old.opening book.old.journal line.now book.new.journal (line_of string_bytes result) }
-    ensures opening { book.new.opening ≡ book.old.opening }
+fn response_to(alloc: Global, keeper: &mut PlainKeeper, line: &[u8]) -> Result<String, RequestFault>
+    ensures response { Responds keeper.old.opening keeper.old.journal line.now keeper.new.journal (line_of string_bytes result) }
+    ensures opening { keeper.new.opening ≡ keeper.old.opening }
 {
     match read_request(alloc, line) {
-        Ok(message) => response_to_request(alloc, book, &message),
+        Ok(message) => response_to_request(alloc, keeper, &message),
         Err(fault) => Err(fault),
     }
 }
@@ -68,35 +69,35 @@ fn response_to(alloc: Global, book: &mut Book, line: &[u8]) -> Result<String, Re
 // The line that responds to what was read.
 fn response_to_request(
     alloc: Global,
-    book: &mut Book,
+    keeper: &mut PlainKeeper,
     message: &Request,
 ) -> Result<String, RequestFault>
     requires { HasFew message.now }
     ensures response { (line : List ℕ) → meaning line ≡ Ok message.now →
-        Responds book.old.opening book.old.journal line book.new.journal (line_of string_bytes result) }
-    ensures opening { book.new.opening ≡ book.old.opening }
+        Responds keeper.old.opening keeper.old.journal line keeper.new.journal (line_of string_bytes result) }
+    ensures opening { keeper.new.opening ≡ keeper.old.opening }
 {
     match message {
-        Request::Query { user, query, since } => response_to_query(
-            alloc, book, *user, *query, *since,
-        ),
-        Request::Batch { user, commands } => response_to_batch(alloc, book, *user, commands),
-        Request::Audit { user, range } => response_to_audit(alloc, book, *user, *range),
+        Request::Query { user, query, since } => {
+            response_to_query(alloc, keeper, *user, query, *since)
+        }
+        Request::Batch { user, commands } => response_to_batch(alloc, keeper, *user, commands),
+        Request::Audit { user, range } => response_to_audit(alloc, keeper, *user, *range),
     }
 }
 
-// The line that responds to a query. The book stays as it is.
+// The line that responds to a query. The session stays as it is.
 fn response_to_query(
     alloc: Global,
-    book: &Book,
+    keeper: &PlainKeeper,
     user: Name,
-    query: Query,
+    query: &Query,
     since: u64,
 ) -> Result<String, RequestFault>
-    ensures response { (line : List ℕ) → meaning line ≡ Ok (request.Query user query since) →
-        Responds book.now.opening book.now.journal line book.now.journal (line_of string_bytes result) }
+    ensures response { (line : List ℕ) → meaning line ≡ Ok (request.Query user query.now since) →
+        Responds keeper.now.opening keeper.now.journal line keeper.now.journal (line_of string_bytes result) }
 {
-    let Ok(reply) = reply_to(alloc, book.state(), book.version(), user, query, since) else {
+    let Ok(reply) = keeper.answer(alloc, user, query, since) else {
         return Err(RequestFault::OutOfMemory);
     };
     match reply_text(alloc, &reply) {
@@ -105,39 +106,22 @@ fn response_to_query(
     }
 }
 
-// The reply to a query, at a state and its version.
-fn reply_to(
-    alloc: Global,
-    state: &State,
-    version: usize,
-    user: Name,
-    query: Query,
-    since: u64,
-) -> Result<Reply, AllocError>
-    ensures { IfOk result (λ reply. reply ≡ reply_to state.now version user query since) }
-{
-    match query {
-        Query::Board(board) => Ok(board_reply(state, version, user, board, since)),
-        Query::Traveller(board) => traveller_reply(alloc, state, version, user, board, since),
-    }
-}
-
 // The line that responds to a batch, whose commands are tried.
 fn response_to_batch(
     alloc: Global,
-    book: &mut Book,
+    keeper: &mut PlainKeeper,
     user: Name,
     commands: &Commands,
 ) -> Result<String, RequestFault>
     requires { length commands.now ≤ most_commands }
     ensures response { (line : List ℕ) → meaning line ≡ Ok (request.Batch user commands.now) →
-        Responds book.old.opening book.old.journal line book.new.journal (line_of string_bytes result) }
-    ensures opening { book.new.opening ≡ book.old.opening }
+        Responds keeper.old.opening keeper.old.journal line keeper.new.journal (line_of string_bytes result) }
+    ensures opening { keeper.new.opening ≡ keeper.old.opening }
 {
-    let Ok(submission) = book.submit(user, commands.as_slice()) else {
+    let Ok(submission) = keeper.submit(user, commands.as_slice()) else {
         return Err(RequestFault::OutOfMemory);
     };
-    match receipt_text(alloc, &submission, book.version()) {
+    match receipt_text(alloc, &submission, keeper.version()) {
         Ok(text) => with_line_feed(text),
         Err(_) => Err(RequestFault::OutOfMemory),
     }

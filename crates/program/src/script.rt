@@ -8,7 +8,7 @@ use crate::fault::Fault;
 use crate::first_line::open_session;
 use crate::response::respond;
 use script_lines::{LineEnd, ReadFault, read_line, read_short_line};
-use session_book::Book;
+use session_keeper::PlainKeeper;
 use session_object::{MOST_BYTES, SessionFault};
 use std::alloc::Global;
 use std::io::{Read, Write};
@@ -41,7 +41,7 @@ pub fn run_script<R: Read, W: Write>(
 #[derive(Drop)]
 struct ScriptRun {
     alloc: Global,
-    book: Book,
+    keeper: PlainKeeper,
     // What ended the first line.
     first: LineEnd,
     line: Vec<u8>,
@@ -53,7 +53,7 @@ impl ScriptRun {
     // Opens the session of the first line.
     fn open<R: Read>(alloc: Global, reader: &mut R) -> Result<ScriptRun, Fault>
         ensures opened { (writer : Option (List ℕ)) → IfOk result (λ run.
-            StandsAfter run.first (R.remaining reader.old) writer (R.remaining reader.new) writer run.book run.left) }
+            StandsAfter run.first (R.remaining reader.old) writer (R.remaining reader.new) writer run.keeper run.left) }
         ensures ended { (writer : Option (List ℕ)) → IfErr result (λ fault.
             IfSome (R.remaining reader.old) (λ input. EndsWith fault input (R.remaining reader.new) writer writer)) }
     {
@@ -61,9 +61,9 @@ impl ScriptRun {
         let mut left = SCRIPT_LIMIT;
         match read_short_line(reader, &mut line, MOST_BYTES, &mut left) {
             Ok(Some(first)) => match open_session(alloc, line.as_slice()) {
-                Ok(book) => Ok(ScriptRun {
+                Ok(keeper) => Ok(ScriptRun {
                     alloc,
-                    book,
+                    keeper,
                     first,
                     line,
                     left,
@@ -83,12 +83,12 @@ impl ScriptRun {
         writer: &mut W,
     ) -> Result<(), Fault>
         ensures done { (input before : Option (List ℕ)) →
-            StandsAfter end input before (R.remaining reader.old) (W.contents writer.old) self.old.book self.old.left →
+            StandsAfter end input before (R.remaining reader.old) (W.contents writer.old) self.old.keeper self.old.left →
             OnOk result
-            (StandsAtEnd input before (R.remaining reader.new) (W.contents writer.new) self.new.book self.new.left) }
+            (StandsAtEnd input before (R.remaining reader.new) (W.contents writer.new) self.new.keeper self.new.left) }
         ensures ends { (input : List ℕ) (before : Option (List ℕ)) →
             StandsAfter end (Some input) before
-            (R.remaining reader.old) (W.contents writer.old) self.old.book self.old.left →
+            (R.remaining reader.old) (W.contents writer.old) self.old.keeper self.old.left →
             IfErr result (λ fault. EndsWith fault input (R.remaining reader.new) before (W.contents writer.new)) }
     {
         let mut last = end;
@@ -110,12 +110,12 @@ impl ScriptRun {
         writer: &mut W,
     ) -> Result<LineEnd, Fault>
         ensures goes_on { (input before : Option (List ℕ)) →
-            StandsAtLine input before (R.remaining reader.old) (W.contents writer.old) self.old.book self.old.left →
+            StandsAtLine input before (R.remaining reader.old) (W.contents writer.old) self.old.keeper self.old.left →
             IfOk result (λ end. StandsAfter end input before
-            (R.remaining reader.new) (W.contents writer.new) self.new.book self.new.left) }
+            (R.remaining reader.new) (W.contents writer.new) self.new.keeper self.new.left) }
         ensures ends { (input : List ℕ) (before : Option (List ℕ)) →
             StandsAtLine (Some input) before
-            (R.remaining reader.old) (W.contents writer.old) self.old.book self.old.left →
+            (R.remaining reader.old) (W.contents writer.old) self.old.keeper self.old.left →
             IfErr result (λ fault. EndsWith fault input (R.remaining reader.new) before (W.contents writer.new)) }
         ensures fewer { IfOk result (λ end. self.new.left + line_feeds end ≤ self.old.left) }
     {
@@ -124,7 +124,7 @@ impl ScriptRun {
                 if self.line.is_empty() {
                     return Ok(end);
                 }
-                match respond(self.alloc, &mut self.book, self.line.as_slice(), writer) {
+                match respond(self.alloc, &mut self.keeper, self.line.as_slice(), writer) {
                     Ok(()) => Ok(end),
                     Err(_) => Err(Fault::Output),
                 }

@@ -2,6 +2,5 @@ mod calling;
 mod devices;
 mod endings;
 mod objects;
-mod requests;
 mod session;
 mod texts;

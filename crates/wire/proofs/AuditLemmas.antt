@@ -6,10 +6,11 @@ use Rattle.wire.specs.declared.audit_range.AuditRange.{AuditRange}
 use Rattle.wire.specs.declared.request.Request.{Request}
 use Rattle.wire.specs.declared.request.Request.TheVariants as request
 use Rattle.wire.specs.Audit.{from_1_to, counted, first_row, most_rows, audit_range, auditing, an_audit, audit_of}
-use Rattle.wire.specs.Field.{user}
+use Rattle.message_fields.specs.Field.{user}
 use Rattle.json_fields.specs.Field.{number}
 use Rattle.json_fields.specs.Form.{applied, has_only, formed, HasForm}
-use Rattle.wire.proofs.MemberLemmas.{Agrees, AgreesForm, form_agrees, with_agrees, formed_read, formed_reads, kept, both_true, is_most, most_is, user_agrees}
+use Rattle.json_fields.proofs.FormLemmas.{Agrees, AgreesForm, form_agrees, with_agrees, formed_read, formed_reads, kept, both_true, is_most, most_is}
+use Rattle.message_fields.proofs.MemberLemmas.{user_agrees}
 
 -- ---- numbers from 1 to a limit
 

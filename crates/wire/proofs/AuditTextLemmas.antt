@@ -3,11 +3,17 @@ use Rattle.std.proofs.Common.{◌≡◌, ℕ, List, [], ◌∷◌, ◌||◌, map
 use Rattle.serde_json.specs.View.{items_of}
 use Rattle.serde_json.specs.Written.{has_float, items_have_float}
 use Rattle.session_book.specs.declared.audit.AuditRow.{AuditRow}
-use Rattle.wire.specs.AuditText.{row_data, audit_data}
+use Rattle.session_state.specs.declared.actor.Actor.{Actor}
+use Rattle.session_state.specs.declared.actor.Actor.TheVariants.{User, Solver}
+use Rattle.wire.specs.AuditText.{actor_data, row_data, audit_data}
+
+no_float_in_an_actor : (actor : Actor) → has_float (actor_data actor) ≡ false
+no_float_in_an_actor (User name) = refl
+no_float_in_an_actor Solver = refl
 
 no_float_in_rows : (rows : List AuditRow) → items_have_float (items_of (map row_data rows)) ≡ false
 no_float_in_rows [] = refl
-no_float_in_rows (row ∷ rows) = no_float_in_rows rows
+no_float_in_rows (row ∷ rows) = λ i. (no_float_in_an_actor row.entry.actor i || false) || no_float_in_rows rows i
 
 pub no_float_in_an_audit : (rows : List AuditRow) (version : ℕ) → has_float (audit_data rows version) ≡ false
 no_float_in_an_audit rows version = ap (λ b. b || false) (no_float_in_rows rows)

@@ -1,11 +1,6 @@
 pub mod AuditLemmas
 pub mod AuditTextLemmas
-pub mod LetterLemmas
 pub mod LineLemmas
-pub mod ListLemmas
-pub mod MemberLemmas
+pub mod QueryLemmas
 pub mod ReceiptLemmas
-pub mod ReplyLemmas
 pub mod RequestLemmas
-pub mod TableLemmas
-pub mod UserLemmas

@@ -6,15 +6,16 @@ use Rattle.serde_json.specs.Data.{Data}
 use Rattle.serde_json.specs.Read.{read}
 use Rattle.serde_json.specs.Find.{as_object}
 use Rattle.session_state.specs.declared.command.Command.{Command}
-use Rattle.published_view.specs.declared.query.Query.{Query}
+use Rattle.session_queries.specs.declared.query.Query.{Query}
 use Rattle.wire.specs.declared.audit_range.AuditRange.{AuditRange}
 use Rattle.wire.specs.declared.request.Request.{Request}
 use Rattle.wire.specs.declared.request.Request.TheVariants as request
-use Rattle.wire.specs.declared.request_fault.RequestFault.{RequestFault}
-use Rattle.wire.specs.declared.request_fault.RequestFault.TheVariants.{Malformed, UnknownRequest, BadField, OutOfMemory}
-use Rattle.wire.specs.Reading.{Gives}
+use Rattle.message_fields.specs.declared.request_fault.RequestFault.{RequestFault}
+use Rattle.message_fields.specs.declared.request_fault.RequestFault.TheVariants.{Malformed, UnknownRequest, BadField, OutOfMemory}
+use Rattle.message_fields.specs.Reading.{Gives}
 use Rattle.wire.specs.Request.{request_of, object_of, text_meaning, meaning, HasFew}
-use Rattle.wire.specs.Grammar.{IsObject, IsUnknownRequest, IsQuery, IsBatch, IsAudit, IsNoRequest}
+use Rattle.message_fields.specs.Object.{IsObject}
+use Rattle.wire.specs.Grammar.{IsUnknownRequest, IsQuery, IsBatch, IsAudit, IsNoRequest}
 use Rattle.wire.proofs.RequestLemmas.{query_object, batch_object, audit_object, few_in_request, object_fault, unknown_object}
 
 same_number : (m n : ℕ) → m ≡ n → (m == n) ≡ true

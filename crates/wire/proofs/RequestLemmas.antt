@@ -4,24 +4,27 @@ use Rattle.std.specs.Prelude.{count_by}
 use Rattle.serde_json.specs.Data.{Data, Items, no_items, item}
 use Rattle.serde_json.specs.Find.{get, as_str, as_array}
 use Rattle.session_state.specs.declared.command.Command.{Command}
-use Rattle.published_view.specs.declared.query.Query.{Query}
+use Rattle.session_queries.specs.declared.query.Query.{Query}
 use Rattle.wire.specs.declared.request.Request.{Request}
 use Rattle.wire.specs.declared.request.Request.TheVariants as request
-use Rattle.wire.specs.declared.request_fault.RequestFault.{RequestFault}
-use Rattle.wire.specs.declared.request_fault.RequestFault.TheVariants.{Malformed, UnknownRequest, BadField, OutOfMemory}
-use Rattle.wire.specs.Reading.{wanted}
+use Rattle.message_fields.specs.declared.request_fault.RequestFault.{RequestFault}
+use Rattle.message_fields.specs.declared.request_fault.RequestFault.TheVariants.{Malformed, UnknownRequest, BadField, OutOfMemory}
+use Rattle.message_fields.specs.Reading.{wanted}
 use Rattle.wire.specs.declared.audit_range.AuditRange.{AuditRange}
 use Rattle.json_fields.specs.Form.{applied, has_only, words, HasForm, HasFormOf, item_count, AreEach}
 use Rattle.json_fields.specs.Field.{text_at}
-use Rattle.wire.specs.Field.{user, since}
-use Rattle.wire.specs.Command.{commands, command_called, command_of, is_other_word, is_unknown, has_unknown, commands_in, IsCommand}
-use Rattle.wire.specs.Query.{queries, asking, query_called}
+use Rattle.message_fields.specs.Field.{user, since}
+use Rattle.command_object.specs.Command.{command_of, has_unknown, commands_in, IsCommand}
+use Rattle.query_object.specs.Query.{queries, asking, query_called}
 use Rattle.wire.specs.Audit.{audit_range, auditing, audit_of}
 use Rattle.wire.specs.Request.{a_query, query_of, query_by, doing, few_commands_in, a_batch, batch_of, batch_by, one_of, request_of, HasFew}
 use Rattle.wire.specs.Grammar.{IsUnknownRequest, IsQuery, IsBatch, IsAudit}
 use Rattle.wire.proofs.AuditLemmas.{audits, audited}
-use Rattle.wire.proofs.MemberLemmas.{kept, is_most, most_is, user_agrees, since_agrees, each_read, each_reads, each_count}
-use Rattle.wire.proofs.TableLemmas.{commands_agree, queries_agree, is_among, is_word, none_among, among_none, by_word_read, by_word_reads}
+use Rattle.json_fields.proofs.FormLemmas.{kept, is_most, most_is, each_read, each_reads, each_count}
+use Rattle.message_fields.proofs.MemberLemmas.{user_agrees, since_agrees}
+use Rattle.json_fields.proofs.TableLemmas.{is_among, is_word, none_among, among_none, by_word_read, by_word_reads}
+use Rattle.command_object.proofs.TableLemmas.{command_read, command_reads, all_known}
+use Rattle.query_object.proofs.TableLemmas.{queries_agree}
 
 wanted_read : {A : Type 0} (o : Option A) (y : A) → wanted o ≡ Ok y → o ≡ Some y
 wanted_read None y h = absurd (cc)
@@ -74,15 +77,15 @@ record Asks (word : List ℕ) (d : Data) (y : Request) : Type 0 where
 asks : (word : List ℕ) (d : Data) (y : Request) → query_of word d ≡ Some y → Asks word d y
 unfolding query_of
 asks word d y h =
-    let parts = three a_query (user.value (get user.name d)) (query_called word d) (since.value (get since.name d)) y h in
+    let parts = three a_query (user.value (get user.name d)) (since.value (get since.name d)) (query_called word d) y h in
     record {
       name = parts.0;
-      query = parts.1;
-      version = parts.2;
+      query = parts.2;
+      version = parts.1;
       makes = parts.6;
-      asked = by_word_read asking queries queries_agree word d parts.1 parts.4;
+      asked = by_word_read asking queries queries_agree word d parts.2 parts.5;
       named = user_agrees.read (get user.name d) parts.0 parts.3;
-      from = since_agrees.read (get since.name d) parts.2 parts.5;
+      from = since_agrees.read (get since.name d) parts.1 parts.4;
     }
 
 asked : (word : List ℕ) (d : Data) (name : List ℕ) (query : Query) (version : ℕ) → HasFormOf asking queries word d query
@@ -90,38 +93,9 @@ asked : (word : List ℕ) (d : Data) (name : List ℕ) (query : Query) (version 
     → since.Is (get since.name d) version → query_of word d ≡ Some (request.Query name query version)
 unfolding query_of
 asked word d name query version has named from =
-    ap (λ o. applied (applied (applied (Some a_query) o) (query_called word d)) (since.value (get since.name d))) (user_agrees.reads (get user.name d) name named)
-    ∙ ap (λ o. applied (applied (Some (a_query name)) o) (since.value (get since.name d))) (by_word_reads asking queries queries_agree refl word d query has)
-    ∙ ap (applied (Some (a_query name query))) (since_agrees.reads (get since.name d) version from)
-
--- ---- commands
-
-command_at : (o : Option (List ℕ)) (d : Data) (command : Command)
-    → option_and_then (λ word. command_called word d) o ≡ Some command
-    → (word : List ℕ) × (o ≡ Some word) × HasFormOf (codes "cmd" ∷ []) commands word d command
-command_at None d command h = absurd (cc)
-command_at (Some word) d command h =
-    (word, refl, by_word_read (codes "cmd" ∷ []) commands commands_agree word d command h)
-
-command_read : (d : Data) (command : Command) → command_of d ≡ Some command → IsCommand d command
-unfolding command_of
-command_read d command h = command_at (text_at (codes "cmd") d) d command h
-
-command_reads : (d : Data) (command : Command) → IsCommand d command → command_of d ≡ Some command
-unfolding command_of
-command_reads d command is =
-    ap (option_and_then (λ word. command_called word d)) is.1
-    ∙ by_word_reads (codes "cmd" ∷ []) commands commands_agree refl is.0 d command is.2
-
-known : (d : Data) (command : Command) → IsCommand d command → is_unknown d ≡ false
-unfolding is_unknown
-known d command is = ap is_other_word is.1 ∙ ap not (is_word (codes "cmd" ∷ []) commands is.0 d command is.2)
-
-all_known : (ds : Items) (xs : List Command) → AreEach IsCommand ds xs → has_unknown ds ≡ false
-all_known no_items [] all = refl
-all_known no_items (x ∷ xs) all = absurd all
-all_known (item d ds) [] all = absurd all
-all_known (item d ds) (x ∷ xs) all = ap (λ b. b || has_unknown ds) (known d x all.0) ∙ all_known ds xs all.1
+    ap (λ o. applied (applied (applied (Some a_query) o) (since.value (get since.name d))) (query_called word d)) (user_agrees.reads (get user.name d) name named)
+    ∙ ap (λ o. applied (applied (Some (a_query name)) o) (query_called word d)) (since_agrees.reads (get since.name d) version from)
+    ∙ ap (applied (Some (a_query name version))) (by_word_reads asking queries queries_agree refl word d query has)
 
 -- ---- batches
 

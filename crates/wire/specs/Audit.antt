@@ -7,7 +7,7 @@ use Rattle.wire.specs.declared.request.Request.{Request}
 use Rattle.wire.specs.declared.request.Request.TheVariants as request
 use Rattle.json_fields.specs.Form.{Member, Form, form, ◌with◌, applied, has_only, formed}
 use Rattle.json_fields.specs.Field.{number}
-use Rattle.wire.specs.Field.{user}
+use Rattle.message_fields.specs.Field.{user}
 
 -- ---- numbers from 1 to a limit
 

@@ -3,17 +3,19 @@
 -- own: the rows tell who gave which command and what it is about, and no result, card, percentage or reason.
 use Rattle.std.specs.Prelude.{ℕ, List, [], ◌∷◌, ◌++◌, map, codes}
 use Rattle.std.specs.Fmt.{decimal}
-use Rattle.serde_json.specs.Data.{Data, string, number, unsigned, array, object, member, no_members}
+use Rattle.serde_json.specs.Data.{Data, null, string, number, unsigned, array, object, member, no_members}
 use Rattle.serde_json.specs.View.{items_of}
 use Rattle.serde_json.specs.Written.{compact_text}
 use Rattle.rbac.specs.declared.role.Role.{Role}
 use Rattle.rbac.specs.Role.{role_name}
 use Rattle.session_book.specs.declared.audit.AuditRow.{AuditRow}
+use Rattle.session_state.specs.declared.actor.Actor.{Actor}
+use Rattle.session_state.specs.declared.actor.Actor.TheVariants.{User, Solver}
 use Rattle.session_state.specs.declared.command.Command.{Command}
 use Rattle.session_state.specs.declared.command.Command.TheVariants.{Enter, Confirm, Correct, Rule, Void, Hold, Release}
 use Rattle.session_state.specs.declared.command.Command.TheVariants.{Seat, Unseat, NextRound, Close, Finalise}
 use Rattle.session_state.specs.declared.command.Command.TheVariants.{AddUser, Assign, Deassign, AddInheritance}
-use Rattle.session_state.specs.declared.command.Command.TheVariants.{DeleteInheritance}
+use Rattle.session_state.specs.declared.command.Command.TheVariants.{DeleteInheritance, Solved, Analysed}
 
 -- how a command is called, as a message has it
 abbrev pub command_word : Command → List ℕ
@@ -34,6 +36,8 @@ command_word (Assign name role) = codes "Assign"
 command_word (Deassign name role) = codes "Deassign"
 command_word (AddInheritance senior junior) = codes "AddInheritance"
 command_word (DeleteInheritance senior junior) = codes "DeleteInheritance"
+command_word (Solved board solution) = codes "Solved"
+command_word (Analysed table board costs) = codes "Analysed"
 
 -- a cell: the table's number and the board's, as `2/14`
 abbrev pub cell_text : ℕ → ℕ → List ℕ
@@ -66,12 +70,19 @@ target (Assign name role) = assignment_text name role
 target (Deassign name role) = assignment_text name role
 target (AddInheritance senior junior) = inheritance_text senior junior
 target (DeleteInheritance senior junior) = inheritance_text senior junior
+target (Solved board solution) = decimal board
+target (Analysed table board costs) = cell_text table board
+
+-- who gave a command: a user's name, or null for the solver
+abbrev pub actor_data : Actor → Data
+actor_data (User name) = string name
+actor_data Solver = null
 
 -- an entry's number, who gave the command, how it is called, and what it is about
 abbrev pub row_data : AuditRow → Data
 row_data row =
     array (items_of (number (unsigned row.number)
-    ∷ string row.entry.actor
+    ∷ actor_data row.entry.actor
     ∷ string (command_word row.entry.command)
     ∷ string (target row.entry.command)
     ∷ []))

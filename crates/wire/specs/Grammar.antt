@@ -5,22 +5,16 @@ use Rattle.serde_json.specs.Data.{Data, Items}
 use Rattle.serde_json.specs.Read.{read}
 use Rattle.serde_json.specs.Find.{get, as_array, as_object}
 use Rattle.session_state.specs.declared.command.Command.{Command}
-use Rattle.published_view.specs.declared.query.Query.{Query}
+use Rattle.session_queries.specs.declared.query.Query.{Query}
 use Rattle.wire.specs.declared.audit_range.AuditRange.{AuditRange}
 use Rattle.json_fields.specs.Form.{has_only, words, HasForm, HasFormOf, AreEach}
 use Rattle.json_fields.specs.Field.{text_at}
-use Rattle.wire.specs.Field.{user, since}
-use Rattle.wire.specs.Command.{has_unknown, IsCommand}
-use Rattle.wire.specs.Query.{queries, asking}
+use Rattle.message_fields.specs.Field.{user, since}
+use Rattle.command_object.specs.Command.{has_unknown, IsCommand}
+use Rattle.query_object.specs.Query.{queries, asking}
 use Rattle.wire.specs.Request.{doing}
 use Rattle.wire.specs.Audit.{audit_range, auditing}
 use Rattle.session_book.specs.Run.{most_commands}
-
--- the line is a text, and the text is this object
-pub record IsObject (line : List ℕ) (d : Data) : Type 0 where
-  pub utf8 : (utf8_valid_len line == length line) ≡ true
-  pub reads : read line ≡ Some d
-  pub members : IsSome (as_object d)
 
 -- how many of the members that make a request are there
 abbrev pub request_count : Data → ℕ

@@ -1,14 +1,5 @@
-pub mod Reading
-pub mod Field
-pub mod Result
-pub mod User
-pub mod Play
-pub mod Command
-pub mod Query
 pub mod Audit
 pub mod Request
 pub mod Grammar
-pub mod TravellerText
-pub mod ReplyText
 pub mod ReceiptText
 pub mod AuditText

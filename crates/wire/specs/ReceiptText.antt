@@ -8,8 +8,8 @@ use Rattle.session_book.specs.declared.answer.Answer.{Answer}
 use Rattle.session_book.specs.declared.answer.Answer.TheVariants.{Accepted, Refused}
 use Rattle.session_state.specs.declared.refusal.Refusal.{Refusal}
 use Rattle.session_state.specs.declared.refusal.Refusal.TheVariants as refusal
-use Rattle.wire.specs.declared.request_fault.RequestFault.{RequestFault}
-use Rattle.wire.specs.declared.request_fault.RequestFault.TheVariants as fault
+use Rattle.message_fields.specs.declared.request_fault.RequestFault.{RequestFault}
+use Rattle.message_fields.specs.declared.request_fault.RequestFault.TheVariants as fault
 
 -- ---- receipts
 
@@ -49,6 +49,9 @@ refusal_name refusal.LastAdministrator = codes "LastAdministrator"
 refusal_name refusal.Cycle = codes "Cycle"
 refusal_name refusal.AlreadyThere = codes "AlreadyThere"
 refusal_name refusal.NotThere = codes "NotThere"
+refusal_name refusal.StrangeDeal = codes "StrangeDeal"
+refusal_name refusal.AlreadySolved = codes "AlreadySolved"
+refusal_name refusal.StrangePlay = codes "StrangePlay"
 refusal_name refusal.JournalFull = codes "JournalFull"
 refusal_name refusal.OutOfMemory = codes "OutOfMemory"
 refusal_name refusal.NotTried = codes "NotTried"

@@ -8,30 +8,30 @@ use Rattle.serde_json.specs.Read.{read}
 use Rattle.serde_json.specs.Find.{get, as_str, as_array, as_object}
 use Rattle.session_book.specs.Run.{most_commands}
 use Rattle.session_state.specs.declared.command.Command.{Command}
-use Rattle.published_view.specs.declared.query.Query.{Query}
+use Rattle.session_queries.specs.declared.query.Query.{Query}
 use Rattle.wire.specs.declared.request.Request.{Request}
 use Rattle.wire.specs.declared.request.Request.TheVariants as request
-use Rattle.wire.specs.declared.request_fault.RequestFault.{RequestFault}
-use Rattle.wire.specs.declared.request_fault.RequestFault.TheVariants.{Malformed, UnknownRequest, BadField}
-use Rattle.wire.specs.Reading.{wanted}
+use Rattle.message_fields.specs.declared.request_fault.RequestFault.{RequestFault}
+use Rattle.message_fields.specs.declared.request_fault.RequestFault.TheVariants.{Malformed, UnknownRequest, BadField}
+use Rattle.message_fields.specs.Reading.{wanted}
 use Rattle.json_fields.specs.Form.{applied, has_only, is_word_of, item_count}
-use Rattle.wire.specs.Field.{user, since}
-use Rattle.wire.specs.Query.{queries, query_called}
-use Rattle.wire.specs.Command.{has_unknown, commands_in}
+use Rattle.message_fields.specs.Field.{user, since}
+use Rattle.query_object.specs.Query.{queries, query_called}
+use Rattle.command_object.specs.Command.{has_unknown, commands_in}
 use Rattle.wire.specs.Audit.{audit_of}
 
 -- ---- queries
 
 -- the request for a query, in a name and from a version on
-abbrev pub a_query : List ℕ → Query → ℕ → Request
-a_query name query version = request.Query name query version
+abbrev pub a_query : List ℕ → ℕ → Query → Request
+a_query name version query = request.Query name query version
 
 -- the query of a word, its user and its version
 unfoldable pub query_of : List ℕ → Data → Option Request
 query_of word d =
     let name = user.value (get user.name d) in
     let version = since.value (get since.name d) in
-    applied (applied (applied (Some a_query) name) (query_called word d)) version
+    applied (applied (applied (Some a_query) name) version) (query_called word d)
 
 -- what is asked for has to be a text; one that names no query comes before all that is wrong elsewhere
 abbrev pub query_by : Option (List ℕ) → Data → Result Request RequestFault

@@ -3,11 +3,11 @@
 ghost use Rattle.std.specs.Prelude.{◌≡◌, map, IfOk, string_bytes};
 ghost use Rattle.serde_json.specs.Data.{array};
 ghost use Rattle.serde_json.specs.View.{view, items_of};
-ghost use Rattle.wire.specs.AuditText.{command_word, target, row_data, audit_data, audit_text, refusal_data, audit_refusal_text};
+ghost use Rattle.wire.specs.AuditText.{actor_data, command_word, target, row_data, audit_data, audit_text, refusal_data, audit_refusal_text};
 
 use serde_json::{Value, json};
 use session_book::{AuditRow, AuditRows};
-use session_state::Command;
+use session_state::{Actor, Command};
 use std::alloc::{AllocError, Global};
 
 /// The text of an audit's rows, where the journal has this version.
@@ -53,13 +53,24 @@ fn rows_value(alloc: Global, rows: &[AuditRow]) -> Result<Value, AllocError>
 fn row_value(alloc: Global, row: &AuditRow) -> Result<Value, AllocError>
     ensures { IfOk result (λ value. view value ≡ row_data row.now) }
 {
+    let actor = actor_value(alloc, row.entry.actor)?;
     let target = target_text(alloc, &row.entry.command)?;
     json!(in alloc; [
         row.number,
-        row.entry.actor.as_str(),
+        actor,
         command_word(&row.entry.command),
         target
     ])
+}
+
+// Who gave a command.
+fn actor_value(alloc: Global, actor: Actor) -> Result<Value, AllocError>
+    ensures { IfOk result (λ value. view value ≡ actor_data actor) }
+{
+    match actor {
+        Actor::User(name) => Value::try_from_str(alloc, name.as_str()),
+        Actor::Solver => Ok(Value::Null),
+    }
 }
 
 // How a command is called.
@@ -84,6 +95,8 @@ fn command_word(command: &Command) -> &'static str
         Command::Deassign { .. } => "Deassign",
         Command::AddInheritance { .. } => "AddInheritance",
         Command::DeleteInheritance { .. } => "DeleteInheritance",
+        Command::Solved { .. } => "Solved",
+        Command::Analysed { .. } => "Analysed",
     }
 }
 
@@ -96,8 +109,11 @@ fn target_text(alloc: Global, command: &Command) -> Result<String, AllocError>
         | Command::Confirm { table, board, .. }
         | Command::Correct { table, board, .. }
         | Command::Rule { table, board, .. }
-        | Command::Void { table, board } => format!(in alloc; "{table}/{board}"),
-        Command::Hold { board } | Command::Release { board } => board.to_string(alloc),
+        | Command::Void { table, board }
+        | Command::Analysed { table, board, .. } => format!(in alloc; "{table}/{board}"),
+        Command::Hold { board } | Command::Release { board } | Command::Solved { board, .. } => {
+            board.to_string(alloc)
+        }
         Command::Seat { name, .. } | Command::Unseat { name } | Command::AddUser { name, .. } => {
             name.to_string(alloc)
         }

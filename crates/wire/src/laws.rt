@@ -2,12 +2,13 @@
 
 ghost use Rattle.std.specs.Prelude.{◌≡◌, ◌↔◌, ℕ, List, Ok, Err};
 ghost use Rattle.serde_json.specs.Data.{Data};
-ghost use Rattle.wire.specs.declared.request_fault.RequestFault.TheVariants.{Malformed, UnknownRequest, BadField};
-ghost use Rattle.published_view.specs.declared.query.Query.{Query};
+ghost use Rattle.message_fields.specs.declared.request_fault.RequestFault.TheVariants.{Malformed, UnknownRequest, BadField};
+ghost use Rattle.session_queries.specs.declared.query.Query.{Query};
 ghost use Rattle.wire.specs.declared.audit_range.AuditRange.{AuditRange};
 ghost use Rattle.wire.specs.declared.request.Request.TheVariants as request;
 ghost use Rattle.session_state.specs.declared.command.Command.{Command};
-ghost use Rattle.wire.specs.Grammar.{IsObject, IsUnknownRequest, IsQuery, IsBatch, IsAudit, IsNoRequest};
+ghost use Rattle.message_fields.specs.Object.{IsObject};
+ghost use Rattle.wire.specs.Grammar.{IsUnknownRequest, IsQuery, IsBatch, IsAudit, IsNoRequest};
 ghost use Rattle.wire.specs.Request.{meaning};
 
 /// A line is malformed exactly where it is no object's text.

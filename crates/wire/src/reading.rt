@@ -3,36 +3,35 @@
 ghost use Rattle.std.specs.Prelude.{◌≡◌, IfOk};
 ghost use Rattle.serde_json.specs.Find.{as_str, as_array};
 ghost use Rattle.serde_json.specs.View.{view, items_view};
-ghost use Rattle.wire.specs.Reading.{wanted, Gives};
+ghost use Rattle.message_fields.specs.Reading.{wanted, Gives};
 ghost use Rattle.wire.specs.Request.{query_of, query_by, batch_of, batch_by, request_of, text_meaning, meaning, HasFew};
 
 use crate::audit_reading::audit_of;
-use crate::command::{commands_in, has_unknown};
-use crate::field::{since_of, user_of};
-use crate::query::{is_query_word, query_called};
 use crate::request::Request;
-use crate::request_fault::RequestFault;
+use command_object::{commands_in, has_unknown};
 use json_fields::has_only;
+use message_fields::{RequestFault, since_of, user_of};
+use query_object::{is_query_word, query_called};
 use serde_json::Value;
 use session_book::Book;
 use std::alloc::Global;
 use std::str;
 
 #[tactic(auto, unfolding(crate::specs::Request::query_of))]
-fn query_of(word: &str, value: &Value) -> Result<Request, RequestFault>
-    ensures { result ≡ wanted (query_of word.now (view value.now)) }
+fn query_of(alloc: Global, word: &str, value: &Value) -> Result<Request, RequestFault>
+    ensures { Gives result (wanted (query_of word.now (view value.now))) }
 {
     let user = user_of(value)?;
-    let query = query_called(word, value)?;
     let since = since_of(value)?;
+    let query = query_called(alloc, word, value)?;
     Ok(Request::Query { user, query, since })
 }
 
-fn query_by(ask: &Value, value: &Value) -> Result<Request, RequestFault>
-    ensures { result ≡ query_by (as_str (view ask.now)) (view value.now) }
+fn query_by(alloc: Global, ask: &Value, value: &Value) -> Result<Request, RequestFault>
+    ensures { Gives result (query_by (as_str (view ask.now)) (view value.now)) }
 {
     match ask.as_str() {
-        Some(word) if is_query_word(word) => query_of(word, value),
+        Some(word) if is_query_word(word) => query_of(alloc, word, value),
         Some(_) => Err(RequestFault::UnknownRequest),
         None => Err(RequestFault::BadField),
     }
@@ -73,7 +72,7 @@ fn request_of(alloc: Global, value: &Value) -> Result<Request, RequestFault>
         return Err(RequestFault::UnknownRequest);
     }
     match (value.get("ask"), value.get("do"), value.get("audit")) {
-        (Some(ask), None, None) => query_by(ask, value),
+        (Some(ask), None, None) => query_by(alloc, ask, value),
         (None, Some(list), None) => batch_by(alloc, list, value),
         (None, None, Some(rows)) => audit_of(rows, value),
         _ => Err(RequestFault::UnknownRequest),

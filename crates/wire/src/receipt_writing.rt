@@ -5,7 +5,7 @@ ghost use Rattle.serde_json.specs.Data.{array, string};
 ghost use Rattle.serde_json.specs.View.{view};
 ghost use Rattle.wire.specs.ReceiptText.{refusal_name, about, refusal_text, answer_data, answers_data, receipt_data, receipt_text, fault_text};
 
-use crate::request_fault::RequestFault;
+use message_fields::RequestFault;
 use serde_json::{Value, json};
 use session_book::{Answer, Submission};
 use session_state::Refusal;
@@ -117,6 +117,9 @@ fn refusal_name(refusal: &Refusal) -> &'static str
         Refusal::Cycle => "Cycle",
         Refusal::AlreadyThere => "AlreadyThere",
         Refusal::NotThere => "NotThere",
+        Refusal::StrangeDeal => "StrangeDeal",
+        Refusal::AlreadySolved => "AlreadySolved",
+        Refusal::StrangePlay => "StrangePlay",
         Refusal::JournalFull => "JournalFull",
         Refusal::OutOfMemory => "OutOfMemory",
         Refusal::NotTried => "NotTried",

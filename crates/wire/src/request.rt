@@ -1,12 +1,12 @@
 use crate::audit_range::AuditRange;
-use crate::commands::Commands;
 use cards::Name;
-use published_view::Query;
+use command_object::Commands;
+use session_queries::Query;
 
 /// What a line asks for or wants done, and in whose name.
 #[derive(Drop)]
 pub enum Request {
-    /// Asks for a board or for the results on it, as they are at a version no older than `since`.
+    /// Asks for what a query asks, as it is at a version no older than `since`.
     Query {
         user: Name,
         query: Query,

@@ -1,7 +1,7 @@
 //! The texts of faults.
 
+use message_fields::RequestFault;
 use std::test::Fail;
-use wire::RequestFault;
 
 #[test]
 fn names_what_is_wrong_with_a_message(rt: HostRuntime) -> Result<(), Fail> {

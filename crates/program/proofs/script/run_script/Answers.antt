@@ -14,7 +14,7 @@ returns-in-Ok-clause-ended g c =
     let reader = g.R.Read.remaining c.args.reader.now in
     let writer = g.W.Write.contents c.args.writer.now in
     ended_from reader writer _ _ c.respond_after.result (λ input known. c.respond_after.ensures.ends input writer
-    (subst (λ o. StandsAfter c.in-Ok.run'.first o writer (g.R.Read.remaining c.open.new.reader) writer c.in-Ok.run'.book c.in-Ok.run'.left) known (c.in-Ok.ensures.opened writer)))
+    (subst (λ o. StandsAfter c.in-Ok.run'.first o writer (g.R.Read.remaining c.open.new.reader) writer c.in-Ok.run'.keeper c.in-Ok.run'.left) known (c.in-Ok.ensures.opened writer)))
 
 pub returns-in-Err-clause-ended : goal.returns-in-Err-clause-ended
 returns-in-Err-clause-ended g c = c.in-Err.ensures.ended (g.W.Write.contents c.args.writer.now)

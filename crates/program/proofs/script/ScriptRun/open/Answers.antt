@@ -14,8 +14,8 @@ returns-in-Ok-clause-opened g c writer =
     let line : List ℕ = c.read_short_line.new.line.items in
     let takes : TakesUpTo (Some c.in-Ok-Some.first) reader after line most_bytes script_limit c.read_short_line.new.left =
     subst (λ o. TakesUpTo o reader after line most_bytes script_limit c.read_short_line.new.left) c.in-Ok-Some.field-0-is c.in-Ok-Some.ensures.line in
-    begins reader after writer c.in-Ok.book c.read_short_line.new.left line c.in-Ok-Some.first
-    (subst (λ l. Opens l c.in-Ok.book.opening) c.as_slice.ensures.value c.in-Ok.ensures.opens) c.in-Ok.ensures.journal takes.0
+    begins reader after writer c.in-Ok.keeper c.read_short_line.new.left line c.in-Ok-Some.first
+    (subst (λ l. Opens l c.in-Ok.keeper.opening) c.as_slice.ensures.value c.in-Ok.ensures.opens) c.in-Ok.ensures.journal takes.0
 
 pub returns-in-Err-open_session-clause-ended : goal.returns-in-Err-open_session-clause-ended
 returns-in-Err-open_session-clause-ended g c writer =

@@ -19,22 +19,22 @@ returns-in-Ok-respond-clause-goes_on g c input before at =
     let (text, tells, whole, part) = c.respond.ensures.response in
     let some : 1 ≤ vec_len c.read_line.new.line = search rules in
     responded_next input before (g.R.Read.remaining c.args.reader.now) (g.R.Read.remaining c.read_line.new.reader) (g.W.Write.contents c.args.writer.now) (g.W.Write.contents c.respond.new.writer)
-    c.args.self.now.book c.respond.new.book c.args.self.now.left c.read_line.new.left c.read_line.new.line.items c.in-Ok.end at c.in-Ok.ensures.line
+    c.args.self.now.keeper c.respond.new.keeper c.args.self.now.left c.read_line.new.left c.read_line.new.line.items c.in-Ok.end at c.in-Ok.ensures.line
     (subst (λ n. 1 ≤ n) c.read_line.new.line.ok.0 some) c.respond.ensures.opening text
-    (subst (λ l. Responds c.args.self.now.book.opening c.args.self.now.book.journal l c.respond.new.book.journal text) c.as_slice.ensures.value tells) (search rules)
+    (subst (λ l. Responds c.args.self.now.keeper.opening c.args.self.now.keeper.journal l c.respond.new.keeper.journal text) c.as_slice.ensures.value tells) (search rules)
 
 pub returns-in-Err-respond-clause-ends : goal.returns-in-Err-respond-clause-ends
 returns-in-Err-respond-clause-ends g c input before at =
     let (text, tells, whole, part) = c.respond.ensures.response in
     let some : 1 ≤ vec_len c.read_line.new.line = search rules in
     broken input before (g.R.Read.remaining c.args.reader.now) (g.R.Read.remaining c.read_line.new.reader) (g.W.Write.contents c.args.writer.now) (g.W.Write.contents c.respond.new.writer)
-    c.args.self.now.book c.args.self.now.left c.read_line.new.left c.read_line.new.line.items c.in-Ok.end at c.in-Ok.ensures.line
-    (subst (λ n. 1 ≤ n) c.read_line.new.line.ok.0 some) c.respond.new.book.journal text
-    (subst (λ l. Responds c.args.self.now.book.opening c.args.self.now.book.journal l c.respond.new.book.journal text) c.as_slice.ensures.value tells) (search rules)
+    c.args.self.now.keeper c.args.self.now.left c.read_line.new.left c.read_line.new.line.items c.in-Ok.end at c.in-Ok.ensures.line
+    (subst (λ n. 1 ≤ n) c.read_line.new.line.ok.0 some) c.respond.new.keeper.journal text
+    (subst (λ l. Responds c.args.self.now.keeper.opening c.args.self.now.keeper.journal l c.respond.new.keeper.journal text) c.as_slice.ensures.value tells) (search rules)
 
 pub returns-in-Err-clause-ends : goal.returns-in-Err-clause-ends
 returns-in-Err-clause-ends g c input before at =
     let reader = g.R.Read.remaining c.read_line.new.reader in
     let writer = g.W.Write.contents c.args.writer.now in
     subst (λ fault. EndsWith fault input reader before writer) (sym c.fault_of_read.ensures)
-    (cut_short c.in-Err.fault input before (g.R.Read.remaining c.args.reader.now) reader writer c.args.self.now.book c.args.self.now.left c.read_line.new.left c.read_line.new.line.items at c.in-Err.ensures.which)
+    (cut_short c.in-Err.fault input before (g.R.Read.remaining c.args.reader.now) reader writer c.args.self.now.keeper c.args.self.now.left c.read_line.new.left c.read_line.new.line.items at c.in-Err.ensures.which)

@@ -1,0 +1,3 @@
+pub mod Optional
+pub mod List
+pub mod Query

@@ -1,0 +1,49 @@
+-- The queries: objects, each with its word in the member `ask`.
+use Rattle.std.specs.Prelude.{ℕ, List, [], ◌∷◌, codes, Option, IsSome}
+use Rattle.serde_json.specs.Data.{Data}
+use Rattle.movement.specs.declared.cell.Cell.{Cell}
+use Rattle.session_queries.specs.declared.query.Query.{Query}
+use Rattle.session_queries.specs.declared.query.Query.TheVariants as query
+use Rattle.json_fields.specs.Form.{Form, form, ◌with◌, by_word}
+use Rattle.message_fields.specs.Field.{table, board}
+use Rattle.query_object.specs.List.{filter, from, limit}
+
+-- the cell of a table and a board
+abbrev pub cell : ℕ → ℕ → Cell
+cell table board = record { table = table; board = board }
+
+-- each query: its word and its members; those of `list` may be left out
+abbrev pub queries : List (Form Query)
+queries =
+    form (codes "status") query.Status
+    ∷ form (codes "ranking") query.Ranking
+    ∷ form (codes "accounts") query.Accounts
+    ∷ (form (codes "board") (λ b. query.Board b) with board)
+    ∷ (form (codes "traveller") (λ b. query.Traveller b) with board)
+    ∷ (form (codes "analysis") (λ b. query.Analysis b) with board)
+    ∷ (form (codes "play") (λ t b. query.Play (cell t b)) with table with board)
+    ∷ (form (codes "costs") (λ t b. query.Costs (cell t b)) with table with board)
+    ∷ (form (codes "reason") (λ t b. query.Reason (cell t b)) with table with board)
+    ∷ (form (codes "list") (λ f n most. query.List f n most) with filter with from with limit)
+    ∷ []
+
+-- what every query may have beside its own members; `since` may be left out
+abbrev pub asking : List (List ℕ)
+asking = codes "ask" ∷ codes "as" ∷ codes "since" ∷ []
+
+-- the query of a word
+abbrev pub query_called : List ℕ → Data → Option Query
+query_called word d = by_word asking queries word d
+
+-- a list of the boards of which a filter holds
+abbrev pub IsFiltered : Query → Type 0
+IsFiltered query.Status = ⊥
+IsFiltered (query.Board _) = ⊥
+IsFiltered (query.Traveller _) = ⊥
+IsFiltered (query.Analysis _) = ⊥
+IsFiltered (query.Play _) = ⊥
+IsFiltered (query.Costs _) = ⊥
+IsFiltered (query.Reason _) = ⊥
+IsFiltered (query.List by _ _) = IsSome by
+IsFiltered query.Ranking = ⊥
+IsFiltered query.Accounts = ⊥

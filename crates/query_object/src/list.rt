@@ -1,0 +1,76 @@
+//! A list of boards as a message asks for it.
+
+ghost use Rattle.std.specs.Prelude.{◌≡◌, codes, Err, IsSome, IsSomeAnd};
+ghost use Rattle.serde_json.specs.Find.{get};
+ghost use Rattle.serde_json.specs.View.{view};
+ghost use Rattle.message_fields.specs.Reading.{wanted, Gives};
+ghost use Rattle.message_fields.specs.declared.request_fault.RequestFault.TheVariants.{OutOfMemory};
+ghost use Rattle.query_object.specs.List.{filter, from, limit};
+ghost use Rattle.query_object.specs.Query.{query_called, IsFiltered};
+
+use filter_object::{FilterFault, read_filter};
+use json_fields::has_only;
+use message_fields::{RequestFault, small_at};
+use query_filter::Filter;
+use serde_json::Value;
+use session_queries::Query;
+use std::alloc::Global;
+
+// The greatest limit, and the one where none is asked for.
+const MOST_BOARDS: u8 = 64;
+
+fn from_of(value: &Value) -> Result<u8, RequestFault>
+    ensures { result ≡ wanted (from.value (get from.name (view value.now))) }
+{
+    match value.get("from") {
+        Some(_) => small_at(value, "from"),
+        None => Ok(1),
+    }
+}
+
+fn limit_of(value: &Value) -> Result<u8, RequestFault>
+    ensures { result ≡ wanted (limit.value (get limit.name (view value.now))) }
+{
+    if value.get("limit").is_none() {
+        return Ok(MOST_BOARDS);
+    }
+    let limit = small_at(value, "limit")?;
+    if 1 <= limit && limit <= MOST_BOARDS {
+        Ok(limit)
+    } else {
+        Err(RequestFault::BadField)
+    }
+}
+
+fn filter_of(alloc: Global, value: &Value) -> Result<Option<Filter>, RequestFault>
+    ensures filter { Gives result (wanted (filter.value (get filter.name (view value.now)))) }
+    ensures memory { result ≡ Err OutOfMemory →
+        IsSomeAnd (filter.value (get filter.name (view value.now))) (λ asked. IsSome asked) }
+{
+    let Some(member) = value.get("filter") else {
+        return Ok(None);
+    };
+    match read_filter(alloc, member) {
+        Ok(filter) => Ok(Some(filter)),
+        Err(FilterFault::BadField) => Err(RequestFault::BadField),
+        Err(FilterFault::OutOfMemory) => Err(RequestFault::OutOfMemory),
+    }
+}
+
+pub(crate) fn list_query(alloc: Global, value: &Value) -> Result<Query, RequestFault>
+    ensures query { Gives result (wanted (query_called (codes "list") (view value.now))) }
+    ensures memory { result ≡ Err OutOfMemory → IsSomeAnd (query_called (codes "list") (view value.now)) IsFiltered }
+{
+    if !has_only(value, &["ask", "as", "since", "filter", "from", "limit"]) {
+        return Err(RequestFault::BadField);
+    }
+    // The filter comes last, since it alone takes memory.
+    let from = from_of(value)?;
+    let limit = limit_of(value)?;
+    let filter = filter_of(alloc, value)?;
+    Ok(Query::List {
+        filter,
+        from,
+        limit,
+    })
+}

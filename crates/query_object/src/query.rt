@@ -1,0 +1,143 @@
+//! The queries, each by its word.
+
+ghost use Rattle.std.specs.Prelude.{◌≡◌, codes, Err, IsSomeAnd};
+ghost use Rattle.serde_json.specs.View.{view};
+ghost use Rattle.json_fields.specs.Form.{is_word_of};
+ghost use Rattle.message_fields.specs.Reading.{wanted, Gives};
+ghost use Rattle.message_fields.specs.declared.request_fault.RequestFault.TheVariants.{OutOfMemory};
+ghost use Rattle.query_object.specs.Query.{queries, query_called, IsFiltered};
+
+use crate::list::list_query;
+use json_fields::has_only;
+use message_fields::{RequestFault, small_at};
+use movement::Cell;
+use serde_json::Value;
+use session_queries::Query;
+use std::alloc::Global;
+
+/// Whether a query is called so.
+pub fn is_query_word(word: &str) -> bool
+    ensures { result ≡ is_word_of queries word.now }
+{
+    word == "status"
+        || word == "ranking"
+        || word == "accounts"
+        || word == "board"
+        || word == "traveller"
+        || word == "analysis"
+        || word == "play"
+        || word == "costs"
+        || word == "reason"
+        || word == "list"
+}
+
+fn status_query(value: &Value) -> Result<Query, RequestFault>
+    ensures { result ≡ wanted (query_called (codes "status") (view value.now)) }
+{
+    if !has_only(value, &["ask", "as", "since"]) {
+        return Err(RequestFault::BadField);
+    }
+    Ok(Query::Status)
+}
+
+fn ranking_query(value: &Value) -> Result<Query, RequestFault>
+    ensures { result ≡ wanted (query_called (codes "ranking") (view value.now)) }
+{
+    if !has_only(value, &["ask", "as", "since"]) {
+        return Err(RequestFault::BadField);
+    }
+    Ok(Query::Ranking)
+}
+
+fn accounts_query(value: &Value) -> Result<Query, RequestFault>
+    ensures { result ≡ wanted (query_called (codes "accounts") (view value.now)) }
+{
+    if !has_only(value, &["ask", "as", "since"]) {
+        return Err(RequestFault::BadField);
+    }
+    Ok(Query::Accounts)
+}
+
+fn board_query(value: &Value) -> Result<Query, RequestFault>
+    ensures { result ≡ wanted (query_called (codes "board") (view value.now)) }
+{
+    if !has_only(value, &["ask", "as", "since", "board"]) {
+        return Err(RequestFault::BadField);
+    }
+    let board = small_at(value, "board")?;
+    Ok(Query::Board(board))
+}
+
+fn traveller_query(value: &Value) -> Result<Query, RequestFault>
+    ensures { result ≡ wanted (query_called (codes "traveller") (view value.now)) }
+{
+    if !has_only(value, &["ask", "as", "since", "board"]) {
+        return Err(RequestFault::BadField);
+    }
+    let board = small_at(value, "board")?;
+    Ok(Query::Traveller(board))
+}
+
+fn analysis_query(value: &Value) -> Result<Query, RequestFault>
+    ensures { result ≡ wanted (query_called (codes "analysis") (view value.now)) }
+{
+    if !has_only(value, &["ask", "as", "since", "board"]) {
+        return Err(RequestFault::BadField);
+    }
+    let board = small_at(value, "board")?;
+    Ok(Query::Analysis(board))
+}
+
+fn play_query(value: &Value) -> Result<Query, RequestFault>
+    ensures { result ≡ wanted (query_called (codes "play") (view value.now)) }
+{
+    if !has_only(value, &["ask", "as", "since", "table", "board"]) {
+        return Err(RequestFault::BadField);
+    }
+    let table = small_at(value, "table")?;
+    let board = small_at(value, "board")?;
+    Ok(Query::Play(Cell { table, board }))
+}
+
+fn costs_query(value: &Value) -> Result<Query, RequestFault>
+    ensures { result ≡ wanted (query_called (codes "costs") (view value.now)) }
+{
+    if !has_only(value, &["ask", "as", "since", "table", "board"]) {
+        return Err(RequestFault::BadField);
+    }
+    let table = small_at(value, "table")?;
+    let board = small_at(value, "board")?;
+    Ok(Query::Costs(Cell { table, board }))
+}
+
+fn reason_query(value: &Value) -> Result<Query, RequestFault>
+    ensures { result ≡ wanted (query_called (codes "reason") (view value.now)) }
+{
+    if !has_only(value, &["ask", "as", "since", "table", "board"]) {
+        return Err(RequestFault::BadField);
+    }
+    let table = small_at(value, "table")?;
+    let board = small_at(value, "board")?;
+    Ok(Query::Reason(Cell { table, board }))
+}
+
+/// The query of a word. Memory is refused only of a list by a filter, and only where each of its members is as it
+/// should be.
+pub fn query_called(alloc: Global, word: &str, value: &Value) -> Result<Query, RequestFault>
+    ensures query { Gives result (wanted (query_called word.now (view value.now))) }
+    ensures memory { result ≡ Err OutOfMemory → IsSomeAnd (query_called word.now (view value.now)) IsFiltered }
+{
+    match word {
+        "status" => status_query(value),
+        "ranking" => ranking_query(value),
+        "accounts" => accounts_query(value),
+        "board" => board_query(value),
+        "traveller" => traveller_query(value),
+        "analysis" => analysis_query(value),
+        "play" => play_query(value),
+        "costs" => costs_query(value),
+        "reason" => reason_query(value),
+        "list" => list_query(alloc, value),
+        _ => Err(RequestFault::BadField),
+    }
+}

@@ -1,0 +1,118 @@
+-- A reply has no float.
+use Rattle.std.proofs.Common.{◌≡◌, ℕ, ℤ, pos, negsuc, List, [], ◌∷◌, ◌||◌, Option, Some, None, false, refl, ap}
+use Rattle.std.specs.Prelude.{take}
+use Rattle.std.specs.List.{range_with_len}
+use Rattle.serde_json.specs.Data.{Data}
+use Rattle.serde_json.specs.Find.{of_integer, is_float}
+use Rattle.serde_json.specs.Written.{has_float}
+use Rattle.cards.specs.declared.pair.Pair.{Pair}
+use Rattle.movement.specs.Movement.{boards_of}
+use Rattle.disclosure_rules.specs.declared.public.Public.{Public}
+use Rattle.rbac.specs.declared.account.Account.{Account}
+use Rattle.rbac.specs.Role.{roles_that, has}
+use Rattle.scoring.specs.declared.outcome.Outcome.{Outcome}
+use Rattle.scoring.specs.declared.outcome.Outcome.TheVariants as outcome
+use Rattle.session_queries.specs.declared.body.Body.{Body}
+use Rattle.session_queries.specs.declared.body.Body.TheVariants as body
+use Rattle.session_queries.specs.declared.reply.Reply.{Reply}
+use Rattle.session_state.specs.declared.seated.Seated.{Seated}
+use Rattle.shown_facts.specs.declared.card_costs.CardCosts.{CardCosts}
+use Rattle.shown_facts.specs.declared.card_costs.CardCosts.TheVariants.{Pending, NoCards, Each, NotAPlay}
+use Rattle.standings.specs.declared.row_result.RowResult.{RowResult}
+use Rattle.standings.specs.declared.row_result.RowResult.TheVariants.{Played, Ruled}
+use Rattle.standings.specs.declared.traveller_row.TravellerRow.{TravellerRow}
+use Rattle.reply_texts.specs.DataOf.{number_data, list_data, option_data}
+use Rattle.reply_texts.specs.StatusText.{held_boards, live_tables, tables_data, live_data, mark_data, marks_data, seat_data, status_data}
+use Rattle.reply_texts.specs.BoardText.{tricks_data}
+use Rattle.reply_texts.specs.TravellerText.{outcome_data, result_data, row_data}
+use Rattle.reply_texts.specs.TableText.{card_data, card_costs_data}
+use Rattle.reply_texts.specs.ListText.{standing_data, role_data, account_data, inheritance_data}
+use Rattle.reply_texts.specs.ReplyText.{body_data, reply_data}
+
+-- ---- lists, and what may be absent
+
+none_in_a_list : {A : Type 0} (data_of : A → Data) → ((x : A) → has_float (data_of x) ≡ false) → (xs : List A)
+    → has_float (list_data data_of xs) ≡ false
+none_in_a_list data_of none [] = refl
+none_in_a_list data_of none (x ∷ xs) = λ i. none x i || none_in_a_list data_of none xs i
+
+none_in_an_option : {A : Type 0} (data_of : A → Data) → ((x : A) → has_float (data_of x) ≡ false) → (o : Option A)
+    → has_float (option_data data_of o) ≡ false
+none_in_an_option data_of none None = refl
+none_in_an_option data_of none (Some x) = none x
+
+none_in_numbers : (numbers : List ℕ) → has_float (list_data number_data numbers) ≡ false
+none_in_numbers numbers = none_in_a_list number_data (λ n. refl) numbers
+
+none_in_an_integer : (z : ℤ) → is_float (of_integer z) ≡ false
+none_in_an_integer (pos n) = refl
+none_in_an_integer (negsuc n) = refl
+
+-- ---- each kind of reply
+
+none_in_marks : (public : Public) → has_float (marks_data public) ≡ false
+none_in_marks public = none_in_a_list mark_data (λ marks. refl) (take (boards_of public.movement) public.marks)
+
+none_in_live_tables : (public : Public) → has_float (live_data public) ≡ false
+none_in_live_tables public =
+    none_in_a_list
+    (tables_data public)
+    (λ board. none_in_numbers (live_tables public board))
+    (range_with_len 1 (boards_of public.movement))
+
+none_in_a_status : (public : Public) (seats : List Seated) → has_float (status_data public seats) ≡ false
+none_in_a_status public seats =
+    λ i. none_in_numbers (held_boards public) i
+    || (none_in_live_tables public i
+    || (none_in_marks public i
+    || (false || (false || (false || (false
+    || (none_in_a_list seat_data (λ seated. refl) seats i || (false || false))))))))
+
+none_in_an_outcome : (outcome : Outcome) → has_float (outcome_data outcome) ≡ false
+none_in_an_outcome outcome.PassedOut = refl
+none_in_an_outcome (outcome.Played contract tricks) = refl
+
+none_in_a_result : (table : ℕ) (north_south east_west : Pair) (found : RowResult)
+    → has_float (result_data table north_south east_west found) ≡ false
+none_in_a_result table north_south east_west (Played outcome score points) =
+    λ i. none_in_an_outcome outcome i || (none_in_an_integer score i || false)
+none_in_a_result table north_south east_west (Ruled first second) = refl
+
+none_in_a_row : (row : TravellerRow) → has_float (row_data row) ≡ false
+none_in_a_row row = none_in_a_result row.table row.north_south row.east_west row.result
+
+none_in_costs : (costs : CardCosts) → has_float (card_costs_data costs) ≡ false
+none_in_costs Pending = refl
+none_in_costs NoCards = refl
+none_in_costs (Each costs) = none_in_numbers costs
+none_in_costs (NotAPlay number) = refl
+
+none_in_an_account : (account : Account) → has_float (account_data account) ≡ false
+none_in_an_account account =
+    ap (λ b. b || false) (none_in_a_list role_data (λ role. refl) (roles_that (has account.assigned)))
+
+none_in_a_body : (body : Body) → has_float (body_data body) ≡ false
+none_in_a_body body.NoSuchBoard = refl
+none_in_a_body body.NoSuchCell = refl
+none_in_a_body body.Behind = refl
+none_in_a_body (body.Denied denial) = refl
+none_in_a_body (body.Status public seats) = none_in_a_status public seats
+none_in_a_body (body.Board number hands marks) = refl
+none_in_a_body (body.Traveller number rows) = ap (λ b. b || false) (none_in_a_list row_data none_in_a_row rows)
+none_in_a_body (body.Analysis number tricks) =
+    ap (λ b. b || false) (none_in_an_option tricks_data (λ table. refl) tricks)
+none_in_a_body (body.Play cell cards) =
+    ap (λ b. b || (false || false))
+    (none_in_an_option (list_data card_data) (none_in_a_list card_data (λ card. refl)) cards)
+none_in_a_body (body.Costs cell costs) =
+    ap (λ b. b || (false || false)) (none_in_an_option card_costs_data none_in_costs costs)
+none_in_a_body (body.Reason cell code) =
+    ap (λ b. b || (false || false)) (none_in_an_option number_data (λ n. refl) code)
+none_in_a_body (body.List boards more) = ap (λ b. b || (false || false)) (none_in_numbers boards)
+none_in_a_body (body.Ranking standings) = none_in_a_list standing_data (λ standing. refl) standings
+none_in_a_body (body.Accounts users pairs) =
+    λ i. none_in_a_list inheritance_data (λ pair. refl) pairs i
+    || (none_in_a_list account_data none_in_an_account users i || false)
+
+pub none_in_a_reply : (reply : Reply) → has_float (reply_data reply) ≡ false
+none_in_a_reply reply = ap (λ b. b || (false || false)) (none_in_a_body reply.body)

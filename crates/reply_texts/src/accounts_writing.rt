@@ -1,0 +1,61 @@
+//! What is written of the accounts and the role hierarchy.
+
+ghost use Rattle.std.specs.Prelude.{◌≡◌, IfOk};
+ghost use Rattle.rbac.specs.Role.{roles_that, has};
+ghost use Rattle.serde_json.specs.View.{view};
+ghost use Rattle.reply_texts.specs.ListText.{role_data, account_data, inheritance_data, accounts_data};
+
+use crate::to_json::{ToJson, list_value};
+use rbac::{Account, Inheritance, Role, RoleSet};
+use serde_json::{Value, json};
+use std::alloc::{AllocError, Global};
+
+pub(crate) fn accounts_value(
+    alloc: Global,
+    users: &[Account],
+    pairs: &[Inheritance],
+) -> Result<Value, AllocError>
+    ensures { IfOk result (λ value. view value ≡ accounts_data users.now pairs.now) }
+{
+    let inherits = list_value(alloc, pairs)?;
+    let users = list_value(alloc, users)?;
+    json!(in alloc; {"inherits": inherits, "users": users})
+}
+
+impl ToJson for Inheritance {
+    ghost json = { inheritance_data };
+
+    fn to_json(&self, alloc: Global) -> Result<Value, AllocError> {
+        json!(in alloc; [self.senior.name(), self.junior.name()])
+    }
+}
+
+impl ToJson for Account {
+    ghost json = { account_data };
+
+    fn to_json(&self, alloc: Global) -> Result<Value, AllocError> {
+        let assigned = assigned_roles(alloc, self.assigned)?;
+        let roles = list_value(alloc, assigned.as_slice())?;
+        json!(in alloc; [self.name.as_str(), roles])
+    }
+}
+
+impl ToJson for Role {
+    ghost json = { role_data };
+
+    fn to_json(&self, alloc: Global) -> Result<Value, AllocError> {
+        Value::try_from_str(alloc, self.name())
+    }
+}
+
+// The roles of a set, in their order.
+#[tactic(auto, unfolding(rbac::specs::Role::roles_that))]
+fn assigned_roles(alloc: Global, assigned: RoleSet) -> Result<Vec<Role>, AllocError>
+    ensures { IfOk result (λ found. found.items ≡ roles_that (has assigned)) }
+{
+    Role::ALL
+        .iter()
+        .copied()
+        .filter(|role| assigned.has(*role))
+        .collect(alloc)
+}

@@ -1,0 +1,126 @@
+//! What is written of a session's status.
+
+ghost use Rattle.std.specs.Prelude.{◌≡◌, IfOk};
+ghost use Rattle.serde_json.specs.View.{view};
+ghost use Rattle.reply_texts.specs.DataOf.{number_data, list_data};
+ghost use Rattle.reply_texts.specs.StatusText.{phase_name, held_boards, live_tables, tables_data, live_data, mark_data};
+ghost use Rattle.reply_texts.specs.StatusText.{marks_data, seat_data, status_data};
+
+use crate::to_json::{ToJson, list_value};
+use disclosure_rules::{Marks, Phase, Public};
+use movement::Cell;
+use serde_json::{Value, json};
+use session_state::Seated;
+use std::alloc::{AllocError, Global};
+
+pub(crate) fn status_value(
+    alloc: Global,
+    public: &Public,
+    seats: &[Seated],
+) -> Result<Value, AllocError>
+    ensures { IfOk result (λ value. view value ≡ status_data public.now seats.now) }
+{
+    json!(in alloc; {
+        "held": held_value(alloc, public)?,
+        "live": live_value(alloc, public)?,
+        "marks": marks_value(alloc, public)?,
+        "per_set": public.movement.per_set(),
+        "phase": phase_name(public.phase),
+        "round": public.round,
+        "rounds": public.movement.rounds(),
+        "seats": list_value(alloc, seats)?,
+        "tables": public.movement.tables()
+    })
+}
+
+fn held_value(alloc: Global, public: &Public) -> Result<Value, AllocError>
+    ensures { IfOk result (λ value. view value ≡ list_data number_data (held_boards public.now)) }
+{
+    let boards = held_boards(alloc, public)?;
+    list_value(alloc, boards.as_slice())
+}
+
+// The boards of the section that are held.
+#[tactic(auto, using(crate::proofs::RangeLemmas::numbers_with_next, crate::proofs::RangeLemmas::numbers_without_next))]
+fn held_boards(alloc: Global, public: &Public) -> Result<Vec<u8>, AllocError>
+    ensures { IfOk result (λ boards. boards.items ≡ held_boards public.now) }
+{
+    let mut boards = Vec::new(alloc);
+    for before in 0..public.movement.boards() {
+        if public.held.contains(before + 1) {
+            boards.push(before + 1)?;
+        }
+    }
+    Ok(boards)
+}
+
+// For each board of the section, the tables that have a result on it.
+fn live_value(alloc: Global, public: &Public) -> Result<Value, AllocError>
+    ensures { IfOk result (λ value. view value ≡ live_data public.now) }
+{
+    let mut values = Vec::new(alloc);
+    for before in 0..public.movement.boards() {
+        let value = tables_value(alloc, public, before + 1)?;
+        values.push(value)?;
+    }
+    Ok(Value::Array(values))
+}
+
+fn tables_value(alloc: Global, public: &Public, board: u8) -> Result<Value, AllocError>
+    ensures { IfOk result (λ value. view value ≡ tables_data public.now board) }
+{
+    let tables = live_tables(alloc, public, board)?;
+    list_value(alloc, tables.as_slice())
+}
+
+// The tables of the section that have a result on the board.
+#[tactic(auto, using(crate::proofs::RangeLemmas::numbers_with_next, crate::proofs::RangeLemmas::numbers_without_next))]
+fn live_tables(alloc: Global, public: &Public, board: u8) -> Result<Vec<u8>, AllocError>
+    ensures { IfOk result (λ tables. tables.items ≡ live_tables public.now board) }
+{
+    let mut tables = Vec::new(alloc);
+    for before in 0..public.movement.tables() {
+        let table = before + 1;
+        if public.live.contains(Cell { table, board }) {
+            tables.push(table)?;
+        }
+    }
+    Ok(tables)
+}
+
+// The marks of each board of the section.
+fn marks_value(alloc: Global, public: &Public) -> Result<Value, AllocError>
+    ensures { IfOk result (λ value. view value ≡ marks_data public.now) }
+{
+    let boards = public.movement.boards();
+    list_value(alloc, &public.marks[..usize::from(boards)])
+}
+
+impl ToJson for Marks {
+    ghost json = { mark_data };
+
+    fn to_json(&self, alloc: Global) -> Result<Value, AllocError> {
+        let text = format!(in alloc; "{} {}", self.dealer, self.vulnerability)?;
+        Ok(Value::String(text))
+    }
+}
+
+impl ToJson for Seated {
+    ghost json = { seat_data };
+
+    fn to_json(&self, alloc: Global) -> Result<Value, AllocError> {
+        let pair = self.seat.pair.to_string(alloc)?;
+        let place = self.seat.place.to_string(alloc)?;
+        json!(in alloc; [self.name.as_str(), pair, place])
+    }
+}
+
+fn phase_name(phase: Phase) -> &'static str
+    ensures { result.now ≡ phase_name phase }
+{
+    match phase {
+        Phase::Running => "Running",
+        Phase::Closed => "Closed",
+        Phase::Final => "Final",
+    }
+}

@@ -1,0 +1,103 @@
+//! What is written of a traveller.
+
+ghost use Rattle.std.specs.Prelude.{◌≡◌, IfOk};
+ghost use Rattle.serde_json.specs.View.{view};
+ghost use Rattle.reply_texts.specs.TravellerText.{outcome_data, result_data, row_data, traveller_data};
+ghost use Rattle.standings.specs.declared.row_result.RowResult.TheVariants.{Played, Ruled};
+
+use crate::to_json::{ToJson, list_value};
+use scoring::Outcome;
+use serde_json::{Value, json};
+use standings::{RowResult, TravellerRow};
+use std::alloc::{AllocError, Global};
+
+/// A traveller of a board, with these rows.
+pub(crate) fn traveller_value(
+    alloc: Global,
+    number: u8,
+    rows: &[TravellerRow],
+) -> Result<Value, AllocError>
+    ensures { IfOk result (λ value. view value ≡ traveller_data number rows.now) }
+{
+    let rows = list_value(alloc, rows)?;
+    json!(in alloc; {"board": number, "rows": rows})
+}
+
+impl ToJson for TravellerRow {
+    ghost json = { row_data };
+
+    fn to_json(&self, alloc: Global) -> Result<Value, AllocError> {
+        match self.result {
+            RowResult::Played {
+                outcome,
+                score,
+                points,
+            } => played_value(alloc, self, outcome, score, points),
+            RowResult::Ruled {
+                north_south,
+                east_west,
+            } => ruled_value(alloc, self, north_south, east_west),
+        }
+    }
+}
+
+fn played_value(
+    alloc: Global,
+    row: &TravellerRow,
+    outcome: Outcome,
+    score: i32,
+    points: u32,
+) -> Result<Value, AllocError>
+    ensures { IfOk result (λ value. view value
+        ≡ result_data row.now.table row.now.north_south row.now.east_west (Played outcome score points)) }
+{
+    let east_west = row.east_west.to_string(alloc)?;
+    let north_south = row.north_south.to_string(alloc)?;
+    let outcome = outcome_value(alloc, outcome)?;
+    json!(in alloc; {
+        "ew": east_west,
+        "ns": north_south,
+        "points": points,
+        "result": outcome,
+        "score": score,
+        "table": row.table
+    })
+}
+
+fn ruled_value(
+    alloc: Global,
+    row: &TravellerRow,
+    north_south_percentage: u8,
+    east_west_percentage: u8,
+) -> Result<Value, AllocError>
+    ensures { IfOk result (λ value. view value ≡ result_data row.now.table row.now.north_south row.now.east_west
+        (Ruled north_south_percentage east_west_percentage)) }
+{
+    let east_west = row.east_west.to_string(alloc)?;
+    let north_south = row.north_south.to_string(alloc)?;
+    json!(in alloc; {
+        "ew": east_west,
+        "ns": north_south,
+        "ruling": [north_south_percentage, east_west_percentage],
+        "table": row.table
+    })
+}
+
+fn outcome_value(alloc: Global, outcome: Outcome) -> Result<Value, AllocError>
+    ensures { IfOk result (λ value. view value ≡ outcome_data outcome) }
+{
+    match outcome {
+        Outcome::PassedOut => Value::try_from_str(alloc, "pass"),
+        Outcome::Played { contract, tricks } => {
+            let declarer = contract.declarer.to_string(alloc)?;
+            let strain = contract.strain.to_string(alloc)?;
+            json!(in alloc; {
+                "by": declarer,
+                "doubled": contract.doubling.number(),
+                "level": contract.level.number(),
+                "strain": strain,
+                "tricks": tricks.number()
+            })
+        }
+    }
+}

@@ -1,8 +1,0 @@
-use Rattle.std.proofs.Common.{◌≡◌, drop}
-use Rattle.serde_json.specs.View.{items_view}
-use Rattle.wire.specs.Command.{has_unknown}
-use Rattle.wire.proofs.command.has_unknown.Given as goal
-
--- all have an unknown word exactly if those that are left have
-abbrev pub invariant-loop-value : goal.invariant-loop-value
-invariant-loop-value l = has_unknown (items_view (drop l.value-index l.list)) ≡ has_unknown (items_view l.list)

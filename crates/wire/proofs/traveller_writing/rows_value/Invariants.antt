@@ -1,8 +1,0 @@
-use Rattle.std.proofs.Common.{◌≡◌, map, take}
-use Rattle.serde_json.specs.View.{view}
-use Rattle.wire.specs.TravellerText.{row_data}
-use Rattle.wire.proofs.traveller_writing.rows_value.Given as goal
-
--- the values so far are those of the rows so far
-abbrev pub invariant-loop-row : goal.invariant-loop-row
-invariant-loop-row l = map view l.values.items ≡ map row_data (take l.row-index l.rows)
