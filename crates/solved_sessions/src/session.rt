@@ -1,0 +1,92 @@
+use crate::solver::{costs_told, table_told};
+use published_view::View;
+use reply_texts::reply_text;
+use session_book::{Answer, Book};
+use session_object::read_session;
+use session_state::Refusal;
+use std::alloc::Global;
+use wire::{Request, read_request, receipt_text};
+
+/// A book and a view of it.
+#[derive(Drop)]
+pub(crate) struct Session {
+    book: Book,
+    view: View,
+}
+
+impl Session {
+    /// The session of an object, if it opens one.
+    pub(crate) fn open(alloc: Global, object: &str) -> Option<Session> {
+        let read = read_session(alloc, object.as_bytes(), None).ok()?;
+        let book = Book::open(alloc, read.config).ok()?;
+        let view = View::open(alloc, &book).ok()?;
+        Some(Session { book, view })
+    }
+
+    /// The answer to a line.
+    pub(crate) fn respond(&mut self, alloc: Global, line: &str) -> Option<String> {
+        let text = if let Some(words) = line.strip_prefix("solve ") {
+            self.solve(alloc, words)?
+        } else if let Some(words) = line.strip_prefix("analyse ") {
+            self.analyse(alloc, words)?
+        } else {
+            self.answer(alloc, line)?
+        };
+        self.catch_up();
+        Some(text)
+    }
+
+    // Has the view take in what it hasn't.
+    fn catch_up(&mut self) {
+        for number in self.view.version()..self.book.version() {
+            if let Some(entry) = self.book.entry(number + 1) {
+                self.view.absorb(entry);
+            }
+        }
+    }
+
+    // The book tries a table, as the solver tells it.
+    fn solve(&mut self, alloc: Global, words: &str) -> Option<String> {
+        let (board, table) = table_told(alloc, self.book.state(), words)?;
+        answer_text(alloc, &self.book.submit_solved(board, table))
+    }
+
+    // The book tries what cards cost, as the solver tells it.
+    fn analyse(&mut self, alloc: Global, words: &str) -> Option<String> {
+        let (cell, costs) = costs_told(alloc, self.book.state(), words)?;
+        answer_text(alloc, &self.book.submit_analysed(cell, costs))
+    }
+
+    // The answer to a query or to a batch.
+    fn answer(&mut self, alloc: Global, line: &str) -> Option<String> {
+        match read_request(alloc, line.as_bytes()).ok()? {
+            Request::Query { user, query, since } => {
+                let reply = self.view.answer(alloc, user, &query, since).ok()?;
+                reply_text(alloc, &reply).ok()
+            }
+            Request::Batch { user, commands } => {
+                let submission = self.book.submit(user, commands.as_slice()).ok()?;
+                receipt_text(alloc, &submission, self.book.version()).ok()
+            }
+            Request::Audit { user, range } => {
+                let rows = self
+                    .book
+                    .audit(user, range.from as usize, range.limit as usize)
+                    .ok()?;
+                wire::audit_text(alloc, &rows, self.book.version()).ok()
+            }
+        }
+    }
+}
+
+// What the solver is answered.
+fn answer_text(alloc: Global, answer: &Answer) -> Option<String> {
+    match answer {
+        Answer::Accepted => String::from_str(alloc, "ok").ok(),
+        Answer::Refused(refusal) => refusal_text(alloc, refusal),
+    }
+}
+
+fn refusal_text(alloc: Global, refusal: &Refusal) -> Option<String> {
+    format!(in alloc; "{refusal:?}").ok()
+}
