@@ -1,8 +1,9 @@
 #!/usr/bin/env python3
-"""Refuses each growth in turn: of a script's run, or of double-dummy tables and endings.
+"""Refuses each growth in turn: of a script's run, of double-dummy tables and endings, or of tests that hold under every memory.
 
     tests/refuse_growths.py crates/bridge_server/out/bridge_server crates/bridge_server_desk/stdin [COMMANDS]
     tests/refuse_growths.py crates/deal_tables/out/deal_tables DEALS [endings]
+    tests/refuse_growths.py crates/deal_tables/out/deal_tables_tests memory_was_refused
 
 Runs `bridge_server script` on the script, followed by so many more commands of its first director (none where no number is
 given), which hold and release board 1 in turn, in batches of 64: first with ample memory, and then with the Nth request for
@@ -14,11 +15,19 @@ memory refused, for N from 1 until a run asks less often. What each of these mus
   OutOfMemory and those after it in its batch NotTried, the ones before it as with ample memory. Then the script goes on: the rest
   is answered as by a run with ample memory of the script in which the commands that weren't tried are left out.
 
-A refused request that changes nothing of the script's output is a fault too.
+- Where a list is collected, room for all that is expected is asked for first, and where that is refused, room for one: then every
+  line is answered as with ample memory, and the run asks more often than that one.
+
+A refused request that changes nothing in any other run is a fault too. At the end it says how many requests each kind of message took:
+each query by its word, and apart where it is denied or names an error, each batch, each audit, each message that is no request. So a script
+with every query, as crates/bridge_server_protocol/stdin, shows that each growth of each query and of its text was refused.
 
 Of `deal_tables` each line is run alone, a deal for `table` or an ending for `solve`: once with ample memory, which must solve
 it, and then with the Nth request refused, for each N. Each of these must write the same numbers or none: then the line is named
 as not solved (OutOfMemory), or the program ends with a status of its own, for it couldn't read the line or write the answer.
+
+Of a program of tests, which `rt test` leaves, each test whose name has the word is run alone, with ample memory and then with the Nth
+request refused, for each N, and must pass each time: it says itself that the answer is the one with ample memory, or OutOfMemory.
 
 It needs a C compiler (cc) for the allocator that refuses, which is loaded under the program (LD_PRELOAD).
 """
@@ -72,10 +81,30 @@ def lines_of(script, commands):
 
 # the line with the first commands of its batch alone
 def with_first(line, count):
-    message = json.loads(line)
-    if "do" in message:
-        message["do"] = message["do"][:count]
-    return compact(message)
+    message = object_of(line)
+    if "do" not in message:
+        return line
+    return compact({**message, "do": message["do"][:count]})
+
+
+# the object that a line is, or one without members
+def object_of(line):
+    try:
+        value = json.loads(line)
+    except ValueError:
+        return {}
+    return value if isinstance(value, dict) else {}
+
+
+# what kind of message a line is, by its answer
+def kind_of_message(line, answer):
+    message, told = object_of(line), json.loads(answer)
+    if "answers" in told:
+        return "batch"
+    if "version" not in told:
+        return "audit, not permitted" if told == {"error": "NotPermitted"} else "no request"
+    word = message.get("ask", "audit")
+    return word + (", denied" if "denied" in told else ", error" if "error" in told else "")
 
 
 # a run with the Nth request refused (0: none): the status, what it wrote, and how often it asked
@@ -88,7 +117,7 @@ def run(command, given, room, n):
 
 class Growths:
     def __init__(self, program, room, lines):
-        self.program, self.room, self.lines, self.known = program, room, lines, {}
+        self.program, self.room, self.lines, self.known, self.by_message = program, room, lines, {}, {}
 
     def run(self, lines, n):
         status, out, err, asked = run([self.program, "script"], b"".join(lines), self.room, n)
@@ -104,15 +133,19 @@ class Growths:
         return self.known[at, tried]
 
     # what a run with one request refused did, in a word; `ample` is what it answers otherwise
-    def kind_of(self, ample, status, out, err):
+    def kind_of(self, ample, status, out, err, asked_again):
         assert err == b"", err
+        if asked_again and (status, out) == (0, ample):
+            return "less room was enough"
         at = next((k for k, pair in enumerate(zip(out, ample)) if pair[0] != pair[1]), len(out))
         if at == len(out):
             assert status == 4 and at < len(ample), f"status {status} after {at} of {len(ample)} answers"
             return "the script ended" if at else "nothing written"
         assert status == 0, f"status {status}"
+        message = kind_of_message(self.lines[at + 1], ample[at])
+        self.by_message[message] = self.by_message.get(message, 0) + 1
         if out[at] == NO_MEMORY:
-            batch = json.loads(self.lines[at + 1]).get("do", [])
+            batch = object_of(self.lines[at + 1]).get("do", [])
             found = [tried for tried in {0, len(batch)} if out[at + 1 :] == self.rest(at, tried)]
             assert found, f"answer {at + 1} is {out[at]!r}, and the rest fits neither all of its commands nor none"
             return "nothing was tried" if 0 in found else "the commands stood"
@@ -131,14 +164,17 @@ def refuse_scripts(program, script, commands, room):
     assert (status, len(ample), err) == (0, len(lines) - 1, b""), f"with ample memory: status {status}, {len(ample)} answers, {err!r}"
     assert asked >= opening > 0, "the program asked for no memory through this allocator: nothing is tried"
     for n in range(1, asked + 1):
-        status, out, err, _ = growths.run(lines, n)
+        status, out, err, count = growths.run(lines, n)
         try:
-            kind = growths.kind_of(ample, status, out, err)
+            kind = growths.kind_of(ample, status, out, err, count > asked)
             assert (kind == "nothing written") == (n <= opening), f"{kind}, and the opening asks {opening} times"
         except AssertionError as fault:
             raise SystemExit(f"with request {n} of {asked} refused: {fault}")
         kinds[kind] = kinds.get(kind, 0) + 1
     print(f"{asked} requests for memory, each refused in turn: " + ", ".join(f"{kind} {count}" for kind, count in kinds.items()))
+    messages = [kind_of_message(line, answer) for line, answer in zip(lines[1:], ample)]
+    for message in sorted(set(messages)):
+        print(f"    {message}: {growths.by_message.get(message, 0)} in {messages.count(message)} messages")
 
 
 def refuse_tables(program, deals, words, room):
@@ -161,6 +197,20 @@ def refuse_tables(program, deals, words, room):
         print(f"{line.decode()}: {asked} requests: {unsolved} not solved, {ended} ended the program, {same} with the same numbers")
 
 
+def refuse_tests(program, word, room):
+    listed = subprocess.run([program, "--list"], capture_output=True, text=True).stdout.split()
+    names = [name.rstrip(":") for name in listed if word in name]
+    assert names, f"no test has {word} in its name"
+    for name in names:
+        status, out, err, asked = run([program, name], b"", room, 0)
+        assert status == 0, f"{name}, with ample memory: status {status}, {out!r}, {err!r}"
+        assert asked > 0, f"{name} asked for no memory through this allocator: nothing is tried"
+        for n in range(1, asked + 1):
+            status, out, err, _ = run([program, name], b"", room, n)
+            assert status == 0, f"{name}, with request {n} of {asked} refused: status {status}, {out!r}, {err!r}"
+        print(f"{name}: {asked} requests, each refused in turn")
+
+
 def main():
     program, given, *words = sys.argv[1:]
     with tempfile.TemporaryDirectory() as room:
@@ -169,6 +219,8 @@ def main():
         subprocess.run(["cc", "-O1", "-shared", "-fPIC", "-o", f"{room}/refusing.so", f"{room}/refusing.c", "-ldl"], check=True)
         if os.path.basename(program) == "deal_tables":
             refuse_tables(program, given, words, room)
+        elif os.path.basename(program).endswith("_tests"):
+            refuse_tests(program, given, room)
         else:
             refuse_scripts(program, given, int(words[0]) if words else 0, room)
 

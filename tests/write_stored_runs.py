@@ -109,6 +109,9 @@ UNKNOWN_REQUEST = [
     '{"as":"n1","ask":"Board","board":1}', '{"as":"n1","ask":"Traveller","board":1}',
     '{"as":"n1","ask":"travellers","board":1}', '{"as":"n1","ask":"","board":1}',
     '{"as":"n1","ask":"traveller","board":1,"do":[]}', '{"as":"n1","ask":"Traveller","board":256}',
+    '{"as":"n1","ask":"Status"}', '{"as":"n1","ask":"cost","board":1,"table":1}', '{"as":"n1","ask":"hands","board":1}',
+    '{"as":"n1","ask":"rankings"}', '{"as":"n1","ask":"account"}', '{"as":"n1","ask":"list ","filter":5}',
+    '{"as":"n1","ask":"list","do":[],"filter":{"vul":"none"}}', '{"as":"a","ask":"audit"}',
     '{"as":"k","do":[5,{"board":1,"cmd":"Enter"},{"cmd":"Shuffle"}]}', '{"as":"k","do":[{"cmd":"Shuffle"}]}',
     '{"do":[{"cmd":"enter"}]}',
 ]
@@ -123,7 +126,13 @@ BAD_FIELD = [
     '{"as":"n1","ask":"board","board":1,"board":256}', '{"as":"n1","ask":"traveller","board":256}',
     '{"as":"n1","ask":"traveller","board":"1"}', '{"as":"n1","ask":"traveller"}',
     '{"as":"n1","ask":"traveller","board":1,"since":-1}', '{"as":"n1","ask":"traveller","board":1,"table":1}',
-    '{"ask":"traveller","board":1}', '{"do":[]}', '{"as":"k","do":{}}', '{"as":"k","do":[],"since":0}', '{"as":"k","do":[5]}',
+    '{"ask":"traveller","board":1}', '{"as":"n1","ask":"status","board":1}', '{"as":"n1","ask":"status","since":1.0}', '{"ask":"status"}',
+    '{"as":"n1","ask":"ranking","limit":1}', '{"as":"a","ask":"accounts","name":"a"}', '{"as":"n1","ask":"analysis"}',
+    '{"as":"n1","ask":"analysis","board":1,"table":1}', '{"as":"n1","ask":"analysis","board":256}', '{"as":"n1","ask":"play","board":1}',
+    '{"as":"n1","ask":"play","table":1}', '{"as":"n1","ask":"play","board":1,"table":256}', '{"as":"n1","ask":"costs","board":256,"table":1}',
+    '{"as":"n1","ask":"costs","board":1,"table":"1"}', '{"as":"n1","ask":"reason","board":1,"reason":7,"table":1}',
+    '{"as":"n1","ask":"reason","board":null,"table":1}', '{"ask":"reason","board":1,"table":1}', '{"ask":"list"}',
+    '{"do":[]}', '{"as":"k","do":{}}', '{"as":"k","do":[],"since":0}', '{"as":"k","do":[5]}',
     '{"as":"k","do":[{"board":1}]}', '{"as":"k","do":[{"cmd":5}]}', '{"as":"k","do":[{"board":1,"cmd":"Enter","table":1}]}',
     '{"as":"k","do":[{"board":1,"cmd":"Confirm","result":"pass","play":[],"table":1}]}',
     '{"as":"k","do":[{"board":1,"cmd":"Enter","result":"pass","play":["S1"],"table":1}]}',
@@ -229,6 +238,9 @@ def write_limits():
     script.denied('{"as":"u253","ask":"board","board":64}', 8, INCOMPLETE, 64, 2)
     script.denied('{"as":"u254","ask":"board","board":64}', 1, NO_ACCOUNT)
     script.query('{"as":"d","ask":"board","board":65}', error="NoSuchBoard")
+    # there are 256 accounts; a name that is none, or is taken, is refused for that
+    script.batch(do("a", *[{"cmd": "AddUser", "digest": DIGEST, "name": name} for name in ("a b", "u0", "v")]),
+                 "BadName", "UserExists", "TooManyUsers")
     # a batch has up to 64 commands; table 1 comes to board 5 in the second round
     for count in (0, 1, 4, 63, 64):
         script.batch(do("d", *[enter(1, 5, "pass")] * count), *["RoundNotStarted"] * count)
@@ -344,6 +356,7 @@ def write_openings():
         (CRATES / "session_check" / name).write_bytes("".join(lines).encode())
 
 
-write_messages()
-write_limits()
-write_openings()
+if __name__ == "__main__":
+    write_messages()
+    write_limits()
+    write_openings()

@@ -1,0 +1,101 @@
+#!/usr/bin/env python3
+"""Writes the stored run of crates/solved_sessions: what a solver tells a session, between its messages.
+
+    python3 tests/write_solved_run.py
+
+The deals give each player a whole suit, so every number is worked by hand: who holds trumps takes all thirteen tricks, and without
+trumps the side that leads takes all. Each line that is given stands beside the line that is wanted.
+"""
+import pathlib
+
+from write_stored_runs import SESSION, text_of
+
+CRATE = pathlib.Path(__file__).resolve().parent.parent / "crates" / "solved_sessions"
+RESULT = {"by": "N", "doubled": 0, "level": 4, "strain": "S", "tricks": 10}
+CELL = {"table": 1, "board": 1}
+# Spades, hearts, diamonds, clubs, no trump: North has the spades of board 1, East the hearts, South the diamonds, West the clubs.
+TABLE = {"N": [13, 0, 13, 0, 0], "S": [13, 0, 13, 0, 0], "E": [0, 13, 0, 13, 0], "W": [0, 13, 0, 13, 0]}
+# East's hearts lead, South and West discard, North ruffs: North and South take all tricks whatever is played.
+RUFF = ["HA", "D2", "C2", "S2"]
+rows = []
+
+
+def told(line, wanted):
+    rows.append((line, wanted))
+
+
+def asked(name, wanted, version, **message):
+    rows.append((text_of({"as": name, **message}), text_of({**wanted, "version": version})))
+
+
+def done(name, version, *commands):
+    answers = {"answers": ["ok"] * len(commands), "first": version - len(commands) + 1, "last": version, "version": version}
+    rows.append((text_of({"as": name, "do": list(commands)}), text_of(answers)))
+
+
+def costs(wanted, version):
+    asked("d", {"costs": {"board": 1, "costs": wanted, "table": 1}}, version, ask="costs", **CELL)
+
+
+def listed(name, boards, version, **filtered):
+    asked(name, {"list": {"boards": boards, "more": False}}, version, ask="list", **filtered)
+
+
+def many(strain, holds):
+    atom = {"dd": {"by": "N", "max": 13, "min": 10, "strain": strain}}
+    return {"filter": atom if holds else {"not": atom}}
+
+
+# A play whose first card isn't East's: it has no costs, and that is what is found of it.
+done("k", 2, {"cmd": "Enter", "play": ["S2"], "result": RESULT, **CELL}, {"cmd": "Confirm", "result": RESULT, **CELL})
+costs("pending", 2)
+told("analyse 4 1 1 S2", "NoSuchCell")
+told("analyse 2 1 1 S2", "NotLive")
+told("analyse 1 1 1 S3", "StrangePlay")
+told("analyse 1 1 2 S2", "StrangePlay")
+told("analyse 1 1 1 S2", "ok")
+costs({"not_a_play": 1}, 3)
+told("analyse 1 1 1 S2", "AlreadySolved")
+
+# A board's table, before the contestant's board is complete and where it is shown.
+listed("n1", [1], 3)
+listed("n1", [1], 3, **many("S", False))
+listed("d", [], 3, **many("S", True))
+asked("d", {"analysis": {"board": 1, "tricks": None}}, 3, ask="analysis", board=1)
+told("solve 1 2", "StrangeDeal")
+told("solve 4 1", "NoSuchBoard")
+told("solve 1 1", "ok")
+told("solve 1 1", "AlreadySolved")
+asked("d", {"analysis": {"board": 1, "tricks": TABLE}}, 4, ask="analysis", board=1)
+asked("n1", {"denied": {"board": 1, "rule": 9, "table": 2, "why": "analysis waits until the board is complete"}}, 4, ask="analysis", board=1)
+listed("n1", [1], 4)
+listed("n1", [1], 4, **many("S", False))
+listed("n1", [], 4, **many("S", True))
+listed("d", [1], 4, **many("S", True))
+listed("d", [2, 3], 4, **many("S", False))
+listed("d", [], 4, **many("H", True))
+
+# What takes the result away takes its costs with it.
+done("d", 5, {"cmd": "Correct", "play": RUFF, "result": RESULT, **CELL})
+costs("pending", 5)
+told("analyse 1 1 1 S2", "StrangePlay")
+told("analyse 1 1 1 HA D2 C2 S3", "StrangePlay")
+told("analyse 1 1 1 " + " ".join(RUFF), "ok")
+costs([0, 0, 0, 0], 6)
+done("d", 7, {"cmd": "Correct", "play": [], "result": RESULT, **CELL})
+costs([], 7)
+done("d", 8, {"cmd": "Correct", "play": RUFF, "result": {**RESULT, "level": 5}, **CELL})
+told("analyse 1 1 1 " + " ".join(RUFF), "StrangePlay")
+done("d", 9, {"cmd": "Rule", "ew": 40, "ns": 60, "reason": 7, **CELL})
+told("analyse 1 1 1 " + " ".join(RUFF), "StrangePlay")
+costs([], 9)
+done("d", 10, {"cmd": "Void", **CELL})
+told("analyse 1 1 1 " + " ".join(RUFF), "NotLive")
+
+# The solver tells in every phase, and the audit names it as null.
+told("solve 2 2", "ok")
+asked("a", {"audit": [[3, None, "Analysed", "1/1"], [4, None, "Solved", "1"], [5, "d", "Correct", "1/1"]]}, 11, audit={"from": 3, "limit": 3})
+asked("a", {"audit": [[11, None, "Solved", "2"]]}, 11, audit={"from": 11, "limit": 1000})
+
+(CRATE / "stdin").write_text(SESSION + "\n" + "".join(line + "\n" for line, _ in rows))
+(CRATE / "stdout").write_text("".join(wanted + "\n" for _, wanted in rows))
