@@ -10,7 +10,9 @@ import subprocess
 import sys
 import tempfile
 
-KINDS = ["deals", "comment", "games", "braces", "quotes", "backslashes", "blanks", "spaces", "hashes", "board"]
+sys.dont_write_bytecode = True
+from pbn_texts import KINDS
+
 SIZES = (4, 16)
 here = pathlib.Path(__file__).parent
 program = os.path.abspath(sys.argv[1])

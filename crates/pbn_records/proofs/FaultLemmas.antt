@@ -16,7 +16,7 @@ use Rattle.pbn_records.specs.Tags.{Valued}
 use Rattle.pbn_records.specs.Values.{Values, read_value, is_inherited_form}
 use Rattle.pbn_records.specs.DealValue.{IsDealValue, IsHiddenValue}
 use Rattle.pbn_records.specs.Boards.{HasDeal, board_of, is_there, number_in}
-use Rattle.pbn_records.specs.declared.game.TagAt.{TagAt}
+use Rattle.pbn_records.specs.declared.tag_at.TagAt.{TagAt}
 use Rattle.pbn_records.specs.Shown.{shown, as_read}
 use Rattle.pbn_records.specs.Faults.{IsConflict, DealFault, BoardFault, FaultAtTag}
 use Rattle.pbn_records.specs.Kept.{IsOther, KnowsDeal, Finds, earlier_of, HasTagFault, HasBadDealer, HasBadVulnerable}
@@ -183,6 +183,10 @@ first_of_four board first values a b c d found fa fb fc fd is =
 
 pub some_board : (board : Option ℕ) (none : Bool) → is_some board ≡ not none → none ≡ false → board ≢ None
 some_board board none is isnt e = true≢false (sym (is ∙ ap not isnt) ∙ ap is_some e)
+
+pub none_board : (board : Option ℕ) (none : Bool) → is_some board ≡ not none → none ≡ true → board ≡ None
+none_board None none is e = refl
+none_board (Some number) none is e = absurd (true≢false (is ∙ ap not e))
 
 -- a game of a board whose deal or marks can't be read has a fault
 abbrev pub HasSomeFault : ℕ → Used → Option Valued → Type 0

@@ -1,7 +1,9 @@
 pub mod DealValueLemmas
 pub mod EscapeLemmas
 pub mod FaultLemmas
+pub mod FourPartsLemmas
 pub mod FreeLemmas
+pub mod GameBeforeLemmas
 pub mod InOrderLemmas
 pub mod InTextLemmas
 pub mod KnownLemmas

@@ -7,7 +7,7 @@ use Rattle.std.proofs.lemmas.Slice.Eq.{bytes_eq-Decides}
 use Rattle.pbn_pieces.proofs.CutLemmas.{some_same}
 use Rattle.pbn_records.specs.declared.used.Used.{Used}
 use Rattle.pbn_records.specs.declared.used.Used.TheVariants.{Board, Dealer, Vulnerable, Deal}
-use Rattle.pbn_records.specs.declared.game.TagAt.{TagAt}
+use Rattle.pbn_records.specs.declared.tag_at.TagAt.{TagAt}
 use Rattle.pbn_records.specs.declared.fault.Fault.{Fault}
 use Rattle.pbn_records.specs.declared.state.State.{State}
 use Rattle.pbn_records.specs.declared.deals_error.DealsError.{DealsError}

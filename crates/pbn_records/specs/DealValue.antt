@@ -1,6 +1,6 @@
 -- The value of the tag Deal (PBN 2.1, in this project's profile): a player's letter, a colon, and the hands clockwise
 -- from there.
-use Rattle.std.specs.Prelude.{◌≡◌, ◌==◌, ℕ, List, [], ◌∷◌, ◌++◌, if◌then◌else◌, All, count_by, codes, nat_eq, ◌⊎◌}
+use Rattle.std.specs.Prelude.{◌≡◌, ◌==◌, ℕ, List, [], ◌∷◌, ◌++◌, if◌then◌else◌, All, count_by, codes, nat_eq, ◌⊎◌, Option, Some, None}
 use Rattle.std.specs.Char.{to_ascii_uppercase}
 use Rattle.cards.specs.declared.place.Place.{Place}
 use Rattle.cards.specs.declared.rank.Rank.{Rank}
@@ -22,6 +22,15 @@ parts_from part (byte ∷ bytes) = if byte == 32
 -- the parts of a text between its spaces
 abbrev pub parts : List ℕ → List (List ℕ)
 parts text = parts_from [] text
+
+-- the parts, if there are four
+abbrev pub four_of : List (List ℕ) → Option (List (List ℕ))
+four_of [] = None
+four_of (a ∷ []) = None
+four_of (a ∷ b ∷ []) = None
+four_of (a ∷ b ∷ c ∷ []) = None
+four_of (a ∷ b ∷ c ∷ d ∷ []) = Some (a ∷ b ∷ c ∷ d ∷ [])
+four_of (a ∷ b ∷ c ∷ d ∷ e ∷ more) = None
 
 -- the value is a player's letter in either case, a colon, and four parts, clockwise from that player's
 pub record HasParts (value : List ℕ) (first : Place) (own left opposite right : List ℕ) : Type 0 where

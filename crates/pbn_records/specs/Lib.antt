@@ -3,6 +3,8 @@ pub mod Boards
 pub mod DealValue
 pub mod Each
 pub mod Faults
+pub mod FourParts
+pub mod GameBefore
 pub mod InOrder
 pub mod InText
 pub mod Kept

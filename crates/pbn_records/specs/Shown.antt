@@ -2,7 +2,7 @@
 use Rattle.std.specs.Prelude.{if◌then◌else◌, Option, Some, None, codes, bytes_eq}
 use Rattle.pbn_records.specs.declared.used.Used.{Used}
 use Rattle.pbn_records.specs.declared.used.Used.TheVariants.{Board, Dealer, Vulnerable, Deal}
-use Rattle.pbn_records.specs.declared.game.TagAt.{TagAt}
+use Rattle.pbn_records.specs.declared.tag_at.TagAt.{TagAt}
 use Rattle.pbn_records.specs.declared.game.UsedTags.{UsedTags}
 use Rattle.pbn_records.specs.Tags.{Valued}
 use Rattle.pbn_records.specs.Values.{Values, inherited, read_value}

@@ -9,16 +9,17 @@ ghost use Rattle.pbn_records.specs.Faults.{DealFault};
 
 use crate::fault::Fault;
 use crate::parts::{DealParts, deal_parts};
+use crate::tag_at::TagAt;
 use cards::{Deal, Hand, NotADeal, Place, Rank};
 use std::str;
 
-/// The deal of a value.
-pub(crate) fn read_deal(value: &[u8]) -> Result<Deal, Fault>
-    ensures deal { IfOk result (λ deal. IsDealValue deal value.now) }
-    ensures shown { OnOk result (¬ IsHiddenValue value.now) }
-    ensures fault { IfErr result (DealFault None value.now) }
+/// The deal of a tag's value.
+pub(crate) fn read_deal(tag: &TagAt<'_>) -> Result<Deal, Fault>
+    ensures deal { IfOk result (λ deal. IsDealValue deal tag.now.value.now) }
+    ensures shown { OnOk result (¬ IsHiddenValue tag.now.value.now) }
+    ensures fault { IfErr result (DealFault None tag.now.value.now) }
 {
-    let Some(parts) = deal_parts(value) else {
+    let Some(parts) = deal_parts(tag) else {
         return Err(Fault::BadDeal);
     };
     if are_hidden(&parts) {

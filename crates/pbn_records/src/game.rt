@@ -3,14 +3,8 @@ ghost use Rattle.std.specs.Option.{is_some};
 ghost use Rattle.pbn_records.specs.declared.used.Used.{Used};
 ghost use Rattle.pbn_records.specs.Shown.{shown, tag_of, inheriting};
 
+use crate::tag_at::TagAt;
 use crate::used::Used;
-
-/// A used tag of a game: the offset of its `[`, and its value as written.
-#[derive(Clone, Copy)]
-pub(crate) struct TagAt<'t> {
-    pub(crate) offset: usize,
-    pub(crate) value: &'t [u8],
-}
 
 /// The used tags of a game, as far as it has them.
 #[derive(Clone, Copy)]
@@ -45,57 +39,50 @@ impl<'t> UsedTags<'t> {
         }
     }
 
-    /// These tags, and one more.
-    pub(crate) fn with(self, used: Used, tag: TagAt<'t>) -> UsedTags<'t>
-        ensures added { tag_of result used ≡ Some tag.entry }
-        ensures others { (other : Used) → other ≢ used → tag_of result other ≡ tag_of self.entry other }
+    /// Adds a tag.
+    pub(crate) fn add(&mut self, used: Used, tag: TagAt<'t>)
+        ensures added { tag_of self.new used ≡ Some tag.entry }
+        ensures others { (other : Used) → other ≢ used → tag_of self.new other ≡ tag_of self.old other }
     {
         match used {
-            Used::Board => UsedTags {
-                board: Some(tag),
-                ..self
-            },
-            Used::Dealer => UsedTags {
-                dealer: Some(tag),
-                ..self
-            },
-            Used::Vulnerable => UsedTags {
-                vulnerable: Some(tag),
-                ..self
-            },
-            Used::Deal => UsedTags {
-                deal: Some(tag),
-                ..self
-            },
+            Used::Board => self.board = Some(tag),
+            Used::Dealer => self.dealer = Some(tag),
+            Used::Vulnerable => self.vulnerable = Some(tag),
+            Used::Deal => self.deal = Some(tag),
         }
     }
 
-    /// The same tags, where `#` takes the value of the game before.
-    pub(crate) fn inheriting(self, before: UsedTags<'t>) -> UsedTags<'t>
+    /// Takes the value of the game before where a tag's own is `#`.
+    pub(crate) fn inherit(&mut self, before: &UsedTags<'t>)
         ensures { (used : Used) →
-            shown (tag_of result used)
-            ≡ inheriting (shown (tag_of before.entry used)) (shown (tag_of self.entry used)) }
+            shown (tag_of self.new used)
+            ≡ inheriting (shown (tag_of before.now used)) (shown (tag_of self.old used)) }
     {
-        UsedTags {
-            board: inherit(before.board, self.board),
-            dealer: inherit(before.dealer, self.dealer),
-            vulnerable: inherit(before.vulnerable, self.vulnerable),
-            deal: inherit(before.deal, self.deal),
-        }
+        inherit(&mut self.board, &before.board);
+        inherit(&mut self.dealer, &before.dealer);
+        inherit(&mut self.vulnerable, &before.vulnerable);
+        inherit(&mut self.deal, &before.deal);
     }
 }
 
-/// A tag, where `#` takes the value of the game before.
-fn inherit<'t>(before: Option<TagAt<'t>>, tag: Option<TagAt<'t>>) -> Option<TagAt<'t>>
-    ensures { shown result ≡ inheriting (shown before.entry) (shown tag.entry) }
+/// Takes the value of the game before where a tag's own is `#`.
+fn inherit<'t>(tag: &mut Option<TagAt<'t>>, before: &Option<TagAt<'t>>)
+    ensures { shown tag.new ≡ inheriting (shown before.now) (shown tag.old) }
 {
-    let tag = tag?;
-    if *tag.value != *b"#".as_slice() {
-        return Some(tag);
+    let Some(own) = tag else {
+        return;
+    };
+    if *own.value != *b"#".as_slice() {
+        return;
     }
-    let before = before?;
-    Some(TagAt {
-        offset: tag.offset,
-        value: before.value,
-    })
+    let offset = own.offset;
+    *tag = match before {
+        Some(before) => Some(TagAt {
+            offset,
+            value: before.value,
+            number: before.number,
+            four: before.four,
+        }),
+        None => None,
+    };
 }

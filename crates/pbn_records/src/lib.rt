@@ -16,6 +16,7 @@ mod parts;
 mod reader;
 mod reading;
 mod state;
+mod tag_at;
 mod used;
 
 pub use board::Board;

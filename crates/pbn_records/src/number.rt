@@ -1,4 +1,4 @@
-ghost use Rattle.std.specs.Prelude.{◌≡◌, true, false, min, MatchOption};
+ghost use Rattle.std.specs.Prelude.{◌≡◌, ℕ, List, true, false, min, MatchOption};
 ghost use Rattle.std.specs.List.{list_all};
 ghost use Rattle.pbn_records.specs.Boards as board;
 ghost use Rattle.pbn_records.specs.Boards.{is_digit, number_of};
@@ -16,6 +16,16 @@ pub(crate) fn board_number(digits: &[u8], boards: u8) -> Option<u8>
     let number = capped_number(digits)?;
     match u8::try_from(number) {
         Ok(number) if 1 <= number && number <= boards => Some(number),
+        _ => None,
+    }
+}
+
+/// A board's number, if it isn't over `boards`.
+pub(crate) fn number_within(number: Option<u8>, boards: u8) -> Option<u8>
+    ensures { (digits : List ℕ) → number ≡ board.board_number 255 digits → result ≡ board.board_number boards digits }
+{
+    match number {
+        Some(number) if number <= boards => Some(number),
         _ => None,
     }
 }

@@ -2,9 +2,20 @@ ghost use Rattle.std.specs.Prelude.{◌≡◌, ◌≢◌, ◌++◌, ℕ, List, [
 ghost use Rattle.std.specs.Char as char_words;
 ghost use Rattle.cards.specs.declared.place.Place.{Place};
 ghost use Rattle.cards.specs.Place.{place_letter};
-ghost use Rattle.pbn_records.specs.DealValue.{parts, HasParts};
+ghost use Rattle.pbn_records.specs.DealValue.{parts, four_of, HasParts};
+ghost use Rattle.pbn_records.specs.FourParts.{kept_parts};
 
+use crate::tag_at::TagAt;
 use cards::Place;
+
+/// What stands between the spaces of a value, in four parts.
+#[derive(Clone, Copy)]
+pub(crate) struct FourParts<'t> {
+    begin: &'t [u8],
+    left: &'t [u8],
+    opposite: &'t [u8],
+    right: &'t [u8],
+}
 
 /// The four hands of a Deal as they are written, clockwise from one player's.
 #[derive(Clone, Copy)]
@@ -16,37 +27,44 @@ pub(crate) struct DealParts<'t> {
     pub(crate) right: &'t [u8],
 }
 
-/// The four parts of a value, the first of them after a player's letter and a colon.
-pub(crate) fn deal_parts(value: &[u8]) -> Option<DealParts<'_>>
-    ensures parts { IfSome result
-        (λ found. HasParts value.now found.first found.own.now found.left.now found.opposite.now found.right.now) }
-    ensures none { IfNone result ((first : Place) (own left opposite right : List ℕ) →
-        ¬ HasParts value.now first own left opposite right) }
+/// The parts of a value, if there are four.
+pub(crate) fn four_parts(value: &[u8]) -> Option<FourParts<'_>>
+    ensures { kept_parts result ≡ four_of (parts value.now) }
 {
-    let Some((begin, rest)) = next_part(value) else {
-        return None;
-    };
-    let Some((left, rest)) = next_part(rest) else {
-        return None;
-    };
-    let Some((opposite, rest)) = next_part(rest) else {
-        return None;
-    };
-    let Some((right, rest)) = next_part(rest) else {
-        return None;
-    };
+    let (begin, rest) = next_part(value)?;
+    let (left, rest) = next_part(rest)?;
+    let (opposite, rest) = next_part(rest)?;
+    let (right, rest) = next_part(rest)?;
     if next_part(rest).is_some() {
         return None;
     }
-    let Some((first, own)) = first_player(begin) else {
+    Some(FourParts {
+        begin,
+        left,
+        opposite,
+        right,
+    })
+}
+
+/// The four parts of a tag's value, the first of them after a player's letter and a colon.
+pub(crate) fn deal_parts<'t>(tag: &TagAt<'t>) -> Option<DealParts<'t>>
+    ensures parts { IfSome result
+        (λ found. HasParts tag.now.value.now found.first found.own.now found.left.now found.opposite.now found.right.now) }
+    ensures none { IfNone result ((first : Place) (own left opposite right : List ℕ) →
+        ¬ HasParts tag.now.value.now first own left opposite right) }
+{
+    let Some(parts) = tag.four else {
+        return None;
+    };
+    let Some((first, own)) = first_player(parts.begin) else {
         return None;
     };
     Some(DealParts {
         first,
         own,
-        left,
-        opposite,
-        right,
+        left: parts.left,
+        opposite: parts.opposite,
+        right: parts.right,
     })
 }
 

@@ -13,9 +13,10 @@ ghost use Rattle.pbn_records.specs.Kept.{IsOther, KnowsDeal, Finds, HasTagFault,
 use crate::board::Board;
 use crate::deal_value::read_deal;
 use crate::fault::{Fault, FaultAt, earlier};
-use crate::game::{TagAt, UsedTags};
+use crate::game::UsedTags;
 use crate::mark_value::{dealer, is_inherited_form, is_open, vulnerability};
-use crate::number::board_number;
+use crate::number::number_within;
+use crate::tag_at::TagAt;
 use crate::used::Used;
 use cards::{Deal, Place, Vulnerability, dealer_of, vulnerability_of};
 
@@ -32,7 +33,7 @@ pub(crate) fn board_of(values: &UsedTags<'_>, boards: u8) -> Option<u8>
     let Some(board) = &values.board else {
         return None;
     };
-    board_number(board.value, boards)
+    number_within(board.number, boards)
 }
 
 /// The fault of least offset of a game, by its board and what is known of that.
@@ -76,7 +77,7 @@ fn tag_fault(
     if board.is_none() {
         return None;
     }
-    match board_fault(used, tag.value, known) {
+    match board_fault(used, tag, known) {
         Some(fault) => Some(FaultAt {
             offset: tag.offset,
             fault,
@@ -86,17 +87,17 @@ fn tag_fault(
 }
 
 /// The fault of a used tag's value in a game of a board.
-fn board_fault(used: Used, value: &[u8], known: &Option<Board>) -> Option<Fault>
+fn board_fault(used: Used, tag: &TagAt<'_>, known: &Option<Board>) -> Option<Fault>
     ensures some { IfSome result (λ fault. (first : Option Values) → KnowsDeal first known.now →
-        BoardFault first used (read_value value.now) fault) }
+        BoardFault first used (read_value tag.now.value.now) fault) }
     ensures none { IfNone result ((first : Option Values) → KnowsDeal first known.now → (fault : Fault) →
-        ¬ BoardFault first used (read_value value.now) fault) }
+        ¬ BoardFault first used (read_value tag.now.value.now) fault) }
 {
     match used {
         Used::Board => None,
-        Used::Dealer => mark_fault(known, is_bad_dealer(value)),
-        Used::Vulnerable => mark_fault(known, is_bad_vulnerable(value)),
-        Used::Deal => deal_fault(value, known),
+        Used::Dealer => mark_fault(known, is_bad_dealer(tag.value)),
+        Used::Vulnerable => mark_fault(known, is_bad_vulnerable(tag.value)),
+        Used::Deal => deal_fault(tag, known),
     }
 }
 
@@ -139,13 +140,13 @@ fn is_bad_vulnerable(value: &[u8]) -> bool
 }
 
 /// The fault of a Deal's value.
-fn deal_fault(value: &[u8], known: &Option<Board>) -> Option<Fault>
+fn deal_fault(tag: &TagAt<'_>, known: &Option<Board>) -> Option<Fault>
     ensures some { IfSome result (λ fault. (first : Option Values) → KnowsDeal first known.now →
-        DealFault first (read_value value.now) fault) }
+        DealFault first (read_value tag.now.value.now) fault) }
     ensures none { IfNone result ((first : Option Values) → KnowsDeal first known.now → (fault : Fault) →
-        ¬ DealFault first (read_value value.now) fault) }
+        ¬ DealFault first (read_value tag.now.value.now) fault) }
 {
-    match read_deal(value) {
+    match read_deal(tag) {
         Ok(deal) => conflict(deal, known),
         Err(fault) => Some(fault),
     }
@@ -176,7 +177,7 @@ pub(crate) fn board_in(values: &UsedTags<'_>, number: u8) -> Option<Board>
     let Some(tag) = &values.deal else {
         return None;
     };
-    let Ok(deal) = read_deal(tag.value) else {
+    let Ok(deal) = read_deal(tag) else {
         return None;
     };
     let Some(dealer) = dealer_in(&values.dealer, number) else {

@@ -6,9 +6,10 @@ ghost use Rattle.pbn_records.specs.At.{IsAt, EndsInFault, EndsInBadTag, walk_on}
 ghost use Rattle.pbn_pieces.specs.declared.piece.Found.TheVariants as found_as;
 
 use crate::deals_error::DealsError;
-use crate::game::{TagAt, UsedTags};
+use crate::game::UsedTags;
 use crate::known::add_game;
 use crate::known_boards::KnownBoards;
+use crate::tag_at::TagAt;
 use crate::used::Used;
 use pbn_pieces::Found;
 use std::alloc::Global;
@@ -49,11 +50,11 @@ impl<'t> State<'t> {
         if !self.started {
             return Ok(());
         }
-        let values = self.tags.inheriting(self.before);
-        self.started = false;
+        self.tags.inherit(&self.before);
+        self.before = self.tags;
         self.tags = UsedTags::new();
-        self.before = values;
-        add_game(&mut self.known, &values, self.boards)
+        self.started = false;
+        add_game(&mut self.known, &self.before, self.boards)
     }
 
     /// Goes over a piece that stands at an offset.
@@ -94,7 +95,7 @@ impl<'t> State<'t> {
             self.started = true;
             return Ok(());
         };
-        let tag = TagAt { offset, value };
+        let tag = TagAt::new(offset, value);
         if !self.tags.has(used) {
             self.put(used, tag);
             return Ok(());
@@ -115,7 +116,7 @@ impl<'t> State<'t> {
             tag_in used walk.game ≡ None →
             IsAt self.new (add_to walk (record { offset = tag.entry.offset; name = name; value = tag.entry.value.now })) }
     {
-        self.tags = self.tags.with(used, tag);
+        self.tags.add(used, tag);
         self.started = true;
     }
 }

@@ -63,6 +63,40 @@ fn reads_marks_and_inherited_values(rt: HostRuntime) -> Result<(), Fail> {
     Ok(())
 }
 
+#[test]
+fn takes_values_of_ignored_games_and_none_past_a_game(rt: HostRuntime) -> Result<(), Fail> {
+    let rows: [(&[u8], Place, Vulnerability); 4] = [
+        (
+            b"[Board \"9\"][Dealer \"W\"]\n\n[Board \"1\"][Dealer \"#\"][Deal \"N:AKQJT98765432... .AKQJT98765432.. ..AKQJT98765432. ...AKQJT98765432\"]",
+            Place::West,
+            Vulnerability::Neither,
+        ),
+        (
+            b"[Board \"1\"][Deal \"?\"][Vulnerable \"EW\"]\n\n[Board \"#\"][Vulnerable \"#\"][Deal \"N:AKQJT98765432... .AKQJT98765432.. ..AKQJT98765432. ...AKQJT98765432\"]",
+            Place::North,
+            Vulnerability::EastWest,
+        ),
+        (
+            b"[Board \"9\"][Deal \"N:AKQJT98765432... .AKQJT98765432.. ..AKQJT98765432. ...AKQJT98765432\"]\n\n[Board \"1\"][Deal \"#\"]",
+            Place::North,
+            Vulnerability::Neither,
+        ),
+        (
+            b"[Dealer \"S\"]\n\n[Event \"club\"]\n\n[Board \"1\"][Dealer \"#\"][Deal \"N:AKQJT98765432... .AKQJT98765432.. ..AKQJT98765432. ...AKQJT98765432\"]",
+            Place::North,
+            Vulnerability::Neither,
+        ),
+    ];
+    for (i, (text, dealer, vulnerability)) in rows.iter().enumerate() {
+        let set = read_deals(rt.alloc(), text, 1)?;
+        let (deal, dealt, marked) = board_of(rt, &set, 1)?;
+        assert_eq!(rt; deal.as_str(), SUITS, "{i}");
+        assert_eq!(rt; dealt, *dealer, "{i}");
+        assert_eq!(rt; marked, *vulnerability, "{i}");
+    }
+    Ok(())
+}
+
 /// A text of so many boards.
 fn boards_text(rt: HostRuntime, count: u8) -> Result<Vec<u8>, Fail> {
     let mut text = Vec::new(rt.alloc());

@@ -5,7 +5,7 @@ use Rattle.pbn_records.proofs.reader.board_of.Goals as goal
 
 pub returns : goal.returns
 returns c =
-    c.board_number.ensures
+    c.number_within.ensures c.in-Some-board.board.value.now c.in-Some-board.board.numbered
     ∙ sym (board_of_tags c.args.boards (values_read c.args.values.now)
     (record { offset = c.in-Some.deal.offset; value = c.in-Some.deal.value.now })
     (record { offset = c.in-Some-board.board.offset; value = c.in-Some-board.board.value.now })
