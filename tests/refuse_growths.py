@@ -1,9 +1,10 @@
 #!/usr/bin/env python3
 """Refuses each growth in turn: of a script's run, of double-dummy tables and endings, or of tests that hold under every memory.
 
-    tests/refuse_growths.py crates/bridge_server/out/bridge_server crates/bridge_server_desk/stdin [COMMANDS]
+    tests/refuse_growths.py crates/bridge_server/out/bridge_server <(tests/stored_runs.py desk) [COMMANDS]
     tests/refuse_growths.py crates/deal_tables/out/deal_tables DEALS [endings]
     tests/refuse_growths.py crates/deal_tables/out/deal_tables_tests memory_was_refused
+    tests/refuse_growths.py crates/solver_pool_tests/out/solver_pool_tests_tests loses_no_more
 
 Runs `bridge_server script` on the script, followed by so many more commands of its first director (none where no number is
 given), which hold and release board 1 in turn, in batches of 64: first with ample memory, and then with the Nth request for
@@ -20,7 +21,7 @@ memory refused, for N from 1 until a run asks less often. What each of these mus
 
 A refused request that changes nothing in any other run is a fault too. At the end it says how many requests each kind of message took:
 each query by its word, and apart where it is denied or names an error, each batch, each audit, each message that is no request. So a script
-with every query, as crates/bridge_server_protocol/stdin, shows that each growth of each query and of its text was refused.
+with every query, as `tests/stored_runs.py protocol`, shows that each growth of each query and of its text was refused.
 
 Of `deal_tables` each line is run alone, a deal for `table` or an ending for `solve`: once with ample memory, which must solve
 it, and then with the Nth request refused, for each N. Each of these must write the same numbers or none: then the line is named
@@ -39,6 +40,8 @@ REFUSING = r"""
 #include <errno.h>
 #include <stdio.h>
 #include <stdlib.h>
+#include <sys/syscall.h>
+#include <unistd.h>
 static unsigned long asked, refused_at;
 static void *(*real_malloc)(size_t), *(*real_realloc)(void *, size_t);
 static int (*real_memalign)(void **, size_t, size_t);
@@ -60,6 +63,12 @@ __attribute__((destructor)) static void end(void) {
 void *malloc(size_t n) { return ++asked == refused_at ? (errno = ENOMEM, (void *)0) : real_malloc(n); }
 void *realloc(void *p, size_t n) { return ++asked == refused_at ? (errno = ENOMEM, (void *)0) : real_realloc(p, n); }
 int posix_memalign(void **p, size_t a, size_t n) { return ++asked == refused_at ? ENOMEM : real_memalign(p, a, n); }
+/* a program with threads ends so, and no destructor is run */
+void _exit(int status) {
+    end();
+    syscall(SYS_exit_group, status);
+    __builtin_unreachable();
+}
 """
 
 NO_MEMORY = b'{"error":"OutOfMemory"}\n'
@@ -225,4 +234,5 @@ def main():
             refuse_scripts(program, given, int(words[0]) if words else 0, room)
 
 
-main()
+if __name__ == "__main__":
+    main()

@@ -1,7 +1,7 @@
-ghost use Rattle.std.specs.Prelude.{◌≡◌, ◌≢◌, ◌≤◌, ℕ, [], Some, None, Err, IfOk, IfErr};
+ghost use Rattle.std.specs.Prelude.{◌≡◌, ◌≢◌, ◌≤◌, ℕ, [], Some, None, Err, IfOk, IfErr, OnErr};
 ghost use Rattle.cards.specs.Play.{start};
 ghost use Rattle.solver_results.specs.PlayAnswer.{answer_of};
-ghost use Rattle.double_dummy.specs.declared.error.SolveError.TheVariants.{OutOfBudget, OutOfMemory};
+ghost use Rattle.double_dummy.specs.declared.error.SolveError.TheVariants.{OutOfBudget};
 ghost use Rattle.double_dummy_laws.specs.DoubleDummy.{first_illegal};
 
 use crate::budget::Budget;
@@ -26,9 +26,8 @@ pub fn play_costs(
     ensures out_of_budget { IfErr result (λ refusal. refusal ≡ OutOfBudget → budget.new ≡ 0) }
     ensures not_a_play { (number : ℕ) →
         first_illegal 1 (start deal contract.strain contract.declarer) play.now ≡ Some number →
-        IfErr result (λ refusal. refusal ≡ OutOfMemory) × (budget.new ≡ budget.old) }
-    ensures empty { play.now ≡ [] →
-        IfErr result (λ refusal. refusal ≡ OutOfMemory) × (budget.new ≡ budget.old) }
+        OnErr result ⊥ × (budget.new ≡ budget.old) }
+    ensures empty { play.now ≡ [] → OnErr result ⊥ × (budget.new ≡ budget.old) }
     ensures no_budget { budget.old ≡ 0 → play.now ≢ [] →
         first_illegal 1 (start deal contract.strain contract.declarer) play.now ≡ None → result ≡ Err OutOfBudget }
 {

@@ -1,6 +1,6 @@
-//! Two workers work beside one another: one of them finishes the second job while the first job waits.
+//! Two workers work beside one another: one of them finishes the second job while the first job waits at the gate.
 
-use super::{SUITS, SUITS_FROM_EAST, table_work};
+use super::{SUITS, SUITS_FROM_EAST, give, table_work};
 use crossbeam_channel::unbounded;
 use solver_pool::{Done, Found, Gate, Job, Pool, run_worker};
 use std::alloc::Global;
@@ -14,7 +14,7 @@ use std::time::{Clock, Duration};
 struct HoldsFirst<'a, R: Clock> {
     clock: &'a R,
     second_is_done: AtomicBool,
-    waited_in_vain: AtomicBool,
+    first_saw_it: AtomicBool,
 }
 
 impl<R: Clock> HoldsFirst<'_, R> {
@@ -31,8 +31,8 @@ impl<R: Clock> HoldsFirst<'_, R> {
 
 impl<R: Clock> Gate for HoldsFirst<'_, R> {
     fn pass(&self, job: u32) {
-        if job == 1 && !self.awaits_second() {
-            self.waited_in_vain.store(true, Ordering::SeqCst);
+        if job == 1 && self.awaits_second() {
+            self.first_saw_it.store(true, Ordering::SeqCst);
         }
     }
 
@@ -50,14 +50,13 @@ fn the_second_job_is_done_while_the_first_waits(rt: HostRuntime) -> Result<(), F
     let (to_workers, jobs) = unbounded::<Job, Global>(alloc)?;
     let (from_workers, results) = unbounded::<Done, Global>(alloc)?;
     for (board, deal) in [(1, SUITS), (2, SUITS_FROM_EAST)] {
-        let job = pool.add(table_work(board, deal)?)?;
-        assert!(rt; to_workers.send(&rt, job).is_ok());
+        give(&rt, &mut pool, &to_workers, &table_work(board, deal)?)?;
     }
     drop(to_workers);
     let gate = HoldsFirst {
         clock: &rt,
         second_is_done: AtomicBool::new(false),
-        waited_in_vain: AtomicBool::new(false),
+        first_saw_it: AtomicBool::new(false),
     };
     thread::join(
         &rt,
@@ -66,8 +65,8 @@ fn the_second_job_is_done_while_the_first_waits(rt: HostRuntime) -> Result<(), F
     );
     drop(from_workers);
     assert!(rt;
-        !gate.waited_in_vain.load(Ordering::SeqCst),
-        "the first job waited in vain"
+        gate.first_saw_it.load(Ordering::SeqCst),
+        "the first job didn't wait, or waited in vain"
     );
     for _ in 0..2 {
         let done = results.recv(&rt)?;

@@ -1,7 +1,8 @@
 //! What the pool takes, and what it refuses.
 
-use super::{SUITS, table_work};
-use solver_pool::{AddError, CollectError, Done, Job, Pool, solve_job};
+use super::{SUITS, give, table_work};
+use crossbeam_channel::unbounded;
+use solver_pool::{AddError, CollectError, Done, Job, OpenGate, Pool, run_worker, solve_job};
 use std::alloc::Global;
 use std::test::Fail;
 
@@ -36,15 +37,26 @@ fn collects_each_job_once(rt: HostRuntime) -> Result<(), Fail> {
     Ok(())
 }
 
+/// A worker answers each of them.
 #[test]
 fn gives_seventy_thousand_numbers(rt: HostRuntime) -> Result<(), Fail> {
+    let alloc: Global = rt.alloc();
     let work = table_work(1, SUITS)?;
-    let mut pool = Pool::new(rt.alloc())?;
+    let mut pool = Pool::new(alloc)?;
+    let (to_worker, jobs) = unbounded::<Job, Global>(alloc)?;
+    let (from_worker, results) = unbounded::<Done, Global>(alloc)?;
     for number in 1u32..70_001 {
-        assert_eq!(rt; pool.add(work)?.number, number);
+        assert_eq!(rt; give(&rt, &mut pool, &to_worker, &work)?, number);
     }
     assert_eq!(rt; pool.add(work).err(), Some(AddError::PoolFull));
-    let last = done_of(rt.alloc(), 70_000)?;
-    assert_eq!(rt; pool.collect(&last), Ok(()));
+    drop(to_worker);
+    run_worker(&rt, alloc, &OpenGate, &jobs, &from_worker, 0);
+    drop(from_worker);
+    let mut came: u32 = 0;
+    for done in results.iter(&rt) {
+        assert_eq!(rt; pool.collect(&done), Ok(()));
+        came = came.saturating_add(1);
+    }
+    assert_eq!(rt; came, 70_000);
     Ok(())
 }
