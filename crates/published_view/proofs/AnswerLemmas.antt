@@ -1,5 +1,5 @@
 -- What is answered from what is shown, where the fact that decides a query is allowed.
-use Rattle.std.proofs.Common.{rules, ◌≡◌, ℕ, zero, suc, ◌-◌, ◌<◌, ◌≤◌, true, false, List, [], ◌∷◌, length, refl, sym, ap, ◌∙◌, arith, inl, inr}
+use Rattle.std.proofs.Common.{rules, ◌≡◌, ℕ, zero, suc, ◌-◌, ◌<◌, ◌≤◌, true, false, List, [], ◌∷◌, length, refl, sym, ap, ◌∙◌, arith}
 use Rattle.std.specs.Prelude.{Option, Some, None, slice_get, is_some, not, ◌&&◌}
 use Rattle.std.specs.Option.{option_and_then, option_map}
 use Rattle.cards.specs.Hands.{Hands}

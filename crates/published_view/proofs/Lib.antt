@@ -1,4 +1,12 @@
+pub mod ElementLemmas
+pub mod PlaceLemmas
 pub mod AgreementLemmas
+pub mod HiddenLemmas
 pub mod AnswerLemmas
 pub mod StandingLemmas
 pub mod ListLemmas
+pub mod StepLemmas
+pub mod HistoryLemmas
+pub mod ExactLemmas
+pub mod BodyLemmas
+pub mod EveryRunLemmas

@@ -3,10 +3,11 @@ use Rattle.std.proofs.Common.{◌≡◌, ℕ, ◌+◌, List, [], ◌∷◌, ◌+
 use Rattle.std.specs.Prelude.{min}
 use Rattle.std.proofs.lemmas.List.{length-append}
 use Rattle.session_state.specs.Apply.{apply}
+use Rattle.session_state.specs.Readers.{digest_of}
 use Rattle.session_state.specs.SessionState.{SessionState}
 use Rattle.session_state.specs.declared.entry.Entry.{Entry}
 use Rattle.session_book.proofs.JournalLemmas.{replayed_more}
-use Rattle.published_view.specs.View.{Seen, StandsFor, seen_after, most_versions, reply_after}
+use Rattle.published_view.specs.View.{Seen, StandsFor, seen_after, most_versions, digest_after, reply_after}
 use Rattle.published_view.specs.Reply.{reply_of}
 use Rattle.session_queries.specs.declared.query.Query.{Query}
 use Rattle.session_queries.specs.declared.reply.Reply.{Reply}
@@ -30,3 +31,8 @@ pub stands_reply : (opening : SessionState) (entries : List Entry) (seen : Seen)
     StandsFor opening entries seen → reply ≡ reply_of seen.state seen.version user query since → reply ≡ reply_after opening entries user query since
 stands_reply opening entries seen user query since reply stands is =
     is ∙ (λ i. reply_of (stands.state i) (stands.version i) user query since)
+
+-- and has its digests
+pub stands_digest : (opening : SessionState) (entries : List Entry) (seen : Seen) (name : List ℕ) → StandsFor opening entries seen →
+    digest_of seen.state name ≡ digest_after opening entries name
+stands_digest opening entries seen name stands = ap (λ s. digest_of s name) stands.state

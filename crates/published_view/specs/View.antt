@@ -1,8 +1,10 @@
 -- What a view stands for.
-use Rattle.std.specs.Prelude.{◌≡◌, ℕ, ◌+◌, List, length, min, refl}
+use Rattle.std.specs.Prelude.{◌≡◌, ℕ, ◌+◌, Option, List, length, min, refl}
 use Rattle.std.specs.Coded.{Coded, code_by, coded×, coded_ℕ}
 use Rattle.session_state.specs.SessionState.{SessionState, session_code}
 use Rattle.session_state.specs.Apply.{apply}
+use Rattle.session_state.specs.Readers.{digest_of}
+use Rattle.session_state.specs.declared.digest.Digest.{Digest}
 use Rattle.session_state.specs.declared.entry.Entry.{Entry}
 use Rattle.session_book.specs.Replay.{replay}
 use Rattle.session_queries.specs.declared.query.Query.{Query}
@@ -31,6 +33,10 @@ pub record StandsFor (opening : SessionState) (entries : List Entry) (seen : See
 abbrev pub reply_after : SessionState → List Entry → List ℕ → Query → ℕ → Reply
 reply_after opening entries user query since =
     reply_of (replay opening entries) (version_of entries) user query since
+
+-- the digest of the token with which a user signs in after a list of entries, if there is such a user
+abbrev pub digest_after : SessionState → List Entry → List ℕ → Option Digest
+digest_after opening entries name = digest_of (replay opening entries) name
 
 -- a state and its version, with an entry more
 abbrev pub seen_after : Seen → Entry → Seen

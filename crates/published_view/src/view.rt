@@ -2,16 +2,17 @@ ghost use Rattle.std.specs.Prelude.{◌≡◌, ℕ, ◌+◌, List, [], ◌∷◌
 ghost use Rattle.disclosure_rules.specs.Policy.{first_rule};
 ghost use Rattle.session_state.specs.SessionState.{SessionState, viewer_of};
 ghost use Rattle.session_state.specs.declared.entry.Entry.{Entry};
+ghost use Rattle.session_state.specs.Readers.{digest_of};
 ghost use Rattle.session_queries.specs.Query.{fact_of};
 ghost use Rattle.published_view.specs.Reply.{before_answer, body_of, reply_of};
-ghost use Rattle.published_view.specs.View.{StandsFor, seen_after, reply_after};
+ghost use Rattle.published_view.specs.View.{StandsFor, seen_after, digest_after, reply_after};
 
 use crate::bodies::answer_of;
 use crate::preface::before_answer;
 use cards::Name;
 use session_book::Book;
 use session_queries::{Body, Query, Reply};
-use session_state::{Entry, State};
+use session_state::{Digest, Entry, State};
 use std::alloc::{AllocError, Global};
 use std::marker::Model;
 
@@ -58,6 +59,16 @@ impl View {
         ensures { result ≡ self.now.version }
     {
         self.version
+    }
+
+    /// The digest of the token with which a user signs in, if there is such a user.
+    #[tactic(auto, using(crate::proofs::StandingLemmas::stands_digest))]
+    pub fn digest(&self, name: Name) -> Option<Digest>
+        ensures digest { result ≡ digest_of self.now.state name }
+        ensures stands { (opening : SessionState) (entries : List Entry) → StandsFor opening entries self.now →
+            result ≡ digest_after opening entries name }
+    {
+        self.state.digest(name)
     }
 
     /// The reply to a user's query; the user wants no version older than `since`. It takes memory only for an answer that

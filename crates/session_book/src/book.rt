@@ -110,10 +110,11 @@ impl Book {
         })
     }
 
-    /// How many entries were accepted.
+    /// How many entries were accepted. Each book's journal is accepted.
     pub fn version(&self) -> usize
         ensures version { result ≡ length self.now.journal }
         ensures few { result ≤ most_entries }
+        ensures accepted { IsAccepted self.now.opening self.now.journal }
     {
         self.journal.len()
     }

@@ -20,7 +20,7 @@ use Rattle.published_view.specs.View.{Seen, seen_after, most_versions}
 use Rattle.session_keeper.specs.Keeper.{IsBehind}
 
 -- a list with others after it
-abbrev Extends : List Entry → List Entry → Type 0
+abbrev pub Extends : List Entry → List Entry → Type 0
 Extends before after = (more : List Entry) × (after ≡ before ++ more)
 
 same_extends : (before : List Entry) → Extends before before
@@ -50,7 +50,8 @@ run_extends : (opening : SessionState) (before : List Entry) (actor : List ℕ) 
 unfolding run
 run_extends opening before actor batch = fold_extends opening actor batch (record { journal = before; answers = [] })
 
-runs_extend : (stopped : Bool) (opening : SessionState) (before : List Entry) (actor : List ℕ) (batch : List Command) (after : Progress) →
+-- a batch adds to the journal
+pub runs_extend : (stopped : Bool) (opening : SessionState) (before : List Entry) (actor : List ℕ) (batch : List Command) (after : Progress) →
     Runs stopped opening before actor batch after → Extends before after.journal
 runs_extend false opening before actor batch after ran =
     subst (λ (p : Progress). Extends before p.journal) (sym ran) (run_extends opening before actor batch)

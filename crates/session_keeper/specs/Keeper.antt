@@ -2,14 +2,16 @@
 use Rattle.std.specs.Prelude.{◌≡◌, ◌≤◌, List, take, length}
 use Rattle.session_state.specs.declared.entry.Entry.{Entry}
 use Rattle.session_state.specs.SessionState.{SessionState}
+use Rattle.session_book.specs.Journal.{IsAccepted}
 use Rattle.session_book.specs.Replay.{replay}
 use Rattle.published_view.specs.View.{Seen}
 use Rattle.session_keeper.specs.declared.keeper.PlainKeeper.TheInside.{Inside}
 
--- the view has the state to which the book's journal leads, and the journal's version
+-- the view has the state to which the book's journal leads, and the journal's version; the journal is accepted
 pub record IsUpToDate (keeper : Inside) : Type 0 where
   pub state : keeper.view.state ≡ replay keeper.book.opening keeper.book.journal
   pub version : keeper.view.version ≡ length keeper.book.journal
+  pub accepted : IsAccepted keeper.book.opening keeper.book.journal
 
 -- a view has taken in the first entries of a journal
 pub record IsBehind (opening : SessionState) (journal : List Entry) (seen : Seen) : Type 0 where

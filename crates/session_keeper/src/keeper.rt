@@ -4,12 +4,13 @@ ghost use Rattle.rbac.specs.Authorization.{HasPermission};
 ghost use Rattle.rbac.specs.declared.operation.Operation.TheVariants.{Audit};
 ghost use Rattle.session_book.specs.Audit.{audit_rows};
 ghost use Rattle.session_book.specs.declared.audit.AuditError.TheVariants.{NotPermitted};
-ghost use Rattle.session_book.specs.Journal.{state_of};
+ghost use Rattle.session_book.specs.Journal.{IsAccepted, state_of};
 ghost use Rattle.session_book.specs.Run.{Runs, first_number, last_number, most_commands};
 ghost use Rattle.session_opening.specs.Opening.{opening_of};
 ghost use Rattle.session_opening.specs.OpeningRefusal.{opening_refusal};
 ghost use Rattle.session_opening.specs.declared.opening_refusal.OpeningRefusal.TheVariants as opening_cause;
 ghost use Rattle.session_queries.specs.Query.{fact_of};
+ghost use Rattle.session_state.specs.Readers.{digest_of};
 ghost use Rattle.session_state.specs.Refusal.{most_entries};
 ghost use Rattle.session_state.specs.SessionState.{viewer_of};
 ghost use Rattle.published_view.specs.Reply.{before_answer, reply_of};
@@ -20,7 +21,7 @@ use published_view::View;
 use session_book::{AuditError, AuditRows, Book, Submission};
 use session_opening::{Config, OpeningRefusal};
 use session_queries::{Query, Reply};
-use session_state::{Command, State};
+use session_state::{Command, Digest, State};
 use std::alloc::{AllocError, Global};
 use std::marker::Model;
 
@@ -62,10 +63,11 @@ impl PlainKeeper {
         }
     }
 
-    /// How many entries the journal has.
+    /// How many entries the journal has. Each keeper's journal is accepted.
     pub fn version(&self) -> usize
         ensures version { result ≡ length self.now.journal }
         ensures few { result ≤ most_entries }
+        ensures accepted { IsAccepted self.now.opening self.now.journal }
     {
         self.book.version()
     }
@@ -91,8 +93,17 @@ impl PlainKeeper {
         ensures memory { IfErr result (λ _.
             before_answer (state_of self.now).public (length self.now.journal) (viewer_of (state_of self.now) user)
             (fact_of query.now) since ≡ None) }
+        ensures accepted { IsAccepted self.now.opening self.now.journal }
     {
         self.view.answer(alloc, user, query, since)
+    }
+
+    /// The digest of the token with which a user signs in, if there is such a user.
+    pub fn digest(&self, name: Name) -> Option<Digest>
+        ensures digest { result ≡ digest_of (state_of self.now) name }
+        ensures accepted { IsAccepted self.now.opening self.now.journal }
+    {
+        self.view.digest(name)
     }
 
     /// The entries from a number on, at most so many, for a user who has the permission for the audit.
@@ -117,6 +128,7 @@ impl PlainKeeper {
         ensures last { IfOk result (λ submission.
             submission.last ≡ last_number (length self.old.journal) (length self.new.journal)) }
         ensures opening { self.new.opening ≡ self.old.opening }
+        ensures accepted { IsAccepted self.new.opening self.new.journal }
         ensures err { OnErr result (self.new ≡ self.old) }
     {
         let submission = self.book.submit(actor, batch)?;
@@ -130,6 +142,7 @@ fn absorb_new(view: &mut View, book: &Book)
     requires behind { IsBehind book.now.opening book.now.journal view.old }
     ensures state { view.new.state ≡ state_of book.now }
     ensures version { view.new.version ≡ length book.now.journal }
+    ensures accepted { IsAccepted book.now.opening book.now.journal }
 {
     for number in view.version()..book.version() {
         absorb_next(view, book, number);
