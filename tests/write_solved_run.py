@@ -41,8 +41,12 @@ def listed(name, boards, version, **filtered):
     asked(name, {"list": {"boards": boards, "more": False}}, version, ask="list", **filtered)
 
 
+def tricks(by, strain, least, most):
+    return {"filter": {"dd": {"by": by, "max": most, "min": least, "strain": strain}}}
+
+
 def many(strain, holds):
-    atom = {"dd": {"by": "N", "max": 13, "min": 10, "strain": strain}}
+    atom = tricks("N", strain, 10, 13)["filter"]
     return {"filter": atom if holds else {"not": atom}}
 
 
@@ -74,6 +78,9 @@ listed("n1", [], 4, **many("S", True))
 listed("d", [1], 4, **many("S", True))
 listed("d", [2, 3], 4, **many("S", False))
 listed("d", [], 4, **many("H", True))
+for by, strain, least, most, boards in (("E", "H", 13, 13, [1]), ("S", "D", 0, 12, []), ("W", "C", 1, 13, [1]), ("W", "N", 1, 13, []), ("W", "N", 0, 0, [1]),
+                                        ("E", "H", 13, 0, [])):
+    listed("d", boards, 4, **tricks(by, strain, least, most))
 
 # What takes the result away takes its costs with it.
 done("d", 5, {"cmd": "Correct", "play": RUFF, "result": RESULT, **CELL})

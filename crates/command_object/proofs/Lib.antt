@@ -1,3 +1,4 @@
+pub mod FormLemmas
 pub mod LetterLemmas
 pub mod MemberLemmas
 pub mod TableLemmas

@@ -1,7 +1,7 @@
 -- Reading: a value, or why there is none.
 use Rattle.std.specs.Prelude.{◌≡◌, Option, Some, None, Result, Ok, Err}
 use Rattle.message_fields.specs.declared.request_fault.RequestFault.{RequestFault}
-use Rattle.message_fields.specs.declared.request_fault.RequestFault.TheVariants.{Malformed, UnknownRequest, BadField, OutOfMemory}
+use Rattle.message_fields.specs.declared.request_fault.RequestFault.TheVariants.{TooLong, Malformed, UnknownRequest, BadField, OutOfMemory}
 
 -- what has to be there
 abbrev pub wanted : {A : Type 0} → Option A → Result A RequestFault
@@ -10,6 +10,7 @@ wanted (Some x) = Ok x
 
 -- a function that answered with the fault has read what reading gives, or memory was refused
 abbrev pub Fails : {A : Type 0} → RequestFault → Result A RequestFault → Type 0
+Fails TooLong read = read ≡ Err TooLong
 Fails Malformed read = read ≡ Err Malformed
 Fails UnknownRequest read = read ≡ Err UnknownRequest
 Fails BadField read = read ≡ Err BadField

@@ -4,13 +4,16 @@ ghost use Rattle.message_fields.specs.declared.request_fault.RequestFault.TheVar
 use std::alloc::AllocFailed;
 use thiserror::Error;
 
-/// Why no message was read. Of the first three the first that applies is given.
+/// Why no message was read. Of the first four the first that applies is given.
 #[derive(Clone, Copy, Debug, PartialEq, Eq, Error)]
 pub enum RequestFault {
+    /// It has too many bytes.
+    #[error("TooLong")]
+    TooLong,
     /// The text is no JSON object.
     #[error("Malformed")]
     Malformed,
-    /// It is no query, no batch of commands and no audit, or some word in it names none.
+    /// It isn't one query, batch of commands, audit or greeting, or some word in it names none.
     #[error("UnknownRequest")]
     UnknownRequest,
     /// A member is missing, isn't listed, or hasn't the type or the range that it should.

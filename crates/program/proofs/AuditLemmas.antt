@@ -1,6 +1,6 @@
 -- An audit is answered by its rows, or by its refusal.
 use Rattle.std.proofs.Common.{◌≡◌, ℕ, Bool, true, false, List, [], ◌∷◌, ◌++◌, length, refl, sym, ap, subst, ◌∙◌}
-use Rattle.std.specs.Prelude.{Ok, if◌then◌else◌}
+use Rattle.std.specs.Prelude.{Some, Ok, if◌then◌else◌}
 use Rattle.rbac.specs.Authorization.{HasPermission, IsValid, has_permission}
 use Rattle.rbac.specs.declared.operation.Operation.TheVariants.{Audit}
 use Rattle.rbac.proofs.LawLemmas.{permission_exact}
@@ -12,18 +12,19 @@ use Rattle.session_state.specs.declared.entry.Entry.{Entry}
 use Rattle.wire.specs.AuditText.{audit_text, audit_refusal_text}
 use Rattle.wire.specs.Request.{meaning}
 use Rattle.wire.specs.declared.audit_range.AuditRange.{AuditRange}
-use Rattle.wire.specs.declared.request.Request.TheVariants as request
+use Rattle.wire.specs.Audit.{an_audit}
+use Rattle.wire.specs.declared.source.Source.TheVariants.{Script}
 use Rattle.program.specs.Audit.{audit_reply}
 use Rattle.program.specs.Script.{ample}
 use Rattle.program.specs.Writes.{Responds}
 use Rattle.program.proofs.ResponseLemmas.{responds_by}
 
 pub responds_audit : (opening : SessionState) (journal : List Entry) (line user : List ℕ) (range : AuditRange) (text : List ℕ)
-    → meaning line ≡ Ok (request.Audit user range) → text ≡ audit_reply opening journal user range
+    → meaning Script line ≡ Ok (an_audit (Some user) range) → text ≡ audit_reply opening journal user range
     → Responds opening journal line journal (text ++ 10 ∷ [])
 responds_audit opening journal line user range text means is_reply =
     subst (λ t. Responds opening journal line journal (t ++ 10 ∷ [])) (sym is_reply)
-    (responds_by opening journal line ample (Ok (request.Audit user range)) refl means)
+    (responds_by opening journal line ample (Ok (an_audit (Some user) range)) refl means)
 
 -- a test that holds only where the user has the permission
 test_fails : (b : Bool) (P : Type 0) → (b ≡ true → P) → ¬ P → b ≡ false

@@ -1,6 +1,6 @@
--- What a first line opens.
+-- What a session object opens.
 use Rattle.std.proofs.Common.{◌≡◌, ◌⊎◌, inl, inr, ℕ, ◌≤◌, List, length, refl, sym, ap, subst, ◌∙◌, arith}
-use Rattle.std.specs.Prelude.{None, Some}
+use Rattle.std.specs.Prelude.{Option, None, Some}
 use Rattle.movement.specs.Movement.{boards_of}
 use Rattle.session_state.specs.SessionState.{SessionState}
 use Rattle.session_opening.specs.Opening.{opening_of}
@@ -14,7 +14,7 @@ use Rattle.session_object.specs.Reading.{section_of, Reads, IsRefused}
 use Rattle.session_object.proofs.ReadingLemmas.{one_text}
 use Rattle.program.specs.declared.fault.Fault.{Fault}
 use Rattle.program.specs.declared.fault.Fault.TheVariants.{OutOfMemory}
-use Rattle.program.specs.FirstLine.{Opens, OpensNone, fault_of_session, fault_of_opening}
+use Rattle.program.specs.FirstLine.{Opens, OpensNoneWith, fault_of_session, fault_of_opening}
 
 -- a first line opens one session at most
 pub one_opening : (line : List ℕ) (one other : SessionState) → Opens line one → Opens line other → one ≡ other
@@ -24,20 +24,20 @@ one_opening line one other first second =
     ∙ sym second.opens
 
 -- the boards of a session object are those of its movement
-pub boards_read : (line : List ℕ) (object : SessionObject) → Reads None line object
+pub boards_read : (given : Option (List ℕ)) (line : List ℕ) (object : SessionObject) → Reads given line object
     → boards_of object.config.movement ≤ length object.config.boards
-boards_read line object reads =
+boards_read given line object reads =
     let many : length object.config.boards ≡ boards_of (section_of reads.reads.session) = reads.reads.boards.many in
     let same : boards_of object.config.movement ≡ boards_of (section_of reads.reads.session) = ap boards_of reads.reads.movement in
     omega (arith, many, same)
 
 -- the line is no session object, or there was no memory to read it
-pub unread : (fault : SessionFault) (ended : Fault) (line : List ℕ) → ended ≡ fault_of_session fault → IsRefused fault None line
-    → OpensNone ended line ⊎ (ended ≡ OutOfMemory)
-unread fault ended line is refused = subst (λ f. OpensNone f line ⊎ (f ≡ OutOfMemory)) (sym is) (by fault refused)
+pub unread : (given : Option (List ℕ)) (fault : SessionFault) (ended : Fault) (line : List ℕ) → ended ≡ fault_of_session fault → IsRefused fault given line
+    → OpensNoneWith given ended line ⊎ (ended ≡ OutOfMemory)
+unread given fault ended line is refused = subst (λ f. OpensNoneWith given f line ⊎ (f ≡ OutOfMemory)) (sym is) (by fault refused)
   where
-    by : (fault : SessionFault) → IsRefused fault None line
-        → OpensNone (fault_of_session fault) line ⊎ (fault_of_session fault ≡ OutOfMemory)
+    by : (fault : SessionFault) → IsRefused fault given line
+        → OpensNoneWith given (fault_of_session fault) line ⊎ (fault_of_session fault ≡ OutOfMemory)
     by session.TooLong refused = inl (λ same. absurd (cc), refused)
     by session.Malformed refused = inl (λ same. absurd (cc), refused)
     by session.BadField refused = inl (λ same. absurd (cc), refused)
@@ -46,15 +46,15 @@ unread fault ended line is refused = subst (λ f. OpensNone f line ⊎ (f ≡ Ou
     by session.OutOfMemory refused = inr refl
 
 -- the session isn't opened, or there was no memory for it
-pub unopened : (cause : OpeningRefusal) (ended : Fault) (line : List ℕ) (object : SessionObject) → ended ≡ fault_of_opening cause
-    → Reads None line object
+pub unopened : (given : Option (List ℕ)) (cause : OpeningRefusal) (ended : Fault) (line : List ℕ) (object : SessionObject) → ended ≡ fault_of_opening cause
+    → Reads given line object
     → (opening_refusal object.config ≡ Some cause) ⊎ ((cause ≡ refusal.OutOfMemory) × (opening_refusal object.config ≡ None))
-    → OpensNone ended line ⊎ (ended ≡ OutOfMemory)
-unopened cause ended line object is reads met = subst (λ f. OpensNone f line ⊎ (f ≡ OutOfMemory)) (sym is) (by cause met)
+    → OpensNoneWith given ended line ⊎ (ended ≡ OutOfMemory)
+unopened given cause ended line object is reads met = subst (λ f. OpensNoneWith given f line ⊎ (f ≡ OutOfMemory)) (sym is) (by cause met)
   where
     by : (cause : OpeningRefusal)
         → (opening_refusal object.config ≡ Some cause) ⊎ ((cause ≡ refusal.OutOfMemory) × (opening_refusal object.config ≡ None))
-        → OpensNone (fault_of_opening cause) line ⊎ (fault_of_opening cause ≡ OutOfMemory)
+        → OpensNoneWith given (fault_of_opening cause) line ⊎ (fault_of_opening cause ≡ OutOfMemory)
     by refusal.OutOfMemory met = inr refl
     by refusal.BadName (inl met) = inl (record { object = object; reads = reads; refused = met })
     by refusal.BadName (inr other) = let same = other.0 in absurd (cc)

@@ -10,15 +10,17 @@ use Rattle.session_book.specs.Run.{Progress, run, Runs, first_number, last_numbe
 use Rattle.session_state.specs.SessionState.{SessionState}
 use Rattle.session_queries.specs.declared.query.Query.{Query}
 use Rattle.message_fields.specs.declared.request_fault.RequestFault.{RequestFault}
-use Rattle.message_fields.specs.declared.request_fault.RequestFault.TheVariants.{Malformed, UnknownRequest, BadField, OutOfMemory}
+use Rattle.message_fields.specs.declared.request_fault.RequestFault.TheVariants.{TooLong, Malformed, UnknownRequest, BadField, OutOfMemory}
 use Rattle.wire.specs.declared.request.Request.{Request}
-use Rattle.wire.specs.declared.request.Request.TheVariants as request
-use Rattle.wire.specs.Request.{meaning}
+use Rattle.wire.specs.declared.request.RequestBody.TheVariants as body
+use Rattle.wire.specs.declared.source.Source.TheVariants.{Script}
+use Rattle.wire.specs.declared.connection_fault.ConnectionFault.TheVariants.{NotSignedIn}
+use Rattle.wire.specs.Request.{a_query, a_batch, meaning}
 use Rattle.message_fields.specs.Reading.{Fails}
-use Rattle.wire.specs.ReceiptText.{receipt_text, fault_text}
+use Rattle.wire.specs.ReceiptText.{receipt_text, fault_text, connection_fault_text}
 use Rattle.published_view.specs.Reply.{reply_of}
 use Rattle.reply_texts.specs.ReplyText.{reply_text}
-use Rattle.program.specs.Script.{Memory, ample, Response, response_to_request, response_to_line, stopped_at, run_with}
+use Rattle.program.specs.Script.{Memory, ample, Response, response_to_meaning, response_to_line, stopped_at, run_with}
 use Rattle.program.specs.Standing.{line_of}
 use Rattle.program.specs.Writes.{Responds}
 
@@ -29,31 +31,42 @@ module _ (opening : SessionState) (journal : List Entry) (line : List ℕ) where
   responds_no_memory = record { memory = record { refused_before = true; refused_at = None; refused_after = false }; journal_is = refl; text_is = refl }
 
   -- with this memory, a line leads to what its meaning does
-  response_by : (memory : Memory) (meant : Result Request RequestFault) → memory.refused_before ≡ false → meaning line ≡ meant →
-      response_to_line opening journal (record { line = line; memory = memory }) ≡ response_to_request opening journal memory meant
+  response_by : (memory : Memory) (meant : Result Request RequestFault) → memory.refused_before ≡ false → meaning Script line ≡ meant →
+      response_to_line opening journal (record { line = line; memory = memory }) ≡ response_to_meaning opening journal memory meant
   unfolding response_to_line
   response_by memory meant goes_on means =
-      ap (λ b. if b then record { journal = journal; text = fault_text OutOfMemory } else response_to_request opening journal memory (meaning line)) goes_on
-      ∙ ap (response_to_request opening journal memory) means
+      ap (λ b. if b then record { journal = journal; text = fault_text OutOfMemory } else response_to_meaning opening journal memory (meaning Script line)) goes_on
+      ∙ ap (response_to_meaning opening journal memory) means
 
-  pub responds_by : (memory : Memory) (meant : Result Request RequestFault) → memory.refused_before ≡ false → meaning line ≡ meant →
-      Responds opening journal line (response_to_request opening journal memory meant).journal ((response_to_request opening journal memory meant).text ++ 10 ∷ [])
+  pub responds_by : (memory : Memory) (meant : Result Request RequestFault) → memory.refused_before ≡ false → meaning Script line ≡ meant →
+      Responds opening journal line (response_to_meaning opening journal memory meant).journal ((response_to_meaning opening journal memory meant).text ++ 10 ∷ [])
   responds_by memory meant goes_on means =
       let step = response_by memory meant goes_on means in
       record { memory = memory; journal_is = ap (λ (t : Response). t.journal) step; text_is = ap (λ (t : Response). t.text ++ 10 ∷ []) step }
 
   -- what isn't read is answered by its fault
-  pub responds_fault : (fault : RequestFault) → Fails fault (meaning line) → Responds opening journal line journal (fault_text fault ++ 10 ∷ [])
+  pub responds_fault : (fault : RequestFault) → Fails fault (meaning Script line) → Responds opening journal line journal (fault_text fault ++ 10 ∷ [])
+  responds_fault TooLong fails = responds_by ample (Err TooLong) refl fails
   responds_fault Malformed fails = responds_by ample (Err Malformed) refl fails
   responds_fault UnknownRequest fails = responds_by ample (Err UnknownRequest) refl fails
   responds_fault BadField fails = responds_by ample (Err BadField) refl fails
   responds_fault OutOfMemory fails = responds_no_memory
 
+  -- what a script never has: a request without its user, and a greeting
+  pub responds_nobody : (request : Request) → meaning Script line ≡ Ok request → request.user ≡ None →
+      Responds opening journal line journal (connection_fault_text NotSignedIn ++ 10 ∷ [])
+  responds_nobody request means none =
+      responds_by ample (Ok (record { user = None; body = request.body })) refl (means ∙ (λ i. Ok (record { user = none i; body = request.body })))
+
+  pub responds_greeting : (user name token : List ℕ) → meaning Script line ≡ Ok (record { user = Some user; body = body.Hello name token }) →
+      Responds opening journal line journal (fault_text UnknownRequest ++ 10 ∷ [])
+  responds_greeting user name token means = responds_by ample (Ok (record { user = Some user; body = body.Hello name token })) refl means
+
   -- a query is answered by its reply
-  pub responds_reply : (user : List ℕ) (query : Query) (since : ℕ) (text : List ℕ) → meaning line ≡ Ok (request.Query user query since) →
+  pub responds_reply : (user : List ℕ) (query : Query) (since : ℕ) (text : List ℕ) → meaning Script line ≡ Ok (a_query (Some user) since query) →
       text ≡ reply_text (reply_of (replay opening journal) (length journal) user query since) → Responds opening journal line journal (text ++ 10 ∷ [])
   responds_reply user query since text means is_reply =
-      subst (λ t. Responds opening journal line journal (t ++ 10 ∷ [])) (sym is_reply) (responds_by ample (Ok (request.Query user query since)) refl means)
+      subst (λ t. Responds opening journal line journal (t ++ 10 ∷ [])) (sym is_reply) (responds_by ample (Ok (a_query (Some user) since query)) refl means)
 
   -- a place in a batch where memory was refused
   abbrev place : (stopped : Bool) (actor : List ℕ) (batch : List Command) (after : Progress) → Runs stopped opening journal actor batch after → Option ℕ
@@ -81,13 +94,13 @@ module _ (opening : SessionState) (journal : List Entry) (line : List ℕ) where
       ∙ (λ i. record { journal = sym runs.journal i; answers = sym runs.answers i })
 
   -- a batch is answered by its receipt, or there is no memory for it
-  pub responds_receipt : (stopped : Bool) (user : List ℕ) (commands : List Command) (after : Progress) (first last version : ℕ) (text : List ℕ) → meaning line ≡ Ok (request.Batch user commands) →
+  pub responds_receipt : (stopped : Bool) (user : List ℕ) (commands : List Command) (after : Progress) (first last version : ℕ) (text : List ℕ) → meaning Script line ≡ Ok (a_batch (Some user) commands) →
       Runs stopped opening journal user commands after → first ≡ first_number (length journal) (length after.journal) → last ≡ last_number (length journal) (length after.journal) →
       version ≡ length after.journal → text ≡ receipt_text after.answers first last version → Responds opening journal line after.journal (text ++ 10 ∷ [])
   responds_receipt stopped user commands after first last version text means runs is_first is_last is_version is_text =
       let memory : Memory = record { refused_before = false; refused_at = place stopped user commands after runs; refused_after = false } in
       let ran = runs_with stopped user commands after runs in
-      let step = response_by memory (Ok (request.Batch user commands)) refl means in
+      let step = response_by memory (Ok (a_batch (Some user) commands)) refl means in
       record {
         memory = memory;
         journal_is = ap (λ (t : Response). t.journal) step ∙ ap (λ (p : Progress). p.journal) ran;
@@ -97,13 +110,29 @@ module _ (opening : SessionState) (journal : List Entry) (line : List ℕ) where
             ∙ ap (λ bytes. bytes ++ 10 ∷ []) (sym is_text);
       }
 
-  pub responds_no_receipt : (stopped : Bool) (user : List ℕ) (commands : List Command) (after : Progress) → meaning line ≡ Ok (request.Batch user commands) →
+  pub responds_no_receipt : (stopped : Bool) (user : List ℕ) (commands : List Command) (after : Progress) → meaning Script line ≡ Ok (a_batch (Some user) commands) →
       Runs stopped opening journal user commands after → Responds opening journal line after.journal (fault_text OutOfMemory ++ 10 ∷ [])
   responds_no_receipt stopped user commands after means runs =
       let memory : Memory = record { refused_before = false; refused_at = place stopped user commands after runs; refused_after = true } in
       let ran = runs_with stopped user commands after runs in
-      let step = response_by memory (Ok (request.Batch user commands)) refl means in
+      let step = response_by memory (Ok (a_batch (Some user) commands)) refl means in
       record { memory = memory; journal_is = ap (λ (t : Response). t.journal) step ∙ ap (λ (p : Progress). p.journal) ran; text_is = ap (λ (t : Response). t.text ++ 10 ∷ []) step }
+
+-- a line of which as much is kept as tells what it means
+pub responds_whole : (opening : SessionState) (journal : List Entry) (line whole : List ℕ) (after : List Entry) (text : List ℕ)
+    → meaning Script line ≡ meaning Script whole → Responds opening journal line after text
+    → Responds opening journal whole after text
+unfolding response_to_line
+responds_whole opening journal line whole after text same responds =
+    let memory : Memory = responds.memory in
+    let step : response_to_line opening journal (record { line = line; memory = memory })
+    ≡ response_to_line opening journal (record { line = whole; memory = memory }) =
+    ap (λ meant. if memory.refused_before then record { journal = journal; text = fault_text OutOfMemory } else response_to_meaning opening journal memory meant) same in
+    record {
+      memory = memory;
+      journal_is = ap (λ (t : Response). t.journal) (sym step) ∙ responds.journal_is;
+      text_is = ap (λ (t : Response). t.text ++ 10 ∷ []) (sym step) ∙ responds.text_is;
+    }
 
 -- a text whose line was ended, or for which there was no memory
 pub responds_by_line : {S : Type 0} (bytes : S → List ℕ) (opening : SessionState) (journal : List Entry) (line : List ℕ) (after : List Entry) (text : List ℕ) (result : Result S RequestFault) →

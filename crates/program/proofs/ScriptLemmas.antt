@@ -1,7 +1,7 @@
 -- How a script's run goes on from line to line.
-use Rattle.std.proofs.Common.{◌≡◌, ◌≢◌, ◌⊎◌, ℕ, ◌+◌, ◌≤◌, ◌<◌, inl, inr, List, [], ◌∷◌, ◌++◌, length, refl, sym, ap, subst, ◌∙◌, append_assoc, append-nil, length-append, arith}
+use Rattle.std.proofs.Common.{◌≡◌, ◌≢◌, ◌⊎◌, ℕ, ◌==◌, false, ◌+◌, ◌≤◌, ◌<◌, inl, inr, List, [], ◌∷◌, ◌++◌, take, length, refl, sym, ap, subst, ◌∙◌, append_assoc, append-nil, length-append, arith}
 use Rattle.std.specs.Prelude.{Option, Some, None, IfSome, IfErr, OnOk, Err, Ok, Result, filter}
-use Rattle.std.proofs.lemmas.List.{map-append}
+use Rattle.std.proofs.lemmas.List.{map-append, length-take}
 use Rattle.std.proofs.lemmas.List.Sums.{fold-append}
 use Rattle.std.proofs.lemmas.List.Elements.{filter-append, All-append, All-cons, All-nil}
 use Rattle.std.specs.Io.KnownBytes.{Consumes, Appends, IsAtEnd}
@@ -67,6 +67,16 @@ nothing_of (byte ∷ bytes) none = absurd (omega arith)
 
 no_message : (line : List ℕ) → line ≡ [] → filter is_not_empty (line ∷ []) ≡ []
 no_message line empty = ap (λ l. filter is_not_empty (l ∷ [])) empty
+
+pub isnt_empty : (n : ℕ) → (n == 0) ≡ false → 1 ≤ n
+isnt_empty n h = grind arith
+
+-- as much as is kept of a line is empty where the line is
+pub kept_none : (most : ℕ) (line whole : List ℕ) → line ≡ take (most + 1) whole → length line ≡ 0 → length whole ≡ 0
+kept_none most line whole is none = let kept = ap length is ∙ length-take (most + 1) whole in omega (arith, kept, none)
+
+pub kept_some : (most : ℕ) (line whole : List ℕ) → line ≡ take (most + 1) whole → 1 ≤ length line → 1 ≤ length whole
+kept_some most line whole is some = let kept = ap length is ∙ length-take (most + 1) whole in omega (arith, kept, some)
 
 -- what no LF ends is a message as any line is
 last_message : (line : List ℕ) → filter is_not_empty (last_line line) ≡ filter is_not_empty (line ∷ [])
@@ -170,7 +180,7 @@ module _ (input before reader reader' writer writer' : Option (List ℕ)) (ledge
 
 -- ---- faults
 
-module _ (input : List ℕ) (before reader reader' writer : Option (List ℕ)) (ledger : Ledger) (left left' : ℕ) (taken text line : List ℕ) where
+module _ (input : List ℕ) (before reader reader' writer : Option (List ℕ)) (ledger : Ledger) (left left' most : ℕ) (taken text line : List ℕ) where
   module _ (whole : (pieces_of taken).rest ≡ []) (begun : 1 ≤ length (ended_lines taken)) (taken_first : Consumes (Some input) reader taken) (counted : left + length taken ≡ script_limit)
       (opened : Opens (first_of (ended_lines taken)) ledger.opening) (responses : RespondsToEach ledger.opening (messages_among (ended_lines taken)) ledger.journal text) (appended : Appends before writer text) where
     -- bytes of a line that hasn't ended change nothing
@@ -187,27 +197,30 @@ module _ (input : List ℕ) (before reader reader' writer : Option (List ℕ)) (
         }))
 
     -- reading ends early in the line after, or finds a byte too many
-    at_input : FailsAtInput reader reader' line left left' → EndsWith Input input reader' before writer
+    at_input : FailsAtInput reader reader' most line left left' → EndsWith Input input reader' before writer
     at_input fails = by fails.beyond fails.consumed fails.few fails.full
       where
-        by : (beyond : List ℕ) → Consumes reader reader' (line ++ beyond) → length beyond ≤ 1 → (0 < length beyond → left' ≡ 0) → EndsWith Input input reader' before writer
+        piece : List ℕ
+        piece = fails.piece
+
+        by : (beyond : List ℕ) → Consumes reader reader' (piece ++ beyond) → length beyond ≤ 1 → (0 < length beyond → left' ≡ 0) → EndsWith Input input reader' before writer
         by [] consumed few full = inl (record {
-          read = taken ++ line;
-          consumed = Consumes-trans (Some input) reader reader' taken line taken_first (subst (Consumes reader reader') (append-nil line) consumed);
-          within = omega (arith, counted, fails.counted, length-append taken line);
-          written = written_so_far line fails.unbroken;
+          read = taken ++ piece;
+          consumed = Consumes-trans (Some input) reader reader' taken piece taken_first (subst (Consumes reader reader') (append-nil piece) consumed);
+          within = omega (arith, counted, fails.counted, length-append taken piece);
+          written = written_so_far piece fails.unbroken;
         })
         by (byte ∷ []) consumed few full = inr (record {
-          read = taken ++ line;
+          read = taken ++ piece;
           beyond = byte;
-          consumed = subst (Consumes (Some input) reader') (sym (append_assoc taken line (byte ∷ []))) (Consumes-trans (Some input) reader reader' taken (line ++ byte ∷ []) taken_first consumed);
-          full = omega (arith, counted, fails.counted, full (omega arith), length-append taken line);
-          written = written_so_far line fails.unbroken;
+          consumed = subst (Consumes (Some input) reader') (sym (append_assoc taken piece (byte ∷ []))) (Consumes-trans (Some input) reader reader' taken (piece ++ byte ∷ []) taken_first consumed);
+          full = omega (arith, counted, fails.counted, full (omega arith), length-append taken piece);
+          written = written_so_far piece fails.unbroken;
         })
         by (byte ∷ other ∷ bytes) consumed few full = absurd (omega arith)
 
     -- there is no memory for a byte of the line after
-    for_memory : FailsForMemory reader reader' line left left' → IsCutShort input reader' before writer
+    for_memory : FailsForMemory reader reader' most line left left' → IsCutShort input reader' before writer
     for_memory fails =
         let piece : List ℕ = line ++ fails.lost ∷ [] in
         record {
@@ -217,15 +230,15 @@ module _ (input : List ℕ) (before reader reader' writer : Option (List ℕ)) (
           written = written_so_far piece (All-append (λ byte. byte ≢ 10) line (fails.lost ∷ []) fails.unbroken (All-cons (λ byte. byte ≢ 10) fails.lost [] fails.ends_no_line (All-nil (λ byte. byte ≢ 10))));
         }
 
-    ends_of_read : (fault : ReadFault) → FailsFor fault reader reader' line left left' → EndsWith (fault_of_read fault) input reader' before writer
+    ends_of_read : (fault : ReadFault) → FailsFor fault reader reader' most line left left' → EndsWith (fault_of_read fault) input reader' before writer
     ends_of_read read.Input fails = at_input fails
     ends_of_read read.OutOfMemory fails = inr (for_memory fails)
 
 -- a line after the first isn't read
-pub cut_short : (fault : ReadFault) (input : List ℕ) (before reader reader' writer : Option (List ℕ)) (ledger : Ledger) (left left' : ℕ) (line : List ℕ) →
-    StandsAtLine (Some input) before reader writer ledger left → FailsFor fault reader reader' line left left' → EndsWith (fault_of_read fault) input reader' before writer
-cut_short fault input before reader reader' writer ledger left left' line at fails =
-    ends_of_read input before reader reader' writer ledger left left' at.taken at.stands.text line at.whole at.begun at.stands.consumed at.stands.counted at.stands.opened at.stands.responses at.stands.appended fault fails
+pub cut_short : (fault : ReadFault) (input : List ℕ) (before reader reader' writer : Option (List ℕ)) (ledger : Ledger) (left left' most : ℕ) (line : List ℕ) →
+    StandsAtLine (Some input) before reader writer ledger left → FailsFor fault reader reader' most line left left' → EndsWith (fault_of_read fault) input reader' before writer
+cut_short fault input before reader reader' writer ledger left left' most line at fails =
+    ends_of_read input before reader reader' writer ledger left left' most at.taken at.stands.text line at.whole at.begun at.stands.consumed at.stands.counted at.stands.opened at.stands.responses at.stands.appended fault fails
 
 -- no LF ends a line of these bytes
 none_ended : (piece : List ℕ) → IsUnbroken piece → ended_lines piece ≡ []

@@ -1,5 +1,5 @@
--- What the first line of a script comes to: the session that it opens, or why it opens none.
-use Rattle.std.specs.Prelude.{◌≡◌, ◌≢◌, ℕ, List, None, Some}
+-- What a session object comes to, a script's first line among them: the session that it opens, or why it opens none.
+use Rattle.std.specs.Prelude.{◌≡◌, ◌≢◌, ℕ, List, Option, None, Some}
 use Rattle.session_state.specs.SessionState.{SessionState}
 use Rattle.session_opening.specs.Opening.{opening_of}
 use Rattle.session_opening.specs.OpeningRefusal.{opening_refusal}
@@ -12,26 +12,34 @@ use Rattle.session_object.specs.Reading.{Reads, IsRefused}
 use Rattle.program.specs.declared.fault.Fault.{Fault}
 use Rattle.program.specs.declared.fault.Fault.TheVariants.{Session, Opening, Input, Output, OutOfMemory}
 
--- the line is a session object with its boards in it, nothing refuses the session, and this is its opening
-pub record Opens (line : List ℕ) (opening : SessionState) : Type 0 where
+-- the text is a session object whose boards are given beside it, or stand in it where none are; nothing refuses the session,
+-- and this is its opening
+pub record OpensWith (given : Option (List ℕ)) (text : List ℕ) (opening : SessionState) : Type 0 where
   pub object : SessionObject
-  pub reads : Reads None line object
+  pub reads : Reads given text object
   pub allowed : opening_refusal object.config ≡ None
   pub opens : opening ≡ opening_of object.config
 
--- the line is a session object, and this is the first cause not to open its session
-pub record IsNotOpened (line : List ℕ) (cause : OpeningRefusal) : Type 0 where
+-- the text is a session object, and this is the first cause not to open its session
+pub record IsNotOpened (given : Option (List ℕ)) (text : List ℕ) (cause : OpeningRefusal) : Type 0 where
   pub object : SessionObject
-  pub reads : Reads None line object
+  pub reads : Reads given text object
   pub refused : opening_refusal object.config ≡ Some cause
 
--- why the line opens no session: its fault as a session object, else the first cause not to open the session
+-- why the text opens no session: its fault as a session object, else the first cause not to open the session
+abbrev pub OpensNoneWith : Option (List ℕ) → Fault → List ℕ → Type 0
+OpensNoneWith given (Session fault) text = (fault ≢ session.OutOfMemory) × IsRefused fault given text
+OpensNoneWith given (Opening cause) text = IsNotOpened given text cause
+OpensNoneWith given Input text = ⊥
+OpensNoneWith given Output text = ⊥
+OpensNoneWith given OutOfMemory text = ⊥
+
+-- a script's first line has its boards in it
+abbrev pub Opens : List ℕ → SessionState → Type 0
+Opens line opening = OpensWith None line opening
+
 abbrev pub OpensNone : Fault → List ℕ → Type 0
-OpensNone (Session fault) line = (fault ≢ session.OutOfMemory) × IsRefused fault None line
-OpensNone (Opening cause) line = IsNotOpened line cause
-OpensNone Input line = ⊥
-OpensNone Output line = ⊥
-OpensNone OutOfMemory line = ⊥
+OpensNone fault line = OpensNoneWith None fault line
 
 -- ---- for private clauses
 

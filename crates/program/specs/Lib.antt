@@ -3,5 +3,3 @@ pub mod Script
 pub mod FirstLine
 pub mod Writes
 pub mod Standing
-pub mod Status
-pub mod Words

@@ -13,11 +13,14 @@ use Rattle.session_book.specs.Journal.{replay, refusal_after}
 use Rattle.session_book.specs.Run.{Progress, run, first_number, last_number}
 use Rattle.session_state.specs.SessionState.{SessionState}
 use Rattle.message_fields.specs.declared.request_fault.RequestFault.{RequestFault}
-use Rattle.message_fields.specs.declared.request_fault.RequestFault.TheVariants.{OutOfMemory}
+use Rattle.message_fields.specs.declared.request_fault.RequestFault.TheVariants.{UnknownRequest, OutOfMemory}
+use Rattle.wire.specs.declared.connection_fault.ConnectionFault.TheVariants.{NotSignedIn}
 use Rattle.wire.specs.declared.request.Request.{Request}
-use Rattle.wire.specs.declared.request.Request.TheVariants as request
+use Rattle.wire.specs.declared.request.RequestBody.{RequestBody}
+use Rattle.wire.specs.declared.request.RequestBody.TheVariants as body
+use Rattle.wire.specs.declared.source.Source.TheVariants.{Script}
 use Rattle.wire.specs.Request.{meaning}
-use Rattle.wire.specs.ReceiptText.{receipt_text, fault_text}
+use Rattle.wire.specs.ReceiptText.{receipt_text, fault_text, connection_fault_text}
 use Rattle.reply_texts.specs.ReplyText.{reply_text}
 use Rattle.program.specs.Audit.{audit_reply}
 
@@ -95,28 +98,36 @@ response_to_batch memory journal after = record {
   text = text_with memory (receipt_between (length journal) (length after.journal) after.answers);
 }
 
--- a query has its reply, at the newest version, a batch its receipt, an audit its rows, and what is no request its fault
-abbrev pub response_to_request : SessionState → List Entry → Memory → Result Request RequestFault → Response
-response_to_request opening journal memory (Ok (request.Query user query since)) = record {
-  journal = journal;
-  text = text_with memory (reply_text (reply_of (replay opening journal) (length journal) user query since));
-}
-response_to_request opening journal memory (Ok (request.Batch user commands)) =
+-- a request leaves the journal as it is, and has a text
+abbrev pub response_by_text : List Entry → Memory → List ℕ → Response
+response_by_text journal memory text = record { journal = journal; text = text_with memory text }
+
+-- a query has its reply, at the newest version, a batch its receipt and an audit its rows. No message of a script is
+-- without its user or is a greeting: the first and the last case, which are here for each request to have one, are met
+-- by none
+abbrev pub response_to_request : SessionState → List Entry → Memory → Option (List ℕ) → RequestBody → Response
+response_to_request opening journal memory None request =
+    response_by_text journal memory (connection_fault_text NotSignedIn)
+response_to_request opening journal memory (Some user) (body.Query query since) =
+    response_by_text journal memory (reply_text (reply_of (replay opening journal) (length journal) user query since))
+response_to_request opening journal memory (Some user) (body.Batch commands) =
     response_to_batch memory journal (run_with memory.refused_at opening journal user commands)
-response_to_request opening journal memory (Ok (request.Audit user range)) = record {
-  journal = journal;
-  text = text_with memory (audit_reply opening journal user range);
-}
-response_to_request opening journal memory (Err fault) = record {
-  journal = journal;
-  text = text_with memory (fault_text fault);
-}
+response_to_request opening journal memory (Some user) (body.Audit range) =
+    response_by_text journal memory (audit_reply opening journal user range)
+response_to_request opening journal memory (Some user) (body.Hello name token) =
+    response_by_text journal memory (fault_text UnknownRequest)
+
+-- what is no request has its fault
+abbrev pub response_to_meaning : SessionState → List Entry → Memory → Result Request RequestFault → Response
+response_to_meaning opening journal memory (Ok request) =
+    response_to_request opening journal memory request.user request.body
+response_to_meaning opening journal memory (Err fault) = response_by_text journal memory (fault_text fault)
 
 -- a message is what its line means, unless memory was refused before it had any effect
 unfoldable pub response_to_line : SessionState → List Entry → Received → Response
 response_to_line opening journal received =
     if received.memory.refused_before then record { journal = journal; text = fault_text OutOfMemory }
-    else response_to_request opening journal received.memory (meaning received.line)
+    else response_to_meaning opening journal received.memory (meaning Script received.line)
 
 -- ---- scripts
 

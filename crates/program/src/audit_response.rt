@@ -1,7 +1,8 @@
 //! The line that responds to a message that asks for an audit.
 
-ghost use Rattle.std.specs.Prelude.{◌≡◌, ℕ, List, Ok, IfOk, string_bytes};
-ghost use Rattle.wire.specs.declared.request.Request.TheVariants as request;
+ghost use Rattle.std.specs.Prelude.{◌≡◌, ℕ, List, Some, Ok, IfOk, string_bytes};
+ghost use Rattle.wire.specs.declared.source.Source.TheVariants.{Script};
+ghost use Rattle.wire.specs.Audit.{an_audit};
 ghost use Rattle.wire.specs.Request.{meaning};
 ghost use Rattle.program.specs.Audit.{audit_reply};
 ghost use Rattle.program.specs.Standing.{line_of};
@@ -22,7 +23,7 @@ pub(crate) fn response_to_audit(
     user: Name,
     range: AuditRange,
 ) -> Result<String, RequestFault>
-    ensures response { (line : List ℕ) → meaning line ≡ Ok (request.Audit user range) →
+    ensures response { (line : List ℕ) → meaning Script line ≡ Ok (an_audit (Some user) range) →
         Responds keeper.now.opening keeper.now.journal line keeper.now.journal (line_of string_bytes result) }
 {
     match audit_reply(alloc, keeper, user, range) {

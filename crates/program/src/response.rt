@@ -1,12 +1,14 @@
 //! The line that responds to a message.
 
-ghost use Rattle.std.specs.Prelude.{◌≡◌, ◌++◌, ◌∷◌, [], ◌≤◌, ℕ, List, Ok, IfOk, IfErr, OnOk, OnErr, length, string_bytes};
+ghost use Rattle.std.specs.Prelude.{◌≡◌, ◌++◌, ◌∷◌, [], ◌≤◌, ℕ, List, None, Some, Ok, IfOk, IfErr, OnOk, OnErr, length, string_bytes};
 ghost use Rattle.std.specs.Io.KnownBytes.{Appends};
 ghost use Rattle.script_lines.specs.Writing.{WritesPart};
 ghost use Rattle.message_fields.specs.declared.request_fault.RequestFault.TheVariants.{OutOfMemory};
-ghost use Rattle.wire.specs.declared.request.Request.TheVariants as request;
+ghost use Rattle.wire.specs.declared.connection_fault.ConnectionFault.TheVariants.{NotSignedIn};
+ghost use Rattle.wire.specs.declared.source.Source.TheVariants.{Script};
 ghost use Rattle.session_book.specs.Run.{most_commands};
-ghost use Rattle.wire.specs.Request.{meaning, HasFew};
+ghost use Rattle.wire.specs.ReceiptText.{connection_fault_text};
+ghost use Rattle.wire.specs.Request.{a_query, a_batch, meaning, HasFew};
 ghost use Rattle.program.specs.Standing.{line_of};
 ghost use Rattle.program.specs.Writes.{Responds};
 
@@ -20,7 +22,10 @@ use session_keeper::PlainKeeper;
 use session_queries::Query;
 use std::alloc::Global;
 use std::io::Write;
-use wire::{Request, fault_line, read_request, receipt_text};
+use wire::{
+    ConnectionFault, Request, RequestBody, Source, connection_fault_text, fault_line, read_request,
+    receipt_text,
+};
 
 /// Responds to a message: its effect joins the session, and the line that responds is written.
 pub(crate) fn respond<W: Write>(
@@ -60,8 +65,8 @@ fn response_to(alloc: Global, keeper: &mut PlainKeeper, line: &[u8]) -> Result<S
     ensures response { Responds keeper.old.opening keeper.old.journal line.now keeper.new.journal (line_of string_bytes result) }
     ensures opening { keeper.new.opening ≡ keeper.old.opening }
 {
-    match read_request(alloc, line) {
-        Ok(message) => response_to_request(alloc, keeper, &message),
+    match read_request(alloc, line, Source::Script) {
+        Ok(request) => response_to_request(alloc, keeper, &request),
         Err(fault) => Err(fault),
     }
 }
@@ -70,19 +75,35 @@ fn response_to(alloc: Global, keeper: &mut PlainKeeper, line: &[u8]) -> Result<S
 fn response_to_request(
     alloc: Global,
     keeper: &mut PlainKeeper,
-    message: &Request,
+    request: &Request,
 ) -> Result<String, RequestFault>
-    requires { HasFew message.now }
-    ensures response { (line : List ℕ) → meaning line ≡ Ok message.now →
+    requires { HasFew request.now.body }
+    ensures response { (line : List ℕ) → meaning Script line ≡ Ok request.now →
         Responds keeper.old.opening keeper.old.journal line keeper.new.journal (line_of string_bytes result) }
     ensures opening { keeper.new.opening ≡ keeper.old.opening }
 {
-    match message {
-        Request::Query { user, query, since } => {
-            response_to_query(alloc, keeper, *user, query, *since)
+    let Some(user) = request.user else {
+        return response_to_nobody(alloc);
+    };
+    match &request.body {
+        RequestBody::Query { query, since } => {
+            response_to_query(alloc, keeper, user, query, *since)
         }
-        Request::Batch { user, commands } => response_to_batch(alloc, keeper, *user, commands),
-        Request::Audit { user, range } => response_to_audit(alloc, keeper, *user, *range),
+        RequestBody::Batch { commands } => response_to_batch(alloc, keeper, user, commands),
+        RequestBody::Audit { range } => response_to_audit(alloc, keeper, user, *range),
+        // None of a script's messages is read as a greeting.
+        RequestBody::Hello { .. } => Err(RequestFault::UnknownRequest),
+    }
+}
+
+// The line that responds to a request that doesn't say its user. Each request of a script does.
+fn response_to_nobody(alloc: Global) -> Result<String, RequestFault>
+    ensures line { IfOk result (λ line. string_bytes line ≡ connection_fault_text NotSignedIn ++ 10 ∷ []) }
+    ensures err { IfErr result (λ fault. fault ≡ OutOfMemory) }
+{
+    match String::from_str(alloc, connection_fault_text(ConnectionFault::NotSignedIn)) {
+        Ok(text) => with_line_feed(text),
+        Err(_) => Err(RequestFault::OutOfMemory),
     }
 }
 
@@ -94,7 +115,7 @@ fn response_to_query(
     query: &Query,
     since: u64,
 ) -> Result<String, RequestFault>
-    ensures response { (line : List ℕ) → meaning line ≡ Ok (request.Query user query.now since) →
+    ensures response { (line : List ℕ) → meaning Script line ≡ Ok (a_query (Some user) since query.now) →
         Responds keeper.now.opening keeper.now.journal line keeper.now.journal (line_of string_bytes result) }
 {
     let Ok(reply) = keeper.answer(alloc, user, query, since) else {
@@ -114,7 +135,7 @@ fn response_to_batch(
     commands: &Commands,
 ) -> Result<String, RequestFault>
     requires { length commands.now ≤ most_commands }
-    ensures response { (line : List ℕ) → meaning line ≡ Ok (request.Batch user commands.now) →
+    ensures response { (line : List ℕ) → meaning Script line ≡ Ok (a_batch (Some user) commands.now) →
         Responds keeper.old.opening keeper.old.journal line keeper.new.journal (line_of string_bytes result) }
     ensures opening { keeper.new.opening ≡ keeper.old.opening }
 {

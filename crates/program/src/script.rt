@@ -12,6 +12,7 @@ use session_keeper::PlainKeeper;
 use session_object::{MOST_BYTES, SessionFault};
 use std::alloc::Global;
 use std::io::{Read, Write};
+use wire::MOST_MESSAGE_BYTES;
 
 /// How many bytes a script has at most.
 pub const SCRIPT_LIMIT: usize = 1_073_741_824;
@@ -60,7 +61,7 @@ impl ScriptRun {
         let mut line = Vec::new(alloc);
         let mut left = SCRIPT_LIMIT;
         match read_short_line(reader, &mut line, MOST_BYTES, &mut left) {
-            Ok(Some(first)) => match open_session(alloc, line.as_slice()) {
+            Ok(Some(first)) => match open_session(alloc, line.as_slice(), None) {
                 Ok(keeper) => Ok(ScriptRun {
                     alloc,
                     keeper,
@@ -103,7 +104,8 @@ impl ScriptRun {
         }
     }
 
-    // Reads the next line, and responds to it unless it is empty.
+    // Reads the next line, and responds to it unless it is empty. Of one that is too long for a message no more is kept than
+    // shows this.
     fn respond_next<R: Read, W: Write>(
         &mut self,
         reader: &mut R,
@@ -119,7 +121,7 @@ impl ScriptRun {
             IfErr result (λ fault. EndsWith fault input (R.remaining reader.new) before (W.contents writer.new)) }
         ensures fewer { IfOk result (λ end. self.new.left + line_feeds end ≤ self.old.left) }
     {
-        match read_line(reader, &mut self.line, &mut self.left) {
+        match read_line(reader, &mut self.line, MOST_MESSAGE_BYTES, &mut self.left) {
             Ok(end) => {
                 if self.line.is_empty() {
                     return Ok(end);

@@ -1,6 +1,6 @@
-mod calling;
 mod devices;
 mod endings;
+mod messages;
 mod objects;
 mod session;
 mod texts;

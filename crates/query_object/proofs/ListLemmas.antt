@@ -6,7 +6,7 @@ use Rattle.session_queries.specs.declared.query.Query.TheVariants as query
 use Rattle.json_fields.specs.Form.{applied}
 use Rattle.message_fields.specs.Reading.{wanted, Gives}
 use Rattle.message_fields.specs.declared.request_fault.RequestFault.{RequestFault}
-use Rattle.message_fields.specs.declared.request_fault.RequestFault.TheVariants.{Malformed, UnknownRequest, BadField, OutOfMemory}
+use Rattle.message_fields.specs.declared.request_fault.RequestFault.TheVariants.{TooLong, Malformed, UnknownRequest, BadField, OutOfMemory}
 use Rattle.query_object.specs.Query.{IsFiltered}
 
 -- the list that is made of its members, where no other stands beside them
@@ -43,6 +43,7 @@ no_limit false by start = refl
 -- the limit isn't as it should be
 pub list_without_limit : (alone : Bool) (by : Option (Option Formula)) (start most : Option ℕ) (fault : RequestFault)
     → wanted most ≡ Err fault → Gives (Err fault) (wanted (made alone by start most))
+list_without_limit alone by start None TooLong h = absurd (cc)
 list_without_limit alone by start None Malformed h = absurd (cc)
 list_without_limit alone by start None UnknownRequest h = absurd (cc)
 list_without_limit alone by start None BadField h = ap wanted (no_limit alone by start)
@@ -56,10 +57,12 @@ no_filter false start most = refl
 -- the filter isn't as it should be, or memory was refused
 pub list_without_filter : (alone : Bool) (by : Option (Option Formula)) (start most : Option ℕ) (fault : RequestFault)
     → Gives (Err fault) (wanted by) → Gives (Err fault) (wanted (made alone by start most))
+list_without_filter alone None start most TooLong h = absurd (cc)
 list_without_filter alone None start most Malformed h = absurd (cc)
 list_without_filter alone None start most UnknownRequest h = absurd (cc)
 list_without_filter alone None start most BadField h = ap wanted (no_filter alone start most)
 list_without_filter alone None start most OutOfMemory h = tt
+list_without_filter alone (Some f) start most TooLong h = absurd (cc)
 list_without_filter alone (Some f) start most Malformed h = absurd (cc)
 list_without_filter alone (Some f) start most UnknownRequest h = absurd (cc)
 list_without_filter alone (Some f) start most BadField h = absurd (cc)

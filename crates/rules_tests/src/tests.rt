@@ -1,12 +1,10 @@
 mod boards;
-mod denying;
 mod faults;
 mod figures;
 mod lines;
 mod play;
 mod ranking;
 mod reading;
-mod roles;
 mod scores;
 mod walked;
 

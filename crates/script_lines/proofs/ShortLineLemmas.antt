@@ -108,7 +108,7 @@ counts xs y other ([] ∷ pieces) rest =
 counts xs y other ((byte ∷ piece) ∷ pieces) rest =
     omega (arith, length-append (xs ++ y ∷ []) (byte ∷ piece), length-append xs (y ∷ []), at_most_one_less ((xs ++ y ∷ []) ++ byte ∷ piece))
 
-unbroken_with : (xs : List ℕ) (y : ℕ) → IsUnbroken xs → y ≢ 10 → IsUnbroken (xs ++ y ∷ [])
+pub unbroken_with : (xs : List ℕ) (y : ℕ) → IsUnbroken xs → y ≢ 10 → IsUnbroken (xs ++ y ∷ [])
 unbroken_with xs y unbroken other = All-append (λ b. b ≢ 10) xs (y ∷ []) unbroken (All-cons (λ b. b ≢ 10) y [] other (All-nil (λ b. b ≢ 10)))
 
 -- ---- the three ways in which a line is found too long

@@ -1,5 +1,5 @@
 -- What reading a line takes from a reader.
-use Rattle.std.specs.Prelude.{◌≡◌, ◌≢◌, ℕ, ◌+◌, ◌<◌, ◌≤◌, Option, Some, None, IfSome, List, [], ◌∷◌, ◌++◌, length, All}
+use Rattle.std.specs.Prelude.{◌≡◌, ◌≢◌, ℕ, ◌+◌, ◌<◌, ◌≤◌, Option, Some, None, IfSome, List, [], ◌∷◌, ◌++◌, length, take, All}
 use Rattle.std.specs.Io.KnownBytes.{Consumes, IsAtEnd}
 use Rattle.script_lines.specs.declared.line_end.LineEnd.{LineEnd}
 use Rattle.script_lines.specs.declared.line_end.LineEnd.TheVariants.{LineFeed, EndOfInput}
@@ -30,6 +30,13 @@ abbrev pub TakesLine : LineEnd → Option (List ℕ) → Option (List ℕ) → L
 TakesLine LineFeed old new line left_old left_new = TakesEnded old new line left_old left_new
 TakesLine EndOfInput old new line left_old left_new = TakesRest old new line left_old left_new
 
+-- a line that is taken whole, and of which no more is kept than shows whether it has more than so many bytes
+pub record TakesKept (end : LineEnd) (old new : Option (List ℕ)) (most : ℕ) (line : List ℕ) (left_old left_new : ℕ) : Type 0
+  where
+    pub whole : List ℕ
+    pub takes : TakesLine end old new whole left_old left_new
+    pub kept : line ≡ take (most + 1) whole
+
 -- whichever fault it is: so many bytes of a line are taken, and no LF; or one byte more than may be read
 pub record FailsInLine (old new : Option (List ℕ)) (left_old : ℕ) : Type 0 where
   pub piece : List ℕ
@@ -40,27 +47,32 @@ pub record FailsInLine (old new : Option (List ℕ)) (left_old : ℕ) : Type 0 w
   pub within : length piece ≤ left_old
   pub full : 0 < length beyond → length piece ≡ left_old
 
--- the reader failed, or had a byte more than may be read: the line keeps what came before, and nothing else is lost
-pub record FailsAtInput (old new : Option (List ℕ)) (line : List ℕ) (left_old left_new : ℕ) : Type 0 where
-  pub unbroken : IsUnbroken line
+-- the reader failed, or had a byte more than may be read: what came before of the line is taken, its first bytes are kept,
+-- and nothing else is lost
+pub record FailsAtInput (old new : Option (List ℕ)) (most : ℕ) (line : List ℕ) (left_old left_new : ℕ) : Type 0 where
+  pub piece : List ℕ
+  pub unbroken : IsUnbroken piece
+  pub kept : line ≡ take (most + 2) piece
   pub beyond : List ℕ
-  pub consumed : Consumes old new (line ++ beyond)
+  pub consumed : Consumes old new (piece ++ beyond)
   pub few : length beyond ≤ 1
-  pub counted : left_new + length line ≡ left_old
+  pub counted : left_new + length piece ≡ left_old
   pub full : 0 < length beyond → left_new ≡ 0
 
--- memory was refused for a byte of the line, which may be read and is lost: the line keeps what came before
-pub record FailsForMemory (old new : Option (List ℕ)) (line : List ℕ) (left_old left_new : ℕ) : Type 0 where
+-- memory was refused for a byte of the line that was to be kept, which may be read and is lost: the line keeps what came
+-- before
+pub record FailsForMemory (old new : Option (List ℕ)) (most : ℕ) (line : List ℕ) (left_old left_new : ℕ) : Type 0 where
   pub unbroken : IsUnbroken line
   pub lost : ℕ
   pub ends_no_line : lost ≢ 10
   pub consumed : Consumes old new (line ++ lost ∷ [])
+  pub few : length line ≤ most + 1
   pub counted : left_new + (length line + 1) ≡ left_old
 
 -- what each fault says of what was read
-abbrev pub FailsFor : ReadFault → Option (List ℕ) → Option (List ℕ) → List ℕ → ℕ → ℕ → Type 0
-FailsFor Input old new line left_old left_new = FailsAtInput old new line left_old left_new
-FailsFor OutOfMemory old new line left_old left_new = FailsForMemory old new line left_old left_new
+abbrev pub FailsFor : ReadFault → Option (List ℕ) → Option (List ℕ) → ℕ → List ℕ → ℕ → ℕ → Type 0
+FailsFor Input old new most line left_old left_new = FailsAtInput old new most line left_old left_new
+FailsFor OutOfMemory old new most line left_old left_new = FailsForMemory old new most line left_old left_new
 
 -- ---- a line that is to have so many bytes at most
 

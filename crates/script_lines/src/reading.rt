@@ -1,6 +1,5 @@
-ghost use Rattle.std.specs.Prelude.{◌≡◌, ◌+◌, ◌∷◌, [], ◌<◌, IfOk, IfErr, OnErr, Some, None, MatchOption};
-ghost use Rattle.std.specs.Io.KnownBytes.{Consumes, IsAtEnd};
-ghost use Rattle.script_lines.specs.Reading.{TakesLine, FailsInLine, FailsFor};
+ghost use Rattle.std.specs.Prelude.{◌≡◌, ◌+◌, ◌≤◌, ◌∷◌, ◌++◌, [], ◌↔◌, ℕ, List, true, take, length, IfOk, IfErr, OnOk, OnErr};
+ghost use Rattle.script_lines.specs.Reading.{TakesKept, FailsInLine, FailsFor};
 ghost use Rattle.script_lines.specs.Lines.{ended_line};
 ghost use Rattle.script_lines.specs.NextByte.{TakesByte, FailsAtByte};
 ghost use Rattle.script_lines.specs.declared.reading.ReadFault.TheVariants.{Input};
@@ -21,34 +20,86 @@ pub enum ReadFault {
     OutOfMemory,
 }
 
-/// Reads the next line, in place of the one that was there. `left` is how many bytes may still be read of the whole
-/// input. A read that fails is not tried again.
+/// Reads the next line to its end, and keeps its first `most + 1` bytes in place of what was there: so many show whether it
+/// has more than `most`. `left` is how many bytes may still be read of the whole input. A read that fails is not tried
+/// again.
 pub fn read_line<R: Read>(
     reader: &mut R,
     line: &mut Vec<u8>,
+    most: usize,
     left: &mut usize,
 ) -> Result<LineEnd, ReadFault>
-    ensures line { IfOk result (λ end.
-        TakesLine end (R.remaining reader.old) (R.remaining reader.new) line.new.items left.old left.new) }
+    ensures line { IfOk result (λ end. TakesKept end
+        (R.remaining reader.old) (R.remaining reader.new) most line.new.items left.old left.new) }
     ensures fault { OnErr result (FailsInLine (R.remaining reader.old) (R.remaining reader.new) left.old) }
-    ensures which { IfErr result (λ fault.
-        FailsFor fault (R.remaining reader.old) (R.remaining reader.new) line.new.items left.old left.new) }
+    ensures which { IfErr result (λ fault. FailsFor fault
+        (R.remaining reader.old) (R.remaining reader.new) most line.new.items left.old left.new) }
+    ensures few { length line.new.items ≤ most + 2 }
 {
     line.clear();
     loop {
         match next_byte(reader, left) {
             Ok(Some(b'\n')) => {
-                drop_return(line);
+                end_piece(line, most);
                 return Ok(LineEnd::LineFeed);
             }
             Ok(Some(byte)) => {
-                if line.push(byte).is_err() {
+                if keep(line, most, byte).is_err() {
                     return Err(ReadFault::OutOfMemory);
                 }
             }
-            Ok(None) => return Ok(LineEnd::EndOfInput),
+            Ok(None) => {
+                end_rest(line, most);
+                return Ok(LineEnd::EndOfInput);
+            }
             Err(fault) => return Err(fault),
         }
+    }
+}
+
+// Keeps a byte more of a line, unless as many are kept as may be.
+fn keep(line: &mut Vec<u8>, most: usize, byte: u8) -> Result<(), AllocFailed<u8>>
+    requires { length line.old.items ≤ most + 2 }
+    ensures kept { OnOk result ((piece : List ℕ) → line.old.items ≡ take (most + 2) piece →
+        line.new.items ≡ take (most + 2) (piece ++ byte ∷ [])) }
+    ensures refused { OnErr result ((line.new.items ≡ line.old.items) × (length line.old.items ≤ most + 1)) }
+    ensures few { length line.new.items ≤ most + 2 }
+{
+    if is_full(line, most) {
+        return Ok(());
+    }
+    line.push(byte)
+}
+
+// Whether as many bytes are kept as may be: one more than are wanted of a line, since the last may be a CR before an LF.
+fn is_full(line: &Vec<u8>, most: usize) -> bool
+    ensures { result ≡ true ↔ most + 2 ≤ length line.now.items }
+{
+    line.len().saturating_sub(most) >= 2
+}
+
+// Ends a line before an LF. Where as many bytes are kept as may be, the last one is the CR or is not wanted.
+fn end_piece(line: &mut Vec<u8>, most: usize)
+    requires { length line.old.items ≤ most + 2 }
+    ensures kept { (piece : List ℕ) → line.old.items ≡ take (most + 2) piece →
+        line.new.items ≡ take (most + 1) (ended_line piece) }
+    ensures few { length line.new.items ≤ most + 1 }
+{
+    if is_full(line, most) {
+        line.pop();
+    } else {
+        drop_return(line);
+    }
+}
+
+// Ends a line at the input's end.
+fn end_rest(line: &mut Vec<u8>, most: usize)
+    requires { length line.old.items ≤ most + 2 }
+    ensures kept { (rest : List ℕ) → line.old.items ≡ take (most + 2) rest → line.new.items ≡ take (most + 1) rest }
+    ensures few { length line.new.items ≤ most + 1 }
+{
+    if is_full(line, most) {
+        line.pop();
     }
 }
 

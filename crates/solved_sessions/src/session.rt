@@ -5,7 +5,7 @@ use session_book::{Answer, Book};
 use session_object::read_session;
 use session_state::Refusal;
 use std::alloc::Global;
-use wire::{Request, read_request, receipt_text};
+use wire::{RequestBody, Source, read_request, receipt_text};
 
 /// A book and a view of it.
 #[derive(Drop)]
@@ -59,22 +59,25 @@ impl Session {
 
     // The answer to a query or to a batch.
     fn answer(&mut self, alloc: Global, line: &str) -> Option<String> {
-        match read_request(alloc, line.as_bytes()).ok()? {
-            Request::Query { user, query, since } => {
+        let request = read_request(alloc, line.as_bytes(), Source::Script).ok()?;
+        let user = request.user?;
+        match request.body {
+            RequestBody::Query { query, since } => {
                 let reply = self.view.answer(alloc, user, &query, since).ok()?;
                 reply_text(alloc, &reply).ok()
             }
-            Request::Batch { user, commands } => {
+            RequestBody::Batch { commands } => {
                 let submission = self.book.submit(user, commands.as_slice()).ok()?;
                 receipt_text(alloc, &submission, self.book.version()).ok()
             }
-            Request::Audit { user, range } => {
+            RequestBody::Audit { range } => {
                 let rows = self
                     .book
                     .audit(user, range.from as usize, range.limit as usize)
                     .ok()?;
                 wire::audit_text(alloc, &rows, self.book.version()).ok()
             }
+            RequestBody::Hello { .. } => None,
         }
     }
 }

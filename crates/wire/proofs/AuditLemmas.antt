@@ -4,13 +4,14 @@ use Rattle.serde_json.specs.Data.{Data}
 use Rattle.serde_json.specs.Find.{get}
 use Rattle.wire.specs.declared.audit_range.AuditRange.{AuditRange}
 use Rattle.wire.specs.declared.request.Request.{Request}
-use Rattle.wire.specs.declared.request.Request.TheVariants as request
+use Rattle.wire.specs.declared.source.Source.{Source}
+use Rattle.wire.specs.Source.{said_user}
+use Rattle.wire.specs.Grammar.{IsOf}
 use Rattle.wire.specs.Audit.{from_1_to, counted, first_row, most_rows, audit_range, auditing, an_audit, audit_of}
-use Rattle.message_fields.specs.Field.{user}
 use Rattle.json_fields.specs.Field.{number}
 use Rattle.json_fields.specs.Form.{applied, has_only, formed, HasForm}
 use Rattle.json_fields.proofs.FormLemmas.{Agrees, AgreesForm, form_agrees, with_agrees, formed_read, formed_reads, kept, both_true, is_most, most_is}
-use Rattle.message_fields.proofs.MemberLemmas.{user_agrees}
+use Rattle.wire.proofs.SourceLemmas.{said_agrees}
 
 -- ---- numbers from 1 to a limit
 
@@ -41,42 +42,45 @@ range_agrees =
 -- ---- audits
 
 -- the parts of an audit
-pub record Audits (rows d : Data) (y : Request) : Type 0 where
-  pub name : List ℕ
+pub record Audits (source : Source) (rows d : Data) (y : Request) : Type 0 where
+  pub name : Option (List ℕ)
   pub range : AuditRange
-  pub makes : request.Audit name range ≡ y
+  pub makes : an_audit name range ≡ y
   pub has : HasForm [] audit_range rows range
   pub listed : has_only auditing d ≡ true
-  pub named : user.Is (get user.name d) name
+  pub named : IsOf source d name
 
-parts_of : (name : Option (List ℕ)) (range : Option AuditRange) (y : Request)
+parts_of : (name : Option (Option (List ℕ))) (range : Option AuditRange) (y : Request)
     → applied (applied (Some an_audit) name) range ≡ Some y
-    → (x : List ℕ) × (z : AuditRange) × (name ≡ Some x) × (range ≡ Some z) × (request.Audit x z ≡ y)
+    → (x : Option (List ℕ)) × (z : AuditRange) × (name ≡ Some x) × (range ≡ Some z) × (an_audit x z ≡ y)
 parts_of None range y h = absurd (cc)
 parts_of (Some x) None y h = absurd (cc)
 parts_of (Some x) (Some z) y h = (x, z, refl, refl, cc)
 
-pub audits : (rows d : Data) (y : Request) → audit_of rows d ≡ Some y → Audits rows d y
-unfolding audit_of
-audits rows d y h =
-    let name = user.value (get user.name d) in
-    let range = formed [] audit_range rows in
-    let listed = kept (has_only auditing d) (applied (applied (Some an_audit) name) range) y h in
-    let parts = parts_of name range y listed.1 in
-    record {
-      name = parts.0;
-      range = parts.1;
-      makes = parts.4;
-      has = formed_read [] audit_range range_agrees rows parts.1 parts.3;
-      listed = listed.0;
-      named = user_agrees.read (get user.name d) parts.0 parts.2;
-    }
+module _ (source : Source) (rows d : Data) where
+  -- whose it is, as it is read
+  abbrev name : Option (Option (List ℕ))
+  name = let whose = said_user source in whose.value (get whose.name d)
 
-pub audited : (rows d : Data) (name : List ℕ) (range : AuditRange) → HasForm [] audit_range rows range
-    → has_only auditing d ≡ true → user.Is (get user.name d) name
-    → audit_of rows d ≡ Some (request.Audit name range)
-unfolding audit_of
-audited rows d name range has listed named =
-    ap (λ b. cond b (applied (applied (Some an_audit) (user.value (get user.name d))) (formed [] audit_range rows)) None) listed
-    ∙ ap (λ o. applied (applied (Some an_audit) o) (formed [] audit_range rows)) (user_agrees.reads (get user.name d) name named)
-    ∙ ap (applied (Some (an_audit name))) (formed_reads [] audit_range range_agrees rows range has)
+  pub audits : (y : Request) → audit_of source rows d ≡ Some y → Audits source rows d y
+  unfolding audit_of
+  audits y h =
+      let range = formed [] audit_range rows in
+      let listed = kept (has_only auditing d) (applied (applied (Some an_audit) name) range) y h in
+      let parts = parts_of name range y listed.1 in
+      record {
+        name = parts.0;
+        range = parts.1;
+        makes = parts.4;
+        has = formed_read [] audit_range range_agrees rows parts.1 parts.3;
+        listed = listed.0;
+        named = (said_agrees source).read _ parts.0 parts.2;
+      }
+
+  pub audited : (user : Option (List ℕ)) (range : AuditRange) → HasForm [] audit_range rows range
+      → has_only auditing d ≡ true → IsOf source d user → audit_of source rows d ≡ Some (an_audit user range)
+  unfolding audit_of
+  audited user range has listed named =
+      ap (λ b. cond b (applied (applied (Some an_audit) name) (formed [] audit_range rows)) None) listed
+      ∙ ap (λ o. applied (applied (Some an_audit) o) (formed [] audit_range rows)) ((said_agrees source).reads _ user named)
+      ∙ ap (applied (Some (an_audit user))) (formed_reads [] audit_range range_agrees rows range has)

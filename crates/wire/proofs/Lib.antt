@@ -4,3 +4,4 @@ pub mod LineLemmas
 pub mod QueryLemmas
 pub mod ReceiptLemmas
 pub mod RequestLemmas
+pub mod SourceLemmas

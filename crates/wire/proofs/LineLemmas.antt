@@ -1,132 +1,245 @@
--- What a line says, by the text and by the object that it is.
-use Rattle.std.proofs.Common.{◌≡◌, ◌↔◌, ℕ, List, ◌==◌, length, Bool, true, false, cond, is_some, Option, Some, None, Result, Ok, Err, IfOk, IsUtf8, refl, subst, sym, ap, ◌∙◌, arith}
+-- What a message says, by the text and by the object that it is.
+use Rattle.std.proofs.Common.{◌≡◌, ◌↔◌, ℕ, ◌+◌, ◌≤◌, ◌<◌, List, take, ◌==◌, nat_le, length, Bool, true, false, cond, is_some, Option, Some, None, Result, Ok, Err, IfOk, IsUtf8, refl, subst, sym, ap, ◌∙◌, arith}
 use Rattle.std.specs.Str.Lossy.{utf8_valid_len}
+use Rattle.std.proofs.lemmas.List.{take_all, length-take-le}
 use Rattle.std.proofs.lemmas.Str.{utf8_valid_len-IsUtf8}
 use Rattle.serde_json.specs.Data.{Data}
 use Rattle.serde_json.specs.Read.{read}
 use Rattle.serde_json.specs.Find.{as_object}
 use Rattle.session_state.specs.declared.command.Command.{Command}
 use Rattle.session_queries.specs.declared.query.Query.{Query}
+use Rattle.json_fields.proofs.FormLemmas.{is_most, most_is}
 use Rattle.wire.specs.declared.audit_range.AuditRange.{AuditRange}
 use Rattle.wire.specs.declared.request.Request.{Request}
-use Rattle.wire.specs.declared.request.Request.TheVariants as request
+use Rattle.wire.specs.declared.request.RequestBody.{RequestBody}
+use Rattle.wire.specs.declared.request.RequestBody.TheVariants as body
+use Rattle.wire.specs.declared.source.Source.{Source}
+use Rattle.wire.specs.declared.source.Source.TheVariants.{Script, Connection}
 use Rattle.message_fields.specs.declared.request_fault.RequestFault.{RequestFault}
-use Rattle.message_fields.specs.declared.request_fault.RequestFault.TheVariants.{Malformed, UnknownRequest, BadField, OutOfMemory}
+use Rattle.message_fields.specs.declared.request_fault.RequestFault.TheVariants.{TooLong, Malformed, UnknownRequest, BadField, OutOfMemory}
 use Rattle.message_fields.specs.Reading.{Gives}
-use Rattle.wire.specs.Request.{request_of, object_of, text_meaning, meaning, HasFew}
+use Rattle.wire.specs.Audit.{an_audit}
+use Rattle.wire.specs.Request.{most_message_bytes, a_query, a_batch, request_of, object_of, text_meaning, bytes_meaning, meaning, HasFew, IsSaid}
 use Rattle.message_fields.specs.Object.{IsObject}
-use Rattle.wire.specs.Grammar.{IsUnknownRequest, IsQuery, IsBatch, IsAudit, IsNoRequest}
-use Rattle.wire.proofs.RequestLemmas.{query_object, batch_object, audit_object, few_in_request, object_fault, unknown_object}
+use Rattle.wire.specs.Grammar.{IsMessage, IsUnknownRequest, IsQuery, IsBatch, IsAudit, IsGreeting, IsNoRequest}
+use Rattle.wire.proofs.RequestLemmas.{query_object, batch_object, audit_object, greeting_object, few_in_request, user_in_script, no_user_on_connection, object_fault, unknown_object}
 
 same_number : (m n : ℕ) → m ≡ n → (m == n) ≡ true
 same_number m n h = grind arith
 
-text_line : (line : List ℕ) → IsUtf8 line → text_meaning line ≡ meaning line
+text_line : (source : Source) (line : List ℕ) → IsUtf8 line → text_meaning source line ≡ bytes_meaning source line
+unfolding bytes_meaning
+text_line source line utf8 =
+    sym (ap (λ b. cond b (text_meaning source line) (Err Malformed)) (same_number _ _ (utf8_valid_len-IsUtf8 line utf8)))
+
+pub gives_line : (source : Source) (line text : List ℕ) (answer : Result Request RequestFault) → text ≡ line
+    → IsUtf8 line → Gives answer (text_meaning source text) → Gives answer (bytes_meaning source line)
+gives_line source line text answer same utf8 given =
+    subst (Gives answer) (ap (text_meaning source) same ∙ text_line source line utf8) given
+
+-- ---- bytes that aren't too many, and others
+
+short_line : (source : Source) (line : List ℕ) → length line ≤ most_message_bytes
+    → meaning source line ≡ bytes_meaning source line
 unfolding meaning
-text_line line utf8 =
-    sym (ap (λ b. cond b (text_meaning line) (Err Malformed)) (same_number _ _ (utf8_valid_len-IsUtf8 line utf8)))
+short_line source line short =
+    ap (λ b. cond b (bytes_meaning source line) (Err TooLong)) (most_is (length line) most_message_bytes short)
 
-pub gives_line : (line text : List ℕ) (answer : Result Request RequestFault) → text ≡ line → IsUtf8 line
-    → Gives answer (text_meaning text) → Gives answer (meaning line)
-gives_line line text answer same utf8 given = subst (Gives answer) (ap text_meaning same ∙ text_line line utf8) given
+not_most : (m n : ℕ) → n < m → nat_le m n ≡ false
+not_most m n h = grind arith
 
--- ---- a batch that is read has at most 64 commands
+pub long_line : (source : Source) (line : List ℕ) → most_message_bytes < length line → meaning source line ≡ Err TooLong
+unfolding meaning
+long_line source line long =
+    ap (λ b. cond b (bytes_meaning source line) (Err TooLong)) (not_most (length line) most_message_bytes long)
 
-few_in_object : (d : Data) (is_object : Bool) (y : Request) → cond is_object (request_of d) (Err Malformed) ≡ Ok y
-    → HasFew y
-few_in_object d true y h = few_in_request d y h
-few_in_object d false y h = absurd (cc)
+pub gives_short : (source : Source) (line : List ℕ) (answer : Result Request RequestFault)
+    → length line ≤ most_message_bytes → Gives answer (bytes_meaning source line) → Gives answer (meaning source line)
+gives_short source line answer short given = subst (Gives answer) (sym (short_line source line short)) given
 
-few_in_text : (is_text : Bool) (found : Option Data) (y : Request)
-    → cond is_text (object_of found) (Err Malformed) ≡ Ok y → HasFew y
-few_in_text true (Some d) y h = few_in_object d (is_some (as_object d)) y h
-few_in_text true None y h = absurd (cc)
-few_in_text false found y h = absurd (cc)
+-- ---- what is read, is read of an object
 
-few_in_line : (line : List ℕ) (y : Request) → meaning line ≡ Ok y → HasFew y
-unfolding meaning text_meaning
-few_in_line line y h = few_in_text (utf8_valid_len line == length line) (read line) y h
+-- what holds of all requests that objects are, holds of all requests that messages are
+module _ (source : Source) (P : Request → Type 0) (all : (d : Data) (y : Request) → request_of source d ≡ Ok y → P y) where
+  holds_in_object : (d : Data) (is_object : Bool) (y : Request)
+      → cond is_object (request_of source d) (Err Malformed) ≡ Ok y → P y
+  holds_in_object d true y h = all d y h
+  holds_in_object d false y h = absurd (cc)
 
-pub few_given : (line : List ℕ) (answer : Result Request RequestFault) → Gives answer (meaning line)
-    → IfOk answer HasFew
-few_given line (Ok y) given = few_in_line line y given
-few_given line (Err fault) given = tt
+  holds_in_text : (is_text : Bool) (found : Option Data) (y : Request)
+      → cond is_text (object_of source found) (Err Malformed) ≡ Ok y → P y
+  holds_in_text true (Some d) y h = holds_in_object d (is_some (as_object d)) y h
+  holds_in_text true None y h = absurd (cc)
+  holds_in_text false found y h = absurd (cc)
+
+  holds_in_bytes : (line : List ℕ) (is_short : Bool) (y : Request)
+      → cond is_short (bytes_meaning source line) (Err TooLong) ≡ Ok y → P y
+  unfolding bytes_meaning text_meaning
+  holds_in_bytes line true y h = holds_in_text (utf8_valid_len line == length line) (read line) y h
+  holds_in_bytes line false y h = absurd (cc)
+
+  holds_in_line : (line : List ℕ) (y : Request) → meaning source line ≡ Ok y → P y
+  unfolding meaning
+  holds_in_line line y h = holds_in_bytes line (nat_le (length line) most_message_bytes) y h
+
+-- a batch that is read has at most 64 commands
+pub few_given : (source : Source) (line : List ℕ) (answer : Result Request RequestFault) → Gives answer (meaning source line)
+    → IfOk answer (λ request. HasFew request.body)
+few_given source line (Ok y) given = holds_in_line source (λ request. HasFew request.body) (few_in_request source) line y given
+few_given source line (Err fault) given = tt
+
+pub said_line : (line : List ℕ) (y : Request) → meaning Script line ≡ Ok y → IsSaid y
+said_line line y h = holds_in_line Script IsSaid user_in_script line y h
+
+pub unsaid_line : (line : List ℕ) (y : Request) → meaning Connection line ≡ Ok y → y.user ≡ None
+unsaid_line line y h = holds_in_line Connection (λ request. request.user ≡ None) no_user_on_connection line y h
 
 -- ---- laws
 
-of_object : (line : List ℕ) (d : Data) → IsObject line d → meaning line ≡ request_of d
-unfolding meaning text_meaning
-of_object line d object =
-    ap (λ b. cond b (object_of (read line)) (Err Malformed)) object.utf8
-    ∙ ap object_of object.reads
-    ∙ ap (λ b. cond b (request_of d) (Err Malformed)) object.members
+of_object : (source : Source) (line : List ℕ) (d : Data) → IsObject line d → bytes_meaning source line ≡ request_of source d
+unfolding bytes_meaning text_meaning
+of_object source line d object =
+    ap (λ b. cond b (object_of source (read line)) (Err Malformed)) object.utf8
+    ∙ ap (object_of source) object.reads
+    ∙ ap (λ b. cond b (request_of source d) (Err Malformed)) object.members
 
-no_members : (line : List ℕ) (d : Data) (is_object : Bool) → (utf8_valid_len line == length line) ≡ true
-    → read line ≡ Some d → is_some (as_object d) ≡ is_object
-    → ((d : Data) → ¬ IsObject line d) → cond is_object (request_of d) (Err Malformed) ≡ Err Malformed
-no_members line d true utf8 reads members none =
-    absurd (none d (record { utf8 = utf8; reads = reads; members = members }))
-no_members line d false utf8 reads members none = refl
+of_message : (source : Source) (line : List ℕ) (d : Data) → IsMessage line d → meaning source line ≡ request_of source d
+of_message source line d message = short_line source line message.short ∙ of_object source line d message.object
 
-no_object : (line : List ℕ) (utf8 : Bool) (found : Option Data) → (utf8_valid_len line == length line) ≡ utf8
-    → read line ≡ found
-    → ((d : Data) → ¬ IsObject line d) → cond utf8 (object_of found) (Err Malformed) ≡ Err Malformed
-no_object line false found is_text reads none = refl
-no_object line true None is_text reads none = refl
-no_object line true (Some d) is_text reads none = no_members line d (is_some (as_object d)) is_text reads refl none
+-- the bytes of no message
+module _ (source : Source) where
+  no_members : (line : List ℕ) (d : Data) (is_object : Bool) → (utf8_valid_len line == length line) ≡ true
+      → read line ≡ Some d → is_some (as_object d) ≡ is_object
+      → ((d : Data) → ¬ IsObject line d) → cond is_object (request_of source d) (Err Malformed) ≡ Err Malformed
+  no_members line d true utf8 reads members none =
+      absurd (none d (record { utf8 = utf8; reads = reads; members = members }))
+  no_members line d false utf8 reads members none = refl
 
-pub malformed_line : (line : List ℕ) → (meaning line ≡ Err Malformed) ↔ ((d : Data) → ¬ IsObject line d)
-unfolding meaning text_meaning
-malformed_line line = (
-  λ h d object. (object_fault d Malformed (sym (of_object line d object) ∙ h)).read_well refl,
-  λ none. no_object line (utf8_valid_len line == length line) (read line) refl refl none,
-)
+  no_object : (line : List ℕ) (utf8 : Bool) (found : Option Data) → (utf8_valid_len line == length line) ≡ utf8
+      → read line ≡ found
+      → ((d : Data) → ¬ IsObject line d) → cond utf8 (object_of source found) (Err Malformed) ≡ Err Malformed
+  no_object line false found is_text reads none = refl
+  no_object line true None is_text reads none = refl
+  no_object line true (Some d) is_text reads none = no_members line d (is_some (as_object d)) is_text reads refl none
 
-pub unknown_line : (line : List ℕ) (d : Data) → IsObject line d
-    → (meaning line ≡ Err UnknownRequest) ↔ IsUnknownRequest d
-unknown_line line d object =
-    subst (λ said. (said ≡ Err UnknownRequest) ↔ IsUnknownRequest d) (sym (of_object line d object)) (unknown_object d)
+  malformed_bytes : (line : List ℕ) → ((d : Data) → ¬ IsObject line d) → bytes_meaning source line ≡ Err Malformed
+  unfolding bytes_meaning text_meaning
+  malformed_bytes line none = no_object line (utf8_valid_len line == length line) (read line) refl refl none
 
-pub query_line : (line : List ℕ) (d : Data) (user : List ℕ) (query : Query) (since : ℕ) → IsObject line d
-    → (meaning line ≡ Ok (request.Query user query since)) ↔ IsQuery d user query since
-query_line line d user query since object =
-    subst (λ said. (said ≡ Ok (request.Query user query since)) ↔ IsQuery d user query since) (sym (of_object line d object)) (query_object d user query since)
+  -- bytes that aren't read aren't too many
+  never_long : (line : List ℕ) → bytes_meaning source line ≡ Err TooLong → ⊥
+  unfolding bytes_meaning text_meaning
+  never_long line h = in_text (utf8_valid_len line == length line) (read line) h
+    where
+      in_object : (d : Data) (is_object : Bool) → cond is_object (request_of source d) (Err Malformed) ≡ Err TooLong → ⊥
+      in_object d true h = (object_fault source d TooLong h).not_long refl
+      in_object d false h = absurd (cc)
 
-pub batch_line : (line : List ℕ) (d : Data) (user : List ℕ) (commands : List Command) → IsObject line d
-    → (meaning line ≡ Ok (request.Batch user commands)) ↔ IsBatch d user commands
-batch_line line d user commands object =
-    subst (λ said. (said ≡ Ok (request.Batch user commands)) ↔ IsBatch d user commands) (sym (of_object line d object)) (batch_object d user commands)
+      in_text : (is_text : Bool) (found : Option Data) → cond is_text (object_of source found) (Err Malformed) ≡ Err TooLong → ⊥
+      in_text true (Some d) h = in_object d (is_some (as_object d)) h
+      in_text true None h = absurd (cc)
+      in_text false found h = absurd (cc)
 
-pub audit_line : (line : List ℕ) (d : Data) (user : List ℕ) (range : AuditRange) → IsObject line d
-    → (meaning line ≡ Ok (request.Audit user range)) ↔ IsAudit d user range
-audit_line line d user range object =
-    subst (λ said. (said ≡ Ok (request.Audit user range)) ↔ IsAudit d user range) (sym (of_object line d object)) (audit_object d user range)
+  is_long : (line : List ℕ) (is_short : Bool) → nat_le (length line) most_message_bytes ≡ is_short
+      → cond is_short (bytes_meaning source line) (Err TooLong) ≡ Err TooLong → most_message_bytes < length line
+  is_long line true is h = absurd (never_long line h)
+  is_long line false is h = grind (arith, is)
 
-only_bad : (line : List ℕ) (d : Data) (said : Result Request RequestFault) → IsObject line d → meaning line ≡ said
-    → ¬ IsUnknownRequest d → IsNoRequest d → said ≡ Err BadField
-only_bad line d (Ok (request.Query user query since)) object is known none =
-    absurd (none.no_query user query since ((query_line line d user query since object).0 is))
-only_bad line d (Ok (request.Batch user commands)) object is known none =
-    absurd (none.no_batch user commands ((batch_line line d user commands object).0 is))
-only_bad line d (Ok (request.Audit user range)) object is known none =
-    absurd (none.no_audit user range ((audit_line line d user range object).0 is))
-only_bad line d (Err Malformed) object is known none =
-    absurd ((object_fault d Malformed (sym (of_object line d object) ∙ is)).read_well refl)
-only_bad line d (Err UnknownRequest) object is known none = absurd (known ((unknown_line line d object).0 is))
-only_bad line d (Err BadField) object is known none = refl
-only_bad line d (Err OutOfMemory) object is known none =
-    absurd ((object_fault d OutOfMemory (sym (of_object line d object) ∙ is)).in_memory refl)
+  pub too_long_line : (line : List ℕ) → (meaning source line ≡ Err TooLong) ↔ (most_message_bytes < length line)
+  unfolding meaning
+  too_long_line line = (
+    λ h. is_long line (nat_le (length line) most_message_bytes) refl h,
+    long_line source line,
+  )
 
-pub bad_line : (line : List ℕ) (d : Data) → IsObject line d
-    → (meaning line ≡ Err BadField) ↔ (¬ IsUnknownRequest d × IsNoRequest d)
-bad_line line d object = (
-  λ bad. (
-    λ unknown. let h : meaning line ≡ Err UnknownRequest = (unknown_line line d object).1 unknown in cc,
-    record {
-      no_query = λ user query since q. let h : meaning line ≡ Ok (request.Query user query since) = (query_line line d user query since object).1 q in cc;
-      no_batch = λ user commands b. let h : meaning line ≡ Ok (request.Batch user commands) = (batch_line line d user commands object).1 b in cc;
-      no_audit = λ user range a. let h : meaning line ≡ Ok (request.Audit user range) = (audit_line line d user range object).1 a in cc;
-    },
-  ),
-  λ both. only_bad line d (meaning line) object refl both.0 both.1,
-)
+  is_short : (line : List ℕ) (short : Bool) → nat_le (length line) most_message_bytes ≡ short
+      → cond short (bytes_meaning source line) (Err TooLong) ≡ Err Malformed → length line ≤ most_message_bytes
+  is_short line true is h = is_most (length line) most_message_bytes is
+  is_short line false is h = absurd (cc)
+
+  malformed_short : (line : List ℕ) → meaning source line ≡ Err Malformed → length line ≤ most_message_bytes
+  unfolding meaning
+  malformed_short line h = is_short line (nat_le (length line) most_message_bytes) refl h
+
+  pub malformed_line : (line : List ℕ)
+      → (meaning source line ≡ Err Malformed) ↔ ((length line ≤ most_message_bytes) × ((d : Data) → ¬ IsObject line d))
+  malformed_line line = (
+    λ h.
+        let short = malformed_short line h in
+        (short, λ d object. (object_fault source d Malformed (sym (of_object source line d object) ∙ sym (short_line source line short) ∙ h)).read_well refl),
+    λ both. short_line source line both.0 ∙ malformed_bytes line both.1,
+  )
+
+module _ (source : Source) (line : List ℕ) (d : Data) (message : IsMessage line d) where
+  pub unknown_line : (meaning source line ≡ Err UnknownRequest) ↔ IsUnknownRequest source d
+  unknown_line =
+      subst (λ said. (said ≡ Err UnknownRequest) ↔ IsUnknownRequest source d) (sym (of_message source line d message)) (unknown_object source d)
+
+  pub query_line : (user : Option (List ℕ)) (query : Query) (since : ℕ)
+      → (meaning source line ≡ Ok (a_query user since query)) ↔ IsQuery source d user query since
+  query_line user query since =
+      subst (λ said. (said ≡ Ok (a_query user since query)) ↔ IsQuery source d user query since) (sym (of_message source line d message)) (query_object source d user query since)
+
+  pub batch_line : (user : Option (List ℕ)) (commands : List Command)
+      → (meaning source line ≡ Ok (a_batch user commands)) ↔ IsBatch source d user commands
+  batch_line user commands =
+      subst (λ said. (said ≡ Ok (a_batch user commands)) ↔ IsBatch source d user commands) (sym (of_message source line d message)) (batch_object source d user commands)
+
+  pub audit_line : (user : Option (List ℕ)) (range : AuditRange)
+      → (meaning source line ≡ Ok (an_audit user range)) ↔ IsAudit source d user range
+  audit_line user range =
+      subst (λ said. (said ≡ Ok (an_audit user range)) ↔ IsAudit source d user range) (sym (of_message source line d message)) (audit_object source d user range)
+
+  pub greeting_line : (user : Option (List ℕ)) (name token : List ℕ)
+      → (meaning source line ≡ Ok (record { user = user; body = body.Hello name token })) ↔ IsGreeting source d user name token
+  greeting_line user name token =
+      subst (λ said. (said ≡ Ok (record { user = user; body = body.Hello name token })) ↔ IsGreeting source d user name token) (sym (of_message source line d message)) (greeting_object source d user name token)
+
+  no_body : (user : Option (List ℕ)) (b : RequestBody) → meaning source line ≡ Ok (record { user = user; body = b })
+      → IsNoRequest source d → ⊥
+  no_body user (body.Query query since) is none = none.no_query user query since ((query_line user query since).0 is)
+  no_body user (body.Batch commands) is none = none.no_batch user commands ((batch_line user commands).0 is)
+  no_body user (body.Audit range) is none = none.no_audit user range ((audit_line user range).0 is)
+  no_body user (body.Hello name token) is none = none.no_greeting user name token ((greeting_line user name token).0 is)
+
+  only_bad : (said : Result Request RequestFault) → meaning source line ≡ said → ¬ IsUnknownRequest source d
+      → IsNoRequest source d → said ≡ Err BadField
+  only_bad (Ok y) is known none = absurd (no_body y.user y.body is none)
+  only_bad (Err TooLong) is known none =
+      absurd ((object_fault source d TooLong (sym (of_message source line d message) ∙ is)).not_long refl)
+  only_bad (Err Malformed) is known none =
+      absurd ((object_fault source d Malformed (sym (of_message source line d message) ∙ is)).read_well refl)
+  only_bad (Err UnknownRequest) is known none = absurd (known (unknown_line.0 is))
+  only_bad (Err BadField) is known none = refl
+  only_bad (Err OutOfMemory) is known none =
+      absurd ((object_fault source d OutOfMemory (sym (of_message source line d message) ∙ is)).in_memory refl)
+
+  pub bad_line : (meaning source line ≡ Err BadField) ↔ (¬ IsUnknownRequest source d × IsNoRequest source d)
+  bad_line = (
+    λ bad. (
+      λ unknown. let h : meaning source line ≡ Err UnknownRequest = unknown_line.1 unknown in cc,
+      record {
+        no_query = λ user query since q. let h : meaning source line ≡ Ok (a_query user since query) = (query_line user query since).1 q in cc;
+        no_batch = λ user commands b. let h : meaning source line ≡ Ok (a_batch user commands) = (batch_line user commands).1 b in cc;
+        no_audit = λ user range a. let h : meaning source line ≡ Ok (an_audit user range) = (audit_line user range).1 a in cc;
+        no_greeting = λ user name token g. let h : meaning source line ≡ Ok (record { user = user; body = body.Hello name token }) = (greeting_line user name token).1 g in cc;
+      },
+    ),
+    λ both. only_bad (meaning source line) refl both.0 both.1,
+  )
+
+-- ---- the first bytes tell
+
+pub first_bytes_tell : (source : Source) (line : List ℕ)
+    → meaning source (take (most_message_bytes + 1) line) ≡ meaning source line
+first_bytes_tell source line = by (nat_le (length line) most_message_bytes) refl
+  where
+    by : (short : Bool) → nat_le (length line) most_message_bytes ≡ short
+        → meaning source (take (most_message_bytes + 1) line) ≡ meaning source line
+    by true is =
+        let short = is_most (length line) most_message_bytes is in
+        ap (meaning source) (take_all (most_message_bytes + 1) line (omega (arith, short)))
+    by false is =
+        let long : most_message_bytes < length line = grind (arith, is) in
+        let many = length-take-le (most_message_bytes + 1) line (omega (arith, long)) in
+        long_line source (take (most_message_bytes + 1) line) (omega (arith, many)) ∙ sym (long_line source line long)

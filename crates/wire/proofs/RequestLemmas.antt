@@ -1,27 +1,33 @@
--- A query, a batch and an audit are read from their members, and what has such members is read as they are.
-use Rattle.std.proofs.Common.{◌≡◌, ◌≢◌, ◌⊎◌, ◌↔◌, ℕ, ◌≤◌, List, [], ◌∷◌, length, nat_le, Bool, true, false, not, cond, ◌||◌, is_some, IsSome, All, codes, Option, Some, None, option_and_then, Result, Ok, Err, refl, sym, ap, subst, ◌∙◌, inl, inr, arith}
+-- A query, a batch, an audit and a greeting are read from their members, and what has such members is read as they are.
+use Rattle.std.proofs.Common.{◌≡◌, ◌≢◌, ◌⊎◌, ◌↔◌, ℕ, ◌≤◌, List, [], ◌∷◌, length, nat_le, Bool, true, false, cond, is_some, IsSome, All, codes, Option, Some, None, option_and_then, Ok, Err, refl, sym, ap, subst, ◌∙◌, inl, inr, arith}
 use Rattle.std.specs.Prelude.{count_by}
-use Rattle.serde_json.specs.Data.{Data, Items, no_items, item}
+use Rattle.serde_json.specs.Data.{Data, Items}
 use Rattle.serde_json.specs.Find.{get, as_str, as_array}
 use Rattle.session_state.specs.declared.command.Command.{Command}
 use Rattle.session_queries.specs.declared.query.Query.{Query}
 use Rattle.wire.specs.declared.request.Request.{Request}
-use Rattle.wire.specs.declared.request.Request.TheVariants as request
+use Rattle.wire.specs.declared.request.RequestBody.{RequestBody}
+use Rattle.wire.specs.declared.request.RequestBody.TheVariants as body
+use Rattle.wire.specs.declared.source.Source.{Source}
+use Rattle.wire.specs.declared.source.Source.TheVariants.{Script, Connection}
 use Rattle.message_fields.specs.declared.request_fault.RequestFault.{RequestFault}
-use Rattle.message_fields.specs.declared.request_fault.RequestFault.TheVariants.{Malformed, UnknownRequest, BadField, OutOfMemory}
+use Rattle.message_fields.specs.declared.request_fault.RequestFault.TheVariants.{TooLong, Malformed, UnknownRequest, BadField, OutOfMemory}
 use Rattle.message_fields.specs.Reading.{wanted}
 use Rattle.wire.specs.declared.audit_range.AuditRange.{AuditRange}
-use Rattle.json_fields.specs.Form.{applied, has_only, words, HasForm, HasFormOf, item_count, AreEach}
-use Rattle.json_fields.specs.Field.{text_at}
-use Rattle.message_fields.specs.Field.{user, since}
+use Rattle.json_fields.specs.Form.{applied, has_only, words, formed, HasForm, HasFormOf, item_count, AreEach}
+use Rattle.json_fields.specs.Field.{text}
+use Rattle.message_fields.specs.Field.{since}
 use Rattle.command_object.specs.Command.{command_of, has_unknown, commands_in, IsCommand}
 use Rattle.query_object.specs.Query.{queries, asking, query_called}
-use Rattle.wire.specs.Audit.{audit_range, auditing, audit_of}
-use Rattle.wire.specs.Request.{a_query, query_of, query_by, doing, few_commands_in, a_batch, batch_of, batch_by, one_of, request_of, HasFew}
-use Rattle.wire.specs.Grammar.{IsUnknownRequest, IsQuery, IsBatch, IsAudit}
+use Rattle.wire.specs.Audit.{audit_range, auditing, an_audit, audit_of}
+use Rattle.wire.specs.Greeting.{a_greeting, greeting}
+use Rattle.wire.specs.Request.{a_query, query_of, query_by, doing, few_commands_in, a_batch, batch_of, batch_by, greeting_by, one_of, request_of, HasFew, IsNoGreeting, IsSaid}
+use Rattle.wire.specs.Source.{said_user}
+use Rattle.wire.specs.Grammar.{IsOf, IsUnknownRequest, IsQuery, IsBatch, IsAudit, IsGreeting}
 use Rattle.wire.proofs.AuditLemmas.{audits, audited}
-use Rattle.json_fields.proofs.FormLemmas.{kept, is_most, most_is, each_read, each_reads, each_count}
-use Rattle.message_fields.proofs.MemberLemmas.{user_agrees, since_agrees}
+use Rattle.wire.proofs.SourceLemmas.{said_agrees, said_in_script, unsaid_on_connection}
+use Rattle.json_fields.proofs.FormLemmas.{AgreesForm, form_agrees, with_agrees, called_agrees, written_agrees, formed_read, formed_reads, kept, is_most, most_is, each_read, each_reads, each_count}
+use Rattle.message_fields.proofs.MemberLemmas.{since_agrees}
 use Rattle.json_fields.proofs.TableLemmas.{is_among, is_word, none_among, among_none, by_word_read, by_word_reads}
 use Rattle.command_object.proofs.TableLemmas.{command_read, command_reads, all_known}
 use Rattle.query_object.proofs.TableLemmas.{queries_agree}
@@ -62,58 +68,63 @@ three make (Some x) None c y h = absurd (cc)
 three make (Some x) (Some z) None y h = absurd (cc)
 three make (Some x) (Some z) (Some w) y h = (x, z, w, refl, refl, refl, cc)
 
+-- whose a message is, as it is read
+abbrev whose_of : Source → Data → Option (Option (List ℕ))
+whose_of source d = let whose = said_user source in whose.value (get whose.name d)
+
 -- ---- queries
 
 -- the parts of a query
-record Asks (word : List ℕ) (d : Data) (y : Request) : Type 0 where
-  name : List ℕ
+record Asks (source : Source) (word : List ℕ) (d : Data) (y : Request) : Type 0 where
+  name : Option (List ℕ)
   query : Query
   version : ℕ
-  makes : request.Query name query version ≡ y
+  makes : a_query name version query ≡ y
   asked : HasFormOf asking queries word d query
-  named : user.Is (get user.name d) name
+  named : IsOf source d name
   from : since.Is (get since.name d) version
 
-asks : (word : List ℕ) (d : Data) (y : Request) → query_of word d ≡ Some y → Asks word d y
+asks : (source : Source) (word : List ℕ) (d : Data) (y : Request) → query_of source word d ≡ Some y
+    → Asks source word d y
 unfolding query_of
-asks word d y h =
-    let parts = three a_query (user.value (get user.name d)) (since.value (get since.name d)) (query_called word d) y h in
+asks source word d y h =
+    let parts = three a_query (whose_of source d) (since.value (get since.name d)) (query_called word d) y h in
     record {
       name = parts.0;
       query = parts.2;
       version = parts.1;
       makes = parts.6;
       asked = by_word_read asking queries queries_agree word d parts.2 parts.5;
-      named = user_agrees.read (get user.name d) parts.0 parts.3;
+      named = (said_agrees source).read _ parts.0 parts.3;
       from = since_agrees.read (get since.name d) parts.1 parts.4;
     }
 
-asked : (word : List ℕ) (d : Data) (name : List ℕ) (query : Query) (version : ℕ) → HasFormOf asking queries word d query
-    → user.Is (get user.name d) name
-    → since.Is (get since.name d) version → query_of word d ≡ Some (request.Query name query version)
+asked : (source : Source) (word : List ℕ) (d : Data) (name : Option (List ℕ)) (query : Query) (version : ℕ)
+    → HasFormOf asking queries word d query → IsOf source d name → since.Is (get since.name d) version
+    → query_of source word d ≡ Some (a_query name version query)
 unfolding query_of
-asked word d name query version has named from =
-    ap (λ o. applied (applied (applied (Some a_query) o) (since.value (get since.name d))) (query_called word d)) (user_agrees.reads (get user.name d) name named)
+asked source word d name query version has named from =
+    ap (λ o. applied (applied (applied (Some a_query) o) (since.value (get since.name d))) (query_called word d)) ((said_agrees source).reads _ name named)
     ∙ ap (λ o. applied (applied (Some (a_query name)) o) (query_called word d)) (since_agrees.reads (get since.name d) version from)
     ∙ ap (applied (Some (a_query name version))) (by_word_reads asking queries queries_agree refl word d query has)
 
 -- ---- batches
 
 -- the parts of a batch
-record Wants (ds : Items) (d : Data) (y : Request) : Type 0 where
-  name : List ℕ
+record Wants (source : Source) (ds : Items) (d : Data) (y : Request) : Type 0 where
+  name : Option (List ℕ)
   list : List Command
-  makes : request.Batch name list ≡ y
+  makes : a_batch name list ≡ y
   listed : has_only doing d ≡ true
-  named : user.Is (get user.name d) name
+  named : IsOf source d name
   each : AreEach IsCommand ds list
   few : length list ≤ 64
 
-wants : (ds : Items) (d : Data) (y : Request) → batch_of ds d ≡ Some y → Wants ds d y
+wants : (source : Source) (ds : Items) (d : Data) (y : Request) → batch_of source ds d ≡ Some y → Wants source ds d y
 unfolding batch_of
-wants ds d y h =
-    let listed = kept (has_only doing d) (applied (applied (Some a_batch) (user.value (get user.name d))) (few_commands_in ds)) y h in
-    let parts = two a_batch (user.value (get user.name d)) (few_commands_in ds) y listed.1 in
+wants source ds d y h =
+    let listed = kept (has_only doing d) (applied (applied (Some a_batch) (whose_of source d)) (few_commands_in ds)) y h in
+    let parts = two a_batch (whose_of source d) (few_commands_in ds) y listed.1 in
     let counted = kept (nat_le (item_count ds) 64) (commands_in ds) parts.1 parts.3 in
     let all = each_read command_of IsCommand command_read ds parts.1 counted.1 in
     record {
@@ -121,179 +132,269 @@ wants ds d y h =
       list = parts.1;
       makes = parts.4;
       listed = listed.0;
-      named = user_agrees.read (get user.name d) parts.0 parts.2;
+      named = (said_agrees source).read _ parts.0 parts.2;
       each = all;
       few = subst (λ n. n ≤ 64) (each_count IsCommand ds parts.1 all) (is_most (item_count ds) 64 counted.0);
     }
 
-wanted_batch : (ds : Items) (d : Data) (name : List ℕ) (list : List Command) → has_only doing d ≡ true
-    → user.Is (get user.name d) name → AreEach IsCommand ds list
-    → length list ≤ 64 → batch_of ds d ≡ Some (request.Batch name list)
+wanted_batch : (source : Source) (ds : Items) (d : Data) (name : Option (List ℕ)) (list : List Command)
+    → has_only doing d ≡ true → IsOf source d name → AreEach IsCommand ds list → length list ≤ 64
+    → batch_of source ds d ≡ Some (a_batch name list)
 unfolding batch_of
-wanted_batch ds d name list listed named all few =
-    ap (λ b. cond b (applied (applied (Some a_batch) (user.value (get user.name d))) (few_commands_in ds)) None) listed
-    ∙ ap (λ o. applied (applied (Some a_batch) o) (few_commands_in ds)) (user_agrees.reads (get user.name d) name named)
+wanted_batch source ds d name list listed named all few =
+    ap (λ b. cond b (applied (applied (Some a_batch) (whose_of source d)) (few_commands_in ds)) None) listed
+    ∙ ap (λ o. applied (applied (Some a_batch) o) (few_commands_in ds)) ((said_agrees source).reads _ name named)
     ∙ ap (λ b. applied (Some (a_batch name)) (cond b (commands_in ds) None)) (most_is (item_count ds) 64 (subst (λ n. n ≤ 64) (sym (each_count IsCommand ds list all)) few))
     ∙ ap (applied (Some (a_batch name))) (each_reads command_of IsCommand command_reads ds list all)
+
+-- ---- greetings
+
+greeting_agrees : AgreesForm greeting
+greeting_agrees = with_agrees _ _ (with_agrees _ _ (form_agrees _ _) (called_agrees _)) (written_agrees _)
+
+-- a greeting is that of its name and its token
+greets : (d : Data) (y : Request) → HasForm [] greeting d y
+    → (name : List ℕ) × (token : List ℕ) × (a_greeting name token ≡ y)
+greets d y has =
+    let outer = has.made in
+    let inner = outer.2 in
+    (inner.1, outer.1, ap (λ make. make inner.1 outer.1) inner.2 ∙ ap (λ make. make outer.1) inner.4 ∙ outer.4)
+
+is_there : (o : Option Data) (bytes : List ℕ) → text o ≡ Some bytes → IsSome o
+is_there None bytes h = absurd (cc)
+is_there (Some d) bytes h = refl
+
+greeter_is_there : (d : Data) (y : Request) → HasForm [] greeting d y → IsSome (get (codes "hello") d)
+greeter_is_there d y has = let name = has.made.2.3 in is_there (get (codes "hello") d) _ name.is
 
 -- ---- what was read
 
 -- what makes a message the request that it is
-abbrev Makes : (ask list audit hello : Option Data) → Data → Request → Type 0
-Makes ask list audit hello d (request.Query name query version) =
+abbrev Makes : Source → (ask list audit hello : Option Data) → Data → Option (List ℕ) → RequestBody → Type 0
+Makes source ask list audit hello d user (body.Query query version) =
     (count_by (λ member. is_some member) (ask ∷ list ∷ audit ∷ hello ∷ []) ≡ 1)
     × ((word : List ℕ) × (option_and_then as_str ask ≡ Some word) × HasFormOf asking queries word d query)
-    × user.Is (get user.name d) name × since.Is (get since.name d) version
-Makes ask list audit hello d (request.Batch name xs) =
+    × IsOf source d user × since.Is (get since.name d) version
+Makes source ask list audit hello d user (body.Batch xs) =
     (count_by (λ member. is_some member) (ask ∷ list ∷ audit ∷ hello ∷ []) ≡ 1)
     × ((elements : Items) × (option_and_then as_array list ≡ Some elements) × AreEach IsCommand elements xs)
-    × (length xs ≤ 64) × (has_only doing d ≡ true) × user.Is (get user.name d) name
-Makes ask list audit hello d (request.Audit name range) =
+    × (length xs ≤ 64) × (has_only doing d ≡ true) × IsOf source d user
+Makes source ask list audit hello d user (body.Audit range) =
     (count_by (λ member. is_some member) (ask ∷ list ∷ audit ∷ hello ∷ []) ≡ 1)
     × ((rows : Data) × (audit ≡ Some rows) × HasForm [] audit_range rows range)
-    × (has_only auditing d ≡ true) × user.Is (get user.name d) name
+    × (has_only auditing d ≡ true) × IsOf source d user
+Makes source ask list audit hello d user (body.Hello name token) =
+    (count_by (λ member. is_some member) (ask ∷ list ∷ audit ∷ hello ∷ []) ≡ 1)
+    × IsSome hello × (source ≡ Connection) × HasForm [] greeting d (a_greeting name token) × (user ≡ None)
 
--- what a message says, by the four members
-abbrev said : Option Data → Option Data → Option Data → Option Data → Data → Result Request RequestFault
-said ask list audit hello d = cond (is_some hello) (Err UnknownRequest) (one_of ask list audit d)
+abbrev MakesRequest : Source → (ask list audit hello : Option Data) → Data → Request → Type 0
+MakesRequest source ask list audit hello d y = Makes source ask list audit hello d y.user y.body
 
-query_made : (ask : Data) (o : Option (List ℕ)) (d : Data) (y : Request) → as_str ask ≡ o → query_by o d ≡ Ok y
-    → Makes (Some ask) None None None d y
-query_made ask None d y is h = absurd (cc)
-query_made ask (Some word) d y is h =
-    let read = read_where (is_among (words queries) word) (query_of word d) UnknownRequest y h in
-    let parts = asks word d y read.1 in
-    subst (Makes (Some ask) None None None d) parts.makes (refl, (word, is, parts.asked), parts.named, parts.from)
+query_made : (source : Source) (ask : Data) (o : Option (List ℕ)) (d : Data) (y : Request) → as_str ask ≡ o
+    → query_by source o d ≡ Ok y → MakesRequest source (Some ask) None None None d y
+query_made source ask None d y is h = absurd (cc)
+query_made source ask (Some word) d y is h =
+    let read = read_where (is_among (words queries) word) (query_of source word d) UnknownRequest y h in
+    let parts = asks source word d y read.1 in
+    subst (MakesRequest source (Some ask) None None None d) parts.makes (refl, (word, is, parts.asked), parts.named, parts.from)
 
-batch_made : (list : Data) (o : Option Items) (d : Data) (y : Request) → as_array list ≡ o → batch_by o d ≡ Ok y
-    → Makes None (Some list) None None d y
-batch_made list None d y is h = absurd (cc)
-batch_made list (Some ds) d y is h =
-    let read = read_unless (has_unknown ds) (batch_of ds d) UnknownRequest y h in
-    let parts = wants ds d y read.1 in
-    subst (Makes None (Some list) None None d) parts.makes (refl, (ds, is, parts.each), parts.few, parts.listed, parts.named)
+batch_made : (source : Source) (list : Data) (o : Option Items) (d : Data) (y : Request) → as_array list ≡ o
+    → batch_by source o d ≡ Ok y → MakesRequest source None (Some list) None None d y
+batch_made source list None d y is h = absurd (cc)
+batch_made source list (Some ds) d y is h =
+    let read = read_unless (has_unknown ds) (batch_of source ds d) UnknownRequest y h in
+    let parts = wants source ds d y read.1 in
+    subst (MakesRequest source None (Some list) None None d) parts.makes (refl, (ds, is, parts.each), parts.few, parts.listed, parts.named)
 
-audit_made : (rows d : Data) (y : Request) → wanted (audit_of rows d) ≡ Ok y → Makes None None (Some rows) None d y
-audit_made rows d y h =
-    let parts = audits rows d y (wanted_read (audit_of rows d) y h) in
-    subst (Makes None None (Some rows) None d) parts.makes (refl, (rows, refl, parts.has), parts.listed, parts.named)
+audit_made : (source : Source) (rows d : Data) (y : Request) → wanted (audit_of source rows d) ≡ Ok y
+    → MakesRequest source None None (Some rows) None d y
+audit_made source rows d y h =
+    let parts = audits source rows d y (wanted_read (audit_of source rows d) y h) in
+    subst (MakesRequest source None None (Some rows) None d) parts.makes (refl, (rows, refl, parts.has), parts.listed, parts.named)
 
-made : (ask list audit hello : Option Data) (d : Data) (y : Request) → said ask list audit hello d ≡ Ok y
-    → Makes ask list audit hello d y
-made ask list audit (Some x) d y h = absurd (cc)
-made None None None None d y h = absurd (cc)
-made (Some ask) (Some list) None None d y h = absurd (cc)
-made (Some ask) (Some list) (Some rows) None d y h = absurd (cc)
-made (Some ask) None (Some rows) None d y h = absurd (cc)
-made None (Some list) (Some rows) None d y h = absurd (cc)
-made (Some ask) None None None d y h = query_made ask (as_str ask) d y refl h
-made None (Some list) None None d y h = batch_made list (as_array list) d y refl h
-made None None (Some rows) None d y h = audit_made rows d y h
+greeting_made : (source : Source) (hello d : Data) (y : Request) → greeting_by source d ≡ Ok y
+    → MakesRequest source None None None (Some hello) d y
+greeting_made Script hello d y h = absurd (cc)
+greeting_made Connection hello d y h =
+    let has = formed_read [] greeting greeting_agrees d y (wanted_read (formed [] greeting d) y h) in
+    let parts = greets d y has in
+    subst (MakesRequest Connection None None None (Some hello) d) parts.2
+    (refl, refl, refl, subst (HasForm [] greeting d) (sym parts.2) has, refl)
 
-query_says : (ask : Data) (d : Data) (name : List ℕ) (query : Query) (version : ℕ)
-    → Makes (Some ask) None None None d (request.Query name query version)
-    → query_by (as_str ask) d ≡ Ok (request.Query name query version)
-query_says ask d name query version (one, (word, is, has), named, from) =
-    ap (λ o. query_by o d) is
-    ∙ ap (λ b. cond b (wanted (query_of word d)) (Err UnknownRequest)) (is_word asking queries word d query has)
-    ∙ ap wanted (asked word d name query version has named from)
+made : (source : Source) (ask list audit hello : Option Data) (d : Data) (y : Request)
+    → one_of source ask list audit hello d ≡ Ok y → MakesRequest source ask list audit hello d y
+made source (Some ask) (Some list) audit hello d y h = absurd (cc)
+made source (Some ask) None (Some rows) hello d y h = absurd (cc)
+made source (Some ask) None None (Some name) d y h = absurd (cc)
+made source (Some ask) None None None d y h = query_made source ask (as_str ask) d y refl h
+made source None (Some list) (Some rows) hello d y h = absurd (cc)
+made source None (Some list) None (Some name) d y h = absurd (cc)
+made source None (Some list) None None d y h = batch_made source list (as_array list) d y refl h
+made source None None (Some rows) (Some name) d y h = absurd (cc)
+made source None None (Some rows) None d y h = audit_made source rows d y h
+made source None None None (Some name) d y h = greeting_made source name d y h
+made source None None None None d y h = absurd (cc)
 
-batch_says : (list : Data) (d : Data) (name : List ℕ) (xs : List Command)
-    → Makes None (Some list) None None d (request.Batch name xs)
-    → batch_by (as_array list) d ≡ Ok (request.Batch name xs)
-batch_says list d name xs (one, (elements, is, all), few, listed, named) =
-    ap (λ o. batch_by o d) is
-    ∙ ap (λ b. cond b (Err UnknownRequest) (wanted (batch_of elements d))) (all_known elements xs all)
-    ∙ ap wanted (wanted_batch elements d name xs listed named all few)
+query_says : (source : Source) (ask : Data) (d : Data) (name : Option (List ℕ)) (query : Query) (version : ℕ)
+    → Makes source (Some ask) None None None d name (body.Query query version)
+    → query_by source (as_str ask) d ≡ Ok (a_query name version query)
+query_says source ask d name query version (one, (word, is, has), named, from) =
+    ap (λ o. query_by source o d) is
+    ∙ ap (λ b. cond b (wanted (query_of source word d)) (Err UnknownRequest)) (is_word asking queries word d query has)
+    ∙ ap wanted (asked source word d name query version has named from)
 
-audit_says : (rows d : Data) (name : List ℕ) (range : AuditRange)
-    → Makes None None (Some rows) None d (request.Audit name range)
-    → wanted (audit_of rows d) ≡ Ok (request.Audit name range)
-audit_says rows d name range (one, (asked, is, has), listed, named) =
+batch_says : (source : Source) (list : Data) (d : Data) (name : Option (List ℕ)) (xs : List Command)
+    → Makes source None (Some list) None None d name (body.Batch xs)
+    → batch_by source (as_array list) d ≡ Ok (a_batch name xs)
+batch_says source list d name xs (one, (elements, is, all), few, listed, named) =
+    ap (λ o. batch_by source o d) is
+    ∙ ap (λ b. cond b (Err UnknownRequest) (wanted (batch_of source elements d))) (all_known elements xs all)
+    ∙ ap wanted (wanted_batch source elements d name xs listed named all few)
+
+audit_says : (source : Source) (rows d : Data) (name : Option (List ℕ)) (range : AuditRange)
+    → Makes source None None (Some rows) None d name (body.Audit range)
+    → wanted (audit_of source rows d) ≡ Ok (an_audit name range)
+audit_says source rows d name range (one, (asked, is, has), listed, named) =
     let same : asked ≡ rows = cc in
-    ap wanted (audited rows d name range (subst (λ r. HasForm [] audit_range r range) same has) listed named)
+    ap wanted (audited source rows d name range (subst (λ r. HasForm [] audit_range r range) same has) listed named)
 
-query_said : (ask list audit hello : Option Data) (d : Data) (name : List ℕ) (query : Query) (version : ℕ)
-    → Makes ask list audit hello d (request.Query name query version)
-    → said ask list audit hello d ≡ Ok (request.Query name query version)
-query_said None list audit hello d name query version m = let none = m.1.1 in absurd (cc)
-query_said (Some ask) (Some list) audit hello d name query version m = absurd (omega (arith, m.0))
-query_said (Some ask) None (Some x) hello d name query version m = absurd (omega (arith, m.0))
-query_said (Some ask) None None (Some x) d name query version m = absurd (omega (arith, m.0))
-query_said (Some ask) None None None d name query version m = query_says ask d name query version m
+greeting_says : (source : Source) (hello d : Data) (user : Option (List ℕ)) (name token : List ℕ)
+    → Makes source None None None (Some hello) d user (body.Hello name token)
+    → greeting_by source d ≡ Ok (record { user = user; body = body.Hello name token })
+greeting_says source hello d user name token (one, is, from, has, nobody) =
+    ap (λ s. greeting_by s d) from
+    ∙ ap wanted (formed_reads [] greeting greeting_agrees d (a_greeting name token) has)
+    ∙ (λ i. Ok (record { user = sym nobody i; body = body.Hello name token }))
 
-batch_said : (ask list audit hello : Option Data) (d : Data) (name : List ℕ) (xs : List Command)
-    → Makes ask list audit hello d (request.Batch name xs)
-    → said ask list audit hello d ≡ Ok (request.Batch name xs)
-batch_said ask None audit hello d name xs m = let none = m.1.1 in absurd (cc)
-batch_said (Some ask) (Some list) audit hello d name xs m = absurd (omega (arith, m.0))
-batch_said None (Some list) (Some x) hello d name xs m = absurd (omega (arith, m.0))
-batch_said None (Some list) None (Some x) d name xs m = absurd (omega (arith, m.0))
-batch_said None (Some list) None None d name xs m = batch_says list d name xs m
+query_said : (source : Source) (ask list audit hello : Option Data) (d : Data) (name : Option (List ℕ)) (query : Query)
+    (version : ℕ) → Makes source ask list audit hello d name (body.Query query version)
+    → one_of source ask list audit hello d ≡ Ok (a_query name version query)
+query_said source None list audit hello d name query version m = let none = m.1.1 in absurd (cc)
+query_said source (Some ask) (Some list) audit hello d name query version m = absurd (omega (arith, m.0))
+query_said source (Some ask) None (Some x) hello d name query version m = absurd (omega (arith, m.0))
+query_said source (Some ask) None None (Some x) d name query version m = absurd (omega (arith, m.0))
+query_said source (Some ask) None None None d name query version m = query_says source ask d name query version m
 
-audit_said : (ask list audit hello : Option Data) (d : Data) (name : List ℕ) (range : AuditRange)
-    → Makes ask list audit hello d (request.Audit name range)
-    → said ask list audit hello d ≡ Ok (request.Audit name range)
-audit_said ask list None hello d name range m = let none = m.1.1 in absurd (cc)
-audit_said (Some ask) (Some list) (Some rows) hello d name range m = absurd (omega (arith, m.0))
-audit_said (Some ask) None (Some rows) hello d name range m = absurd (omega (arith, m.0))
-audit_said None (Some list) (Some rows) hello d name range m = absurd (omega (arith, m.0))
-audit_said None None (Some rows) (Some x) d name range m = absurd (omega (arith, m.0))
-audit_said None None (Some rows) None d name range m = audit_says rows d name range m
+batch_said : (source : Source) (ask list audit hello : Option Data) (d : Data) (name : Option (List ℕ))
+    (xs : List Command) → Makes source ask list audit hello d name (body.Batch xs)
+    → one_of source ask list audit hello d ≡ Ok (a_batch name xs)
+batch_said source ask None audit hello d name xs m = let none = m.1.1 in absurd (cc)
+batch_said source (Some ask) (Some list) audit hello d name xs m = absurd (omega (arith, m.0))
+batch_said source None (Some list) (Some x) hello d name xs m = absurd (omega (arith, m.0))
+batch_said source None (Some list) None (Some x) d name xs m = absurd (omega (arith, m.0))
+batch_said source None (Some list) None None d name xs m = batch_says source list d name xs m
 
-pub query_object : (d : Data) (name : List ℕ) (query : Query) (version : ℕ)
-    → (request_of d ≡ Ok (request.Query name query version)) ↔ IsQuery d name query version
-unfolding request_of
-query_object d name query version =
-    let ask = get (codes "ask") d in
-    let list = get (codes "do") d in
-    let audit = get (codes "audit") d in
-    let hello = get (codes "hello") d in (
-      λ h. let m = made ask list audit hello d (request.Query name query version) h in record { one = m.0; asked = m.1; user = m.2; since = m.3 },
-      λ q. query_said ask list audit hello d name query version (q.one, q.asked, q.user, q.since),
-    )
+audit_said : (source : Source) (ask list audit hello : Option Data) (d : Data) (name : Option (List ℕ))
+    (range : AuditRange) → Makes source ask list audit hello d name (body.Audit range)
+    → one_of source ask list audit hello d ≡ Ok (an_audit name range)
+audit_said source ask list None hello d name range m = let none = m.1.1 in absurd (cc)
+audit_said source (Some ask) (Some list) (Some rows) hello d name range m = absurd (omega (arith, m.0))
+audit_said source (Some ask) None (Some rows) hello d name range m = absurd (omega (arith, m.0))
+audit_said source None (Some list) (Some rows) hello d name range m = absurd (omega (arith, m.0))
+audit_said source None None (Some rows) (Some x) d name range m = absurd (omega (arith, m.0))
+audit_said source None None (Some rows) None d name range m = audit_says source rows d name range m
 
-pub batch_object : (d : Data) (name : List ℕ) (xs : List Command)
-    → (request_of d ≡ Ok (request.Batch name xs)) ↔ IsBatch d name xs
-unfolding request_of
-batch_object d name xs =
-    let ask = get (codes "ask") d in
-    let list = get (codes "do") d in
-    let audit = get (codes "audit") d in
-    let hello = get (codes "hello") d in (
-      λ h. let m = made ask list audit hello d (request.Batch name xs) h in record { one = m.0; list = m.1; few = m.2; listed = m.3; user = m.4 },
-      λ b. batch_said ask list audit hello d name xs (b.one, b.list, b.few, b.listed, b.user),
-    )
+greeting_said : (source : Source) (ask list audit hello : Option Data) (d : Data) (user : Option (List ℕ))
+    (name token : List ℕ) → Makes source ask list audit hello d user (body.Hello name token)
+    → one_of source ask list audit hello d ≡ Ok (record { user = user; body = body.Hello name token })
+greeting_said source ask list audit None d user name token m = let none = m.1 in absurd (cc)
+greeting_said source (Some ask) (Some list) audit (Some x) d user name token m = absurd (omega (arith, m.0))
+greeting_said source (Some ask) None (Some rows) (Some x) d user name token m = absurd (omega (arith, m.0))
+greeting_said source (Some ask) None None (Some x) d user name token m = absurd (omega (arith, m.0))
+greeting_said source None (Some list) (Some rows) (Some x) d user name token m = absurd (omega (arith, m.0))
+greeting_said source None (Some list) None (Some x) d user name token m = absurd (omega (arith, m.0))
+greeting_said source None None (Some rows) (Some x) d user name token m = absurd (omega (arith, m.0))
+greeting_said source None None None (Some x) d user name token m = greeting_says source x d user name token m
 
-pub audit_object : (d : Data) (name : List ℕ) (range : AuditRange)
-    → (request_of d ≡ Ok (request.Audit name range)) ↔ IsAudit d name range
-unfolding request_of
-audit_object d name range =
-    let ask = get (codes "ask") d in
-    let list = get (codes "do") d in
-    let audit = get (codes "audit") d in
-    let hello = get (codes "hello") d in (
-      λ h. let m = made ask list audit hello d (request.Audit name range) h in record { one = m.0; asked = m.1; listed = m.2; user = m.3 },
-      λ a. audit_said ask list audit hello d name range (a.one, a.asked, a.listed, a.user),
-    )
+module _ (source : Source) (d : Data) where
+  abbrev ask_member : Option Data
+  ask_member = get (codes "ask") d
 
-pub few_in_request : (d : Data) (y : Request) → request_of d ≡ Ok y → HasFew y
-few_in_request d (request.Query name query version) h = tt
-few_in_request d (request.Batch name xs) h = ((batch_object d name xs).0 h).few
-few_in_request d (request.Audit name range) h = tt
+  abbrev do_member : Option Data
+  do_member = get (codes "do") d
+
+  abbrev audit_member : Option Data
+  audit_member = get (codes "audit") d
+
+  abbrev hello_member : Option Data
+  hello_member = get (codes "hello") d
+
+  pub query_object : (name : Option (List ℕ)) (query : Query) (version : ℕ)
+      → (request_of source d ≡ Ok (a_query name version query)) ↔ IsQuery source d name query version
+  unfolding request_of
+  query_object name query version = (
+    λ h. let m = made source ask_member do_member audit_member hello_member d (a_query name version query) h in record { one = m.0; asked = m.1; user = m.2; since = m.3 },
+    λ q. query_said source ask_member do_member audit_member hello_member d name query version (q.one, q.asked, q.user, q.since),
+  )
+
+  pub batch_object : (name : Option (List ℕ)) (xs : List Command)
+      → (request_of source d ≡ Ok (a_batch name xs)) ↔ IsBatch source d name xs
+  unfolding request_of
+  batch_object name xs = (
+    λ h. let m = made source ask_member do_member audit_member hello_member d (a_batch name xs) h in record { one = m.0; list = m.1; few = m.2; listed = m.3; user = m.4 },
+    λ b. batch_said source ask_member do_member audit_member hello_member d name xs (b.one, b.list, b.few, b.listed, b.user),
+  )
+
+  pub audit_object : (name : Option (List ℕ)) (range : AuditRange)
+      → (request_of source d ≡ Ok (an_audit name range)) ↔ IsAudit source d name range
+  unfolding request_of
+  audit_object name range = (
+    λ h. let m = made source ask_member do_member audit_member hello_member d (an_audit name range) h in record { one = m.0; asked = m.1; listed = m.2; user = m.3 },
+    λ a. audit_said source ask_member do_member audit_member hello_member d name range (a.one, a.asked, a.listed, a.user),
+  )
+
+  pub greeting_object : (user : Option (List ℕ)) (name token : List ℕ)
+      → (request_of source d ≡ Ok (record { user = user; body = body.Hello name token })) ↔ IsGreeting source d user name token
+  unfolding request_of
+  greeting_object user name token = (
+    λ h. let m = made source ask_member do_member audit_member hello_member d (record { user = user; body = body.Hello name token }) h in record { one = m.0; from = m.2; form = m.3; nobody = m.4 },
+    λ g. greeting_said source ask_member do_member audit_member hello_member d user name token (g.one, greeter_is_there d _ g.form, g.from, g.form, g.nobody),
+  )
+
+  few_in_body : (user : Option (List ℕ)) (b : RequestBody) → request_of source d ≡ Ok (record { user = user; body = b }) → HasFew b
+  few_in_body user (body.Query query version) h = tt
+  few_in_body user (body.Batch xs) h = ((batch_object user xs).0 h).few
+  few_in_body user (body.Audit range) h = tt
+  few_in_body user (body.Hello name token) h = tt
+
+  pub few_in_request : (y : Request) → request_of source d ≡ Ok y → HasFew y.body
+  few_in_request y h = few_in_body y.user y.body h
+
+-- ---- whose it is
+
+said_by : (d : Data) (user : Option (List ℕ)) (b : RequestBody)
+    → request_of Script d ≡ Ok (record { user = user; body = b }) → IsSome user × IsNoGreeting b
+said_by d user (body.Query query version) h = (said_in_script _ user ((query_object Script d user query version).0 h).user, tt)
+said_by d user (body.Batch xs) h = (said_in_script _ user ((batch_object Script d user xs).0 h).user, tt)
+said_by d user (body.Audit range) h = (said_in_script _ user ((audit_object Script d user range).0 h).user, tt)
+said_by d user (body.Hello name token) h = let from = ((greeting_object Script d user name token).0 h).from in absurd (cc)
+
+unsaid_by : (d : Data) (user : Option (List ℕ)) (b : RequestBody)
+    → request_of Connection d ≡ Ok (record { user = user; body = b }) → user ≡ None
+unsaid_by d user (body.Query query version) h = unsaid_on_connection _ user ((query_object Connection d user query version).0 h).user
+unsaid_by d user (body.Batch xs) h = unsaid_on_connection _ user ((batch_object Connection d user xs).0 h).user
+unsaid_by d user (body.Audit range) h = unsaid_on_connection _ user ((audit_object Connection d user range).0 h).user
+unsaid_by d user (body.Hello name token) h = ((greeting_object Connection d user name token).0 h).nobody
+
+pub user_in_script : (d : Data) (y : Request) → request_of Script d ≡ Ok y → IsSaid y
+user_in_script d y h = said_by d y.user y.body h
+
+pub no_user_on_connection : (d : Data) (y : Request) → request_of Connection d ≡ Ok y → y.user ≡ None
+no_user_on_connection d y h = unsaid_by d y.user y.body h
 
 -- ---- faults
 
 -- a request of an object fails as an unknown request or by a member
 pub record IsFaultOfObject (fault : RequestFault) : Type 0 where
+  pub not_long : fault ≢ TooLong
   pub read_well : fault ≢ Malformed
   pub in_memory : fault ≢ OutOfMemory
 
 unknown_fault : (fault : RequestFault) → UnknownRequest ≡ fault → IsFaultOfObject fault
-unknown_fault fault is = record { read_well = λ e. cc; in_memory = λ e. cc }
+unknown_fault fault is = record { not_long = λ e. cc; read_well = λ e. cc; in_memory = λ e. cc }
 
 member_fault : (fault : RequestFault) → fault ≡ BadField → IsFaultOfObject fault
-member_fault fault is = record { read_well = λ e. cc; in_memory = λ e. cc }
+member_fault fault is = record { not_long = λ e. cc; read_well = λ e. cc; in_memory = λ e. cc }
 
 query_at : (b : Bool) (o : Option Request) (fault : RequestFault) → cond b (wanted o) (Err UnknownRequest) ≡ Err fault
     → IsFaultOfObject fault
@@ -305,30 +406,39 @@ batch_at : (b : Bool) (o : Option Request) (fault : RequestFault) → cond b (Er
 batch_at true o fault h = unknown_fault fault (cc)
 batch_at false o fault h = member_fault fault (wanted_fails o fault h)
 
-query_fault : (o : Option (List ℕ)) (d : Data) (fault : RequestFault) → query_by o d ≡ Err fault → IsFaultOfObject fault
-query_fault None d fault h = member_fault fault (cc)
-query_fault (Some word) d fault h = query_at (is_among (words queries) word) (query_of word d) fault h
+query_fault : (source : Source) (o : Option (List ℕ)) (d : Data) (fault : RequestFault)
+    → query_by source o d ≡ Err fault → IsFaultOfObject fault
+query_fault source None d fault h = member_fault fault (cc)
+query_fault source (Some word) d fault h = query_at (is_among (words queries) word) (query_of source word d) fault h
 
-batch_fault : (o : Option Items) (d : Data) (fault : RequestFault) → batch_by o d ≡ Err fault → IsFaultOfObject fault
-batch_fault None d fault h = member_fault fault (cc)
-batch_fault (Some ds) d fault h = batch_at (has_unknown ds) (batch_of ds d) fault h
+batch_fault : (source : Source) (o : Option Items) (d : Data) (fault : RequestFault)
+    → batch_by source o d ≡ Err fault → IsFaultOfObject fault
+batch_fault source None d fault h = member_fault fault (cc)
+batch_fault source (Some ds) d fault h = batch_at (has_unknown ds) (batch_of source ds d) fault h
 
-said_fault : (ask list audit hello : Option Data) (d : Data) (fault : RequestFault)
-    → said ask list audit hello d ≡ Err fault → IsFaultOfObject fault
-said_fault ask list audit (Some x) d fault h = unknown_fault fault (cc)
-said_fault None None None None d fault h = unknown_fault fault (cc)
-said_fault (Some ask) (Some list) None None d fault h = unknown_fault fault (cc)
-said_fault (Some ask) (Some list) (Some rows) None d fault h = unknown_fault fault (cc)
-said_fault (Some ask) None (Some rows) None d fault h = unknown_fault fault (cc)
-said_fault None (Some list) (Some rows) None d fault h = unknown_fault fault (cc)
-said_fault (Some ask) None None None d fault h = query_fault (as_str ask) d fault h
-said_fault None (Some list) None None d fault h = batch_fault (as_array list) d fault h
-said_fault None None (Some rows) None d fault h = member_fault fault (wanted_fails (audit_of rows d) fault h)
+greeting_fault : (source : Source) (d : Data) (fault : RequestFault) → greeting_by source d ≡ Err fault
+    → IsFaultOfObject fault
+greeting_fault Script d fault h = unknown_fault fault (cc)
+greeting_fault Connection d fault h = member_fault fault (wanted_fails (formed [] greeting d) fault h)
 
-pub object_fault : (d : Data) (fault : RequestFault) → request_of d ≡ Err fault → IsFaultOfObject fault
+said_fault : (source : Source) (ask list audit hello : Option Data) (d : Data) (fault : RequestFault)
+    → one_of source ask list audit hello d ≡ Err fault → IsFaultOfObject fault
+said_fault source (Some ask) (Some list) audit hello d fault h = unknown_fault fault (cc)
+said_fault source (Some ask) None (Some rows) hello d fault h = unknown_fault fault (cc)
+said_fault source (Some ask) None None (Some name) d fault h = unknown_fault fault (cc)
+said_fault source (Some ask) None None None d fault h = query_fault source (as_str ask) d fault h
+said_fault source None (Some list) (Some rows) hello d fault h = unknown_fault fault (cc)
+said_fault source None (Some list) None (Some name) d fault h = unknown_fault fault (cc)
+said_fault source None (Some list) None None d fault h = batch_fault source (as_array list) d fault h
+said_fault source None None (Some rows) (Some name) d fault h = unknown_fault fault (cc)
+said_fault source None None (Some rows) None d fault h = member_fault fault (wanted_fails (audit_of source rows d) fault h)
+said_fault source None None None (Some name) d fault h = greeting_fault source d fault h
+said_fault source None None None None d fault h = unknown_fault fault (cc)
+
+pub object_fault : (source : Source) (d : Data) (fault : RequestFault) → request_of source d ≡ Err fault → IsFaultOfObject fault
 unfolding request_of
-object_fault d fault h =
-    said_fault (get (codes "ask") d) (get (codes "do") d) (get (codes "audit") d) (get (codes "hello") d) d fault h
+object_fault source d fault h =
+    said_fault source (get (codes "ask") d) (get (codes "do") d) (get (codes "audit") d) (get (codes "hello") d) d fault h
 
 -- ---- unknown requests
 
@@ -339,8 +449,10 @@ AsksOther ask = (word : List ℕ) × (option_and_then as_str ask ≡ Some word) 
 abbrev WantsOther : Option Data → Type 0
 WantsOther list = (elements : Items) × (option_and_then as_array list ≡ Some elements) × (has_unknown elements ≡ true)
 
-abbrev IsOther : Option Data → Option Data → Option Data → Option Data → Type 0
-IsOther ask list audit hello = (count_by (λ member. is_some member) (ask ∷ list ∷ audit ∷ hello ∷ []) ≢ 1) ⊎ (IsSome hello ⊎ (AsksOther ask ⊎ WantsOther list))
+abbrev IsOther : Source → Option Data → Option Data → Option Data → Option Data → Type 0
+IsOther source ask list audit hello =
+    (count_by (λ member. is_some member) (ask ∷ list ∷ audit ∷ hello ∷ []) ≢ 1)
+    ⊎ (((source ≡ Script) × IsSome hello) ⊎ (AsksOther ask ⊎ WantsOther list))
 
 other_where : {A : Type 0} (b : Bool) (o : Option A) → cond b (wanted o) (Err UnknownRequest) ≡ Err UnknownRequest
     → b ≡ false
@@ -352,68 +464,86 @@ other_unless : {A : Type 0} (b : Bool) (o : Option A) → cond b (Err UnknownReq
 other_unless true o h = refl
 other_unless false o h = let bad = wanted_fails o UnknownRequest h in absurd (cc)
 
-asks_other : (o : Option (List ℕ)) (d : Data) → query_by o d ≡ Err UnknownRequest
+asks_other : (source : Source) (o : Option (List ℕ)) (d : Data) → query_by source o d ≡ Err UnknownRequest
     → (word : List ℕ) × (o ≡ Some word) × All (λ other. word ≢ other) (words queries)
-asks_other None d h = absurd (cc)
-asks_other (Some word) d h =
-    (word, refl, none_among (words queries) word (other_where (is_among (words queries) word) (query_of word d) h))
+asks_other source None d h = absurd (cc)
+asks_other source (Some word) d h =
+    (word, refl, none_among (words queries) word (other_where (is_among (words queries) word) (query_of source word d) h))
 
-wants_other : (o : Option Items) (d : Data) → batch_by o d ≡ Err UnknownRequest
+wants_other : (source : Source) (o : Option Items) (d : Data) → batch_by source o d ≡ Err UnknownRequest
     → (elements : Items) × (o ≡ Some elements) × (has_unknown elements ≡ true)
-wants_other None d h = absurd (cc)
-wants_other (Some ds) d h = (ds, refl, other_unless (has_unknown ds) (batch_of ds d) h)
+wants_other source None d h = absurd (cc)
+wants_other source (Some ds) d h = (ds, refl, other_unless (has_unknown ds) (batch_of source ds d) h)
 
-other_is : (ask list audit hello : Option Data) (d : Data) → said ask list audit hello d ≡ Err UnknownRequest
-    → IsOther ask list audit hello
-other_is ask list audit (Some x) d h = inr (inl refl)
-other_is None None None None d h = inl (λ same. omega arith)
-other_is (Some ask) (Some list) None None d h = inl (λ same. omega arith)
-other_is (Some ask) (Some list) (Some rows) None d h = inl (λ same. omega arith)
-other_is (Some ask) None (Some rows) None d h = inl (λ same. omega arith)
-other_is None (Some list) (Some rows) None d h = inl (λ same. omega arith)
-other_is (Some ask) None None None d h = inr (inr (inl (asks_other (as_str ask) d h)))
-other_is None (Some list) None None d h = inr (inr (inr (wants_other (as_array list) d h)))
-other_is None None (Some rows) None d h = let bad = wanted_fails (audit_of rows d) UnknownRequest h in absurd (cc)
+greets_other : (source : Source) (d : Data) → greeting_by source d ≡ Err UnknownRequest → source ≡ Script
+greets_other Script d h = refl
+greets_other Connection d h = let bad = wanted_fails (formed [] greeting d) UnknownRequest h in absurd (cc)
 
-one_asks : (ask : Data) (d : Data) → IsOther (Some ask) None None None → query_by (as_str ask) d ≡ Err UnknownRequest
-one_asks ask d (inl count) = absurd (count refl)
-one_asks ask d (inr (inl hello)) = absurd (cc)
-one_asks ask d (inr (inr (inl other))) =
-    ap (λ o. query_by o d) other.1
-    ∙ ap (λ b. cond b (wanted (query_of other.0 d)) (Err UnknownRequest)) (among_none (words queries) other.0 other.2)
-one_asks ask d (inr (inr (inr other))) = let none = other.1 in absurd (cc)
+other_is : (source : Source) (ask list audit hello : Option Data) (d : Data)
+    → one_of source ask list audit hello d ≡ Err UnknownRequest → IsOther source ask list audit hello
+other_is source (Some ask) (Some list) audit hello d h = inl (λ same. omega (arith, same))
+other_is source (Some ask) None (Some rows) hello d h = inl (λ same. omega (arith, same))
+other_is source (Some ask) None None (Some name) d h = inl (λ same. omega (arith, same))
+other_is source (Some ask) None None None d h = inr (inr (inl (asks_other source (as_str ask) d h)))
+other_is source None (Some list) (Some rows) hello d h = inl (λ same. omega (arith, same))
+other_is source None (Some list) None (Some name) d h = inl (λ same. omega (arith, same))
+other_is source None (Some list) None None d h = inr (inr (inr (wants_other source (as_array list) d h)))
+other_is source None None (Some rows) (Some name) d h = inl (λ same. omega (arith, same))
+other_is source None None (Some rows) None d h = let bad = wanted_fails (audit_of source rows d) UnknownRequest h in absurd (cc)
+other_is source None None None (Some name) d h = inr (inl (greets_other source d h, refl))
+other_is source None None None None d h = inl (λ same. omega (arith, same))
 
-one_wants : (list : Data) (d : Data) → IsOther None (Some list) None None
-    → batch_by (as_array list) d ≡ Err UnknownRequest
-one_wants list d (inl count) = absurd (count refl)
-one_wants list d (inr (inl hello)) = absurd (cc)
-one_wants list d (inr (inr (inl other))) = let none = other.1 in absurd (cc)
-one_wants list d (inr (inr (inr other))) =
-    ap (λ o. batch_by o d) other.1 ∙ ap (λ b. cond b (Err UnknownRequest) (wanted (batch_of other.0 d))) other.2
+one_asks : (source : Source) (ask : Data) (d : Data) → IsOther source (Some ask) None None None
+    → query_by source (as_str ask) d ≡ Err UnknownRequest
+one_asks source ask d (inl count) = absurd (count refl)
+one_asks source ask d (inr (inl greets)) = let none = greets.1 in absurd (cc)
+one_asks source ask d (inr (inr (inl other))) =
+    ap (λ o. query_by source o d) other.1
+    ∙ ap (λ b. cond b (wanted (query_of source other.0 d)) (Err UnknownRequest)) (among_none (words queries) other.0 other.2)
+one_asks source ask d (inr (inr (inr other))) = let none = other.1 in absurd (cc)
 
-one_audits : (rows d : Data) → IsOther None None (Some rows) None → wanted (audit_of rows d) ≡ Err UnknownRequest
-one_audits rows d (inl count) = absurd (count refl)
-one_audits rows d (inr (inl hello)) = absurd (cc)
-one_audits rows d (inr (inr (inl other))) = let none = other.1 in absurd (cc)
-one_audits rows d (inr (inr (inr other))) = let none = other.1 in absurd (cc)
+one_wants : (source : Source) (list : Data) (d : Data) → IsOther source None (Some list) None None
+    → batch_by source (as_array list) d ≡ Err UnknownRequest
+one_wants source list d (inl count) = absurd (count refl)
+one_wants source list d (inr (inl greets)) = let none = greets.1 in absurd (cc)
+one_wants source list d (inr (inr (inl other))) = let none = other.1 in absurd (cc)
+one_wants source list d (inr (inr (inr other))) =
+    ap (λ o. batch_by source o d) other.1 ∙ ap (λ b. cond b (Err UnknownRequest) (wanted (batch_of source other.0 d))) other.2
 
-other_said : (ask list audit hello : Option Data) (d : Data) → IsOther ask list audit hello
-    → said ask list audit hello d ≡ Err UnknownRequest
-other_said ask list audit (Some x) d h = refl
-other_said None None None None d h = refl
-other_said (Some ask) (Some list) None None d h = refl
-other_said (Some ask) (Some list) (Some rows) None d h = refl
-other_said (Some ask) None (Some rows) None d h = refl
-other_said None (Some list) (Some rows) None d h = refl
-other_said (Some ask) None None None d h = one_asks ask d h
-other_said None (Some list) None None d h = one_wants list d h
-other_said None None (Some rows) None d h = one_audits rows d h
+one_audits : (source : Source) (rows d : Data) → IsOther source None None (Some rows) None
+    → wanted (audit_of source rows d) ≡ Err UnknownRequest
+one_audits source rows d (inl count) = absurd (count refl)
+one_audits source rows d (inr (inl greets)) = let none = greets.1 in absurd (cc)
+one_audits source rows d (inr (inr (inl other))) = let none = other.1 in absurd (cc)
+one_audits source rows d (inr (inr (inr other))) = let none = other.1 in absurd (cc)
 
-pub unknown_object : (d : Data) → (request_of d ≡ Err UnknownRequest) ↔ IsUnknownRequest d
+one_greets : (source : Source) (hello d : Data) → IsOther source None None None (Some hello)
+    → greeting_by source d ≡ Err UnknownRequest
+one_greets source hello d (inl count) = absurd (count refl)
+one_greets source hello d (inr (inl greets)) = ap (λ s. greeting_by s d) greets.0
+one_greets source hello d (inr (inr (inl other))) = let none = other.1 in absurd (cc)
+one_greets source hello d (inr (inr (inr other))) = let none = other.1 in absurd (cc)
+
+other_said : (source : Source) (ask list audit hello : Option Data) (d : Data) → IsOther source ask list audit hello
+    → one_of source ask list audit hello d ≡ Err UnknownRequest
+other_said source (Some ask) (Some list) audit hello d h = refl
+other_said source (Some ask) None (Some rows) hello d h = refl
+other_said source (Some ask) None None (Some name) d h = refl
+other_said source (Some ask) None None None d h = one_asks source ask d h
+other_said source None (Some list) (Some rows) hello d h = refl
+other_said source None (Some list) None (Some name) d h = refl
+other_said source None (Some list) None None d h = one_wants source list d h
+other_said source None None (Some rows) (Some name) d h = refl
+other_said source None None (Some rows) None d h = one_audits source rows d h
+other_said source None None None (Some name) d h = one_greets source name d h
+other_said source None None None None d h = refl
+
+pub unknown_object : (source : Source) (d : Data)
+    → (request_of source d ≡ Err UnknownRequest) ↔ IsUnknownRequest source d
 unfolding request_of
-unknown_object d =
+unknown_object source d =
     let ask = get (codes "ask") d in
     let list = get (codes "do") d in
     let audit = get (codes "audit") d in
     let hello = get (codes "hello") d in
-    (other_is ask list audit hello d, other_said ask list audit hello d)
+    (other_is source ask list audit hello d, other_said source ask list audit hello d)

@@ -1,13 +1,14 @@
--- The message that asks for an audit: an object in the member `audit`, which says the rows, and the user's name.
+-- The message that asks for an audit: an object in the member `audit`, which says the rows, and in a script the user's name.
 use Rattle.std.specs.Prelude.{◌≡◌, ℕ, ◌≤◌, List, [], ◌∷◌, nat_le, ◌&&◌, if◌then◌else◌, codes, Option, Some, None}
 use Rattle.serde_json.specs.Data.{Data}
 use Rattle.serde_json.specs.Find.{get}
 use Rattle.wire.specs.declared.audit_range.AuditRange.{AuditRange}
 use Rattle.wire.specs.declared.request.Request.{Request}
-use Rattle.wire.specs.declared.request.Request.TheVariants as request
+use Rattle.wire.specs.declared.request.RequestBody.TheVariants as body
+use Rattle.wire.specs.declared.source.Source.{Source}
 use Rattle.json_fields.specs.Form.{Member, Form, form, ◌with◌, applied, has_only, formed}
 use Rattle.json_fields.specs.Field.{number}
-use Rattle.message_fields.specs.Field.{user}
+use Rattle.wire.specs.Source.{said_user}
 
 -- ---- numbers from 1 to a limit
 
@@ -46,13 +47,14 @@ audit_range = form [] (λ first most. record { from = first; limit = most }) wit
 abbrev pub auditing : List (List ℕ)
 auditing = codes "audit" ∷ codes "as" ∷ []
 
--- the request for an audit, in a name
-abbrev pub an_audit : List ℕ → AuditRange → Request
-an_audit name range = request.Audit name range
+-- the request for an audit, and whose it is
+abbrev pub an_audit : Option (List ℕ) → AuditRange → Request
+an_audit user range = record { user = user; body = body.Audit range }
 
--- an audit of the rows that the first value says, in a name: these members and no other
-unfoldable pub audit_of : Data → Data → Option Request
-audit_of rows d =
+-- an audit of the rows that the first value says, and whose it is: these members and no other
+unfoldable pub audit_of : Source → Data → Data → Option Request
+audit_of source rows d =
+    let whose = said_user source in
     if has_only auditing d
-    then applied (applied (Some an_audit) (user.value (get user.name d))) (formed [] audit_range rows)
+    then applied (applied (Some an_audit) (whose.value (get whose.name d))) (formed [] audit_range rows)
     else None

@@ -1,26 +1,38 @@
 -- What a message is, said of its members alone: nothing here knows an order of reading.
-use Rattle.std.specs.Prelude.{◌≡◌, ◌≢◌, ◌⊎◌, ℕ, ◌≤◌, ◌==◌, List, [], ◌∷◌, length, count_by, All, true, is_some, IsSome, codes, Some, option_and_then}
-use Rattle.std.specs.Str.Lossy.{utf8_valid_len}
+use Rattle.std.specs.Prelude.{◌≡◌, ◌≢◌, ◌⊎◌, ℕ, ◌≤◌, List, [], ◌∷◌, length, count_by, All, true, is_some, IsSome, codes, Option, Some, None, option_and_then}
 use Rattle.serde_json.specs.Data.{Data, Items}
-use Rattle.serde_json.specs.Read.{read}
-use Rattle.serde_json.specs.Find.{get, as_array, as_object}
+use Rattle.serde_json.specs.Find.{get, as_array}
 use Rattle.session_state.specs.declared.command.Command.{Command}
 use Rattle.session_queries.specs.declared.query.Query.{Query}
 use Rattle.wire.specs.declared.audit_range.AuditRange.{AuditRange}
+use Rattle.wire.specs.declared.source.Source.{Source}
+use Rattle.wire.specs.declared.source.Source.TheVariants.{Script, Connection}
 use Rattle.json_fields.specs.Form.{has_only, words, HasForm, HasFormOf, AreEach}
 use Rattle.json_fields.specs.Field.{text_at}
-use Rattle.message_fields.specs.Field.{user, since}
+use Rattle.message_fields.specs.Field.{since}
+use Rattle.message_fields.specs.Object.{IsObject}
 use Rattle.command_object.specs.Command.{has_unknown, IsCommand}
 use Rattle.query_object.specs.Query.{queries, asking}
-use Rattle.wire.specs.Request.{doing}
+use Rattle.wire.specs.Request.{most_message_bytes, doing}
 use Rattle.wire.specs.Audit.{audit_range, auditing}
+use Rattle.wire.specs.Greeting.{greeting, a_greeting}
+use Rattle.wire.specs.Source.{said_user}
 use Rattle.session_book.specs.Run.{most_commands}
+
+-- the bytes aren't too many for a message, and are this object's text
+pub record IsMessage (bytes : List ℕ) (d : Data) : Type 0 where
+  pub short : length bytes ≤ most_message_bytes
+  pub object : IsObject bytes d
 
 -- how many of the members that make a request are there
 abbrev pub request_count : Data → ℕ
 request_count d =
     count_by (λ member. is_some member)
     (get (codes "ask") d ∷ get (codes "do") d ∷ get (codes "audit") d ∷ get (codes "hello") d ∷ [])
+
+-- it greets, and in a script
+abbrev pub GreetsInScript : Source → Data → Type 0
+GreetsInScript source d = (source ≡ Script) × IsSome (get (codes "hello") d)
 
 -- it asks by a text that no query is called by
 abbrev pub AsksAnother : Data → Type 0
@@ -32,36 +44,47 @@ abbrev pub WantsAnother : Data → Type 0
 WantsAnother d =
     (elements : Items) × (option_and_then as_array (get (codes "do") d) ≡ Some elements) × (has_unknown elements ≡ true)
 
--- not exactly one member makes a request, or that one is `hello`, or a word in it names nothing
-abbrev pub IsUnknownRequest : Data → Type 0
-IsUnknownRequest d =
-    (request_count d ≢ 1) ⊎ (IsSome (get (codes "hello") d) ⊎ (AsksAnother d ⊎ WantsAnother d))
+-- not exactly one member makes a request, or it is a greeting in a script, or a word in it names nothing
+abbrev pub IsUnknownRequest : Source → Data → Type 0
+IsUnknownRequest source d = (request_count d ≢ 1) ⊎ (GreetsInScript source d ⊎ (AsksAnother d ⊎ WantsAnother d))
 
--- it asks for this, in this name and from this version on, and nothing else stands in it
-pub record IsQuery (d : Data) (name : List ℕ) (query : Query) (version : ℕ) : Type 0 where
+-- whose it is, by where it comes from
+abbrev pub IsOf : Source → Data → Option (List ℕ) → Type 0
+IsOf source d user = let whose = said_user source in whose.Is (get whose.name d) user
+
+-- it asks for this, for this user and from this version on, and nothing else stands in it
+pub record IsQuery (source : Source) (d : Data) (name : Option (List ℕ)) (query : Query) (version : ℕ) : Type 0 where
   pub one : request_count d ≡ 1
   pub asked : (word : List ℕ) × (text_at (codes "ask") d ≡ Some word) × HasFormOf asking queries word d query
-  pub user : user.Is (get user.name d) name
+  pub user : IsOf source d name
   pub since : since.Is (get since.name d) version
 
--- it wants these commands done, in this name, and nothing else stands in it
-pub record IsBatch (d : Data) (name : List ℕ) (commands : List Command) : Type 0 where
+-- it wants these commands done, for this user, and nothing else stands in it
+pub record IsBatch (source : Source) (d : Data) (name : Option (List ℕ)) (commands : List Command) : Type 0 where
   pub one : request_count d ≡ 1
   pub list : (elements : Items) × (option_and_then as_array (get (codes "do") d) ≡ Some elements)
       × AreEach IsCommand elements commands
   pub few : length commands ≤ most_commands
   pub listed : has_only doing d ≡ true
-  pub user : user.Is (get user.name d) name
+  pub user : IsOf source d name
 
--- it asks for these rows of the audit, in this name, and nothing else stands in it
-pub record IsAudit (d : Data) (name : List ℕ) (range : AuditRange) : Type 0 where
+-- it asks for these rows of the audit, for this user, and nothing else stands in it
+pub record IsAudit (source : Source) (d : Data) (name : Option (List ℕ)) (range : AuditRange) : Type 0 where
   pub one : request_count d ≡ 1
   pub asked : (rows : Data) × (get (codes "audit") d ≡ Some rows) × HasForm [] audit_range rows range
   pub listed : has_only auditing d ≡ true
-  pub user : user.Is (get user.name d) name
+  pub user : IsOf source d name
 
--- it is no query, no batch and no audit
-pub record IsNoRequest (d : Data) : Type 0 where
-  pub no_query : (name : List ℕ) (query : Query) (version : ℕ) → ¬ IsQuery d name query version
-  pub no_batch : (name : List ℕ) (commands : List Command) → ¬ IsBatch d name commands
-  pub no_audit : (name : List ℕ) (range : AuditRange) → ¬ IsAudit d name range
+-- on a connection it greets with this name and this token, and nothing else stands in it
+pub record IsGreeting (source : Source) (d : Data) (user : Option (List ℕ)) (name token : List ℕ) : Type 0 where
+  pub one : request_count d ≡ 1
+  pub from : source ≡ Connection
+  pub form : HasForm [] greeting d (a_greeting name token)
+  pub nobody : user ≡ None
+
+-- it is no query, no batch, no audit and no greeting
+pub record IsNoRequest (source : Source) (d : Data) : Type 0 where
+  pub no_query : (user : Option (List ℕ)) (query : Query) (version : ℕ) → ¬ IsQuery source d user query version
+  pub no_batch : (user : Option (List ℕ)) (commands : List Command) → ¬ IsBatch source d user commands
+  pub no_audit : (user : Option (List ℕ)) (range : AuditRange) → ¬ IsAudit source d user range
+  pub no_greeting : (user : Option (List ℕ)) (name token : List ℕ) → ¬ IsGreeting source d user name token

@@ -1,4 +1,5 @@
--- What is written of a batch that was tried, and of a line that no message was read from: JSON texts with no space.
+-- What is written of a batch that was tried, and of a message that no request was read from or that a connection doesn't
+-- answer: JSON texts with no space.
 use Rattle.std.specs.Prelude.{ℕ, List, ◌++◌, map, codes}
 use Rattle.serde_json.specs.Data.{Data, string, number, unsigned, array, object, Items, member, no_members}
 use Rattle.serde_json.specs.View.{items_of}
@@ -10,6 +11,8 @@ use Rattle.session_state.specs.declared.refusal.Refusal.{Refusal}
 use Rattle.session_state.specs.declared.refusal.Refusal.TheVariants as refusal
 use Rattle.message_fields.specs.declared.request_fault.RequestFault.{RequestFault}
 use Rattle.message_fields.specs.declared.request_fault.RequestFault.TheVariants as fault
+use Rattle.wire.specs.declared.connection_fault.ConnectionFault.{ConnectionFault}
+use Rattle.wire.specs.declared.connection_fault.ConnectionFault.TheVariants as connection
 
 -- ---- receipts
 
@@ -92,16 +95,29 @@ receipt_text answers first last version = compact_text (receipt_data answers fir
 
 -- ---- faults
 
--- how a fault is called
+-- an error by its name
+abbrev pub error_data : List ℕ → Data
+error_data name = object (member (codes "error") (string name) no_members)
+
+-- how a fault of reading is called
 abbrev pub fault_name : RequestFault → List ℕ
+fault_name fault.TooLong = codes "TooLong"
 fault_name fault.Malformed = codes "Malformed"
 fault_name fault.UnknownRequest = codes "UnknownRequest"
 fault_name fault.BadField = codes "BadField"
 fault_name fault.OutOfMemory = codes "OutOfMemory"
 
-abbrev pub fault_data : RequestFault → Data
-fault_data fault = object (member (codes "error") (string (fault_name fault)) no_members)
-
 -- the fault as it is written
 unfoldable pub fault_text : RequestFault → List ℕ
-fault_text fault = compact_text (fault_data fault)
+fault_text fault = compact_text (error_data (fault_name fault))
+
+-- how a connection's fault is called
+abbrev pub connection_fault_name : ConnectionFault → List ℕ
+connection_fault_name connection.NotSignedIn = codes "NotSignedIn"
+connection_fault_name connection.NotKnown = codes "NotKnown"
+connection_fault_name connection.NoEntry = codes "NoEntry"
+connection_fault_name connection.OutOfMemory = codes "OutOfMemory"
+
+-- and how it is written
+unfoldable pub connection_fault_text : ConnectionFault → List ℕ
+connection_fault_text fault = compact_text (error_data (connection_fault_name fault))

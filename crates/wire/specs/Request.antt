@@ -1,7 +1,8 @@
--- What a line says: a query, a batch of commands or an audit, as a JSON object.
--- own: of the faults the first in this order that applies: the text is no object; it is none of the three, or a word
--- in it names none; a member is missing, isn't listed, or hasn't the type or the range that it should.
-use Rattle.std.specs.Prelude.{ℕ, ◌≤◌, List, [], ◌∷◌, ◌==◌, length, is_some, nat_le, if◌then◌else◌, codes, Option, Some, None, Result, Err}
+-- What a message says, as a JSON object: a query, a batch of commands or an audit, and on a connection also a greeting.
+-- own: of the faults the first in this order that applies: it has too many bytes; they are no object's text; it isn't
+-- exactly one of these, or a word in it names none; a member is missing, isn't listed, or hasn't the type or the range
+-- that it should.
+use Rattle.std.specs.Prelude.{ℕ, ◌≤◌, List, [], ◌∷◌, ◌==◌, length, is_some, IsSome, nat_le, if◌then◌else◌, codes, Option, Some, None, Result, Err}
 use Rattle.std.specs.Str.Lossy.{utf8_valid_len}
 use Rattle.serde_json.specs.Data.{Data, Items}
 use Rattle.serde_json.specs.Read.{read}
@@ -10,33 +11,44 @@ use Rattle.session_book.specs.Run.{most_commands}
 use Rattle.session_state.specs.declared.command.Command.{Command}
 use Rattle.session_queries.specs.declared.query.Query.{Query}
 use Rattle.wire.specs.declared.request.Request.{Request}
-use Rattle.wire.specs.declared.request.Request.TheVariants as request
+use Rattle.wire.specs.declared.request.RequestBody.{RequestBody}
+use Rattle.wire.specs.declared.request.RequestBody.TheVariants as body
+use Rattle.wire.specs.declared.source.Source.{Source}
+use Rattle.wire.specs.declared.source.Source.TheVariants.{Script, Connection}
 use Rattle.message_fields.specs.declared.request_fault.RequestFault.{RequestFault}
-use Rattle.message_fields.specs.declared.request_fault.RequestFault.TheVariants.{Malformed, UnknownRequest, BadField}
+use Rattle.message_fields.specs.declared.request_fault.RequestFault.TheVariants.{TooLong, Malformed, UnknownRequest, BadField}
 use Rattle.message_fields.specs.Reading.{wanted}
-use Rattle.json_fields.specs.Form.{applied, has_only, is_word_of, item_count}
-use Rattle.message_fields.specs.Field.{user, since}
+use Rattle.json_fields.specs.Form.{applied, has_only, formed, is_word_of, item_count}
+use Rattle.message_fields.specs.Field.{since}
 use Rattle.query_object.specs.Query.{queries, query_called}
 use Rattle.command_object.specs.Command.{has_unknown, commands_in}
 use Rattle.wire.specs.Audit.{audit_of}
+use Rattle.wire.specs.Greeting.{greeting}
+use Rattle.wire.specs.Source.{said_user}
+
+-- how many bytes a message has at most, without what ends its line
+abbrev pub most_message_bytes : ℕ
+most_message_bytes = 65536
 
 -- ---- queries
 
--- the request for a query, in a name and from a version on
-abbrev pub a_query : List ℕ → ℕ → Query → Request
-a_query name version query = request.Query name query version
+-- the request for a query, whose it is, and from which version on
+abbrev pub a_query : Option (List ℕ) → ℕ → Query → Request
+a_query user version query = record { user = user; body = body.Query query version }
 
 -- the query of a word, its user and its version
-unfoldable pub query_of : List ℕ → Data → Option Request
-query_of word d =
-    let name = user.value (get user.name d) in
+unfoldable pub query_of : Source → List ℕ → Data → Option Request
+query_of source word d =
+    let whose = said_user source in
+    let name = whose.value (get whose.name d) in
     let version = since.value (get since.name d) in
     applied (applied (applied (Some a_query) name) version) (query_called word d)
 
 -- what is asked for has to be a text; one that names no query comes before all that is wrong elsewhere
-abbrev pub query_by : Option (List ℕ) → Data → Result Request RequestFault
-query_by None d = Err BadField
-query_by (Some word) d = if is_word_of queries word then wanted (query_of word d) else Err UnknownRequest
+abbrev pub query_by : Source → Option (List ℕ) → Data → Result Request RequestFault
+query_by source None d = Err BadField
+query_by source (Some word) d =
+    if is_word_of queries word then wanted (query_of source word d) else Err UnknownRequest
 
 -- ---- batches
 
@@ -48,52 +60,76 @@ doing = codes "do" ∷ codes "as" ∷ []
 abbrev pub few_commands_in : Items → Option (List Command)
 few_commands_in ds = if nat_le (item_count ds) most_commands then commands_in ds else None
 
--- the request for a batch, in a name
-abbrev pub a_batch : List ℕ → List Command → Request
-a_batch name commands = request.Batch name commands
+-- the request for a batch, and whose it is
+abbrev pub a_batch : Option (List ℕ) → List Command → Request
+a_batch user commands = record { user = user; body = body.Batch commands }
 
--- a batch in a name: these members and no other
-unfoldable pub batch_of : Items → Data → Option Request
-batch_of ds d =
+-- a batch and whose it is: these members and no other
+unfoldable pub batch_of : Source → Items → Data → Option Request
+batch_of source ds d =
+    let whose = said_user source in
     if has_only doing d
-    then applied (applied (Some a_batch) (user.value (get user.name d))) (few_commands_in ds)
+    then applied (applied (Some a_batch) (whose.value (get whose.name d))) (few_commands_in ds)
     else None
 
 -- what is to be done has to be a list; a word in it that names no command comes before all that is wrong elsewhere
-abbrev pub batch_by : Option Items → Data → Result Request RequestFault
-batch_by None d = Err BadField
-batch_by (Some ds) d = if has_unknown ds then Err UnknownRequest else wanted (batch_of ds d)
+abbrev pub batch_by : Source → Option Items → Data → Result Request RequestFault
+batch_by source None d = Err BadField
+batch_by source (Some ds) d = if has_unknown ds then Err UnknownRequest else wanted (batch_of source ds d)
 
 -- ---- requests
 
--- exactly one of `ask`, `do` and `audit` is there
-abbrev pub one_of : Option Data → Option Data → Option Data → Data → Result Request RequestFault
-one_of (Some ask) None None d = query_by (as_str ask) d
-one_of None (Some list) None d = batch_by (as_array list) d
-one_of None None (Some rows) d = wanted (audit_of rows d)
-one_of ask list rows d = Err UnknownRequest
+-- a greeting signs in the user of a connection, and a script has no use for it
+abbrev pub greeting_by : Source → Data → Result Request RequestFault
+greeting_by Script d = Err UnknownRequest
+greeting_by Connection d = wanted (formed [] greeting d)
 
--- and no greeting, in a script
-unfoldable pub request_of : Data → Result Request RequestFault
-request_of d =
-    if is_some (get (codes "hello") d) then Err UnknownRequest
-    else one_of (get (codes "ask") d) (get (codes "do") d) (get (codes "audit") d) d
+-- exactly one of `ask`, `do`, `audit` and `hello` is there
+abbrev pub one_of : Source → Option Data → Option Data → Option Data → Option Data → Data → Result Request RequestFault
+one_of source (Some ask) None None None d = query_by source (as_str ask) d
+one_of source None (Some list) None None d = batch_by source (as_array list) d
+one_of source None None (Some rows) None d = wanted (audit_of source rows d)
+one_of source None None None (Some name) d = greeting_by source d
+one_of source ask list rows name d = Err UnknownRequest
+
+-- what an object says
+unfoldable pub request_of : Source → Data → Result Request RequestFault
+request_of source d =
+    one_of source (get (codes "ask") d) (get (codes "do") d) (get (codes "audit") d) (get (codes "hello") d) d
 
 -- what was read has to be an object
-abbrev pub object_of : Option Data → Result Request RequestFault
-object_of None = Err Malformed
-object_of (Some d) = if is_some (as_object d) then request_of d else Err Malformed
+abbrev pub object_of : Source → Option Data → Result Request RequestFault
+object_of source None = Err Malformed
+object_of source (Some d) = if is_some (as_object d) then request_of source d else Err Malformed
 
 -- what a text says
-unfoldable pub text_meaning : List ℕ → Result Request RequestFault
-text_meaning text = object_of (read text)
+unfoldable pub text_meaning : Source → List ℕ → Result Request RequestFault
+text_meaning source text = object_of source (read text)
 
--- what the bytes of a line say: they have to be a text, in UTF-8
-unfoldable pub meaning : List ℕ → Result Request RequestFault
-meaning line = if utf8_valid_len line == length line then text_meaning line else Err Malformed
+-- what bytes that aren't too many say: they have to be a text, in UTF-8
+unfoldable pub bytes_meaning : Source → List ℕ → Result Request RequestFault
+bytes_meaning source bytes =
+    if utf8_valid_len bytes == length bytes then text_meaning source bytes else Err Malformed
+
+-- what the bytes of a message say
+unfoldable pub meaning : Source → List ℕ → Result Request RequestFault
+meaning source bytes =
+    if nat_le (length bytes) most_message_bytes then bytes_meaning source bytes else Err TooLong
 
 -- a batch has few commands
-abbrev pub HasFew : Request → Type 0
-HasFew (request.Query name query version) = Unit {0}
-HasFew (request.Batch name commands) = length commands ≤ most_commands
-HasFew (request.Audit name range) = Unit {0}
+abbrev pub HasFew : RequestBody → Type 0
+HasFew (body.Query query version) = Unit {0}
+HasFew (body.Batch commands) = length commands ≤ most_commands
+HasFew (body.Audit range) = Unit {0}
+HasFew (body.Hello name token) = Unit {0}
+
+-- it is no greeting
+abbrev pub IsNoGreeting : RequestBody → Type 0
+IsNoGreeting (body.Query query version) = Unit {0}
+IsNoGreeting (body.Batch commands) = Unit {0}
+IsNoGreeting (body.Audit range) = Unit {0}
+IsNoGreeting (body.Hello name token) = ⊥
+
+-- a request that says its user, and is no greeting
+abbrev pub IsSaid : Request → Type 0
+IsSaid request = IsSome request.user × IsNoGreeting request.body

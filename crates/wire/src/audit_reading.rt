@@ -8,9 +8,10 @@ ghost use Rattle.json_fields.specs.Form.{formed};
 ghost use Rattle.message_fields.specs.Reading.{wanted};
 
 use crate::audit_range::AuditRange;
-use crate::request::Request;
+use crate::request::{Request, RequestBody};
+use crate::source::{Source, said_user};
 use json_fields::{has_only, whole_at};
-use message_fields::{RequestFault, user_of};
+use message_fields::RequestFault;
 use serde_json::Value;
 
 /// How many rows an audit has at most.
@@ -49,13 +50,14 @@ fn range_of(value: &Value) -> Result<AuditRange, RequestFault>
 
 /// The request for an audit, whose rows the member `audit` says.
 #[tactic(auto, unfolding(crate::specs::Audit::audit_of))]
-pub(crate) fn audit_of(rows: &Value, value: &Value) -> Result<Request, RequestFault>
-    ensures { result ≡ wanted (audit_of (view rows.now) (view value.now)) }
+pub(crate) fn audit_of(rows: &Value, value: &Value, source: Source) -> Result<Request, RequestFault>
+    ensures { result ≡ wanted (audit_of source (view rows.now) (view value.now)) }
 {
     if !has_only(value, &["audit", "as"]) {
         return Err(RequestFault::BadField);
     }
-    let user = user_of(value)?;
+    let user = said_user(value, source)?;
     let range = range_of(rows)?;
-    Ok(Request::Audit { user, range })
+    let body = RequestBody::Audit { range };
+    Ok(Request { user, body })
 }

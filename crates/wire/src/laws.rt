@@ -1,48 +1,86 @@
 //! What reading comes to: each function here has nothing to do, and its clauses are the theorem.
 
-ghost use Rattle.std.specs.Prelude.{◌≡◌, ◌↔◌, ℕ, List, Ok, Err};
+ghost use Rattle.std.specs.Prelude.{◌≡◌, ◌↔◌, ◌+◌, ◌<◌, ◌≤◌, ℕ, List, Option, None, Ok, Err, length, take};
 ghost use Rattle.serde_json.specs.Data.{Data};
-ghost use Rattle.message_fields.specs.declared.request_fault.RequestFault.TheVariants.{Malformed, UnknownRequest, BadField};
+ghost use Rattle.message_fields.specs.declared.request_fault.RequestFault.TheVariants.{TooLong, Malformed, UnknownRequest, BadField};
 ghost use Rattle.session_queries.specs.declared.query.Query.{Query};
 ghost use Rattle.wire.specs.declared.audit_range.AuditRange.{AuditRange};
-ghost use Rattle.wire.specs.declared.request.Request.TheVariants as request;
+ghost use Rattle.wire.specs.declared.request.Request.{Request};
+ghost use Rattle.wire.specs.declared.request.RequestBody.TheVariants as body;
+ghost use Rattle.wire.specs.declared.source.Source.{Source};
+ghost use Rattle.wire.specs.declared.source.Source.TheVariants.{Script, Connection};
 ghost use Rattle.session_state.specs.declared.command.Command.{Command};
 ghost use Rattle.message_fields.specs.Object.{IsObject};
-ghost use Rattle.wire.specs.Grammar.{IsUnknownRequest, IsQuery, IsBatch, IsAudit, IsNoRequest};
-ghost use Rattle.wire.specs.Request.{meaning};
+ghost use Rattle.wire.specs.Grammar.{IsMessage, IsUnknownRequest, IsQuery, IsBatch, IsAudit, IsGreeting, IsNoRequest};
+ghost use Rattle.wire.specs.Request.{most_message_bytes, meaning, IsSaid};
 
-/// A line is malformed exactly where it is no object's text.
-pub fn malformed_without_an_object()
-    ensures { (line : List ℕ) → (meaning line ≡ Err Malformed) ↔ ((d : Data) → ¬ IsObject line d) }
+/// A message is too long exactly where it has more bytes than a message may have, whatever they are.
+pub fn too_long_first()
+    ensures { (source : Source) (bytes : List ℕ) →
+        (meaning source bytes ≡ Err TooLong) ↔ (most_message_bytes < length bytes) }
 {}
 
-/// An object is an unknown request exactly where its members make it no query, no batch and no audit, or a word in it
-/// names nothing, whatever else is wrong with it.
+/// So what a message means is told by as many of its first bytes and one more.
+pub fn no_more_bytes_matter()
+    ensures { (source : Source) (bytes : List ℕ) →
+        meaning source (take (most_message_bytes + 1) bytes) ≡ meaning source bytes }
+{}
+
+/// A message that isn't too long is malformed exactly where it is no object's text.
+pub fn malformed_without_an_object()
+    ensures { (source : Source) (bytes : List ℕ) →
+        (meaning source bytes ≡ Err Malformed)
+        ↔ ((length bytes ≤ most_message_bytes) × ((d : Data) → ¬ IsObject bytes d)) }
+{}
+
+/// An object is an unknown request exactly where its members make it no query, no batch, no audit and no greeting, where
+/// it greets in a script, or where a word in it names nothing, whatever else is wrong with it.
 pub fn unknown_before_bad()
-    ensures { (line : List ℕ) (d : Data) → IsObject line d →
-        (meaning line ≡ Err UnknownRequest) ↔ IsUnknownRequest d }
+    ensures { (source : Source) (bytes : List ℕ) (d : Data) → IsMessage bytes d →
+        (meaning source bytes ≡ Err UnknownRequest) ↔ IsUnknownRequest source d }
 {}
 
 /// An object is a query exactly where its members are those of the query.
 pub fn queries_by_their_members()
-    ensures { (line : List ℕ) (d : Data) (user : List ℕ) (query : Query) (since : ℕ) → IsObject line d →
-        (meaning line ≡ Ok (request.Query user query since)) ↔ IsQuery d user query since }
+    ensures { (source : Source) (bytes : List ℕ) (d : Data) (user : Option (List ℕ)) (query : Query) (since : ℕ) →
+        IsMessage bytes d →
+        (meaning source bytes ≡ Ok (record { user = user; body = body.Query query since }))
+        ↔ IsQuery source d user query since }
 {}
 
 /// An object is a batch of commands exactly where its members are those of the batch.
 pub fn batches_by_their_members()
-    ensures { (line : List ℕ) (d : Data) (user : List ℕ) (commands : List Command) → IsObject line d →
-        (meaning line ≡ Ok (request.Batch user commands)) ↔ IsBatch d user commands }
+    ensures { (source : Source) (bytes : List ℕ) (d : Data) (user : Option (List ℕ)) (commands : List Command) →
+        IsMessage bytes d →
+        (meaning source bytes ≡ Ok (record { user = user; body = body.Batch commands }))
+        ↔ IsBatch source d user commands }
 {}
 
 /// An object is a request for an audit exactly where its members are those of the audit.
 pub fn audits_by_their_members()
-    ensures { (line : List ℕ) (d : Data) (user : List ℕ) (range : AuditRange) → IsObject line d →
-        (meaning line ≡ Ok (request.Audit user range)) ↔ IsAudit d user range }
+    ensures { (source : Source) (bytes : List ℕ) (d : Data) (user : Option (List ℕ)) (range : AuditRange) →
+        IsMessage bytes d →
+        (meaning source bytes ≡ Ok (record { user = user; body = body.Audit range }))
+        ↔ IsAudit source d user range }
+{}
+
+/// An object is a greeting exactly where it comes on a connection and its members are those of the greeting.
+pub fn greetings_by_their_members()
+    ensures { (source : Source) (bytes : List ℕ) (d : Data) (user : Option (List ℕ)) (name token : List ℕ) →
+        IsMessage bytes d →
+        (meaning source bytes ≡ Ok (record { user = user; body = body.Hello name token }))
+        ↔ IsGreeting source d user name token }
 {}
 
 /// Any other object has a bad member.
 pub fn bad_members_in_all_others()
-    ensures { (line : List ℕ) (d : Data) → IsObject line d →
-        (meaning line ≡ Err BadField) ↔ (¬ IsUnknownRequest d × IsNoRequest d) }
+    ensures { (source : Source) (bytes : List ℕ) (d : Data) → IsMessage bytes d →
+        (meaning source bytes ≡ Err BadField) ↔ (¬ IsUnknownRequest source d × IsNoRequest source d) }
+{}
+
+/// What is read from a script says its user and is no greeting; what is read on a connection says no user.
+pub fn users_are_said_in_scripts_alone()
+    ensures script { (bytes : List ℕ) (request : Request) → meaning Script bytes ≡ Ok request → IsSaid request }
+    ensures connection { (bytes : List ℕ) (request : Request) →
+        meaning Connection bytes ≡ Ok request → request.user ≡ None }
 {}

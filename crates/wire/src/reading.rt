@@ -1,59 +1,86 @@
-//! A request, read from a message's text.
+//! A request, read from a message's bytes.
 
 ghost use Rattle.std.specs.Prelude.{◌≡◌, IfOk};
 ghost use Rattle.serde_json.specs.Find.{as_str, as_array};
 ghost use Rattle.serde_json.specs.View.{view, items_view};
 ghost use Rattle.message_fields.specs.Reading.{wanted, Gives};
-ghost use Rattle.wire.specs.Request.{query_of, query_by, batch_of, batch_by, request_of, text_meaning, meaning, HasFew};
+ghost use Rattle.wire.specs.Request.{query_of, query_by, batch_of, batch_by, greeting_by, request_of, text_meaning, bytes_meaning, meaning, HasFew};
 
 use crate::audit_reading::audit_of;
-use crate::request::Request;
+use crate::greeting_reading::greeting_of;
+use crate::request::{Request, RequestBody};
+use crate::source::{Source, said_user};
 use command_object::{commands_in, has_unknown};
 use json_fields::has_only;
-use message_fields::{RequestFault, since_of, user_of};
+use message_fields::{RequestFault, since_of};
 use query_object::{is_query_word, query_called};
 use serde_json::Value;
 use session_book::Book;
 use std::alloc::Global;
 use std::str;
 
+/// How many bytes a message has at most, without what ends its line.
+pub const MOST_MESSAGE_BYTES: usize = 65_536;
+
 #[tactic(auto, unfolding(crate::specs::Request::query_of))]
-fn query_of(alloc: Global, word: &str, value: &Value) -> Result<Request, RequestFault>
-    ensures { Gives result (wanted (query_of word.now (view value.now))) }
+fn query_of(
+    alloc: Global,
+    word: &str,
+    value: &Value,
+    source: Source,
+) -> Result<Request, RequestFault>
+    ensures { Gives result (wanted (query_of source word.now (view value.now))) }
 {
-    let user = user_of(value)?;
+    let user = said_user(value, source)?;
     let since = since_of(value)?;
     let query = query_called(alloc, word, value)?;
-    Ok(Request::Query { user, query, since })
+    let body = RequestBody::Query { query, since };
+    Ok(Request { user, body })
 }
 
-fn query_by(alloc: Global, ask: &Value, value: &Value) -> Result<Request, RequestFault>
-    ensures { Gives result (query_by (as_str (view ask.now)) (view value.now)) }
+fn query_by(
+    alloc: Global,
+    ask: &Value,
+    value: &Value,
+    source: Source,
+) -> Result<Request, RequestFault>
+    ensures { Gives result (query_by source (as_str (view ask.now)) (view value.now)) }
 {
     match ask.as_str() {
-        Some(word) if is_query_word(word) => query_of(alloc, word, value),
+        Some(word) if is_query_word(word) => query_of(alloc, word, value, source),
         Some(_) => Err(RequestFault::UnknownRequest),
         None => Err(RequestFault::BadField),
     }
 }
 
 #[tactic(auto, using(json_fields::proofs::ListLemmas::item_count_of), unfolding(crate::specs::Request::batch_of))]
-fn batch_of(alloc: Global, list: &[Value], value: &Value) -> Result<Request, RequestFault>
-    ensures { Gives result (wanted (batch_of (items_view list.now) (view value.now))) }
+fn batch_of(
+    alloc: Global,
+    list: &[Value],
+    value: &Value,
+    source: Source,
+) -> Result<Request, RequestFault>
+    ensures { Gives result (wanted (batch_of source (items_view list.now) (view value.now))) }
 {
     if !has_only(value, &["do", "as"]) {
         return Err(RequestFault::BadField);
     }
-    let user = user_of(value)?;
+    let user = said_user(value, source)?;
     if list.len() > Book::MOST_COMMANDS {
         return Err(RequestFault::BadField);
     }
     let commands = commands_in(alloc, list)?;
-    Ok(Request::Batch { user, commands })
+    let body = RequestBody::Batch { commands };
+    Ok(Request { user, body })
 }
 
-fn batch_by(alloc: Global, list: &Value, value: &Value) -> Result<Request, RequestFault>
-    ensures { Gives result (batch_by (as_array (view list.now)) (view value.now)) }
+fn batch_by(
+    alloc: Global,
+    list: &Value,
+    value: &Value,
+    source: Source,
+) -> Result<Request, RequestFault>
+    ensures { Gives result (batch_by source (as_array (view list.now)) (view value.now)) }
 {
     let Some(list) = list.as_array() else {
         return Err(RequestFault::BadField);
@@ -61,27 +88,40 @@ fn batch_by(alloc: Global, list: &Value, value: &Value) -> Result<Request, Reque
     if has_unknown(list.as_slice()) {
         return Err(RequestFault::UnknownRequest);
     }
-    batch_of(alloc, list.as_slice(), value)
+    batch_of(alloc, list.as_slice(), value, source)
+}
+
+fn greeting_by(alloc: Global, value: &Value, source: Source) -> Result<Request, RequestFault>
+    ensures { Gives result (greeting_by source (view value.now)) }
+{
+    match source {
+        Source::Script => Err(RequestFault::UnknownRequest),
+        Source::Connection => greeting_of(alloc, value),
+    }
 }
 
 #[tactic(auto, unfolding(crate::specs::Request::request_of))]
-fn request_of(alloc: Global, value: &Value) -> Result<Request, RequestFault>
-    ensures { Gives result (request_of (view value.now)) }
+fn request_of(alloc: Global, value: &Value, source: Source) -> Result<Request, RequestFault>
+    ensures { Gives result (request_of source (view value.now)) }
 {
-    if value.get("hello").is_some() {
-        return Err(RequestFault::UnknownRequest);
-    }
-    match (value.get("ask"), value.get("do"), value.get("audit")) {
-        (Some(ask), None, None) => query_by(alloc, ask, value),
-        (None, Some(list), None) => batch_by(alloc, list, value),
-        (None, None, Some(rows)) => audit_of(rows, value),
+    let members = (
+        value.get("ask"),
+        value.get("do"),
+        value.get("audit"),
+        value.get("hello"),
+    );
+    match members {
+        (Some(ask), None, None, None) => query_by(alloc, ask, value, source),
+        (None, Some(list), None, None) => batch_by(alloc, list, value, source),
+        (None, None, Some(rows), None) => audit_of(rows, value, source),
+        (None, None, None, Some(_)) => greeting_by(alloc, value, source),
         _ => Err(RequestFault::UnknownRequest),
     }
 }
 
 #[tactic(auto, unfolding(crate::specs::Request::text_meaning))]
-fn read_text(alloc: Global, text: &str) -> Result<Request, RequestFault>
-    ensures { Gives result (text_meaning text.now) }
+fn read_text(alloc: Global, text: &str, source: Source) -> Result<Request, RequestFault>
+    ensures { Gives result (text_meaning source text.now) }
 {
     let value = match Value::from_str(alloc, text) {
         Ok(value) => value,
@@ -91,17 +131,27 @@ fn read_text(alloc: Global, text: &str) -> Result<Request, RequestFault>
     if !value.is_object() {
         return Err(RequestFault::Malformed);
     }
-    request_of(alloc, &value)
+    request_of(alloc, &value, source)
 }
 
-/// The request that a line's bytes are.
-#[tactic(auto, unfolding(crate::specs::Request::meaning))]
-pub fn read_request(alloc: Global, line: &[u8]) -> Result<Request, RequestFault>
-    ensures meaning { Gives result (meaning line.now) }
-    ensures few { IfOk result HasFew }
+#[tactic(auto, unfolding(crate::specs::Request::bytes_meaning))]
+fn read_bytes(alloc: Global, bytes: &[u8], source: Source) -> Result<Request, RequestFault>
+    ensures { Gives result (bytes_meaning source bytes.now) }
 {
-    match str::from_utf8(line) {
-        Ok(text) => read_text(alloc, text),
+    match str::from_utf8(bytes) {
+        Ok(text) => read_text(alloc, text, source),
         Err(_) => Err(RequestFault::Malformed),
     }
+}
+
+/// The request that a message's bytes are.
+#[tactic(auto, unfolding(crate::specs::Request::meaning))]
+pub fn read_request(alloc: Global, bytes: &[u8], source: Source) -> Result<Request, RequestFault>
+    ensures meaning { Gives result (meaning source bytes.now) }
+    ensures few { IfOk result (λ request. HasFew request.body) }
+{
+    if bytes.len() > MOST_MESSAGE_BYTES {
+        return Err(RequestFault::TooLong);
+    }
+    read_bytes(alloc, bytes, source)
 }

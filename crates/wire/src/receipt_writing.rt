@@ -1,11 +1,10 @@
-//! What is written of a batch that was tried, and of a line that no message was read from.
+//! What is written of a batch that was tried.
 
-ghost use Rattle.std.specs.Prelude.{◌≡◌, ◌++◌, ◌∷◌, [], IfOk, string_bytes};
+ghost use Rattle.std.specs.Prelude.{◌≡◌, IfOk, string_bytes};
 ghost use Rattle.serde_json.specs.Data.{array, string};
 ghost use Rattle.serde_json.specs.View.{view};
-ghost use Rattle.wire.specs.ReceiptText.{refusal_name, about, refusal_text, answer_data, answers_data, receipt_data, receipt_text, fault_text};
+ghost use Rattle.wire.specs.ReceiptText.{refusal_name, about, refusal_text, answer_data, answers_data, receipt_data, receipt_text};
 
-use message_fields::RequestFault;
 use serde_json::{Value, json};
 use session_book::{Answer, Submission};
 use session_state::Refusal;
@@ -123,18 +122,5 @@ fn refusal_name(refusal: &Refusal) -> &'static str
         Refusal::JournalFull => "JournalFull",
         Refusal::OutOfMemory => "OutOfMemory",
         Refusal::NotTried => "NotTried",
-    }
-}
-
-/// The line that says why no message was read. It takes no memory.
-#[tactic(auto, unfolding(crate::specs::ReceiptText::fault_text, serde_json::proofs::OnLiterals::serde_json_on_literals))]
-pub fn fault_line(fault: RequestFault) -> &'static str
-    ensures { result.now ≡ fault_text fault ++ 10 ∷ [] }
-{
-    match fault {
-        RequestFault::Malformed => "{\"error\":\"Malformed\"}\n",
-        RequestFault::UnknownRequest => "{\"error\":\"UnknownRequest\"}\n",
-        RequestFault::BadField => "{\"error\":\"BadField\"}\n",
-        RequestFault::OutOfMemory => "{\"error\":\"OutOfMemory\"}\n",
     }
 }

@@ -1,25 +1,26 @@
 use crate::audit_range::AuditRange;
+use crate::token::Token;
 use cards::Name;
 use command_object::Commands;
 use session_queries::Query;
 
-/// What a line asks for or wants done, and in whose name.
+/// What a message asks for or wants done, and for whom.
 #[derive(Drop)]
-pub enum Request {
+pub struct Request {
+    /// The user, where the message says it.
+    pub user: Option<Name>,
+    pub body: RequestBody,
+}
+
+/// What a message asks for or wants done.
+#[derive(Drop)]
+pub enum RequestBody {
     /// Asks for what a query asks, as it is at a version no older than `since`.
-    Query {
-        user: Name,
-        query: Query,
-        since: u64,
-    },
+    Query { query: Query, since: u64 },
     /// Wants commands done, one after another.
-    Batch {
-        user: Name,
-        commands: Commands,
-    },
+    Batch { commands: Commands },
     /// Asks for rows of the audit.
-    Audit {
-        user: Name,
-        range: AuditRange,
-    },
+    Audit { range: AuditRange },
+    /// Signs in.
+    Hello { name: Name, token: Token },
 }

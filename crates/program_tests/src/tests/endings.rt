@@ -119,21 +119,6 @@ fn writes_a_first_part_where_a_write_fails(rt: HostRuntime) -> Result<(), Fail> 
     Ok(())
 }
 
-#[test]
-fn writes_a_byte_at_a_time_where_a_writer_takes_no_more(rt: HostRuntime) -> Result<(), Fail> {
-    let (script, answers) = whole(rt.alloc())?;
-    let mut reader = script.as_bytes();
-    let mut writer = FailingWriter {
-        held: Vec::new(rt.alloc()),
-        room: None,
-        at_once: 1,
-        fault: ErrorKind::BrokenPipe,
-    };
-    run_script(rt.alloc(), &mut reader, &mut writer)?;
-    assert_eq!(rt; writer.held.as_slice(), answers.as_bytes());
-    Ok(())
-}
-
 /// Also through a writer that keeps small writes back until it is flushed.
 #[test]
 fn writes_each_response_before_it_reads_the_next_line(rt: HostRuntime) -> Result<(), Fail> {
@@ -169,66 +154,6 @@ fn tells_the_fault_of_a_write_that_was_kept_back(rt: HostRuntime) -> Result<(), 
     let mut writer = BufWriter::new(rt.alloc(), inner)?;
     let ended = run_script(rt.alloc(), &mut reader, &mut writer);
     assert_eq!(rt; ended, Err(Fault::Output));
-    Ok(())
-}
-
-/// A script whose messages don't depend on one another, and what answers each.
-const APART: [(&str, &str); 5] = [
-    (
-        "{\"as\":\"zz\",\"ask\":\"board\",\"board\":4}\n",
-        "{\"error\":\"NoSuchBoard\",\"version\":0}",
-    ),
-    ("{\"ask\":\"weather\"}\n", "{\"error\":\"UnknownRequest\"}"),
-    (
-        "{\"as\":\"n1\",\"ask\":\"board\",\"board\":1}\n",
-        "{\"denied\":{\"board\":1,\"rule\":5,\"table\":1,\"why\":\"your pair has still to play this board\"},\"version\":0}",
-    ),
-    (
-        "{\"as\":\"d\",\"ask\":\"board\",\"board\":1}\n",
-        "{\"board\":{\"deal\":\"N:AKQJT98765432... .AKQJT98765432.. ..AKQJT98765432. ...AKQJT98765432\",\"dealer\":\"N\",\"number\":1,\"vul\":\"none\"},\"version\":0}",
-    ),
-    (
-        "{\"as\":\"k\",\"do\":[{\"board\":1,\"cmd\":\"Enter\",\"result\":\"pass\",\"table\":1},{\"board\":1,\"cmd\":\"Confirm\",\"result\":\"pass\",\"table\":1}]}\n",
-        "{\"answers\":[\"ok\",\"ok\"],\"first\":1,\"last\":2,\"version\":2}",
-    ),
-];
-
-/// Each answer is the one that it should be, or says that there was no memory for it, and a script that ends for want of
-/// memory has answered its first messages. This holds under every memory: `rt try --test --fail-alloc N` refuses the Nth growth.
-#[test]
-fn says_where_memory_was_refused(rt: HostRuntime) -> Result<(), Fail> {
-    let Ok(mut script) = session_line(rt.alloc()) else {
-        return Ok(());
-    };
-    for (line, _) in APART {
-        if script.push_str(line).is_err() {
-            return Ok(());
-        }
-    }
-    let Ok(mut writer) = Vec::with_capacity(rt.alloc(), 1024) else {
-        return Ok(());
-    };
-    let mut reader = script.as_bytes();
-    let ended = run_script(rt.alloc(), &mut reader, &mut writer);
-    assert!(rt;
-        ended != Err(Fault::Input) && ended != Err(Fault::Output),
-        "{ended:?}"
-    );
-    let mut answers = writer.split(|byte| *byte == b'\n');
-    for (line, answer) in APART {
-        let Some(found) = answers.next() else {
-            return Err("no answers at all".into());
-        };
-        if found.is_empty() {
-            assert_eq!(rt; ended, Err(Fault::OutOfMemory), "{line}");
-            return Ok(());
-        }
-        assert!(rt;
-            found == answer.as_bytes() || found == b"{\"error\":\"OutOfMemory\"}".as_slice(),
-            "{line}"
-        );
-    }
-    assert_eq!(rt; answers.next().map(<[u8]>::len), Some(0));
     Ok(())
 }
 

@@ -26,21 +26,6 @@ fn sizes_of(object: &SessionObject) -> (u64, u8, u8, usize) {
     )
 }
 
-#[test]
-fn reads_a_session_object(rt: HostRuntime) -> Result<(), Fail> {
-    let rows = [
-        (r#""budget":0"#, 0),
-        (r#""budget":1000000000000000000"#, 1_000_000_000_000_000_000),
-        (r#""budget":"x","budget":7"#, 7),
-    ];
-    for (new, budget) in rows {
-        let text = session_with(rt.alloc(), r#""budget":0"#, new)?;
-        let object = read_session(rt.alloc(), text.as_bytes(), None)?;
-        assert_eq!(rt; sizes_of(&object), (budget, 3, 3, 7), "{new}");
-    }
-    Ok(())
-}
-
 /// The session object without its boards.
 fn bare(alloc: Global) -> Result<String, Fail> {
     let boards = format!(in alloc; "\"pbn\":\"{BOARDS}\",")?;
@@ -94,29 +79,5 @@ fn reads_an_object_of_1048576_bytes(rt: HostRuntime) -> Result<(), Fail> {
     assert_eq!(rt; end_of(rt.alloc(), first.as_str())?, (Ok(()), 36));
     first.push('\r')?;
     assert_eq!(rt; end_of(rt.alloc(), first.as_str())?, (Ok(()), 36));
-    Ok(())
-}
-
-/// Of two CRs the first is a byte of the object.
-#[test]
-fn reads_no_longer_object(rt: HostRuntime) -> Result<(), Fail> {
-    let too_long = Err(Fault::Session(SessionFault::TooLong));
-    for end in [" ", "\r\r"] {
-        let mut first = filled(rt.alloc(), 1_048_576)?;
-        first.push_str(end)?;
-        assert_eq!(rt;
-            end_of(rt.alloc(), first.as_str())?,
-            (too_long, 0),
-            "{end:?}"
-        );
-    }
-    Ok(())
-}
-
-#[test]
-fn reads_no_longer_text(rt: HostRuntime) -> Result<(), Fail> {
-    let longer = filled(rt.alloc(), 1_048_577)?;
-    let fault = read_session(rt.alloc(), longer.as_bytes(), None).err();
-    assert_eq!(rt; fault, Some(SessionFault::TooLong));
     Ok(())
 }

@@ -6,6 +6,7 @@ use std::test::Fail;
 #[test]
 fn names_what_is_wrong_with_a_message(rt: HostRuntime) -> Result<(), Fail> {
     let rows = [
+        (RequestFault::TooLong, "TooLong"),
         (RequestFault::Malformed, "Malformed"),
         (RequestFault::UnknownRequest, "UnknownRequest"),
         (RequestFault::BadField, "BadField"),

@@ -76,14 +76,15 @@ fn reads_lines(rt: HostRuntime) -> Result<(), Fail> {
         (b"", LineEnd::EndOfInput),
     ];
     for (text, end) in rows {
-        assert_eq!(rt; read_line(&mut input, &mut line, &mut left), Ok(end));
+        assert_eq!(rt; read_line(&mut input, &mut line, 5, &mut left), Ok(end));
         assert_eq!(rt; line.as_slice(), text);
     }
     assert_eq!(rt; left, 0);
     Ok(())
 }
 
-/// Every byte value but LF stands in it.
+/// Every byte value but LF stands in it. It is kept whole where so many bytes are wanted; of 65,536 that are, one more is
+/// kept and shows that there are more.
 #[test]
 fn reads_a_line_of_100_000_bytes(rt: HostRuntime) -> Result<(), Fail> {
     let mut text = Vec::new(rt.alloc());
@@ -95,10 +96,41 @@ fn reads_a_line_of_100_000_bytes(rt: HostRuntime) -> Result<(), Fail> {
         text.push(byte)?;
     }
     let mut line = Vec::new(rt.alloc());
-    let mut left = 100_001;
-    let read = read_line(&mut text.as_slice(), &mut line, &mut left);
-    assert_eq!(rt; read, Ok(LineEnd::EndOfInput));
-    assert!(rt; line == text);
+    for (most, kept) in [(100_000, 100_000), (65_536, 65_537)] {
+        let mut left = 100_001;
+        let read = read_line(&mut text.as_slice(), &mut line, most, &mut left);
+        assert_eq!(rt; read, Ok(LineEnd::EndOfInput));
+        assert_eq!(rt; left, 1);
+        assert!(rt; line.as_slice() == &text[..kept], "{most}");
+    }
+    Ok(())
+}
+
+/// Lines about the two bytes that are wanted: one CR before an LF is none of theirs, and any other is.
+#[test]
+fn keeps_one_byte_more_than_is_wanted(rt: HostRuntime) -> Result<(), Fail> {
+    let rows: [(&[u8], &[u8]); 12] = [
+        (b"ab\n", b"ab"),
+        (b"ab\r\n", b"ab"),
+        (b"ab\r\r\n", b"ab\r"),
+        (b"abc\n", b"abc"),
+        (b"abc\r\n", b"abc"),
+        (b"abcd\n", b"abc"),
+        (b"abcd\r\n", b"abc"),
+        (b"abcdefgh\n", b"abc"),
+        (b"ab\rdefg\n", b"ab\r"),
+        (b"ab\r", b"ab\r"),
+        (b"abc\r", b"abc"),
+        (b"abcdefgh", b"abc"),
+    ];
+    let mut line = Vec::new(rt.alloc());
+    for (text, kept) in rows {
+        let mut input = text;
+        let mut left = text.len();
+        assert!(rt; read_line(&mut input, &mut line, 2, &mut left).is_ok());
+        assert_eq!(rt; line.as_slice(), kept);
+        assert_eq!(rt; left, 0);
+    }
     Ok(())
 }
 
@@ -109,7 +141,7 @@ fn an_input_over_the_limit_is_a_fault(rt: HostRuntime) -> Result<(), Fail> {
     let mut line = Vec::new(rt.alloc());
     let mut left = 3;
     for read in [Ok(LineEnd::LineFeed), Err(ReadFault::Input)] {
-        assert_eq!(rt; read_line(&mut input, &mut line, &mut left), read);
+        assert_eq!(rt; read_line(&mut input, &mut line, 1, &mut left), read);
     }
     Ok(())
 }
@@ -126,10 +158,10 @@ fn a_read_that_fails_once_is_a_fault(rt: HostRuntime) -> Result<(), Fail> {
         };
         let mut line = Vec::new(rt.alloc());
         let mut left = 100;
-        let read = read_line(&mut reader, &mut line, &mut left);
+        let read = read_line(&mut reader, &mut line, 3, &mut left);
         assert_eq!(rt; read, Err(ReadFault::Input), "{good}");
         assert_eq!(rt; line.as_slice(), &text[..good], "{good}");
-        let read = read_line(&mut reader, &mut line, &mut left);
+        let read = read_line(&mut reader, &mut line, 3, &mut left);
         assert_eq!(rt; read, Ok(LineEnd::LineFeed), "{good}");
         assert_eq!(rt; line.as_slice(), &text[good..], "{good}");
     }

@@ -1,13 +1,15 @@
-use Rattle.std.proofs.Common.{◌≡◌, ◌+◌, length}
+use Rattle.std.proofs.Common.{◌≡◌, ◌+◌, List, ℕ, length, take}
 use Rattle.std.specs.Io.KnownBytes.{Consumes}
 use Rattle.script_lines.specs.Reading.{IsUnbroken}
 use Rattle.script_lines.proofs.reading.read_line.Given as goal
 
 abbrev pub invariant-loop-line : goal.invariant-loop-line
 invariant-loop-line g l = record {
-  unbroken : IsUnbroken l.line.items;
-  consumed : Consumes (g.R.Read.remaining l.fn.reader) (g.R.Read.remaining l.reader) l.line.items;
-  counted : l.left + length l.line.items ≡ l.fn.left;
+  piece : List ℕ;
+  unbroken : IsUnbroken piece;
+  kept : l.line.items ≡ take (l.most + 2) piece;
+  consumed : Consumes (g.R.Read.remaining l.fn.reader) (g.R.Read.remaining l.reader) piece;
+  counted : l.left + length piece ≡ l.fn.left;
 }
 
 abbrev pub decreases-loop-line : goal.decreases-loop-line

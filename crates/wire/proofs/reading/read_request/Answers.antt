@@ -1,7 +1,10 @@
-use Rattle.wire.proofs.LineLemmas.{gives_line, few_given}
+use Rattle.std.proofs.Common.{◌≤◌, length, rules}
+use Rattle.wire.specs.Request.{most_message_bytes}
+use Rattle.wire.proofs.LineLemmas.{gives_short, few_given}
 use Rattle.wire.proofs.reading.read_request.Goals as goal
 
-pub returns-in-Ok : goal.returns-in-Ok
-returns-in-Ok c =
-    let given = gives_line c.args.line.now c.in-Ok.text.now c.read_text.result c.in-Ok.ensures.cases.0 c.in-Ok.ensures.cases.1 c.read_text.ensures in
-    record { meaning = given; few = few_given c.args.line.now c.read_text.result given }
+pub returns-clause-few : goal.returns-clause-few
+returns-clause-few c =
+    let short : length c.args.bytes.now ≤ most_message_bytes = search rules in
+    few_given c.args.source c.args.bytes.now c.read_bytes.result
+    (gives_short c.args.source c.args.bytes.now c.read_bytes.result short c.read_bytes.ensures)

@@ -1,0 +1,5 @@
+use Rattle.wire.proofs.LineLemmas.{first_bytes_tell}
+use Rattle.wire.proofs.laws.no_more_bytes_matter.Goals as goal
+
+pub returns : goal.returns
+returns c source bytes = first_bytes_tell source bytes
