@@ -1,0 +1,107 @@
+#!/usr/bin/env python3
+"""Refuses each growth in turn of a run of messages on connections.
+
+    tests/refuse_connection_growths.py crates/connection_session/out/connection_session crates/connection_session/stdin
+
+Runs the program on the messages, first with ample memory, and then with the Nth request for memory refused, for N from 1 until a
+run asks less often. What each of these must do:
+
+- In the first line, while the session is opened: write nothing, and end with a status of its own.
+- While another line is read: end with a status of its own; the lines before are answered as with ample memory.
+- While a message is read, tried and answered: that line is {"error":"OutOfMemory"}, or the command that found no room is answered
+  OutOfMemory and those after it in its batch NotTried, the ones before it as with ample memory. Then the connection goes on: what
+  comes after is answered as by a run with ample memory in which the commands that weren't tried are left out, and the greeting
+  that was refused.
+
+At the end it says how many requests each kind of message took. It needs a C compiler, as refuse_growths.py does.
+"""
+import json, subprocess, sys, tempfile
+
+from refuse_growths import NO_MEMORY, REFUSING, compact, object_of, run
+
+
+def kind_of(line, answer):
+    message, told = object_of(line), json.loads(answer)
+    for member in ("hello", "do", "audit", "ask"):
+        if member in message and (member != "ask" or "version" in told):
+            word = message["ask"] if member == "ask" else member
+            return str(word) + (", refused" if "error" in told or "denied" in told else "")
+    return "no request"
+
+
+class Connections:
+    def __init__(self, program, room, lines):
+        self.program, self.room, self.lines, self.known, self.by_message = program, room, lines, {}, {}
+
+    def run(self, lines, n):
+        status, out, err, asked = run([self.program], b"".join(lines), self.room, n)
+        return status, out.splitlines(keepends=True), err, asked
+
+    # the answers after a line in whose place another stands, with ample memory
+    def rest(self, at, other):
+        if (at, other) not in self.known:
+            status, out, err, _ = self.run(self.lines[: at + 1] + [other] + self.lines[at + 2 :], 0)
+            assert (status, err) == (0, b""), (status, err)
+            self.known[at, other] = out[at + 1 :]
+        return self.known[at, other]
+
+    # the same message, with so many of its commands
+    def with_first(self, line, count):
+        message = object_of(line)
+        return compact({**message, "do": message["do"][:count]})
+
+    # what a run with one request refused did, in a word; `ample` is what it answers otherwise
+    def outcome(self, ample, status, out, again):
+        if (status, out) == (0, ample):
+            assert again, "a refused request changed nothing"
+            return "less room was enough"
+        at = next((k for k, pair in enumerate(zip(out, ample)) if pair[0] != pair[1]), len(out))
+        if at == len(out):
+            assert status != 0 and at < len(ample), f"status {status} after {at} of {len(ample)} answers"
+            return "the run ended" if at else "nothing written"
+        assert status == 0, f"status {status}"
+        line = self.lines[at + 1]
+        message, kind = object_of(line), kind_of(line, ample[at])
+        self.by_message[kind] = self.by_message.get(kind, 0) + 1
+        if out[at] == NO_MEMORY:
+            # a query or a message that isn't read changes nothing; a batch was run whole or not at all; a greeting isn't heard
+            others = [line] if "hello" not in message else [b"{}\n"]
+            others += [self.with_first(line, 0)] if "do" in message and len(message["do"]) <= 64 else []
+            found = [k for k, other in enumerate(others) if out[at + 1 :] == self.rest(at, other)]
+            assert found, f"answer {at + 1} is {out[at]!r}, and the rest fits none of {others!r}"
+            return "a message found no memory"
+        answers, before = json.loads(out[at])["answers"], json.loads(ample[at])["answers"]
+        place = answers.index("OutOfMemory")
+        assert answers[:place] == before[:place] and answers[place + 1 :] == ["NotTried"] * (len(before) - place - 1), answers
+        assert out[at + 1 :] == self.rest(at, self.with_first(line, place)), f"after answer {at + 1}, a command without memory"
+        return "a command found no room"
+
+
+def main():
+    program, given = sys.argv[1:]
+    with tempfile.TemporaryDirectory() as room:
+        with open(f"{room}/refusing.c", "w") as it:
+            it.write(REFUSING)
+        subprocess.run(["cc", "-O1", "-shared", "-fPIC", "-o", f"{room}/refusing.so", f"{room}/refusing.c", "-ldl"], check=True)
+        with open(given, "rb") as it:
+            lines = it.readlines()
+        connections, kinds = Connections(program, room, lines), {}
+        status, ample, err, asked = connections.run(lines, 0)
+        assert (status, len(ample), err) == (0, len(lines) - 1, b""), f"with ample memory: status {status}, {len(ample)} answers, {err!r}"
+        assert asked > 0, "the program asked for no memory through this allocator: nothing is tried"
+        for n in range(1, asked + 1):
+            status, out, err, count = connections.run(lines, n)
+            try:
+                assert err == b"", err
+                kind = connections.outcome(ample, status, out, count > asked)
+            except AssertionError as fault:
+                raise SystemExit(f"with request {n} of {asked} refused: {fault}")
+            kinds[kind] = kinds.get(kind, 0) + 1
+        print(f"{asked} requests for memory, each refused in turn: " + ", ".join(f"{kind} {count}" for kind, count in kinds.items()))
+        told = [kind_of(line, answer) for line, answer in zip(lines[1:], ample) if answer.strip()]
+        for kind in sorted(set(told)):
+            print(f"    {kind}: {connections.by_message.get(kind, 0)} in {told.count(kind)} messages")
+
+
+if __name__ == "__main__":
+    main()
