@@ -1,9 +1,10 @@
-//! The results server's program. `bridge_server script` answers a script on standard input, line by line.
+//! The results server's program. `bridge_server script` answers a script on standard input, line by line; `bridge_server serve` serves
+//! clients over WebSockets.
 #![tactic(auto)]
 
-use program::run_program;
+use server_program::run_program;
 use std::process::ExitCode;
 
 fn main(rt: HostRuntime) -> ExitCode {
-    ExitCode::from(run_program(&rt))
+    ExitCode::from(run_program(&rt, &mut rt.stderr()))
 }

@@ -2,9 +2,9 @@
 //! status 2, and neither reads its input nor writes to its output.
 #![tactic(auto)]
 
-use program::run_program;
+use server_program::run_program;
 use std::process::ExitCode;
 
 fn main(rt: HostRuntime) -> ExitCode {
-    ExitCode::from(run_program(&rt))
+    ExitCode::from(run_program(&rt, &mut rt.stderr()))
 }

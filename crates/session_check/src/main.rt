@@ -2,10 +2,13 @@
 //! A line has the status, and then what the program writes: why the session isn't opened, or its answer to a first message.
 #![tactic(auto)]
 
-use program::run_words;
-use std::alloc::{AllocError, Global};
+use server_program::run_words;
+use std::alloc::AllocError;
 use std::io::{self, BufRead, BufReader, Write};
+use std::net::Net;
 use std::process::ExitCode;
+use std::rt::Runtime;
+use std::sync::Wait;
 
 /// A message that each session answers alike: no session has a board 0.
 const MESSAGE: &str = "{\"as\":\"a\",\"ask\":\"board\",\"board\":0}";
@@ -18,17 +21,21 @@ fn main(rt: HostRuntime) -> ExitCode {
 }
 
 // Writes a line for each session object.
-fn check_all(rt: &HostRuntime) -> io::Result<()> {
+fn check_all<R: Runtime + Net + Wait + AllocGlobal>(rt: &R) -> io::Result<()> {
     let mut writer = io::writer(rt);
     for object in BufReader::new(rt.alloc(), rt.reader())?.lines(rt.alloc()) {
-        let line = line_of(rt.alloc(), object?.as_str())?;
+        let line = line_of(rt, object?.as_str())?;
         writer.write_all(line.as_slice())?;
     }
     Ok(())
 }
 
 // The status with which a script ends, and what is written.
-fn line_of(alloc: Global, object: &str) -> Result<Vec<u8>, AllocError> {
+fn line_of<R: Runtime + Net + Wait + AllocGlobal>(
+    rt: &R,
+    object: &str,
+) -> Result<Vec<u8>, AllocError> {
+    let alloc = rt.alloc();
     let script = format!(in alloc; "{object}\n{MESSAGE}\n")?;
     let mut words = Vec::new(alloc);
     words.push(String::from_str(alloc, "bridge_server")?)?;
@@ -36,7 +43,7 @@ fn line_of(alloc: Global, object: &str) -> Result<Vec<u8>, AllocError> {
     let mut answers = Vec::new(alloc);
     let mut errors = Vec::new(alloc);
     let status = run_words(
-        alloc,
+        rt,
         words.as_slice(),
         &mut script.as_bytes(),
         &mut answers,

@@ -1,0 +1,101 @@
+//! The program as it is called: with words, and with streams to read and to write.
+
+ghost use Rattle.std.specs.Prelude.{◌≡◌, ◌≢◌, ◌⊎◌, [], IfSome, map, string_bytes};
+ghost use Rattle.std.specs.Io.KnownBytes.{Consumes, Appends};
+ghost use Rattle.program.specs.declared.fault.Fault.{Fault};
+ghost use Rattle.program.specs.declared.fault.Fault.TheVariants.{Input, Output, OutOfMemory};
+ghost use Rattle.program.specs.Writes.{IsDone, EndsWith};
+ghost use Rattle.server_words.specs.Words.{AsksFor};
+ghost use Rattle.server_words.specs.declared.words.Words.TheVariants.{Script, Serve};
+ghost use Rattle.server_words.specs.declared.words.Serving.{Serving};
+ghost use Rattle.server_program.specs.Status.{IsStatus, status_of};
+
+use crate::serving::serve;
+use crate::statuses::{status_of, status_of_words};
+use program::run_script;
+use server_words::{Words, read_words};
+use std::alloc::{AllocError, Global};
+use std::env;
+use std::io::{self, BufReader, Read, Write};
+use std::net::Net;
+use std::rt::{Files, Runtime};
+use std::sync::Wait;
+use std::time::Clock;
+
+/// Runs the program with these words, its name first, and answers the status with which it ends.
+pub fn run_words<R: Files + Net + Clock + Wait + AllocGlobal, I: Read, W: Write, E: Write>(
+    rt: &R,
+    words: &[String],
+    reader: &mut I,
+    writer: &mut W,
+    errors: &mut E,
+) -> u8
+    ensures statuses { IsStatus result }
+    ensures unread { ¬ AsksFor (map string_bytes words.now) Script →
+        Consumes (I.remaining reader.old) (I.remaining reader.new) [] }
+    ensures unwritten { result ≡ 2 → Appends (W.contents writer.old) (W.contents writer.new) [] }
+    ensures silent { result ≢ 1 → result ≢ 2 → Appends (E.contents errors.old) (E.contents errors.new) [] }
+    ensures understood { AsksFor (map string_bytes words.now) Script → result ≢ 2 }
+    ensures refused { AsksFor (map string_bytes words.now) Script → result ≡ 1 →
+        IfSome (I.remaining reader.old) (λ input. (fault : Fault)
+        × (status_of fault ≡ 1)
+        × EndsWith fault input (I.remaining reader.new) (W.contents writer.old) (W.contents writer.new)) }
+    ensures answered { AsksFor (map string_bytes words.now) Script → result ≡ 0 →
+        IfSome (I.remaining reader.old) (λ input.
+        IsDone input (I.remaining reader.new) (W.contents writer.old) (W.contents writer.new)) }
+    ensures failed { AsksFor (map string_bytes words.now) Script → result ≡ 3 →
+        IfSome (I.remaining reader.old) (λ input.
+        EndsWith Input input (I.remaining reader.new) (W.contents writer.old) (W.contents writer.new)
+        ⊎ EndsWith Output input (I.remaining reader.new) (W.contents writer.old) (W.contents writer.new)) }
+    ensures no_memory { AsksFor (map string_bytes words.now) Script → result ≡ 4 →
+        IfSome (I.remaining reader.old) (λ input.
+        EndsWith OutOfMemory input (I.remaining reader.new) (W.contents writer.old) (W.contents writer.new)) }
+    ensures served { (serving : Serving) → AsksFor (map string_bytes words.now) (Serve serving) →
+        Appends (W.contents writer.old) (W.contents writer.new) [] }
+{
+    match read_words(rt.alloc(), words) {
+        Ok(Words::Script) => match run_script(rt.alloc(), reader, writer) {
+            Ok(()) => 0,
+            Err(fault) => status_of(fault, errors),
+        },
+        Ok(Words::Serve(serving)) => match serve(rt, &serving) {
+            Ok(()) => 0,
+            Err(fault) => status_of(fault, errors),
+        },
+        Err(error) => status_of_words(rt.alloc(), &error, writer, errors),
+    }
+}
+
+/// Hands over the words that the program was called with, and its standard streams but the one for errors.
+pub fn run_program<R: Runtime + Net + Wait + AllocGlobal, E: Write>(rt: &R, errors: &mut E) -> u8
+    ensures { IsStatus result }
+{
+    let Ok(words) = called_with(rt) else {
+        return 4;
+    };
+    let Ok(mut reader) = BufReader::new(rt.alloc(), rt.reader()) else {
+        return 4;
+    };
+    run_words(
+        rt,
+        words.as_slice(),
+        &mut reader,
+        &mut io::writer(rt),
+        errors,
+    )
+}
+
+// The words that the program was called with, its name first. Where one is no text there are none, and they aren't understood.
+fn called_with<R: Runtime + AllocGlobal>(rt: &R) -> Result<Vec<String>, AllocError> {
+    let mut words = Vec::new(rt.alloc());
+    match env::args(rt) {
+        Ok(all) => {
+            for word in all {
+                words.push(word)?;
+            }
+            Ok(words)
+        }
+        Err(error) if error.kind() == io::ErrorKind::OutOfMemory => Err(AllocError),
+        Err(_) => Ok(words),
+    }
+}

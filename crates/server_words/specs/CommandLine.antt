@@ -1,0 +1,70 @@
+-- The program's command line, as `clap` reads it: a subcommand `script` with nothing after it, and a subcommand `serve` with
+-- options, of which each has a value. `clap` adds its help.
+use Rattle.std.specs.Prelude.{ℕ, ℤ, [], ◌∷◌, Some, true, pos, codes}
+use Rattle.clap.specs.Words.{App, Rule, Text, new_app, new_rule, with_rule, with_subcommand}
+use Rattle.clap.specs.declared.builder.value_parser.ValueParser.TheVariants.{Signed}
+
+-- own: each number's limits
+abbrev pub least_port : ℕ
+least_port = 1
+
+abbrev pub most_port : ℕ
+most_port = 65535
+
+abbrev pub least_displays : ℕ
+least_displays = 1
+
+abbrev pub most_displays : ℕ
+most_displays = 32
+
+abbrev pub most_workers : ℕ
+most_workers = 16
+
+abbrev pub most_connections : ℕ
+most_connections = 1000000
+
+-- an option of this name
+abbrev pub option_rule : Text → Rule
+option_rule name = record (new_rule name) { long = Some name; value_names = 1 }
+
+-- an option that has to be there
+abbrev pub file_rule : Text → Rule
+file_rule name = record (option_rule name) { required = true }
+
+-- an option with a number from one limit to the other
+abbrev pub number_rule : Text → ℤ → ℤ → Rule
+number_rule name least most = record (option_rule name) { parser = Some (Signed least most) }
+
+-- an option with such a number, which is this one where the option isn't there
+abbrev pub default_rule : Text → ℤ → ℤ → Text → Rule
+default_rule name least most default = record (number_rule name least most) { defaults = default ∷ [] }
+
+-- how clients are served
+abbrev pub serve_line : App
+serve_line =
+    with_rule
+    (with_rule
+    (with_rule
+    (with_rule
+    (with_rule
+    (with_rule (new_app (codes "serve")) (file_rule (codes "session")))
+    (file_rule (codes "deals")))
+    (record (number_rule (codes "port") (pos least_port) (pos most_port)) { required = true }))
+    (default_rule (codes "displays") (pos least_displays) (pos most_displays) (codes "4")))
+    (default_rule (codes "workers") (pos 0) (pos most_workers) (codes "2")))
+    (default_rule (codes "connections") (pos 0) (pos most_connections) (codes "0"))
+
+-- one of the subcommands has to be there
+abbrev pub needing_one : App
+needing_one =
+    let plain = new_app (codes "bridge_server") in
+    record plain { top = record plain.top { subcommand_required = true } }
+
+-- the whole
+abbrev pub command_line : App
+command_line =
+    with_subcommand
+    (with_subcommand
+    needing_one
+    (new_app (codes "script")).top)
+    serve_line.top

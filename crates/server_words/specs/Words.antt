@@ -1,0 +1,38 @@
+-- What the program's words ask for.
+use Rattle.std.specs.Prelude.{◌≡◌, ◌≤◌, List, [], Option, Some, codes, option_map}
+use Rattle.std.specs.Option.{option_map_or}
+use Rattle.clap.specs.Words.{Kinds, Row, Text, fault_of, first_of, subcommand_of, subcommand_rows_of}
+use Rattle.clap.specs.declared.parser.matches.ArgMatches.{ArgMatches}
+use Rattle.server_words.specs.CommandLine.{command_line, least_port, most_port, least_displays, most_displays, most_workers, most_connections}
+use Rattle.server_words.specs.declared.words.Words.{Words}
+use Rattle.server_words.specs.declared.words.Words.TheVariants.{Script, Serve}
+use Rattle.server_words.specs.declared.words.Serving.{Serving}
+
+-- own: each number is in its range
+pub record IsInRange (serving : Serving) : Type 0 where
+  pub port : (least_port ≤ serving.port) × (serving.port ≤ most_port)
+  pub displays : (least_displays ≤ serving.displays) × (serving.displays ≤ most_displays)
+  pub workers : serving.workers ≤ most_workers
+  pub connections : serving.connections ≤ most_connections
+
+-- the subcommand that the words name, with its options
+abbrev pub subcommand_in : List Text → Option (Text × List Row)
+subcommand_in words = subcommand_of command_line words
+
+-- the kinds of fault that the words have, of which a request for help is one
+abbrev pub faults_in : List Text → Kinds
+faults_in words = fault_of command_line words
+
+-- `clap` has no fault to find in the words, and names the subcommand that they name
+abbrev pub IsReadFrom : List Text → ArgMatches → Type 0
+IsReadFrom words matches = (faults_in words ≡ []) × (subcommand_rows_of matches ≡ subcommand_in words)
+
+-- the words have no fault, and ask for this
+abbrev pub AsksFor : List Text → Words → Type 0
+AsksFor words Script =
+    (faults_in words ≡ []) × (option_map (λ p. p.0) (subcommand_in words) ≡ Some (codes "script"))
+AsksFor words (Serve serving) =
+    (faults_in words ≡ []) × (option_map (λ p. p.0) (subcommand_in words) ≡ Some (codes "serve"))
+    × (first_of (codes "session") (option_map_or (λ p. p.1) (subcommand_in words) []) ≡ Some serving.session.now)
+    × (first_of (codes "deals") (option_map_or (λ p. p.1) (subcommand_in words) []) ≡ Some serving.deals.now)
+    × IsInRange serving

@@ -1,0 +1,12 @@
+//! The words that the results server's program is called with.
+#![tactic(auto)]
+
+mod command_line;
+pub mod laws;
+mod reading;
+#[cfg(test)]
+mod tests;
+mod words;
+
+pub use reading::read_words;
+pub use words::{Serving, Words};

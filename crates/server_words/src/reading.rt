@@ -1,0 +1,82 @@
+//! What the program's words ask for, read by `clap`.
+
+ghost use Rattle.std.specs.Prelude.{MatchResult, ◌≡◌, ◌⊎◌, [], codes, map, string_bytes, Some, IfOk, IfErr, IfSome};
+ghost use Rattle.clap.specs.Words.{HasKind, first_of, found_of, kind_of, rows_of};
+ghost use Rattle.clap.specs.declared.error.kind.ErrorKind.TheVariants.{InvalidValue, OutOfMemory};
+ghost use Rattle.server_words.specs.Words.{AsksFor, IsInRange, IsReadFrom, faults_in};
+
+use crate::command_line::command_line;
+use crate::words::{Serving, Words};
+use clap::error::ErrorKind;
+use clap::{ArgMatches, Error};
+use std::alloc::Global;
+
+/// What the words ask for, the program's name first. The error has the text for who called the program: of a mistake, or the
+/// help that was asked for.
+pub fn read_words<'a>(alloc: Global, words: &'a [String]) -> Result<Words<'a>, Error>
+    ensures asked { IfOk result (AsksFor (map string_bytes words.entry.now)) }
+    ensures script { AsksFor (map string_bytes words.entry.now) Words.Script →
+        IfErr result (λ error. kind_of error ≡ OutOfMemory) }
+    ensures refused { IfErr result (λ error. (kind_of error ≡ InvalidValue)
+        ⊎ HasKind (faults_in (map string_bytes words.entry.now)) error) }
+{
+    let matches = match matches_of(alloc, words) {
+        Ok(matches) => matches,
+        Err(error) => return Err(error),
+    };
+    match matches.subcommand() {
+        Some(("script", _)) => Ok(Words::Script),
+        Some(("serve", given)) => match serving_of(given) {
+            Some(serving) => Ok(Words::Serve(serving)),
+            None => Err(unread(alloc)),
+        },
+        _ => Err(unread(alloc)),
+    }
+}
+
+// What `clap` makes of the words.
+fn matches_of<'a>(alloc: Global, words: &'a [String]) -> Result<ArgMatches<'a>, Error>
+    ensures { MatchResult result (IsReadFrom (map string_bytes words.entry.now))
+        (HasKind (faults_in (map string_bytes words.entry.now))) }
+{
+    match command_line(alloc) {
+        Ok(command) => command.try_get_matches_from(words),
+        Err(error) => Err(Error::from(error)),
+    }
+}
+
+// How clients are to be served.
+#[tactic(auto, using(crate::proofs::RowLemmas::first_in_rows))]
+fn serving_of<'a>(given: &ArgMatches<'a>) -> Option<Serving<'a>>
+    ensures session { IfSome result (λ serving. first_of (codes "session") (rows_of (found_of given.now)) ≡ Some serving.session.now) }
+    ensures deals { IfSome result (λ serving. first_of (codes "deals") (rows_of (found_of given.now)) ≡ Some serving.deals.now) }
+    ensures range { IfSome result IsInRange }
+{
+    let serving = Serving {
+        session: given.get_str("session")?,
+        deals: given.get_str("deals")?,
+        port: given.get_one("port")?,
+        displays: given.get_one("displays")?,
+        workers: given.get_one("workers")?,
+        connections: given.get_one("connections")?,
+    };
+    if serving.is_in_range() {
+        Some(serving)
+    } else {
+        None
+    }
+}
+
+// `clap` takes no such words: each option has a value, which is in its range.
+fn unread(alloc: Global) -> Error
+    ensures { (kind_of result ≡ InvalidValue) ⊎ (kind_of result ≡ OutOfMemory) }
+{
+    let mut command = match command_line(alloc) {
+        Ok(command) => command,
+        Err(error) => return Error::from(error),
+    };
+    match command.error(ErrorKind::InvalidValue, "a value is out of its range") {
+        Ok(error) => error,
+        Err(error) => Error::from(error),
+    }
+}

@@ -1,0 +1,40 @@
+ghost use Rattle.std.specs.Prelude.{◌≡◌, true};
+ghost use Rattle.server_words.specs.Words.{IsInRange};
+
+/// What the program's words ask for.
+#[derive(Clone, Copy, Debug, PartialEq, Eq)]
+pub enum Words<'a> {
+    /// To answer a script on standard input.
+    Script,
+    /// To serve clients over WebSockets.
+    Serve(Serving<'a>),
+}
+
+/// How clients are served.
+#[derive(Clone, Copy, Debug, PartialEq, Eq)]
+pub struct Serving<'a> {
+    /// The path of the file with the session object.
+    pub session: &'a str,
+    /// The path of the file with the deals.
+    pub deals: &'a str,
+    /// The port on 127.0.0.1, from 1.
+    pub port: u16,
+    /// How many displays there are, 1 to 32.
+    pub displays: u8,
+    /// How many workers solve deals, 0 to 16.
+    pub workers: u8,
+    /// After how many connections a display ends, up to 1,000,000. With 0 it never does.
+    pub connections: u32,
+}
+
+impl Serving<'_> {
+    /// Whether each number is in its range.
+    pub(crate) fn is_in_range(&self) -> bool
+        ensures { result ≡ true → IsInRange self.now }
+    {
+        1 <= self.port
+            && (1..=32).contains(&self.displays)
+            && self.workers <= 16
+            && self.connections <= 1_000_000
+    }
+}

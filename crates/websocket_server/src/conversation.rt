@@ -1,0 +1,154 @@
+//! The messages of one client, from the handshake to the end of its stream.
+
+ghost use Rattle.std.specs.Prelude.{◌≡◌, ◌⊎◌, ℕ, List, [], Option, Some, Ok, OnOk, OnErr, IfOk};
+ghost use Rattle.tungstenite.specs.Connection.{write_step};
+ghost use Rattle.tungstenite.specs.Content.{text};
+ghost use Rattle.tungstenite.specs.Socket.{Socket, Writes, content_of};
+ghost use Rattle.websocket_server.specs.Conversation.{longest_message, sent_text, ComesOf, Meets, Exchanges, Ends, StopsAt, ServesStream};
+
+use crate::message_server::MessageServer;
+use std::alloc::Global;
+use std::io::{Read, Write};
+use std::sync::Wait;
+use tungstenite::handshake::server::start;
+use tungstenite::{
+    CloseCode, CloseFrame, Error, Message, NoCallback, NoMask, Utf8Bytes, WebSocket,
+    WebSocketConfig,
+};
+
+/// How many bytes a message has at most that is read whole: one more than one that is answered, which says that it is too
+/// long. A longer one ends its connection.
+pub const LONGEST_MESSAGE: usize = 65_537;
+
+// How many bytes one read of the stream asks for.
+const READ_SIZE: usize = 16_384;
+
+/// Shakes hands with the client of a stream, and answers its messages until the connection ends.
+pub fn serve_stream<R: Wait, S: Read + Write + Drop, A: MessageServer>(
+    rt: &R,
+    alloc: Global,
+    stream: S,
+    server: &mut A,
+)
+    ensures { ServesStream S.remaining S.contents A.answers A.binary_text A.memory_text server.old server.new }
+{
+    let Ok(mut socket) = start(alloc, stream, NoCallback, Some(limits())).handshake() else {
+        return;
+    };
+    converse(rt, alloc, &mut socket, server);
+}
+
+// What is kept in memory of a client's message.
+fn limits() -> WebSocketConfig
+    ensures message { result.max_message_size ≡ Some longest_message }
+    ensures frame { result.max_frame_size ≡ Some longest_message }
+{
+    WebSocketConfig::default()
+        .read_buffer_size(READ_SIZE)
+        .max_message_size(Some(LONGEST_MESSAGE))
+        .max_frame_size(Some(LONGEST_MESSAGE))
+}
+
+// Answers one message after another, until one isn't read or sent.
+fn converse<R: Wait, S: Read + Write + Drop, A: MessageServer>(
+    rt: &R,
+    alloc: Global,
+    socket: &mut WebSocket<S, NoMask>,
+    server: &mut A,
+)
+    ensures { Ends S.remaining S.contents A.answers A.binary_text A.memory_text socket.old server.old server.new }
+{
+    for _ in rt.forever() {
+        if let Err(error) = serve_next(rt, alloc, socket, server) {
+            say_why(socket, &error);
+            return;
+        }
+    }
+}
+
+// Reads a message, and sends the one that it gets.
+fn serve_next<R: Wait, S: Read + Write + Drop, A: MessageServer>(
+    rt: &R,
+    alloc: Global,
+    socket: &mut WebSocket<S, NoMask>,
+    server: &mut A,
+) -> Result<(), Error>
+    ensures exchanged { OnOk result (Exchanges S.remaining S.contents A.answers A.binary_text A.memory_text socket.old server.old socket.new server.new) }
+    ensures stopped { OnErr result (StopsAt S.remaining S.contents A.answers A.binary_text A.memory_text socket.old server.old server.new) }
+{
+    match socket.read() {
+        Ok(message) => serve_message(rt, alloc, socket, server, message),
+        Err(error) => Err(error),
+    }
+}
+
+// Sends the message that one gets which was read.
+fn serve_message<R: Wait, S: Read + Write + Drop, A: MessageServer>(
+    rt: &R,
+    alloc: Global,
+    socket: &mut WebSocket<S, NoMask>,
+    server: &mut A,
+    message: Message,
+) -> Result<(), Error>
+    ensures sent { OnOk result
+        (ComesOf S.remaining S.contents A.answers A.binary_text A.memory_text (content_of message) socket.old server.old socket.new server.new) }
+    ensures unsent { OnErr result (Meets S.remaining S.contents A.answers A.binary_text A.memory_text (content_of message) server.old server.new) }
+{
+    match message {
+        Message::Text(text) => match answer_to(rt, alloc, text.as_bytes(), server) {
+            Ok(answer) => socket.send(answer),
+            Err(error) => Err(error),
+        },
+        Message::Binary(_) => socket.send(fixed(A::binary_answer())),
+        // tungstenite has answered a ping, and a close.
+        Message::Ping(_) | Message::Pong(_) | Message::Close(_) => Ok(()),
+    }
+}
+
+// The message that answers a text.
+fn answer_to<R: Wait, A: MessageServer>(
+    rt: &R,
+    alloc: Global,
+    question: &[u8],
+    server: &mut A,
+) -> Result<Message, Error>
+    ensures answered { (answer : Option (List ℕ)) × A.answers server.old question.now answer server.new
+        × IfOk result (λ message. content_of message ≡ text (sent_text A.memory_text answer)) }
+{
+    match server.serve_message(rt, alloc, question) {
+        Ok(answer) => match Message::text(alloc, answer.as_str()) {
+            Ok(message) => Ok(message),
+            Err(_) => Err(Error::OutOfMemory),
+        },
+        Err(_) => Ok(fixed(A::memory_answer())),
+    }
+}
+
+// The message of a text that is there before any client comes. It takes no memory.
+fn fixed(words: &'static str) -> Message
+    ensures { content_of result ≡ text words.now }
+{
+    Message::Text(Utf8Bytes::from_static(words))
+}
+
+// Tells the client by which rule the connection ends, if a rule ends it.
+fn say_why<S: Read + Write + Drop>(socket: &mut WebSocket<S, NoMask>, error: &Error) {
+    if let Some(code) = close_code(error) {
+        let frame = CloseFrame {
+            code,
+            reason: Utf8Bytes::from_static(""),
+        };
+        // The connection ends, whether the client hears it or not.
+        let _unheard = socket.close(Some(frame));
+    }
+}
+
+// The code of RFC 6455, section 7.4.1, for a message that wasn't read.
+fn close_code(error: &Error) -> Option<CloseCode> {
+    match error {
+        Error::Capacity(_) => Some(CloseCode::Size),
+        Error::Protocol(_) => Some(CloseCode::Protocol),
+        Error::Utf8 => Some(CloseCode::Invalid),
+        _ => None,
+    }
+}

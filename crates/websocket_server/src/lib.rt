@@ -1,0 +1,12 @@
+//! Messages over WebSockets: each text message of a client gets one text message, and one client comes after another.
+#![tactic(auto)]
+
+mod conversation;
+mod listening;
+mod message_server;
+#[cfg(test)]
+mod tests;
+
+pub use conversation::{LONGEST_MESSAGE, serve_stream};
+pub use listening::{listen, serve_clients, serve_forever};
+pub use message_server::MessageServer;

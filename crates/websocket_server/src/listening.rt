@@ -1,0 +1,80 @@
+//! One client after another, at a port of this computer.
+
+ghost use Rattle.websocket_server.specs.Clients.{ServesOne, ServesMany};
+
+use crate::conversation::serve_stream;
+use crate::message_server::MessageServer;
+use std::alloc::Global;
+use std::io::{self, Read, Write};
+use std::net::{Ipv4Addr, Net, OpenListener, SocketAddr, TcpListener};
+use std::sync::Wait;
+use std::thread;
+use std::time::{Clock, Duration};
+
+// How many milliseconds to wait after an accept that failed.
+const PAUSE: u64 = 100;
+
+/// Listens at a port of 127.0.0.1.
+pub fn listen<R: Net>(rt: &R, port: u16) -> io::Result<R::Listener> {
+    TcpListener::bind(rt, SocketAddr::from((Ipv4Addr::LOCALHOST, port)))
+}
+
+/// Serves so many clients, one after another. One counts once accept has returned, be it with a fault.
+pub fn serve_clients<R: Wait + Clock, L: OpenListener, A: MessageServer + Drop>(
+    rt: &R,
+    alloc: Global,
+    listener: &L,
+    clients: u32,
+    server: A,
+) -> A
+where
+    L::Stream: Read + Write,
+    ensures { ServesMany L.Stream.remaining L.Stream.contents A.answers A.binary_text A.memory_text A.leaves clients server result }
+{
+    let mut server = server;
+    for _ in 0..clients {
+        server = serve_client(rt, alloc, listener, server);
+    }
+    server
+}
+
+/// Serves one client after another, and never ends.
+pub fn serve_forever<R: Wait + Clock, L: OpenListener, A: MessageServer + Drop>(
+    rt: &R,
+    alloc: Global,
+    listener: &L,
+    server: A,
+)
+where
+    L::Stream: Read + Write,
+{
+    let mut server = server;
+    for _ in rt.forever() {
+        server = serve_client(rt, alloc, listener, server);
+    }
+}
+
+// Waits for a client, and serves it.
+fn serve_client<R: Wait + Clock, L: OpenListener, A: MessageServer + Drop>(
+    rt: &R,
+    alloc: Global,
+    listener: &L,
+    server: A,
+) -> A
+where
+    L::Stream: Read + Write,
+    ensures { ServesOne L.Stream.remaining L.Stream.contents A.answers A.binary_text A.memory_text A.leaves server result }
+{
+    match listener.accept() {
+        Ok((stream, _)) => {
+            let mut server = server.signed_out();
+            serve_stream(rt, alloc, stream, &mut server);
+            server
+        }
+        Err(_) => {
+            // Where there is no room for one more file, say, so that the next try isn't made at once.
+            thread::sleep(rt, Duration::from_millis(PAUSE));
+            server
+        }
+    }
+}
