@@ -1,15 +1,16 @@
 #!/usr/bin/env python3
-"""Writes the stored run of crates/bridge_server_exposure: a session in which users are shown boards and then sit down to play them.
+"""Writes the part `exposure` of the stored runs of crates/bridge_server_stored_runs: a session in which users are shown boards and then
+sit down to play them.
 
-    tests/exposure_rows.py crates/bridge_server_exposure
+    tests/exposure_rows.py
 
 Each row below has its answer, worked by hand from the laws of the session and the policy, and why. A plain model of the
 session then works each answer out once more: it keeps the whole journal, and looks for a user's exposure through every state
 that the journal led through, at every secret fact of the board, by the twelve rules. Nothing of the program is used.
 """
 import json
-import pathlib
-import sys
+
+from stored_runs import put
 
 DIGEST = "ba7816bf8f01cfea414140de5dae2223b00361a396177a9cb410ff61f20015ad"
 HANDS = "AKQJT98765432... .AKQJT98765432.. ..AKQJT98765432. ...AKQJT98765432"
@@ -342,7 +343,6 @@ def session():
 
 
 def main():
-    to = pathlib.Path(sys.argv[1])
     model, script, answers = Model(), [compact(session())], []
     for name, what, by_hand in SCRIPT:
         if isinstance(what, list):
@@ -355,8 +355,7 @@ def main():
             assert ((denied["rule"], denied["table"]) if denied else "shown") == by_hand, (name, what, answer, by_hand)
             script.append(compact({"as": name, "ask": "board", "board": what}))
         answers.append(compact(answer))
-    (to / "stdin").write_text("".join(script))
-    (to / "stdout").write_text("".join(answers))
+    put("exposure", "".join(script), "".join(answers))
 
 
 main()

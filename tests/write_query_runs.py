@@ -1,9 +1,10 @@
 #!/usr/bin/env python3
-"""Writes the stored runs of queries: crates/bridge_server_queries, _session_end, _filters, _largest, _one_world and _other_world.
+"""Writes the parts of the stored runs of crates/bridge_server_stored_runs that ask queries: `queries`, `session end`, `filters`,
+`largest`, `one world` and `other world`.
 
     python3 tests/write_query_runs.py
 
-Each gets a file stdin, and a file stdout that says what must be written. The answers are worked out twice, and never by the
+Each has a script, and what must be written. The answers are worked out twice, and never by the
 program: by the plain model of tests/session_model.py, and, where an answer stands beside a query below, by hand.
 """
 from session_model import Session
@@ -255,7 +256,7 @@ def write_queries():
     after_a_result(run)
     after_a_ruling(run)
     after_changes_of_accounts(run)
-    run.write("bridge_server_queries")
+    run.write("queries")
 
 
 # ---- a session to its end: on board 1 four spades by North with ten, eleven and ten tricks, the others passed out
@@ -304,7 +305,7 @@ def write_session_end():
     run.ask("k", "status")
     for name in EVERYBODY:
         run.ask_all(name, [1, 2, 3], [(1, 1), (2, 1), (3, 2)])
-    run.write("bridge_server_session_end")
+    run.write("session end")
 
 
 # ---- two sessions that differ in what is hidden alone: to whom it is hidden, both give the same bytes
@@ -344,8 +345,8 @@ def write_worlds():
     one = run_world(*world("N", AS_PLAYED, ["SA"], 7))
     other = run_world(*world("S", heavy, ["D4", "D5"], 99))
     assert one.wanted == other.wanted and one.given != other.given
-    one.write("bridge_server_one_world")
-    other.write("bridge_server_other_world")
+    one.write("one world")
+    other.write("other world")
 
 
 # ---- filters
@@ -382,8 +383,10 @@ NOT_A_FILTER = [
     {"dd": bounds(0, 13)}, {"dd": bounds(0, 13, by="N")}, {"dd": bounds(0, 13, strain="S")}, {"dd": {"by": "N", "max": 13, "strain": "S"}},
     {"dd": {"by": "N", "min": 13, "strain": "S"}}, {"dd": bounds(0, 14, by="N", strain="S")}, {"dd": bounds(14, 13, by="N", strain="S")},
     {"dd": bounds(0, 13, by="X", strain="S")}, {"dd": bounds(0, 13, by="N", strain="NT")}, {"dd": bounds(0, 13, by="N", strain="S", level=1)},
-    nested(9), {"and": [nested(8)]}, {"or": [{"vul": "none"}, nested(8)]},
-    {"and": [{"and": [{"vul": "none"}] * 32}, {"made": True}]},
+    nested(9), nested(101), {"and": [nested(8)]}, {"or": [{"vul": "none"}, nested(8)]},
+    {"and": [{"and": [{"vul": "none"}] * 32}, {"made": True}]}, {"and": [{"or": [{"doubled": 2}] * 8}] * 5},
+    {"or": [{"and": []}]}, {"and": {"made": True}}, {"and": [{"made": True}, 7]}, {"not": [{"made": True}]}, {"xor": [{"made": True}]},
+    {"level": bounds(4.0, 4)}, {"doubled": "2"}, "made",
 ]
 NOT_A_LIST = [{"from": 256}, {"from": -1}, {"from": "1"}, {"from": None}, {"limit": 0}, {"limit": 65}, {"limit": 256}, {"limit": None}, {"board": 1},
               {"table": 1}, {"boards": []}]
@@ -395,7 +398,8 @@ def write_filters():
         run.error(text_of({"as": "d", "ask": "list", "filter": wanted}), "BadField")
     for members in NOT_A_LIST:
         run.error(text_of({"as": "d", "ask": "list", **members}), "BadField")
-    run.error('{"as":"d","ask":"list","filter":{"score":{"max":-0,"min":0}}}', "BadField")
+    for atom in ('"score":{"max":-0,"min":0}', '"score":{"max":0,"min":-0}', '"level":{"max":4,"min":-0}'):
+        run.error('{"as":"d","ask":"list","filter":{%s}}' % atom, "BadField")
 
     def listed(wanted, boards, name="d"):
         run.ask(name, "list", {"boards": boards, "more": False}, filter=wanted)
@@ -417,6 +421,7 @@ def write_filters():
     listed({"and": [{"not": {"vul": "none"}}] * 32}, [board for board in range(1, 17) if board not in (1, 8, 11, 14)])
     listed({"or": [{"made": True}] * 31 + [{"dealer": "W"}]}, [4, 8, 12, 16])
     listed({"or": [{"and": [{"dealer": "N"}] * 16}, {"and": [{"dealer": "E"}] * 16}]}, [1, 2, 5, 6, 9, 10, 13, 14])
+    listed({"and": [{"or": [{"doubled": 2}] * 8}] * 4}, [])
     # results in the first round: each table plays its own four boards; vulnerable against not, doubled or not, made or not
     results = {1: FOUR_SPADES, 2: contract("S", 1, "N", 1, 7), 3: contract("E", 6, "H", 2, 11), 4: "pass",
                5: contract("W", 7, "D", 0, 13), 6: contract("N", 2, "C", 0, 8), 7: contract("S", 7, "N", 2, 0), 8: contract("E", 3, "N", 0, 9)}
@@ -467,7 +472,7 @@ def write_filters():
     run.ask("s", "list", {"boards": [1, 5], "more": False})
     run.ask("s", "list", {"boards": [1], "more": True}, limit=1)
     filters_to_the_end(run)
-    run.write("bridge_server_filters")
+    run.write("filters")
 
 
 def filters_to_the_end(run):
@@ -518,7 +523,19 @@ def largest_run():
     return Run(opening, Session(16, 15, 4, users, [DEALS[0]] * 64))
 
 
+def everybody_passes_out():
+    """The plain model, by hand: each pair plays 60 boards at which 15 tables pass out, and earns 14 units of 28 on each."""
+    session = Session(16, 15, 4, [user("d", "Director")], [DEALS[0]] * 64)
+    for board in session.boards:
+        for row in session.scheduled[board]:
+            session.accept(enter(row[1], board, "pass"))
+            session.accept(confirm(row[1], board, "pass"))
+    ranked = [[side + str(number), 84000, 168000] for side in ("NS", "EW") for number in range(1, 17)]
+    assert session.reply("d", {"ask": "ranking"}) == {"ranking": ranked}
+
+
 def write_largest():
+    everybody_passes_out()
     run = largest_run()
     administrator, pair = "189".rjust(32, "_"), "NS16N".rjust(32, "-")
     run.ask(administrator, "accounts")
@@ -556,7 +573,7 @@ def write_largest():
     run.ask("s", "ranking", [[side + str(number), 0, 0] for side in ("NS", "EW") for number in range(1, 17)])
     run.ask("d", "list", {"boards": list(range(1, 65)), "more": False})
     run.ask(administrator, "accounts")
-    run.write("bridge_server_largest")
+    run.write("largest")
 
 
 if __name__ == "__main__":

@@ -1,15 +1,15 @@
 #!/usr/bin/env python3
-"""Writes the stored runs of crates/bridge_server_messages, crates/bridge_server_limits and crates/session_check.
+"""Writes the parts `messages` and `limits` of the stored runs of crates/bridge_server_stored_runs, and that of crates/session_check.
 
     python3 tests/write_stored_runs.py
 
-Each gets a file stdin, and a file stdout that says what must be written. It gives the same files each time. The answers are
+Each gets what is given, in stdin, and what must be written, in stdout. It gives the same files each time. The answers are
 worked out here, by the rules that docs/POLICY.md, docs/PROTOCOL.md and docs/SESSION.md state, and not by the program.
 """
 import json
-import pathlib
 
-CRATES = pathlib.Path(__file__).resolve().parent.parent / "crates"
+from stored_runs import CRATES, put
+
 DIGEST = "ba7816bf8f01cfea414140de5dae2223b00361a396177a9cb410ff61f20015ad"  # SHA-256 of abc (FIPS 180-2)
 SUITS, RANKS = "SHDC", "AKQJT98765432"
 # Each player has a whole suit: spades, hearts, diamonds, clubs, from the player who is named first.
@@ -65,9 +65,8 @@ class Script:
         self.line(message)
         self.answer({"answers": list(answers), "first": first, "last": last, "version": self.version})
 
-    def write(self, crate):
-        for name, lines in (("stdin", self.given), ("stdout", self.wanted)):
-            (CRATES / crate / name).write_bytes("".join(lines).encode())
+    def write(self, part):
+        put(part, "".join(self.given), "".join(self.wanted))
 
 
 def do(actor, *commands):
@@ -220,7 +219,7 @@ def write_messages():
     script.batch(do("k", enter(2, 3, grand_slam, ["SA", "SA"]), enter(2, 3, grand_slam, ["SA", "HT"])), "BadResult", "ok")
     # a last line that no LF ends: a CR is a byte of the line, and a blank between values
     script.error('{"ask":"x"}', "UnknownRequest", "\r")
-    script.write("bridge_server_messages")
+    script.write("messages")
 
 
 def largest(more):
@@ -247,8 +246,8 @@ def write_limits():
     script.error(do("d", *[enter(1, 5, "pass")] * 65), "BadField")
     for count in (4, 64, 64, 64, 64, 64):
         script.batch(do("d", *[enter(1, 1, "pass")] * count), *["ok"] * count)
-    # a line of 100,000 bytes, and a message of 65,536 with 64 plays of the whole pack
-    script.error("{}".ljust(100_000), "UnknownRequest")
+    # a line of 100,000 bytes is too long for a message, and one of 65,536 isn't, with 64 plays of the whole pack
+    script.error("{}".ljust(100_000), "TooLong")
     pack = [suit + rank for suit in SUITS for rank in RANKS]
     message = do("d", *[enter(1, 1, FOUR_SPADES, pack)] * 64).ljust(65_536)
     assert len(message) == 65_536
@@ -263,7 +262,7 @@ def write_limits():
     script.query('{"as":"d","ask":"traveller","board":8}',
                  traveller={"board": 8, "rows": sorted(rows, key=lambda row: row["table"])})
     script.error("\r", "Malformed", "")
-    script.write("bridge_server_limits")
+    script.write("limits")
 
 
 # A place in the session object, what stands there instead, and why it isn't opened; or None, where it is.

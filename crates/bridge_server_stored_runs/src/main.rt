@@ -1,5 +1,5 @@
-//! The results server's script once more, for a stored run of many short sessions: standard input begins with a session object,
-//! and each paragraph after it has the messages of a script, which a session of its own answers from its opening on.
+//! The results server's script once more, for a stored run of many sessions: standard input has parts, and each is an LF, a line
+//! with its name and then a whole script, which begins with a session object of its own.
 #![tactic(auto)]
 
 use program::run_script;
@@ -14,21 +14,23 @@ fn main(rt: HostRuntime) -> ExitCode {
     }
 }
 
-// Writes the answers to each paragraph, and an empty line after them. A session that isn't opened, or a script that isn't
-// answered to its end, ends this.
+// Writes the name of each part and the answers to its script, in the form that the input has. A script that isn't answered to
+// its end ends this.
 fn answer_all(rt: &HostRuntime) -> io::Result<bool> {
     let mut text = String::new(rt.alloc());
     BufReader::new(rt.alloc(), rt.reader())?.read_to_string(&mut text)?;
-    let Some((object, paragraphs)) = text.split_once("\n\n") else {
+    let Some(parts) = text.strip_prefix("\n== ") else {
         return Ok(false);
     };
     let mut writer = io::writer(rt);
-    for messages in paragraphs.split("\n\n") {
-        let script = format!(in rt.alloc(); "{object}\n{messages}")?;
+    for part in parts.split("\n== ") {
+        let Some((name, script)) = part.split_once('\n') else {
+            return Ok(false);
+        };
+        write!(writer, "\n== {name}\n")?;
         if run_script(rt.alloc(), &mut script.as_bytes(), &mut writer).is_err() {
             return Ok(false);
         }
-        writer.write_all(b"\n")?;
     }
     Ok(true)
 }

@@ -1,9 +1,0 @@
-//! The results server's program once more, for a stored run of what is as large as it may be.
-#![tactic(auto)]
-
-use program::run_program;
-use std::process::ExitCode;
-
-fn main(rt: HostRuntime) -> ExitCode {
-    ExitCode::from(run_program(&rt))
-}

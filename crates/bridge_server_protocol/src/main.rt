@@ -1,9 +1,0 @@
-//! The results server's program once more, for a stored run of the examples of docs/PROTOCOL.md.
-#![tactic(auto)]
-
-use program::run_program;
-use std::process::ExitCode;
-
-fn main(rt: HostRuntime) -> ExitCode {
-    ExitCode::from(run_program(&rt))
-}

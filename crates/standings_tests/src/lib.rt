@@ -1,5 +1,0 @@
-//! Travellers and rankings, worked by hand.
-#![tactic(auto)]
-
-#[cfg(test)]
-mod tests;

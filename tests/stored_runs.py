@@ -1,0 +1,65 @@
+#!/usr/bin/env python3
+"""The parts of the stored runs of crates/bridge_server_stored_runs: each is a script, and the answers that are wanted.
+
+    tests/stored_runs.py                    # the name of each part, and where its answers come from
+    tests/stored_runs.py desk               # the script of a part, for `bridge_server script`
+    tests/stored_runs.py desk answers       # the answers to it
+
+The crate's files stdin and stdout have one form: before each part stand an LF and a line with its name, `== desk`. So a script
+may end without an LF of its own, and no message begins so.
+"""
+import pathlib
+import sys
+
+CRATES = pathlib.Path(__file__).resolve().parent.parent / "crates"
+CRATE = CRATES / "bridge_server_stored_runs"
+RULES = "worked by hand, from the rules of docs/POLICY.md and docs/PROTOCOL.md"
+MODEL = "tests/write_query_runs.py: from the plain model of tests/session_model.py, and by hand"
+# Each part, and where its answers come from: never from the program.
+PARTS = {
+    "messages": "tests/write_stored_runs.py: from the rules of docs/POLICY.md and docs/PROTOCOL.md",
+    "limits": "tests/write_stored_runs.py: from the rules of docs/POLICY.md and docs/PROTOCOL.md",
+    "queries": MODEL,
+    "session end": MODEL,
+    "filters": MODEL,
+    "largest": MODEL,
+    "one world": MODEL,
+    "other world": MODEL,
+    "exposure": "tests/exposure_rows.py: by hand, from the laws of the session and the policy, and from a plain model",
+    "protocol": "tests/protocol_examples.py: from docs/PROTOCOL.md, and the plain model of tests/session_model.py",
+    "desk": RULES,
+    **{short: RULES for short in (
+        "confirming", "holding", "void and ruling", "roles and a seat", "batches", "a whole session", "closing early", "seats refused",
+        "a taken seat", "a change of pairs", "no member", "nothing to change", "assigning", "separation by inheritance", "a scoring administrator",
+        "roles", "pairs at their tables")},
+    "audit": "worked out apart, from the words of docs/PROTOCOL.md",
+    "traveller": "worked out apart, from the printed tables of Law 77 and Law 78A",
+}
+
+
+def read(name):
+    """Each part's text in one of the two files, by its name."""
+    return dict(part.split("\n", 1) for part in (CRATE / name).read_bytes().decode().split("\n== ")[1:])
+
+
+def put(part, script, answers):
+    """Writes a part in place of the one that was there; the others stay."""
+    assert part in PARTS, part
+    for name, text in (("stdin", script), ("stdout", answers)):
+        assert not text.startswith("== ") and "\n== " not in text, part
+        parts = {**read(name), part: text}
+        joined = "".join(f"\n== {each}\n{parts[each]}" for each in PARTS if each in parts)
+        (CRATE / name).write_bytes(joined.encode())
+
+
+def main():
+    if len(sys.argv) == 1:
+        for part, origin in PARTS.items():
+            print(f"{part}: {origin}")
+    else:
+        name = "stdout" if sys.argv[2:] == ["answers"] else "stdin"
+        sys.stdout.buffer.write(read(name)[sys.argv[1]].encode())
+
+
+if __name__ == "__main__":
+    main()
