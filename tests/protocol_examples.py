@@ -1,27 +1,51 @@
 #!/usr/bin/env python3
-"""Makes the stored run of crates/bridge_server_protocol of the examples in docs/PROTOCOL.md, or says where the two differ.
+"""Makes the part `protocol` of the stored runs of crates/bridge_server_stored_runs of the examples in docs/PROTOCOL.md, or says where
+the two differ.
 
     python3 tests/protocol_examples.py           # writes the run
     python3 tests/protocol_examples.py --check   # writes nothing: status 1 where the run isn't the page's
 
 The examples are the page's indented lines, in their order: a message, and below it its answer. Each answer to a query is
 compared with what the plain model of tests/session_model.py says after the commands before it.
+
+The examples on connections, in a chapter of their own, are no part of that run: they must be messages and answers of the stored
+run of crates/connection_session, in its order, with or without --check.
 """
 import json
 import pathlib
 import sys
 
 from session_model import Session
+from stored_runs import put, read
 from write_query_runs import DEALS
-from write_stored_runs import CRATES, SESSION, USERS, text_of
+from write_stored_runs import SESSION, USERS, text_of
 
-PAGE = pathlib.Path(__file__).resolve().parent.parent / "docs" / "PROTOCOL.md"
+HERE = pathlib.Path(__file__).resolve().parent.parent
+PAGE = HERE / "docs" / "PROTOCOL.md"
 
 
-def examples():
-    lines = [line[4:] for line in PAGE.read_text().splitlines() if line.startswith("    ")]
+def examples(text):
+    lines = [line[4:] for line in text.splitlines() if line.startswith("    ")]
     assert len(lines) % 2 == 0, "a message has no answer"
     return list(zip(lines[::2], lines[1::2]))
+
+
+def chapters():
+    """The page without the chapter on connections, and that chapter."""
+    before, rest = PAGE.read_text().split("\n## On a connection\n")
+    chapter, after = rest.split("\n## ", 1)
+    return before + "\n## " + after, chapter
+
+
+def compare_connections(pairs):
+    """Whether the examples stand in the connections' stored run, which begins with the session object, in its order."""
+    folder = HERE / "crates" / "connection_session"
+    given, wanted = ((folder / name).read_text().split("\n")[:-1] for name in ("stdin", "stdout"))
+    assert given[0] == SESSION, "the session is another"
+    run = zip(given[1:], wanted, strict=True)
+    for pair in pairs:
+        if pair not in run:
+            raise SystemExit(f"no such message with this answer comes next in crates/connection_session: {pair[0]}")
 
 
 def compare(session, message, answer):
@@ -45,17 +69,17 @@ def compare(session, message, answer):
 
 
 def main():
-    session, pairs = Session(3, 3, 1, USERS, DEALS), examples()
+    page, connections = chapters()
+    compare_connections(examples(connections))
+    session, pairs = Session(3, 3, 1, USERS, DEALS), examples(page)
     for message, answer in pairs:
         compare(session, message, answer)
     given = "".join(line + "\n" for line in [SESSION, *(message for message, _ in pairs)])
     wanted = "".join(answer + "\n" for _, answer in pairs)
-    for name, text in (("stdin", given), ("stdout", wanted)):
-        file = CRATES / "bridge_server_protocol" / name
-        if sys.argv[1:] != ["--check"]:
-            file.write_text(text)
-        elif file.read_text() != text:
-            raise SystemExit(f"{file} isn't what docs/PROTOCOL.md says: run tests/protocol_examples.py")
+    if sys.argv[1:] != ["--check"]:
+        put("protocol", given, wanted)
+    elif (read("stdin")["protocol"], read("stdout")["protocol"]) != (given, wanted):
+        raise SystemExit("the part `protocol` isn't what docs/PROTOCOL.md says: run tests/protocol_examples.py")
 
 
 main()
