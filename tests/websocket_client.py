@@ -284,7 +284,7 @@ def statuses():
         port = str(busy.getsockname()[1])
 
         def run(*words):
-            done = subprocess.run([PROGRAM, *words], stdin=subprocess.DEVNULL, capture_output=True, timeout=60)
+            done = subprocess.run([PROGRAM, *words], stdin=subprocess.DEVNULL, capture_output=True, timeout=900)
             return done.returncode, done.stdout, done.stderr
 
         def serve(session_file, deals_file, *more):
