@@ -1,5 +1,0 @@
-mod calling;
-mod client;
-mod files;
-mod serving;
-mod statuses;
