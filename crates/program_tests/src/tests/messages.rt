@@ -19,7 +19,7 @@ fn fault_of(alloc: Global, message: &[u8], source: Source) -> Option<RequestFaul
 /// The text with as many blanks after it as make it so long.
 fn filled(alloc: Global, text: &str, length: usize) -> Result<String, AllocError> {
     let mut filled = String::from_str(alloc, text)?;
-    while filled.len() < length {
+    for _ in text.len()..length {
         filled.push(' ')?;
     }
     Ok(filled)
