@@ -4,8 +4,6 @@
 mod conversation;
 mod listening;
 mod message_server;
-#[cfg(test)]
-mod tests;
 
 pub use conversation::{LONGEST_MESSAGE, serve_stream};
 pub use listening::{listen, serve_clients, serve_forever};

@@ -1,10 +1,10 @@
 //! A client's bytes in memory, and what is written for them.
 
 use super::Counting;
-use crate::conversation::{LONGEST_MESSAGE, serve_stream};
 use std::alloc::Global;
 use std::io::{self, ErrorKind, Read, Write};
 use std::test::Fail;
+use websocket_server::{LONGEST_MESSAGE, serve_stream};
 
 // The example of RFC 6455, section 1.3, without its subprotocols.
 const HANDSHAKE: &[u8] = b"GET /chat HTTP/1.1\r\nHost: server.example.com\r\nUpgrade: websocket\r\n\

@@ -1,6 +1,6 @@
-use crate::message_server::MessageServer;
 use std::alloc::{AllocError, Global};
 use std::sync::Wait;
+use websocket_server::MessageServer;
 
 mod listening;
 mod streams;

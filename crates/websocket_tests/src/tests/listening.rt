@@ -1,7 +1,6 @@
 //! Clients at a port, served by another thread.
 
 use super::Counting;
-use crate::listening::{listen, serve_clients};
 use std::io::{self, Read, Write};
 use std::net::{Net, SocketAddr, TcpStream};
 use std::random::RandomSource;
@@ -9,6 +8,7 @@ use std::test::Fail;
 use std::thread;
 use tungstenite::handshake::client::request_of;
 use tungstenite::{Message, RandomKeys, WebSocket, client};
+use websocket_server::{listen, serve_clients};
 
 // A source all of whose bytes are five: a test's masking keys are no secret.
 #[derive(Clone, Copy, Debug)]
