@@ -1,9 +1,8 @@
 #!/usr/bin/env python3
-"""Refuses each growth in turn: of a script's run, of double-dummy tables and endings, or of tests that hold under every memory.
+"""Refuses each growth in turn: of a script's run, of double-dummy tables, endings and costs, or of tests that hold under every memory.
 
     tests/refuse_growths.py crates/bridge_server/out/bridge_server <(tests/stored_runs.py desk) [COMMANDS]
-    tests/refuse_growths.py crates/deal_tables/out/deal_tables DEALS [endings]
-    tests/refuse_growths.py crates/deal_tables/out/deal_tables_tests memory_was_refused
+    tests/refuse_growths.py crates/deal_tables/out/deal_tables LINES
     tests/refuse_growths.py crates/solver_pool_tests/out/solver_pool_tests_tests loses_no_more
 
 Runs `bridge_server script` on the script, followed by so many more commands of its first director (none where no number is
@@ -23,7 +22,7 @@ A refused request that changes nothing in any other run is a fault too. At the e
 each query by its word, and apart where it is denied or names an error, each batch, each audit, each message that is no request. So a script
 with every query, as `tests/stored_runs.py protocol`, shows that each growth of each query and of its text was refused.
 
-Of `deal_tables` each line is run alone, a deal for `table` or an ending for `solve`: once with ample memory, which must solve
+Of `deal_tables` each line is run alone, a deal for `table`, an ending for `solve` or a play for `costs`: once with ample memory, which must solve
 it, and then with the Nth request refused, for each N. Each of these must write the same numbers or none: then the line is named
 as not solved (OutOfMemory), or the program ends with a status of its own, for it couldn't read the line or write the answer.
 

@@ -1,6 +1,7 @@
 #!/usr/bin/env python3
 """Writes random deals, or with the word `endings` random endings of 2 to 8 cards a hand with up to three cards on the table,
-a line each, for DDS and for `deal_tables`: make.py NUMBER SEED, or make.py endings NUMBER SEED (NUMBER of each size)."""
+or with the word `plays` random plays of 1 to 52 cards, a line each, for DDS and for `deal_tables`: make.py NUMBER SEED,
+make.py endings NUMBER SEED (NUMBER of each size), or make.py plays NUMBER SEED."""
 import random
 import sys
 
@@ -50,9 +51,42 @@ def endings(number):
             ending(size, "SHDCN"[k % 5], k % 4)
 
 
+def winner(trick, trump):
+    """Who won a trick: the player of its highest trump, or else of its highest card of the suit led."""
+    strength = {player: (card[0] == trump, card[0] == trick[0][1][0], -RANKS.index(card[1])) for player, card in trick}
+    return max(strength, key=strength.get)
+
+
+def play(strain, declarer, number):
+    """A deal, and so many cards of it that were played as the rules allow."""
+    cards = pack()
+    hands = [set(cards[13 * i:13 * i + 13]) for i in range(4)]
+    deal = " ".join(text(hand) for hand in hands)
+    turn, trick, played = (declarer + 1) % 4, [], []
+    while len(played) < number:
+        follows = [c for c in hands[turn] if trick and c[0] == trick[0][1][0]]
+        card = random.choice(sorted(follows or hands[turn]))
+        hands[turn].discard(card)
+        played.append(card)
+        trick.append((turn, card))
+        turn = (turn + 1) % 4
+        if len(trick) == 4:
+            turn, trick = winner(trick, strain), []
+    print("costs N:" + deal, strain, PLACES[declarer], ",".join(s + r for s, r in played))
+
+
+def plays(number):
+    """So many plays: each fourth of all the cards."""
+    for k in range(number):
+        play("SHDCN"[k % 5], random.randrange(4), 52 if k % 4 == 0 else random.randint(1, 51))
+
+
 if sys.argv[1] == "endings":
     random.seed(int(sys.argv[3]))
     endings(int(sys.argv[2]))
+elif sys.argv[1] == "plays":
+    random.seed(int(sys.argv[3]))
+    plays(int(sys.argv[2]))
 else:
     random.seed(int(sys.argv[2]))
     deals(int(sys.argv[1]))

@@ -1,22 +1,25 @@
-//! Double-dummy numbers of deals, or of endings, a line each: the line, its numbers, and the visits that they took.
+//! Double-dummy numbers of deals, of endings and of plays, a line each, to compare: a deal's twenty numbers, the tricks that
+//! North and South take from an ending, or what each card of a play costs.
 #![tactic(auto)]
 
-#[cfg(test)]
-mod tests;
+mod line;
 
-use cards::{Card, Deal, Hand, Place, Position, Strain};
-use double_dummy::{Budget, DdTable, solve, table};
+use cards::{Deal, Place, Position, Strain};
+use double_dummy::{Budget, CostsError, DdTable, costs, solve, table};
+use line::{Line, read_line};
+use scoring::{Contract, Doubling, Level};
 use std::io::{BufRead, BufReader};
 use std::{env, io};
 
-// More visits than any deal takes.
+// More visits than any line takes.
 const VISITS: u64 = 1_000_000_000_000;
 
+/// With the word `visits` each line ends with the visits that it took.
 fn main(rt: HostRuntime) -> io::Result<()> {
-    let mut endings = false;
+    let mut counts = false;
     for word in env::args(&rt)? {
-        if word.as_str() == "endings" {
-            endings = true;
+        if word.as_str() == "visits" {
+            counts = true;
         }
     }
     let reader = BufReader::new(rt.alloc(), rt.reader())?;
@@ -25,93 +28,131 @@ fn main(rt: HostRuntime) -> io::Result<()> {
         let line = line?;
         number = number.saturating_add(1);
         let text = line.as_str();
-        if !text.is_empty() && !text.starts_with('#') {
-            let solved = if endings {
-                solve_ending(&rt, text)?
-            } else {
-                solve_deal(&rt, text)?
-            };
-            if !solved {
-                eprintln!(rt; "line {number} is not solved")?;
-            }
+        if text.is_empty() || text.starts_with('#') {
+            continue;
+        }
+        if !solve_line(&rt, text, counts)? {
+            eprintln!(rt; "line {number} is not solved")?;
         }
     }
     Ok(())
 }
 
-// Prints the twenty numbers of a deal, by declarer N, E, S, W and strain S, H, D, C, N.
-fn solve_deal(rt: &HostRuntime, text: &str) -> io::Result<bool> {
-    let Ok(deal) = text.parse::<Deal>() else {
-        return Ok(false);
-    };
+// Prints a line and what it asks for, if it is solved.
+fn solve_line(rt: &HostRuntime, text: &str, counts: bool) -> io::Result<bool> {
     let mut budget = Budget::new(VISITS);
-    let Ok(numbers) = table(rt.alloc(), deal, &mut budget) else {
-        return Ok(false);
+    let is_solved = if let Ok(deal) = text.parse::<Deal>() {
+        solve_deal(rt, text, deal, &mut budget)?
+    } else if let Some(play) = text.strip_prefix("costs ") {
+        solve_play(rt, play, &mut budget)?
+    } else {
+        solve_ending(rt, text, &mut budget)?
     };
-    let north = declarer(rt, &numbers, Place::North)?;
-    let east = declarer(rt, &numbers, Place::East)?;
-    let south = declarer(rt, &numbers, Place::South)?;
-    let west = declarer(rt, &numbers, Place::West)?;
-    let visits = VISITS.saturating_sub(budget.left());
-    println!(rt; "{text}\t{north} {east} {south} {west}\t{visits}")?;
-    Ok(true)
-}
-
-// A declarer's numbers.
-fn declarer(rt: &HostRuntime, numbers: &DdTable, place: Place) -> io::Result<String> {
-    let spades = numbers.tricks(Strain::Spades, place);
-    let hearts = numbers.tricks(Strain::Hearts, place);
-    let diamonds = numbers.tricks(Strain::Diamonds, place);
-    let clubs = numbers.tricks(Strain::Clubs, place);
-    let no_trump = numbers.tricks(Strain::NoTrump, place);
-    Ok(format!(in rt.alloc(); "{spades},{hearts},{diamonds},{clubs},{no_trump}")?)
-}
-
-// Prints the tricks that North and South take from an ending.
-fn solve_ending(rt: &HostRuntime, text: &str) -> io::Result<bool> {
-    let Some(position) = ending(text) else {
+    if !is_solved {
         return Ok(false);
-    };
-    let mut budget = Budget::new(VISITS);
-    let Ok(tricks) = solve(rt.alloc(), &position, &mut budget) else {
-        return Ok(false);
-    };
-    let visits = VISITS.saturating_sub(budget.left());
-    println!(rt; "{text}\t{tricks}\t{visits}")?;
-    Ok(true)
-}
-
-// An ending as it is written: the four hands, the strain, the leader, and the cards on the table, as `SQ,ST`, or a dash.
-fn ending(text: &str) -> Option<Position> {
-    let mut words = text.split_whitespace();
-    let north = words.next()?.strip_prefix("N:")?.parse::<Hand>().ok()?;
-    let east = words.next()?.parse::<Hand>().ok()?;
-    let south = words.next()?.parse::<Hand>().ok()?;
-    let west = words.next()?.parse::<Hand>().ok()?;
-    let strain = Strain::from_letter(words.next()?.chars().next()?)?;
-    let leader = Place::from_letter(words.next()?.chars().next()?)?;
-    let played = words.next()?;
-    if played == "-" {
-        return Position::new(north, east, south, west, strain, leader, &[]).ok();
     }
-    let mut cards = played.split(',');
-    let first = cards.next()?.parse::<Card>().ok()?;
-    let Some(second) = cards.next() else {
-        return Position::new(north, east, south, west, strain, leader, &[first]).ok();
+    if counts {
+        let visits = VISITS.saturating_sub(budget.left());
+        print!(rt; "\t{visits}")?;
+    }
+    println!(rt; "")?;
+    Ok(true)
+}
+
+// The twenty numbers of a deal, by declarer N, E, S, W.
+fn solve_deal(rt: &HostRuntime, text: &str, deal: Deal, budget: &mut Budget) -> io::Result<bool> {
+    let Ok(numbers) = table(rt.alloc(), deal, budget) else {
+        return Ok(false);
     };
-    let second = second.parse::<Card>().ok()?;
-    let Some(third) = cards.next() else {
-        return Position::new(north, east, south, west, strain, leader, &[first, second]).ok();
+    print!(rt; "{text}\t")?;
+    print_numbers(rt, &by_strain(&numbers, Place::North))?;
+    print!(rt; " ")?;
+    print_numbers(rt, &by_strain(&numbers, Place::East))?;
+    print!(rt; " ")?;
+    print_numbers(rt, &by_strain(&numbers, Place::South))?;
+    print!(rt; " ")?;
+    print_numbers(rt, &by_strain(&numbers, Place::West))?;
+    Ok(true)
+}
+
+// A declarer's numbers in spades, hearts, diamonds, clubs and no trump.
+fn by_strain(numbers: &DdTable, declarer: Place) -> [u8; 5] {
+    [
+        numbers.tricks(Strain::Spades, declarer),
+        numbers.tricks(Strain::Hearts, declarer),
+        numbers.tricks(Strain::Diamonds, declarer),
+        numbers.tricks(Strain::Clubs, declarer),
+        numbers.tricks(Strain::NoTrump, declarer),
+    ]
+}
+
+// The tricks that North and South take from an ending: the hands, the strain, the leader, and the cards on the table.
+fn solve_ending(rt: &HostRuntime, text: &str, budget: &mut Budget) -> io::Result<bool> {
+    let Some(line) = read_line(rt.alloc(), text) else {
+        return Ok(false);
     };
-    let third = third.parse::<Card>().ok()?;
+    let Some(position) = ending(&line) else {
+        return Ok(false);
+    };
+    let Ok(tricks) = solve(rt.alloc(), &position, budget) else {
+        return Ok(false);
+    };
+    print!(rt; "{text}\t{tricks}")?;
+    Ok(true)
+}
+
+fn ending(line: &Line) -> Option<Position> {
     Position::new(
-        north,
-        east,
-        south,
-        west,
-        strain,
-        leader,
-        &[first, second, third],
+        line.north,
+        line.east,
+        line.south,
+        line.west,
+        line.strain,
+        line.player,
+        line.cards.as_slice(),
     )
     .ok()
+}
+
+// What the cards of a play cost, or the first that is not legal: the hands, the strain, declarer, and the cards.
+fn solve_play(rt: &HostRuntime, text: &str, budget: &mut Budget) -> io::Result<bool> {
+    let Some(line) = read_line(rt.alloc(), text) else {
+        return Ok(false);
+    };
+    let Some((deal, contract)) = contract_of(&line) else {
+        return Ok(false);
+    };
+    match costs(rt.alloc(), deal, contract, line.cards.as_slice(), budget) {
+        Ok(numbers) => {
+            print!(rt; "costs {text}\t")?;
+            print_numbers(rt, numbers.as_slice())?;
+        }
+        Err(CostsError::NotAPlay(number)) => print!(rt;
+            "costs {text}\tcard {number} is not legal"
+        )?,
+        Err(_) => return Ok(false),
+    }
+    Ok(true)
+}
+
+// The deal of a line, and a contract at its strain.
+fn contract_of(line: &Line) -> Option<(Deal, Contract)> {
+    let deal = Deal::new(line.north, line.east, line.south, line.west).ok()?;
+    let contract = Contract {
+        level: Level::new(1)?,
+        strain: line.strain,
+        declarer: line.player,
+        doubling: Doubling::Undoubled,
+    };
+    Some((deal, contract))
+}
+
+// Prints numbers with commas between them.
+fn print_numbers(rt: &HostRuntime, numbers: &[u8]) -> io::Result<()> {
+    let mut before = "";
+    for number in numbers {
+        print!(rt; "{before}{number}")?;
+        before = ",";
+    }
+    Ok(())
 }

@@ -1,13 +1,13 @@
 //! What a worker finds.
 
 use super::{SUITS, give, table_work};
-use cards::{Card, Deal, Place, Strain};
+use cards::{Card, Deal, Place, Position, Strain};
 use crossbeam_channel::unbounded;
-use double_dummy::{DdTable, PlayAnswer};
+use double_dummy::{Budget, DdTable, PlayAnswer, SolveError, solve};
 use movement::Cell;
 use play_record::Play;
 use scoring::{Contract, Doubling, Level};
-use solver_pool::{Done, Found, Job, OpenGate, Pool, Work, run_worker};
+use solver_pool::{Done, Found, Job, OpenGate, Pool, Work, run_worker, solve_job};
 use std::alloc::Global;
 use std::process::Abort;
 use std::sync::Wait;
@@ -23,14 +23,14 @@ fn one_no_trump() -> Option<Contract> {
     })
 }
 
-/// The costs of a trick, where North's two of spades and East's two of hearts have changed hands.
-fn costs_work() -> Result<Work, Fail> {
+/// The costs of a trick with this second card, where North's two of spades and East's two of hearts have changed hands.
+fn costs_work(second: &str) -> Result<Work, Fail> {
     let deal = "N:AKQJT9876543.2.. 2.AKQJT9876543.. ..AKQJT98765432. ...AKQJT98765432".parse::<
         Deal,
     >()?;
     let cards = [
         "S2".parse::<Card>()?,
-        "D2".parse::<Card>()?,
+        second.parse::<Card>()?,
         "C2".parse::<Card>()?,
         "SA".parse::<Card>()?,
     ];
@@ -68,7 +68,7 @@ fn finds_a_table(rt: HostRuntime) -> Result<(), Fail> {
 /// In one no trump by North, East leads the two of spades, and gives away eleven tricks by it.
 #[test]
 fn finds_costs(rt: HostRuntime) -> Result<(), Fail> {
-    let done = sent_of(&rt, rt.alloc(), costs_work()?)?;
+    let done = sent_of(&rt, rt.alloc(), costs_work("D2")?)?;
     assert_eq!(rt; done.job().number, 1);
     let Found::Costs(costs) = done.into_found() else {
         return Err("costs".into());
@@ -77,6 +77,29 @@ fn finds_costs(rt: HostRuntime) -> Result<(), Fail> {
         return Err("a play".into());
     };
     assert_eq!(rt; numbers.as_slice(), [11, 0, 0, 0].as_slice());
+    Ok(())
+}
+
+/// Without a visit nothing is solved, but a card that is not legal is named.
+#[test]
+fn names_an_illegal_card_without_a_visit(rt: HostRuntime) -> Result<(), Fail> {
+    let legal = Job {
+        number: 1,
+        work: costs_work("D2")?,
+    };
+    let unpaid = solve_job(rt.alloc(), legal, 0);
+    assert!(rt; matches!(unpaid.found(), Found::OutOfBudget));
+    let illegal = Job {
+        number: 2,
+        work: costs_work("H2")?,
+    };
+    let Found::Costs(costs) = solve_job(rt.alloc(), illegal, 0).into_found() else {
+        return Err("an answer".into());
+    };
+    assert!(rt; matches!(costs.answer(), PlayAnswer::NotAPlay(2)));
+    let position = Position::start(costs.deal(), Strain::NoTrump, Place::North);
+    let unsolved = solve(rt.alloc(), &position, &mut Budget::new(0));
+    assert!(rt; matches!(unsolved, Err(SolveError::OutOfBudget)));
     Ok(())
 }
 
