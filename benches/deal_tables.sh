@@ -13,9 +13,9 @@ trap 'rm -rf "$work"' EXIT
 g++ -O2 -o "$work/dds" "$figures/dds_tables.cpp" -ldds
 python3 "$figures/make.py" "$deals" 2026 | split -l 10 - "$work/deals."
 
-# adds the seconds of processor time that a command takes on the deals to a file (DDS heeds no word)
+# adds the seconds of processor time that a command takes on the deals to a file
 spent() {
-  ( TIMEFORMAT=%U; time "$1" visits < "$2" >> "$3" 2> "$work/said" ) 2>> "$4"
+  ( TIMEFORMAT=%U; time "$1" < "$2" >> "$3" 2> "$work/said" ) 2>> "$4"
 }
 
 for some in "$work"/deals.*; do

@@ -14,16 +14,29 @@ use std::{env, io};
 // More visits than any line takes.
 const VISITS: u64 = 1_000_000_000_000;
 
-/// With the word `visits` each line ends with the visits that it took.
+// What the program's words ask for.
+struct Asked {
+    // Each line is an ending.
+    endings: bool,
+    // Each line ends with the visits that it took.
+    counts: bool,
+    // The visits that a line may take.
+    visits: u64,
+}
+
+/// With the word `endings` each line is an ending, with `numbers` no visits are printed, and with a number a line that takes more visits
+/// is not solved.
 fn main(rt: HostRuntime) -> io::Result<()> {
-    let mut counts = false;
+    let mut asked = Asked {
+        endings: false,
+        counts: true,
+        visits: VISITS,
+    };
     for word in env::args(&rt)? {
-        if word.as_str() == "visits" {
-            counts = true;
-        }
+        hear(&mut asked, word.as_str());
     }
     let reader = BufReader::new(rt.alloc(), rt.reader())?;
-    let mut number: u64 = 0;
+    let mut number = 0u64;
     for line in reader.lines(rt.alloc()) {
         let line = line?;
         number = number.saturating_add(1);
@@ -31,17 +44,29 @@ fn main(rt: HostRuntime) -> io::Result<()> {
         if text.is_empty() || text.starts_with('#') {
             continue;
         }
-        if !solve_line(&rt, text, counts)? {
+        if !solve_line(&rt, text, &asked)? {
             eprintln!(rt; "line {number} is not solved")?;
         }
     }
     Ok(())
 }
 
+fn hear(asked: &mut Asked, word: &str) {
+    if word == "endings" {
+        asked.endings = true;
+    } else if word == "numbers" {
+        asked.counts = false;
+    } else if let Ok(visits) = word.parse::<u64>() {
+        asked.visits = visits;
+    }
+}
+
 // Prints a line and what it asks for, if it is solved.
-fn solve_line(rt: &HostRuntime, text: &str, counts: bool) -> io::Result<bool> {
-    let mut budget = Budget::new(VISITS);
-    let is_solved = if let Ok(deal) = text.parse::<Deal>() {
+fn solve_line(rt: &HostRuntime, text: &str, asked: &Asked) -> io::Result<bool> {
+    let mut budget = Budget::new(asked.visits);
+    let is_solved = if asked.endings {
+        solve_ending(rt, text, &mut budget)?
+    } else if let Ok(deal) = text.parse::<Deal>() {
         solve_deal(rt, text, deal, &mut budget)?
     } else if let Some(play) = text.strip_prefix("costs ") {
         solve_play(rt, play, &mut budget)?
@@ -51,8 +76,8 @@ fn solve_line(rt: &HostRuntime, text: &str, counts: bool) -> io::Result<bool> {
     if !is_solved {
         return Ok(false);
     }
-    if counts {
-        let visits = VISITS.saturating_sub(budget.left());
+    if asked.counts {
+        let visits = asked.visits.saturating_sub(budget.left());
         print!(rt; "\t{visits}")?;
     }
     println!(rt; "")?;
