@@ -8,8 +8,8 @@ the two differ.
 The examples are the page's indented lines, in their order: a message, and below it its answer. Each answer to a query is
 compared with what the plain model of tests/session_model.py says after the commands before it.
 
-The examples on connections, in a chapter of their own, are no part of that run: they must be messages and answers of the stored
-run of crates/connection_session, in its order, with or without --check.
+The examples on connections, in a chapter of their own, are not in that part: they must be messages and answers of the part
+`connections`, in its order, with or without --check.
 """
 import json
 import pathlib
@@ -38,14 +38,13 @@ def chapters():
 
 
 def compare_connections(pairs):
-    """Whether the examples stand in the connections' stored run, which begins with the session object, in its order."""
-    folder = HERE / "crates" / "connection_session"
-    given, wanted = ((folder / name).read_text().split("\n")[:-1] for name in ("stdin", "stdout"))
+    """Whether the examples stand in the part of the connections, which begins with the session object, in its order."""
+    given, wanted = (read(name)["connections"].split("\n")[:-1] for name in ("stdin", "stdout"))
     assert given[0] == SESSION, "the session is another"
     run = zip(given[1:], wanted, strict=True)
     for pair in pairs:
         if pair not in run:
-            raise SystemExit(f"no such message with this answer comes next in crates/connection_session: {pair[0]}")
+            raise SystemExit(f"no such message with this answer comes next in the part `connections`: {pair[0]}")
 
 
 def compare(session, message, answer):

@@ -1,9 +1,9 @@
 #!/usr/bin/env python3
 """Refuses each growth in turn of a run of messages on connections.
 
-    tests/refuse_connection_growths.py crates/connection_session/out/connection_session crates/connection_session/stdin
+    tests/refuse_connection_growths.py crates/bridge_server_stored_runs/out/bridge_server_stored_runs
 
-Runs the program on the messages, first with ample memory, and then with the Nth request for memory refused, for N from 1 until a
+Runs the program on the messages of its part `connections`, first with ample memory, and then with the Nth request for memory refused, for N from 1 until a
 run asks less often. What each of these must do:
 
 - In the first line, while the session is opened: write nothing, and end with a status of its own.
@@ -18,6 +18,10 @@ At the end it says how many requests each kind of message took. It needs a C com
 import json, subprocess, sys, tempfile
 
 from refuse_growths import NO_MEMORY, REFUSING, compact, object_of, run
+from stored_runs import read
+
+# The line before the part, which the program reads and writes.
+NAME = b"\n== connections\n"
 
 
 def kind_of(line, answer):
@@ -34,8 +38,9 @@ class Connections:
         self.program, self.room, self.lines, self.known, self.by_message = program, room, lines, {}, {}
 
     def run(self, lines, n):
-        status, out, err, asked = run([self.program], b"".join(lines), self.room, n)
-        return status, out.splitlines(keepends=True), err, asked
+        status, out, err, asked = run([self.program], NAME + b"".join(lines), self.room, n)
+        assert NAME.startswith(out[: len(NAME)]), out[: len(NAME)]
+        return status, out[len(NAME) :].splitlines(keepends=True), err, asked
 
     # the answers after a line in whose place another stands, with ample memory
     def rest(self, at, other):
@@ -78,13 +83,12 @@ class Connections:
 
 
 def main():
-    program, given = sys.argv[1:]
+    (program,) = sys.argv[1:]
     with tempfile.TemporaryDirectory() as room:
         with open(f"{room}/refusing.c", "w") as it:
             it.write(REFUSING)
         subprocess.run(["cc", "-O1", "-shared", "-fPIC", "-o", f"{room}/refusing.so", f"{room}/refusing.c", "-ldl"], check=True)
-        with open(given, "rb") as it:
-            lines = it.readlines()
+        lines = read("stdin")["connections"].encode().splitlines(keepends=True)
         connections, kinds = Connections(program, room, lines), {}
         status, ample, err, asked = connections.run(lines, 0)
         assert (status, len(ample), err) == (0, len(lines) - 1, b""), f"with ample memory: status {status}, {len(ample)} answers, {err!r}"

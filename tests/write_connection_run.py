@@ -1,12 +1,14 @@
 #!/usr/bin/env python3
-"""Writes the stored run of crates/connection_session: messages on connections, and what each is answered.
+"""Writes the part `connections` of the stored runs of crates/bridge_server_stored_runs: messages on connections, and what each is
+answered.
 
     python3 tests/write_connection_run.py
 
-It gives the same files each time. The answers are written here by hand, by the rules that docs/PROTOCOL.md and docs/POLICY.md
+It gives the same text each time. The answers are written here by hand, by the rules that docs/PROTOCOL.md and docs/POLICY.md
 state, and not by the program.
 """
-from write_stored_runs import CRATES, DIGEST, FOUR_SPADES, SESSION, confirm, enter, text_of
+from stored_runs import put
+from write_stored_runs import DIGEST, FOUR_SPADES, SESSION, confirm, enter, text_of
 
 MOST_BYTES = 65536
 
@@ -131,9 +133,7 @@ def main():
         if number:
             run.end()
         part(run)
-    folder = CRATES / "connection_session"
-    (folder / "stdin").write_text("".join(line + "\n" for line in run.asked))
-    (folder / "stdout").write_text("".join(line + "\n" for line in run.told))
+    put("connections", "".join(line + "\n" for line in run.asked), "".join(line + "\n" for line in run.told))
 
 
 if __name__ == "__main__":

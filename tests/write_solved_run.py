@@ -1,16 +1,15 @@
 #!/usr/bin/env python3
-"""Writes the stored run of crates/solved_sessions: what a solver tells a session, between its messages.
+"""Writes the part `solver` of the stored runs of crates/bridge_server_stored_runs: what a solver tells a session, between its
+messages.
 
     python3 tests/write_solved_run.py
 
 The deals give each player a whole suit, so every number is worked by hand: who holds trumps takes all thirteen tricks, and without
 trumps the side that leads takes all. Each line that is given stands beside the line that is wanted.
 """
-import pathlib
-
+from stored_runs import put
 from write_stored_runs import SESSION, text_of
 
-CRATE = pathlib.Path(__file__).resolve().parent.parent / "crates" / "solved_sessions"
 RESULT = {"by": "N", "doubled": 0, "level": 4, "strain": "S", "tricks": 10}
 CELL = {"table": 1, "board": 1}
 # Spades, hearts, diamonds, clubs, no trump: North has the spades of board 1, East the hearts, South the diamonds, West the clubs.
@@ -104,5 +103,4 @@ told("solve 2 2", "ok")
 asked("a", {"audit": [[3, None, "Analysed", "1/1"], [4, None, "Solved", "1"], [5, "d", "Correct", "1/1"]]}, 11, audit={"from": 3, "limit": 3})
 asked("a", {"audit": [[11, None, "Solved", "2"]]}, 11, audit={"from": 11, "limit": 1000})
 
-(CRATE / "stdin").write_text(SESSION + "\n" + "".join(line + "\n" for line, _ in rows))
-(CRATE / "stdout").write_text("".join(wanted + "\n" for _, wanted in rows))
+put("solver", SESSION + "\n" + "".join(line + "\n" for line, _ in rows), "".join(wanted + "\n" for _, wanted in rows))

@@ -1,5 +1,5 @@
 #!/usr/bin/env python3
-"""Writes the parts `messages` and `limits` of the stored runs of crates/bridge_server_stored_runs, and that of crates/session_check.
+"""Writes the parts `messages`, `limits` and `session objects` of the stored runs of crates/bridge_server_stored_runs.
 
     python3 tests/write_stored_runs.py
 
@@ -8,7 +8,7 @@ worked out here, by the rules that docs/POLICY.md, docs/PROTOCOL.md and docs/SES
 """
 import json
 
-from stored_runs import CRATES, put
+from stored_runs import put
 
 DIGEST = "ba7816bf8f01cfea414140de5dae2223b00361a396177a9cb410ff61f20015ad"  # SHA-256 of abc (FIPS 180-2)
 SUITS, RANKS = "SHDC", "AKQJT98765432"
@@ -351,8 +351,7 @@ def write_openings():
     row('{"budget":0', "Malformed")
     row(largest(255), "TooManyUsers")
     row(largest(254), None)
-    for name, lines in (("stdin", given), ("stdout", wanted)):
-        (CRATES / "session_check" / name).write_bytes("".join(lines).encode())
+    put("session objects", "".join(given), "".join(wanted))
 
 
 if __name__ == "__main__":

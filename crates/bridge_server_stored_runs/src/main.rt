@@ -1,10 +1,24 @@
-//! The results server's script once more, for a stored run of many sessions: standard input has parts, and each is an LF, a line
-//! with its name and then a whole script, which begins with a session object of its own.
+//! The results server once more, for a stored run of many sessions: standard input has parts, and each is an LF, a line with its
+//! name and then its text. Most parts are a whole script, which begins with a session object of its own; of four kinds that are
+//! none, the name says which it is.
 #![tactic(auto)]
 
+mod connecting;
+mod opening;
+mod repeating;
+mod session;
+mod solver;
+
+use crate::connecting::answer_connections;
+use crate::opening::open_all;
+use crate::repeating::answer_repeated;
+use crate::session::answer_beside_solver;
 use program::run_script;
 use std::io::{self, BufReader, Read, Write};
+use std::net::Net;
 use std::process::ExitCode;
+use std::rt::Runtime;
+use std::sync::Wait;
 
 fn main(rt: HostRuntime) -> ExitCode {
     match answer_all(&rt) {
@@ -14,9 +28,9 @@ fn main(rt: HostRuntime) -> ExitCode {
     }
 }
 
-// Writes the name of each part and the answers to its script, in the form that the input has. A script that isn't answered to
-// its end ends this.
-fn answer_all(rt: &HostRuntime) -> io::Result<bool> {
+// Writes the name of each part and what its text gets, in the form that the input has. A part that isn't answered to its end
+// ends this.
+fn answer_all<R: Runtime + Net + Wait + AllocGlobal>(rt: &R) -> io::Result<bool> {
     let mut text = String::new(rt.alloc());
     BufReader::new(rt.alloc(), rt.reader())?.read_to_string(&mut text)?;
     let Some(parts) = text.strip_prefix("\n== ") else {
@@ -24,13 +38,28 @@ fn answer_all(rt: &HostRuntime) -> io::Result<bool> {
     };
     let mut writer = io::writer(rt);
     for part in parts.split("\n== ") {
-        let Some((name, script)) = part.split_once('\n') else {
+        let Some((name, text)) = part.split_once('\n') else {
             return Ok(false);
         };
         write!(writer, "\n== {name}\n")?;
-        if run_script(rt.alloc(), &mut script.as_bytes(), &mut writer).is_err() {
+        if !answer_part(rt, name, text, &mut writer)? {
             return Ok(false);
         }
     }
     Ok(true)
+}
+
+fn answer_part<R: Runtime + Net + Wait + AllocGlobal, O: Write>(
+    rt: &R,
+    name: &str,
+    text: &str,
+    writer: &mut O,
+) -> io::Result<bool> {
+    match name {
+        "connections" => answer_connections(rt, text, writer),
+        "solver" => answer_beside_solver(rt.alloc(), text, writer),
+        "session objects" => open_all(rt, text, writer),
+        "full journal" => answer_repeated(rt.alloc(), text, writer),
+        _ => Ok(run_script(rt.alloc(), &mut text.as_bytes(), writer).is_ok()),
+    }
 }

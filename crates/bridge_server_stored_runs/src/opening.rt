@@ -1,33 +1,27 @@
-//! How a script ends that begins with a session object, for each line of standard input: to check a session before an evening.
-//! A line has the status, and then what the program writes: why the session isn't opened, or its answer to a first message.
-#![tactic(auto)]
+//! How a script ends that begins with a session object, for each line of a text. A line gets the status, and then what the program
+//! writes: why the session isn't opened, or its answer to a first message.
 
 use server_program::run_words;
 use std::alloc::AllocError;
-use std::io::{self, BufRead, BufReader, Write};
+use std::io::{self, Write};
 use std::net::Net;
-use std::process::ExitCode;
 use std::rt::Runtime;
 use std::sync::Wait;
 
 /// A message that each session answers alike: no session has a board 0.
 const MESSAGE: &str = "{\"as\":\"a\",\"ask\":\"board\",\"board\":0}";
 
-fn main(rt: HostRuntime) -> ExitCode {
-    match check_all(&rt) {
-        Ok(()) => ExitCode::SUCCESS,
-        Err(_) => ExitCode::from(3),
-    }
-}
-
-// Writes a line for each session object.
-fn check_all<R: Runtime + Net + Wait + AllocGlobal>(rt: &R) -> io::Result<()> {
-    let mut writer = io::writer(rt);
-    for object in BufReader::new(rt.alloc(), rt.reader())?.lines(rt.alloc()) {
-        let line = line_of(rt, object?.as_str())?;
+/// Writes a line for each session object.
+pub(crate) fn open_all<R: Runtime + Net + Wait + AllocGlobal, O: Write>(
+    rt: &R,
+    text: &str,
+    writer: &mut O,
+) -> io::Result<bool> {
+    for object in text.lines() {
+        let line = line_of(rt, object)?;
         writer.write_all(line.as_slice())?;
     }
-    Ok(())
+    Ok(true)
 }
 
 // The status with which a script ends, and what is written.

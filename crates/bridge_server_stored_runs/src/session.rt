@@ -1,3 +1,8 @@
+//! A session between whose messages a solver tells what it found. The text begins with a session object; each line after it is a
+//! message, or one of the solver's: `solve BOARD DEAL` tells the table of the deal of board DEAL as that of board BOARD, and
+//! `analyse TABLE BOARD DEAL CARD..` tells what these cards cost in four spades by North with the deal of board DEAL, as those of
+//! the table.
+
 use crate::solver::{costs_told, table_told};
 use published_view::View;
 use reply_texts::reply_text;
@@ -5,7 +10,30 @@ use session_book::{Answer, Book};
 use session_object::read_session;
 use session_state::Refusal;
 use std::alloc::Global;
+use std::io::{self, Write};
 use wire::{RequestBody, Source, read_request, receipt_text};
+
+/// Answers each line after the first. A session that isn't opened, or a line that can't be answered, ends this.
+pub(crate) fn answer_beside_solver<O: Write>(
+    alloc: Global,
+    text: &str,
+    writer: &mut O,
+) -> io::Result<bool> {
+    let mut lines = text.lines();
+    let Some(object) = lines.next() else {
+        return Ok(false);
+    };
+    let Some(mut session) = Session::open(alloc, object) else {
+        return Ok(false);
+    };
+    for line in lines {
+        let Some(answer) = session.respond(alloc, line) else {
+            return Ok(false);
+        };
+        writeln!(writer, "{answer}")?;
+    }
+    Ok(true)
+}
 
 /// A book and a view of it.
 #[derive(Drop)]

@@ -1,27 +1,19 @@
-//! The results server's script once more, for a stored run that fills a journal: standard input begins with a session object, each
-//! line after it has a number and a message that is sent so often, and what is written is the answer to the last of each.
-#![tactic(auto)]
+//! A script with messages that are sent many times, to fill a journal. The text begins with a session object; each line after it has
+//! a number and a message that is sent so often, and what is written is the answer to the last of each.
 
 use program::run_script;
 use std::alloc::{AllocError, Global};
-use std::io::{self, BufReader, Read, Write};
-use std::process::ExitCode;
+use std::io::{self, Write};
 use std::str;
 
-fn main(rt: HostRuntime) -> ExitCode {
-    match answer_all(&rt) {
-        Ok(true) => ExitCode::SUCCESS,
-        Ok(false) => ExitCode::from(1),
-        Err(_) => ExitCode::from(3),
-    }
-}
-
-// Writes the answer to the last of each line's messages. A script that isn't answered to its end ends this.
-fn answer_all(rt: &HostRuntime) -> io::Result<bool> {
-    let mut text = String::new(rt.alloc());
-    BufReader::new(rt.alloc(), rt.reader())?.read_to_string(&mut text)?;
-    let mut script = String::new(rt.alloc());
-    let mut ends = Vec::new(rt.alloc());
+/// Writes the answer to the last of each line's messages. A script that isn't answered to its end ends this.
+pub(crate) fn answer_repeated<O: Write>(
+    alloc: Global,
+    text: &str,
+    writer: &mut O,
+) -> io::Result<bool> {
+    let mut script = String::new(alloc);
+    let mut ends = Vec::new(alloc);
     let mut sent = 0usize;
     for line in text.lines() {
         let (times, message) = repeated(line);
@@ -29,14 +21,14 @@ fn answer_all(rt: &HostRuntime) -> io::Result<bool> {
         sent = sent.saturating_add(times);
         ends.push(sent)?;
     }
-    let mut answers = Vec::new(rt.alloc());
-    if run_script(rt.alloc(), &mut script.as_bytes(), &mut answers).is_err() {
+    let mut answers = Vec::new(alloc);
+    if run_script(alloc, &mut script.as_bytes(), &mut answers).is_err() {
         return Ok(false);
     }
     let Ok(answers) = str::from_utf8(answers.as_slice()) else {
         return Ok(false);
     };
-    write_ends(rt, answers, ends.as_slice())?;
+    write_ends(answers, ends.as_slice(), writer)?;
     Ok(true)
 }
 
@@ -61,8 +53,7 @@ fn repeat(script: &mut String, times: usize, message: &str) -> Result<(), AllocE
 }
 
 // Writes the answers to the lines of a script with these numbers, from 1; the first line has none.
-fn write_ends(rt: &HostRuntime, answers: &str, ends: &[usize]) -> io::Result<()> {
-    let mut writer = io::writer(rt);
+fn write_ends<O: Write>(answers: &str, ends: &[usize], writer: &mut O) -> io::Result<()> {
     let mut number = 1usize;
     for answer in answers.split('\n') {
         number = number.saturating_add(1);
