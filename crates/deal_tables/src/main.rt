@@ -15,6 +15,7 @@ use std::{env, io};
 const VISITS: u64 = 1_000_000_000_000;
 
 // What the program's words ask for.
+#[derive(Clone, Copy)]
 struct Asked {
     // Each line is an ending.
     endings: bool,
