@@ -4,8 +4,6 @@
 mod command_line;
 pub mod laws;
 mod reading;
-#[cfg(test)]
-mod tests;
 mod words;
 
 pub use reading::read_words;

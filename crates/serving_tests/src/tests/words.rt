@@ -1,7 +1,8 @@
-use crate::reading::read_words;
-use crate::words::{Serving, Words};
+//! The words that the program is called with.
+
 use clap::Error;
 use clap::error::ErrorKind;
+use server_words::{Serving, Words, read_words};
 use std::alloc::{AllocError, Global};
 use std::test::Fail;
 

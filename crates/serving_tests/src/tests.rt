@@ -4,6 +4,7 @@ use websocket_server::MessageServer;
 
 mod listening;
 mod streams;
+mod words;
 
 // It answers with how many messages came since the last client did, and with the message; none where it is "none".
 #[derive(Drop)]
