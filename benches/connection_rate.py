@@ -1,10 +1,10 @@
 #!/usr/bin/env python3
 """Says how many queries a second one client of `bridge_server serve` gets answered, over one connection, one after another.
 
-    /usr/bin/python3 benches/connection_rate.py crates/bridge_server/out/bridge_server [SECONDS]
+    /usr/bin/python3 benches/connection_rate.py [PROGRAM] [ECHO] [SECONDS]
 
-Python's standard library is enough. Beside it stands the same client at a bare echo of the same frames, written here: what it
-gets is what the client and the system allow at most.
+Python's standard library is enough. Beside it stands the same client at `websocket_echo`, which answers each text with the same
+text over the same library: what that gets is what the client, the system and the library allow at most.
 """
 import pathlib
 import socket
@@ -12,14 +12,20 @@ import struct
 import subprocess
 import sys
 import tempfile
-import threading
 import time
 
 sys.path.insert(0, str(pathlib.Path(__file__).resolve().parent.parent / "tests"))
 from write_stored_runs import BOARDS, USERS, text_of  # noqa: E402
 
 PROGRAM = sys.argv[1] if len(sys.argv) > 1 else "crates/bridge_server/out/bridge_server"
-SECONDS = float(sys.argv[2]) if len(sys.argv) > 2 else 3.0
+ECHO = sys.argv[2] if len(sys.argv) > 2 else "crates/websocket_echo/out/websocket_echo"
+SECONDS = float(sys.argv[3]) if len(sys.argv) > 3 else 3.0
+QUESTIONS = [
+    ("one board", {"ask": "board", "board": 1}),
+    ("the status", {"ask": "status"}),
+    ("the list of boards", {"ask": "list"}),
+    ("what is no request", {}),
+]
 HANDSHAKE = ("GET / HTTP/1.1\r\nHost: 127.0.0.1\r\nUpgrade: websocket\r\nConnection: Upgrade\r\n"
              "Sec-WebSocket-Key: dGhlIHNhbXBsZSBub25jZQ==\r\nSec-WebSocket-Version: 13\r\n\r\n").encode()
 
@@ -62,57 +68,53 @@ def rate(stream, question):
     return count / (time.perf_counter() - start)
 
 
-def echo(listener):
-    stream, _ = listener.accept()
-    stream.setsockopt(socket.IPPROTO_TCP, socket.TCP_NODELAY, 1)
-    try:
-        while True:
-            head = exactly(stream, 2)
-            length = head[1] & 0x7F
-            if length == 126:
-                length = struct.unpack(">H", exactly(stream, 2))[0]
-            payload = exactly(stream, 4 + length)[4:]
-            stream.sendall(b"\x81" + (bytes([len(payload)]) if len(payload) < 126 else b"\x7e" + struct.pack(">H", len(payload))) + payload)
-    except SystemExit:
-        stream.close()
+def free_port():
+    with socket.socket() as free:
+        free.bind(("127.0.0.1", 0))
+        return free.getsockname()[1]
+
+
+def connected(port):
+    """A stream after the handshake. The program may not listen yet."""
+    for _ in range(500):
+        try:
+            stream = socket.create_connection(("127.0.0.1", port))
+            break
+        except ConnectionRefusedError:
+            time.sleep(0.01)
+    else:
+        raise SystemExit("nobody listens")
+    stream.sendall(HANDSHAKE)
+    head = b""
+    while b"\r\n\r\n" not in head:
+        head += exactly(stream, 1)
+    return stream
+
+
+def measure(words, port, hello, what):
+    """Starts a program that serves one client, greets it with this text, if any, and measures each question."""
+    program = subprocess.Popen(words)
+    with connected(port) as stream:
+        if hello:
+            stream.sendall(frame(hello))
+            answer(stream)
+        for name, question in QUESTIONS:
+            print(f"{rate(stream, text_of(question)):10.0f} a second: {name}, {what}")
+    if program.wait(timeout=10):
+        raise SystemExit(f"{what} ended with status {program.returncode}")
 
 
 def main():
     with tempfile.TemporaryDirectory() as name:
-        folder = pathlib.Path(name)
-        (folder / "session.json").write_text(text_of({"budget": 0, "per_set": 1, "rounds": 3, "tables": 3, "users": USERS}))
-        (folder / "deals.pbn").write_text(BOARDS)
-        with socket.socket() as free:
-            free.bind(("127.0.0.1", 0))
-            port = free.getsockname()[1]
-        server = subprocess.Popen([PROGRAM, "serve", "--session", str(folder / "session.json"), "--deals", str(folder / "deals.pbn"),
-                                   "--port", str(port), "--displays", "1", "--connections", "1"])
-        for _ in range(500):
-            try:
-                stream = socket.create_connection(("127.0.0.1", port))
-                break
-            except ConnectionRefusedError:
-                time.sleep(0.01)
-        stream.sendall(HANDSHAKE)
-        head = b""
-        while b"\r\n\r\n" not in head:
-            head += exactly(stream, 1)
-        stream.sendall(frame('{"hello":"d","token":"abc"}'))
-        answer(stream)
-        for what, question in [("one board", {"ask": "board", "board": 1}), ("the status", {"ask": "status"}), ("the list of boards", {"ask": "list"}),
-                               ("what is no request", {})]:
-            print(f"{rate(stream, text_of(question)):10.0f} a second: {what}")
-        stream.close()
-        server.wait(timeout=10)
-    with socket.socket() as listener:
-        listener.bind(("127.0.0.1", 0))
-        listener.listen()
-        thread = threading.Thread(target=echo, args=(listener,))
-        thread.start()
-        stream = socket.create_connection(listener.getsockname())
-        print(f"{rate(stream, text_of({'ask': 'board', 'board': 1})):10.0f} a second: a bare echo, in Python")
-        stream.close()
-        thread.join()
+        session, deals = pathlib.Path(name) / "session.json", pathlib.Path(name) / "deals.pbn"
+        session.write_text(text_of({"budget": 0, "per_set": 1, "rounds": 3, "tables": 3, "users": USERS}))
+        deals.write_text(BOARDS)
+        port = free_port()
+        words = [PROGRAM, "serve", "--session", str(session), "--deals", str(deals), "--port", str(port),
+                 "--displays", "1", "--connections", "1"]
+        measure(words, port, '{"hello":"d","token":"abc"}', "the server")
+    port = free_port()
+    measure([ECHO, str(port), "1"], port, None, "the echo")
 
 
 main()
