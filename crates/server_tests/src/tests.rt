@@ -1,0 +1,5 @@
+mod calling;
+mod client;
+mod files;
+mod serving;
+mod statuses;

@@ -1,0 +1,142 @@
+//! Clients that are served.
+
+use super::client::{asks, connect, free_port, hears, leaves, stream_to};
+use super::files::{DEALS, SESSION, file_of, words_of};
+use server_program::run_words;
+use std::alloc::Global;
+use std::io::Write;
+use std::net::Net;
+use std::process::Abort;
+use std::rt::Files;
+use std::sync::Wait;
+use std::test::Fail;
+use std::time::Clock;
+use std::{process, thread};
+use tungstenite::Message;
+
+const HELLO: &str = r#"{"hello":"n1","token":"abc"}"#;
+
+const GREETED: &str = r#"{"hello":"n1"}"#;
+
+const BOARD: &str = r#"{"ask":"board","board":1}"#;
+
+const STILL_TO_PLAY: &str =
+    r#"{"denied":{"board":1,"rule":5,"table":1,"why":"your pair has still to play this board"},"version":0}"#;
+
+const HELD: &str =
+    r#"{"denied":{"board":1,"rule":4,"table":0,"why":"the board is held"},"version":1}"#;
+
+const UNKNOWN: &str = r#"{"error":"NotSignedIn"}"#;
+
+// The words that serve so many connections at this port, in a session of files that no other test has.
+fn words_to_serve<R: Files>(
+    rt: &R,
+    alloc: Global,
+    number: u32,
+    port: u16,
+    connections: &str,
+) -> Result<Vec<String>, Fail> {
+    let name = format!(in alloc; "{connections}.json")?;
+    let session = file_of(rt, alloc, number, name.as_str(), SESSION)?;
+    let name = format!(in alloc; "{connections}.pbn")?;
+    let deals = file_of(rt, alloc, number, name.as_str(), DEALS)?;
+    let port = port.to_string(alloc)?;
+    let words = [
+        "serve",
+        "--session",
+        session.as_str(),
+        "--deals",
+        deals.as_str(),
+        "--port",
+        port.as_str(),
+        "--displays",
+        "1",
+        "--connections",
+        connections,
+    ];
+    Ok(words_of(alloc, &words)?)
+}
+
+// Runs the program with these words: its status, and how many bytes it writes and says.
+fn served<R: Files + Net + Clock + Wait + AllocGlobal>(
+    rt: &R,
+    words: &[String],
+) -> (u8, usize, usize) {
+    let mut written = Vec::new(rt.alloc());
+    let mut errors = Vec::new(rt.alloc());
+    let mut nothing = b"".as_slice();
+    let status = run_words(rt, words, &mut nothing, &mut written, &mut errors);
+    (status, written.len(), errors.len())
+}
+
+#[test]
+fn a_player_is_denied_a_board_that_is_still_to_play(rt: HostRuntime) -> Result<(), Fail> {
+    let number = process::id(rt.process());
+    let port = free_port(&rt)?;
+    let words = words_to_serve(&rt, rt.alloc(), number, port, "1")?;
+    let server_rt = rt.clone()?;
+    let server = thread::spawn(&rt, move || served(&server_rt, words.as_slice()))?;
+    let mut client = connect(&rt, port)?;
+    asks(&rt, &mut client, HELLO, GREETED)?;
+    asks(&rt, &mut client, BOARD, STILL_TO_PLAY)?;
+    leaves(&rt, &mut client)?;
+    assert_eq!(rt; server.join(&rt), (0, 0, 0));
+    Ok(())
+}
+
+#[test]
+fn each_client_is_alone_with_its_faults(rt: HostRuntime) -> Result<(), Fail> {
+    let number = process::id(rt.process());
+    let port = free_port(&rt)?;
+    let words = words_to_serve(&rt, rt.alloc(), number, port, "4")?;
+    let server_rt = rt.clone()?;
+    let server = thread::spawn(&rt, move || served(&server_rt, words.as_slice()))?;
+
+    // No handshake.
+    let mut stream = stream_to(&rt, port)?;
+    stream.write_all(b"GET / HTTP/1.1\r\n\r\n")?;
+    drop(stream);
+
+    leaves_within_a_frame(&rt, port)?;
+    is_signed_in_by_a_text_alone(&rt, port)?;
+    sees_what_was_done(&rt, port)?;
+    assert_eq!(rt; server.join(&rt), (0, 0, 0));
+    Ok(())
+}
+
+// A client that signs in, and leaves in the middle of a frame.
+fn leaves_within_a_frame<R: Net + Clock + Abort + AllocGlobal>(
+    rt: &R,
+    port: u16,
+) -> Result<(), Fail> {
+    let mut client = connect(rt, port)?;
+    asks(rt, &mut client, HELLO, GREETED)?;
+    client.get_mut().write_all(b"\x81\x8a\0\0\0\0{\"ask")?;
+    Ok(())
+}
+
+// Nobody is signed in on the next connection, where a binary message is malformed and signs nobody in.
+fn is_signed_in_by_a_text_alone<R: Net + Clock + Abort + AllocGlobal>(
+    rt: &R,
+    port: u16,
+) -> Result<(), Fail> {
+    let mut client = connect(rt, port)?;
+    asks(rt, &mut client, BOARD, UNKNOWN)?;
+    client.send(Message::binary(rt.alloc(), HELLO.as_bytes())?)?;
+    hears(rt, &mut client, r#"{"error":"Malformed"}"#)?;
+    asks(rt, &mut client, BOARD, UNKNOWN)?;
+    leaves(rt, &mut client)
+}
+
+// What one client did, the next one sees.
+fn sees_what_was_done<R: Net + Clock + Abort + AllocGlobal>(rt: &R, port: u16) -> Result<(), Fail> {
+    let mut client = connect(rt, port)?;
+    let director = r#"{"hello":"d","token":"abc"}"#;
+    asks(rt, &mut client, director, r#"{"hello":"d"}"#)?;
+    let hold = r#"{"do":[{"board":1,"cmd":"Hold"}]}"#;
+    let taken = r#"{"answers":["ok"],"first":1,"last":1,"version":1}"#;
+    asks(rt, &mut client, hold, taken)?;
+    asks(rt, &mut client, HELLO, GREETED)?;
+    asks(rt, &mut client, BOARD, HELD)?;
+    leaves(rt, &mut client)
+}
