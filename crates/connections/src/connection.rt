@@ -6,6 +6,7 @@ ghost use Rattle.reply_texts.specs.ReplyText.{reply_text};
 ghost use Rattle.session_book.specs.Journal.{IsAccepted};
 ghost use Rattle.session_book.specs.Run.{most_commands};
 ghost use Rattle.wire.specs.declared.connection_fault.ConnectionFault.TheVariants.{NotSignedIn, NotKnown, NoEntry, OutOfMemory};
+ghost use Rattle.connections.specs.Growing.{AddsNothing, AddsBatch};
 ghost use Rattle.connections.specs.Linked.{HasGoneOn, StaysOn};
 ghost use Rattle.connections.specs.Serving.{batch_text, IsKnown, IsAuditText, IsBatchText, IsRowsText, ServedTo, query_text};
 
@@ -74,6 +75,7 @@ impl<K: Keeper> Connection<K> {
         ensures same { OnErr result (self.new.user ≡ self.old.user) }
         ensures fault { IfErr result (λ fault.
             ((fault ≡ NotKnown) × (¬ IsKnown self.new name token.now)) ⊎ (fault ≡ NoEntry)) }
+        ensures adds { AddsNothing K.others self.old self.new }
     {
         match self.keeper.digest(name) {
             Ok(Some(digest)) if is_digest_of(&digest, token) => {
@@ -95,6 +97,7 @@ impl<K: Keeper> Connection<K> {
         ensures served { ServedTo string_bytes
             (λ user text. text ≡ query_text self.new user query.now since) self.old self.new result self.old.user }
         ensures known { IfErr result (λ fault. fault ≢ NotKnown) }
+        ensures adds { AddsNothing K.others self.old self.new }
     {
         match self.user {
             Some(user) => self.query_text(alloc, user, query, since),
@@ -114,6 +117,7 @@ impl<K: Keeper> Connection<K> {
         ensures accepted { IsAccepted self.new.opening self.new.journal }
         ensures text { IfOk result (λ text. string_bytes text ≡ query_text self.new user query.now since) }
         ensures fault { IfErr result (λ fault. (fault ≡ NoEntry) ⊎ (fault ≡ OutOfMemory)) }
+        ensures adds { AddsNothing K.others self.old self.new }
     {
         match self.keeper.query(alloc, user, query, since) {
             Ok(reply) => text_of_reply(alloc, &reply),
@@ -134,6 +138,7 @@ impl<K: Keeper> Connection<K> {
         ensures served { ServedTo string_bytes
             (λ user text. IsBatchText self.new user commands.now text) self.old self.new result self.old.user }
         ensures fault { IfErr result (λ fault. (fault ≡ NotSignedIn) ⊎ (fault ≡ OutOfMemory)) }
+        ensures adds { AddsBatch K.others self.old self.new commands.now self.old.user }
     {
         match self.user {
             Some(user) => self.batch_text(rt, alloc, user, commands),
@@ -154,6 +159,7 @@ impl<K: Keeper> Connection<K> {
         ensures accepted { IsAccepted self.new.opening self.new.journal }
         ensures text { IfOk result (λ text. IsBatchText self.new user commands.now (string_bytes text)) }
         ensures fault { IfErr result (λ fault. fault ≡ OutOfMemory) }
+        ensures adds { AddsBatch K.others self.old self.new commands.now (Some user) }
     {
         let Ok(receipt) = self.keeper.submit(rt, user, commands.as_slice()) else {
             return Err(ConnectionFault::OutOfMemory);
@@ -171,6 +177,7 @@ impl<K: Keeper> Connection<K> {
         ensures served { ServedTo string_bytes
             (λ user text. IsAuditText self.new user range text) self.old self.new result self.old.user }
         ensures fault { IfErr result (λ fault. (fault ≡ NotSignedIn) ⊎ (fault ≡ OutOfMemory)) }
+        ensures adds { AddsNothing K.others self.old self.new }
     {
         match self.user {
             Some(user) => self.audit_text(rt, alloc, user, range),
@@ -190,6 +197,7 @@ impl<K: Keeper> Connection<K> {
         ensures accepted { IsAccepted self.new.opening self.new.journal }
         ensures text { IfOk result (λ text. IsAuditText self.new user range (string_bytes text)) }
         ensures fault { IfErr result (λ fault. fault ≡ OutOfMemory) }
+        ensures adds { AddsNothing K.others self.old self.new }
     {
         let receipt = self
             .keeper

@@ -4,6 +4,7 @@ ghost use Rattle.std.specs.Prelude.{◌≡◌, ◌≢◌, ◌⊎◌, Ok, Err, So
 ghost use Rattle.wire.specs.Request.{HasFew};
 ghost use Rattle.wire.specs.ReceiptText.{connection_fault_text};
 ghost use Rattle.wire.specs.declared.connection_fault.ConnectionFault.TheVariants.{NotKnown, NoEntry, OutOfMemory};
+ghost use Rattle.connections.specs.Growing.{Adds, AddsBody, AddsNothing};
 ghost use Rattle.connections.specs.Linked.{HasGoneOn, StaysOn};
 ghost use Rattle.connections.specs.Serving.{Greets, IsToldOf, Serves, ServesBody};
 
@@ -21,7 +22,7 @@ use wire::{
 impl<K: Keeper> Connection<K> {
     /// The text that answers a message. A batch or an audit may wait for others who submit. Where memory is refused, nobody has
     /// signed in by the message; commands that were accepted stand where their receipt finds no memory.
-    #[tactic(auto, unfolding(crate::specs::Serving::Serves), using(crate::proofs::ServingLemmas::stays_itself))]
+    #[tactic(auto, unfolding(crate::specs::Serving::Serves, crate::specs::Growing::Adds), using(crate::proofs::ServingLemmas::stays_itself, crate::proofs::GrowingLemmas::adds_itself))]
     pub fn serve_message<R: Wait>(
         &mut self,
         rt: &R,
@@ -30,6 +31,7 @@ impl<K: Keeper> Connection<K> {
     ) -> Result<String, AllocError>
         ensures served { IfOk result (λ text. Serves self.old self.new message.now (string_bytes text)) }
         ensures refused { OnErr result (StaysOn self.old self.new) }
+        ensures adds { Adds K.others self.old self.new message.now }
     {
         match read_request(alloc, message, Source::Connection) {
             Ok(request) => self.serve_body(rt, alloc, &request.body),
@@ -48,6 +50,7 @@ impl<K: Keeper> Connection<K> {
         requires { HasFew body.now }
         ensures served { IfOk result (λ text. ServesBody self.old self.new (string_bytes text) body.now) }
         ensures refused { OnErr result (StaysOn self.old self.new) }
+        ensures adds { AddsBody K.others self.old self.new body.now }
     {
         match body {
             RequestBody::Query { query, since } => told(
@@ -64,6 +67,7 @@ impl<K: Keeper> Connection<K> {
     fn greet(&mut self, alloc: Global, name: Name, token: &Token) -> Result<String, AllocError>
         ensures served { IfOk result (λ text. Greets self.old self.new name token.now (string_bytes text)) }
         ensures refused { OnErr result (StaysOn self.old self.new) }
+        ensures adds { AddsNothing K.others self.old self.new }
     {
         let welcome = hello_text(alloc, name)?;
         match self.hello(name, token.as_bytes()) {

@@ -10,6 +10,7 @@ use Rattle.session_book.specs.Audit.{audit_rows}
 use Rattle.session_book.specs.declared.audit.AuditError.TheVariants.{NotPermitted}
 use Rattle.session_book.specs.Journal.{replay}
 use Rattle.session_book.specs.Run.{Runs, first_number, last_number}
+use Rattle.session_book.specs.declared.answer.Answer.{Answer}
 use Rattle.session_keeper.specs.declared.receipt.AuditReceipt.{AuditReceipt}
 use Rattle.session_keeper.specs.declared.receipt.BatchReceipt.{BatchReceipt}
 
@@ -31,6 +32,18 @@ pub record IsReceiptOf (opening : SessionState) (actor : List ℕ) (batch : List
   pub last : receipt.submission.last ≡ last_number (length before) (length after)
   pub version : receipt.version ≡ length after
   pub begins : IsPrefix after now
+
+-- nothing has joined the journal but what others add, and these commands of a user, which ran once, whole or up to a command for
+-- which memory was refused
+pub record RanOnce (Others : List Entry → List Entry → Type 0) (opening : SessionState) (before : List Entry)
+    (actor : List ℕ) (batch : List Command) (now : List Entry) : Type 0 where
+  pub first : List Entry
+  pub last : List Entry
+  pub stopped : Bool
+  pub answers : List Answer
+  pub came : Others before first
+  pub ran : Runs stopped opening first actor batch (record { journal = last; answers = answers })
+  pub went : Others last now
 
 -- the audit of some journal, which is the beginning of the one that is known now
 pub record IsAuditOf (opening : SessionState) (actor : List ℕ) (from limit : ℕ) (receipt : AuditReceipt) (now : List Entry)

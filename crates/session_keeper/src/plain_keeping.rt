@@ -1,5 +1,7 @@
 //! The plain keeper, as connections see it: it waits for nobody, and each version can be entered.
 
+ghost use Rattle.std.specs.Prelude.{◌≡◌};
+
 use crate::keeper::PlainKeeper;
 use crate::keeping::{Keeper, NoEntry, QueryFault};
 use crate::receipt::{AuditReceipt, BatchReceipt};
@@ -13,6 +15,8 @@ impl Keeper for PlainKeeper {
     ghost opening = { λ k. k.opening };
 
     ghost journal = { λ k. k.journal };
+
+    ghost others = { λ before after. after ≡ before };
 
     fn submit<R: Wait>(
         &mut self,
