@@ -4,7 +4,7 @@ use disclosure_rules::Seat;
 use session_state::Digest;
 
 /// A user with whom a session opens.
-#[derive(Debug, Drop)]
+#[derive(Drop)]
 pub struct NewUser {
     pub name: Name,
     pub digest: Digest,

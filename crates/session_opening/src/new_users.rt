@@ -4,7 +4,7 @@ use crate::new_user::NewUser;
 use std::marker::Model;
 
 /// The users with whom a session opens, in their order.
-#[derive(Debug, Drop)]
+#[derive(Drop)]
 pub struct NewUsers {
     users: Vec<NewUser>,
 }

@@ -4,7 +4,7 @@ use rbac::Role;
 use std::marker::Model;
 
 /// The roles that a new user is to have, as they were written: in their order, and some perhaps twice.
-#[derive(Debug, Drop)]
+#[derive(Drop)]
 pub struct RoleList {
     roles: Vec<Role>,
 }

@@ -10,7 +10,7 @@ use shown_facts::{CardCosts, Items};
 use standings::TravellerRow;
 
 /// What a query is answered.
-#[derive(Debug, Drop)]
+#[derive(Drop)]
 pub enum Body {
     /// The session has no such board.
     NoSuchBoard,

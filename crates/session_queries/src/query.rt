@@ -6,7 +6,7 @@ use movement::Cell;
 use query_filter::Filter;
 
 /// What a user asks for. Boards and tables are numbered from 1.
-#[derive(Debug, Drop)]
+#[derive(Drop)]
 pub enum Query {
     /// What every member may see.
     Status,

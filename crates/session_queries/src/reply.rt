@@ -1,7 +1,7 @@
 use crate::body::Body;
 
 /// The reply to a query: a body, and the version that it is true of.
-#[derive(Debug, Drop)]
+#[derive(Drop)]
 pub struct Reply {
     pub version: usize,
     pub body: Body,

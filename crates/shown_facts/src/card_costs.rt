@@ -1,7 +1,7 @@
 use solver_results::Costs;
 
 /// What each card of a play cost its side.
-#[derive(Clone, Copy, Debug)]
+#[derive(Clone, Copy)]
 pub enum CardCosts {
     /// They are still to be counted.
     Pending,

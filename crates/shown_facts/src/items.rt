@@ -3,7 +3,7 @@ ghost use Rattle.std.specs.Prelude.{◌≡◌};
 use std::marker::Model;
 
 /// A list that a reply holds: clauses see its items.
-#[derive(Debug, Drop)]
+#[derive(Drop)]
 pub struct Items<T>(Vec<T>);
 
 impl<T> Model for Items<T> {
