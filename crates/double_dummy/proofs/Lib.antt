@@ -1,5 +1,1 @@
-pub mod BoundLemmas
-pub mod ClaimLemmas
-pub mod RunLemmas
-pub mod SearchLemmas
 pub mod PlayedLemmas

@@ -7,10 +7,9 @@ ghost use Rattle.double_dummy.specs.Played.{IsPlayed};
 ghost use Rattle.double_dummy.specs.declared.error.CostsError.TheVariants.{NotAPlay, OutOfBudget};
 ghost use Rattle.double_dummy_laws.specs.DoubleDummy.{double_dummy, cost_list, first_illegal};
 
-use crate::budget::{Budget, BudgetSpent};
 use crate::error::CostsError;
-use crate::value::value;
 use cards::{Card, Deal, Place, Position, Side, Strain};
+use double_dummy_search::{Budget, BudgetSpent, value};
 use position_patterns::{DealPatterns, Holders, Memory};
 use scoring::Contract;
 use solver_results::Costs;

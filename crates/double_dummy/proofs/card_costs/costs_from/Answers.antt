@@ -1,4 +1,4 @@
-use Rattle.double_dummy.proofs.BoundLemmas.{deal_cards}
+use Rattle.double_dummy_search.proofs.BoundLemmas.{deal_cards}
 use Rattle.double_dummy.proofs.card_costs.costs_from.Goals as goal
 
 pub cost_each-requires-clause-cards : goal.cost_each-requires-clause-cards

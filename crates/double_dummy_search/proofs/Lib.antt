@@ -1,0 +1,4 @@
+pub mod BoundLemmas
+pub mod ClaimLemmas
+pub mod RunLemmas
+pub mod SearchLemmas
