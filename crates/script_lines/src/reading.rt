@@ -104,7 +104,7 @@ fn end_rest(line: &mut Vec<u8>, most: usize)
 }
 
 // Takes one CR off a line's end.
-fn drop_return(line: &mut Vec<u8>)
+pub(crate) fn drop_return(line: &mut Vec<u8>)
     ensures { line.new.items ≡ ended_line line.old.items }
 {
     if line.last() == Some(&b'\r') {

@@ -5,7 +5,7 @@ ghost use Rattle.std.specs.Io.KnownBytes.{Consumes};
 ghost use Rattle.script_lines.specs.Reading.{IsUnbroken, TakesUpTo, FailsWithin};
 
 use crate::line_end::LineEnd;
-use crate::reading::{ReadFault, next_byte};
+use crate::reading::{ReadFault, drop_return, next_byte};
 use std::io::Read;
 
 /// Reads the next line as `read_line` does, if it has no more than `most` bytes; else there is none, and not more than so
@@ -26,9 +26,7 @@ pub fn read_short_line<R: Read>(
     loop {
         match next_byte(reader, left) {
             Ok(Some(b'\n')) => {
-                if line.last() == Some(&b'\r') {
-                    line.pop();
-                }
+                drop_return(line);
                 return Ok(Some(LineEnd::LineFeed));
             }
             Ok(Some(byte)) => {

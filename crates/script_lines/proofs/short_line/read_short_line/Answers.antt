@@ -1,18 +1,111 @@
-use Rattle.std.proofs.Common.{◌∷◌, [], Some, subst, arith}
+use Rattle.std.proofs.Common.{◌≡◌, ◌+◌, ◌≤◌, ◌∷◌, [], ◌++◌, Some, length, sym, ap, subst, length-append, rules, arith}
 use Rattle.script_lines.specs.NextByte.{TakesByte}
-use Rattle.std.proofs.KnownBytes.{Consumes-trans}
+use Rattle.script_lines.specs.Reading.{IsUnbroken}
+use Rattle.std.specs.Io.KnownBytes.{Consumes}
+use Rattle.script_lines.proofs.NextByteLemmas.{no_longer, ends_here, is_rest, goes_on}
 use Rattle.script_lines.proofs.ShortLineLemmas.{fails_in}
 use Rattle.script_lines.proofs.short_line.read_short_line.Goals as goal
 
+pub returns-in-Ok-Some-eq10-clause-line : goal.returns-in-Ok-Some-eq10-clause-line
+returns-in-Ok-Some-eq10-clause-line g c =
+    let so_far = c.loop-line.invariant in
+    let before = g.R.Read.remaining c.args.reader.now in
+    let reader = g.R.Read.remaining c.loop-line.reader in
+    let after = g.R.Read.remaining c.next_byte.new.reader in
+    let taken : TakesByte (Some 10) reader after c.loop-line.left c.next_byte.new.left = search rules in (
+      ends_here before reader after c.loop-line.line.items c.args.left.now c.loop-line.left c.next_byte.new.left so_far.unbroken so_far.consumed so_far.counted taken c.drop_return.new.line.items c.drop_return.ensures,
+      omega (arith, so_far.few, ap length c.drop_return.ensures, no_longer c.loop-line.line.items),
+    )
+
+pub returns-in-Ok-Some-eq10-clause-kept : goal.returns-in-Ok-Some-eq10-clause-kept
+returns-in-Ok-Some-eq10-clause-kept g c =
+    omega (arith, c.loop-line.invariant.few, ap length c.drop_return.ensures, no_longer c.loop-line.line.items)
+
+pub returns-in-Ok-None-clause-line : goal.returns-in-Ok-None-clause-line
+returns-in-Ok-None-clause-line g c =
+    let so_far = c.loop-line.invariant in
+    let before = g.R.Read.remaining c.args.reader.now in
+    let reader = g.R.Read.remaining c.loop-line.reader in
+    let after = g.R.Read.remaining c.next_byte.new.reader in (
+      is_rest before reader after c.loop-line.line.items c.args.left.now c.loop-line.left c.next_byte.new.left so_far.unbroken so_far.consumed so_far.counted c.in-Ok-None.field-0 c.in-Ok-None.field-0-is c.in-Ok-None.ensures.byte,
+      so_far.few,
+    )
+
+pub returns-then-len-most-clause-line : goal.returns-then-len-most-clause-line
+returns-then-len-most-clause-line g c =
+    let so_far = c.loop-line.invariant in
+    let before = g.R.Read.remaining c.args.reader.now in
+    let reader = g.R.Read.remaining c.loop-line.reader in
+    let after = g.R.Read.remaining c.next_byte.new.reader in
+    let more =
+    goes_on before reader after c.loop-line.line.items c.args.left.now c.loop-line.left c.next_byte.new.left so_far.unbroken so_far.consumed so_far.counted
+    c.in-Ok-Some.field-0 c.in-Ok-Some.byte c.in-Ok-Some.field-0-is c.in-Ok-Some.byte-test.1 c.in-Ok-Some.ensures.byte in
+    let full : length c.loop-line.line.items ≡ c.args.most = search rules in
+    c.end_of_full_line.ensures.line before c.loop-line.line.items c.args.most c.args.left.now so_far.unbroken full more.consumed
+    (omega (arith, more.counted, length-append c.loop-line.line.items (c.in-Ok-Some.byte ∷ [])))
+
 pub returns-then-len-most-clause-fault : goal.returns-then-len-most-clause-fault
 returns-then-len-most-clause-fault g c =
-    let taken : TakesByte (Some c.in-Ok-Some.byte) (g.R.Read.remaining c.loop-line.reader) (g.R.Read.remaining c.next_byte.new.reader) c.loop-line.left c.next_byte.new.left =
-    subst (λ o. TakesByte o (g.R.Read.remaining c.loop-line.reader) (g.R.Read.remaining c.next_byte.new.reader) c.loop-line.left c.next_byte.new.left) c.in-Ok-Some.field-0-is c.in-Ok-Some.ensures.byte in
-    c.end_of_full_line.ensures.fault (g.R.Read.remaining c.args.reader.now) c.loop-line.line.items c.args.left.now c.loop-line.invariant.unbroken
-    (Consumes-trans _ _ _ c.loop-line.line.items (c.in-Ok-Some.byte ∷ []) c.loop-line.invariant.consumed taken.0)
-    (omega (arith, c.loop-line.invariant.counted, taken.1))
+    let so_far = c.loop-line.invariant in
+    let before = g.R.Read.remaining c.args.reader.now in
+    let reader = g.R.Read.remaining c.loop-line.reader in
+    let after = g.R.Read.remaining c.next_byte.new.reader in
+    let more =
+    goes_on before reader after c.loop-line.line.items c.args.left.now c.loop-line.left c.next_byte.new.left so_far.unbroken so_far.consumed so_far.counted
+    c.in-Ok-Some.field-0 c.in-Ok-Some.byte c.in-Ok-Some.field-0-is c.in-Ok-Some.byte-test.1 c.in-Ok-Some.ensures.byte in
+    c.end_of_full_line.ensures.fault before c.loop-line.line.items c.args.left.now so_far.unbroken more.consumed
+    (omega (arith, more.counted, length-append c.loop-line.line.items (c.in-Ok-Some.byte ∷ [])))
+
+pub returns-then-is_err-clause-fault : goal.returns-then-is_err-clause-fault
+returns-then-is_err-clause-fault g c =
+    let so_far = c.loop-line.invariant in
+    let before = g.R.Read.remaining c.args.reader.now in
+    let reader = g.R.Read.remaining c.loop-line.reader in
+    let after = g.R.Read.remaining c.next_byte.new.reader in
+    let more =
+    goes_on before reader after c.loop-line.line.items c.args.left.now c.loop-line.left c.next_byte.new.left so_far.unbroken so_far.consumed so_far.counted
+    c.in-Ok-Some.field-0 c.in-Ok-Some.byte c.in-Ok-Some.field-0-is c.in-Ok-Some.byte-test.1 c.in-Ok-Some.ensures.byte in
+    record {
+      piece = c.loop-line.line.items ++ c.in-Ok-Some.byte ∷ [];
+      unbroken = more.unbroken;
+      consumed = more.consumed;
+      within = omega (arith, more.counted);
+    }
 
 pub returns-in-Err-clause-fault : goal.returns-in-Err-clause-fault
 returns-in-Err-clause-fault g c =
-    fails_in c.in-Err.fault (g.R.Read.remaining c.args.reader.now) (g.R.Read.remaining c.loop-line.reader) (g.R.Read.remaining c.next_byte.new.reader) c.loop-line.line.items
-    c.args.left.now c.loop-line.left c.next_byte.new.left c.in-Err.ensures.input c.loop-line.invariant.unbroken c.loop-line.invariant.consumed c.loop-line.invariant.counted c.in-Err.ensures.fault
+    let so_far = c.loop-line.invariant in
+    let before = g.R.Read.remaining c.args.reader.now in
+    let reader = g.R.Read.remaining c.loop-line.reader in
+    let after = g.R.Read.remaining c.next_byte.new.reader in
+    fails_in c.in-Err.fault before reader after c.loop-line.line.items c.args.left.now c.loop-line.left c.next_byte.new.left
+    c.in-Err.ensures.input so_far.unbroken so_far.consumed so_far.counted c.in-Err.ensures.fault
+
+pub loop-line-preserved : goal.loop-line-preserved
+loop-line-preserved g c =
+    let so_far = c.loop-line.invariant in
+    let before = g.R.Read.remaining c.args.reader.now in
+    let reader = g.R.Read.remaining c.loop-line.reader in
+    let after = g.R.Read.remaining c.next_byte.new.reader in
+    let more =
+    goes_on before reader after c.loop-line.line.items c.args.left.now c.loop-line.left c.next_byte.new.left so_far.unbroken so_far.consumed so_far.counted
+    c.in-Ok-Some.field-0 c.in-Ok-Some.byte c.in-Ok-Some.field-0-is c.in-Ok-Some.byte-test.1 c.in-Ok-Some.ensures.byte in
+    let pushed : c.push.new.self.items ≡ c.loop-line.line.items ++ c.in-Ok-Some.byte ∷ [] = search rules in
+    let room : length c.loop-line.line.items + 1 ≤ c.args.most = omega arith in
+    record {
+      unbroken = subst IsUnbroken (sym pushed) more.unbroken;
+      consumed = subst (Consumes before after) (sym pushed) more.consumed;
+      counted = omega (arith, more.counted, ap length pushed);
+      few = omega (arith, room, ap length pushed, length-append c.loop-line.line.items (c.in-Ok-Some.byte ∷ []));
+    }
+
+pub loop-line-smaller : goal.loop-line-smaller
+loop-line-smaller g c =
+    let so_far = c.loop-line.invariant in
+    let before = g.R.Read.remaining c.args.reader.now in
+    let reader = g.R.Read.remaining c.loop-line.reader in
+    let after = g.R.Read.remaining c.next_byte.new.reader in
+    let more =
+    goes_on before reader after c.loop-line.line.items c.args.left.now c.loop-line.left c.next_byte.new.left so_far.unbroken so_far.consumed so_far.counted
+    c.in-Ok-Some.field-0 c.in-Ok-Some.byte c.in-Ok-Some.field-0-is c.in-Ok-Some.byte-test.1 c.in-Ok-Some.ensures.byte in
+    more.less

@@ -1,0 +1,110 @@
+-- What a line has taken, once one byte more is asked of the reader.
+use Rattle.std.proofs.Common.{◌≡◌, ◌≢◌, ◌+◌, ◌-◌, ◌<◌, ◌≤◌, ◌∷◌, [], ◌++◌, ◌∙◌, ℕ, List, Bool, true, false, cond, length, take, sym, ap, subst, append-nil, length-append, length-take, length-take-le, arith}
+use Rattle.std.specs.Prelude.{Option, Some, None, Result, Ok, Err, OnOk, OnErr}
+use Rattle.std.specs.Result.{is_err}
+use Rattle.std.specs.Io.BufRead.{ends_with_byte}
+use Rattle.std.specs.Io.KnownBytes.{Consumes}
+use Rattle.std.proofs.KnownBytes.{Consumes-trans}
+use Rattle.std.proofs.lemmas.List.{take_all}
+use Rattle.script_lines.specs.declared.reading.ReadFault.{ReadFault}
+use Rattle.script_lines.specs.declared.reading.ReadFault.TheVariants.{Input, OutOfMemory}
+use Rattle.script_lines.specs.Lines.{ended_line}
+use Rattle.script_lines.specs.NextByte.{TakesByte, FailsAtByte}
+use Rattle.script_lines.specs.Reading.{IsUnbroken, TakesEnded, TakesRest, FailsFor, FailsForMemory}
+use Rattle.script_lines.proofs.ShortLineLemmas.{unbroken_with}
+
+-- ---- what a result's test says
+
+pub at_ok : {T E P : Type 0} (result : Result T E) → is_err result ≡ false → OnOk result P → P
+at_ok (Ok value) ok known = known
+at_ok (Err error) ok known = absurd (cc)
+
+pub at_err : {T E P : Type 0} (result : Result T E) → is_err result ≡ true → OnErr result P → P
+at_err (Ok value) failed known = absurd (cc)
+at_err (Err error) failed known = known
+
+-- ---- how much of a line is kept
+
+-- where fewer bytes are kept than may be, all are
+pub all_kept : (most : ℕ) (line piece : List ℕ) → line ≡ take (most + 2) piece → length line ≤ most + 1 → line ≡ piece
+all_kept most line piece kept few =
+    kept ∙ take_all (most + 2) piece (omega (arith, few, ap length kept, length-take (most + 2) piece))
+
+-- a line isn't longer than its piece
+pub no_longer : (piece : List ℕ) → length (ended_line piece) ≤ length piece
+no_longer piece = by (ends_with_byte 13 piece)
+  where
+    by : (b : Bool) → length (cond b (take (length piece - 1) piece) piece) ≤ length piece
+    by true = omega (arith, length-take-le (length piece - 1) piece (omega arith))
+    by false = omega arith
+
+-- ---- the bytes of a line so far, and what is asked for next
+
+-- the line has one byte more
+pub record GoesOn (before after : Option (List ℕ)) (piece : List ℕ) (byte all left left' : ℕ) : Type 0 where
+  pub unbroken : IsUnbroken (piece ++ byte ∷ [])
+  pub consumed : Consumes before after (piece ++ byte ∷ [])
+  pub counted : left' + length (piece ++ byte ∷ []) ≡ all
+  pub less : left' < left
+
+module _ (before reader after : Option (List ℕ)) (piece : List ℕ) (all left left' : ℕ) (unbroken : IsUnbroken piece)
+    (consumed : Consumes before reader piece) (counted : left + length piece ≡ all) where
+  -- an LF ends the line
+  pub ends_here : TakesByte (Some 10) reader after left left' → (line : List ℕ) → line ≡ ended_line piece → TakesEnded before after line all left'
+  ends_here taken line shortened = record {
+    piece = piece;
+    unbroken = unbroken;
+    consumed = Consumes-trans before reader after piece (10 ∷ []) consumed taken.0;
+    shortened = shortened;
+    counted = omega (arith, counted, taken.1);
+  }
+
+  -- there is none
+  pub is_rest : (found : Option ℕ) → found ≡ None → TakesByte found reader after left left' → TakesRest before after piece all left'
+  is_rest found none taken =
+      let ended : TakesByte None reader after left left' = subst (λ o. TakesByte o reader after left left') none taken in
+      record {
+        unbroken = unbroken;
+        consumed = subst (Consumes before after) (append-nil piece) (Consumes-trans before reader after piece [] consumed ended.0);
+        at_end = ended.1;
+        counted = omega (arith, counted, ended.2);
+      }
+
+  -- the reader fails
+  pub fails_for : (fault : ReadFault) → fault ≡ Input → FailsAtByte reader after left left' → (most : ℕ) (line : List ℕ) → line ≡ take (most + 2) piece
+      → FailsFor fault before after most line all left'
+  fails_for OutOfMemory is fails most line kept = absurd (cc)
+  fails_for Input is fails most line kept = record {
+    piece = piece;
+    unbroken = unbroken;
+    kept = kept;
+    beyond = fails.beyond;
+    consumed = Consumes-trans before reader after piece fails.beyond consumed fails.consumed;
+    few = fails.few;
+    counted = omega (arith, counted, fails.uncounted);
+    full = fails.full;
+  }
+
+  -- the line goes on with another byte
+  pub goes_on : (found : Option ℕ) (byte : ℕ) → found ≡ Some byte → byte ≢ 10 → TakesByte found reader after left left'
+      → GoesOn before after piece byte all left left'
+  goes_on found byte is other taken =
+      let known : TakesByte (Some byte) reader after left left' = subst (λ o. TakesByte o reader after left left') is taken in
+      record {
+        unbroken = unbroken_with piece byte unbroken other;
+        consumed = Consumes-trans before reader after piece (byte ∷ []) consumed known.0;
+        counted = omega (arith, counted, known.1, length-append piece (byte ∷ []));
+        less = omega (arith, known.1);
+      }
+
+  -- there is no memory for that byte
+  pub fails_for_memory : (byte most : ℕ) → byte ≢ 10 → GoesOn before after piece byte all left left' → (line : List ℕ) → line ≡ piece
+      → length line ≤ most + 1 → FailsForMemory before after most line all left'
+  fails_for_memory byte most other more line same few = record {
+    unbroken = subst IsUnbroken (sym same) unbroken;
+    lost = byte;
+    ends_no_line = other;
+    consumed = subst (λ l. Consumes before after (l ++ byte ∷ [])) (sym same) more.consumed;
+    few = few;
+    counted = omega (arith, ap length same, more.counted, length-append piece (byte ∷ []));
+  }
