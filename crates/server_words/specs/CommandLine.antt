@@ -39,20 +39,29 @@ number_rule name least most = record (option_rule name) { parser = Some (Signed 
 abbrev pub default_rule : Text → ℤ → ℤ → Text → Rule
 default_rule name least most default = record (number_rule name least most) { defaults = default ∷ [] }
 
+-- the files of the session
+abbrev pub with_files : App → App
+with_files line = with_rule (with_rule line (file_rule (codes "session"))) (file_rule (codes "deals"))
+
+abbrev pub port_rule : Rule
+port_rule = record (number_rule (codes "port") (pos least_port) (pos most_port)) { required = true }
+
+abbrev pub displays_rule : Rule
+displays_rule = default_rule (codes "displays") (pos least_displays) (pos most_displays) (codes "4")
+
+abbrev pub workers_rule : Rule
+workers_rule = default_rule (codes "workers") (pos 0) (pos most_workers) (codes "2")
+
+abbrev pub connections_rule : Rule
+connections_rule = default_rule (codes "connections") (pos 0) (pos most_connections) (codes "0")
+
+-- how many of each there are
+abbrev pub with_counts : App → App
+with_counts line = with_rule (with_rule (with_rule line displays_rule) workers_rule) connections_rule
+
 -- how clients are served
 abbrev pub serve_line : App
-serve_line =
-    with_rule
-    (with_rule
-    (with_rule
-    (with_rule
-    (with_rule
-    (with_rule (new_app (codes "serve")) (file_rule (codes "session")))
-    (file_rule (codes "deals")))
-    (record (number_rule (codes "port") (pos least_port) (pos most_port)) { required = true }))
-    (default_rule (codes "displays") (pos least_displays) (pos most_displays) (codes "4")))
-    (default_rule (codes "workers") (pos 0) (pos most_workers) (codes "2")))
-    (default_rule (codes "connections") (pos 0) (pos most_connections) (codes "0"))
+serve_line = with_counts (with_rule (with_files (new_app (codes "serve"))) port_rule)
 
 -- one of the subcommands has to be there
 abbrev pub needing_one : App

@@ -1,9 +1,9 @@
 //! The command line as `clap` takes it.
 
-ghost use Rattle.std.specs.Prelude.{◌≡◌, false, IfOk};
-ghost use Rattle.clap.specs.Words.{app_of, rule_of};
+ghost use Rattle.std.specs.Prelude.{◌≡◌, false, IfOk, codes};
+ghost use Rattle.clap.specs.Words.{app_of, new_app, rule_of, with_rule, with_subcommand};
 ghost use Rattle.clap.specs.declared.builder.command.Command.TheViews.{out-Command};
-ghost use Rattle.server_words.specs.CommandLine.{command_line, serve_line, file_rule, number_rule};
+ghost use Rattle.server_words.specs.CommandLine.{command_line, serve_line, with_files, with_counts, port_rule, file_rule, number_rule, default_rule};
 
 use clap::builder::ValueParser;
 use clap::{Arg, Command};
@@ -13,16 +13,22 @@ use std::alloc::{AllocError, Global};
 pub(crate) fn command_line<'a>(alloc: Global) -> Result<Command<'a>, AllocError>
     ensures { IfOk result (λ command. app_of command ≡ command_line) }
 {
-    let script = Command::new(alloc, "script").about(
-        "Answers a script on standard input, line by line",
-    );
-    let serve = serve_line(alloc)?;
     let plain = Command::new(alloc, "bridge_server")
         .about("Serves a session of duplicate bridge while it is played")
         .subcommand_required(true);
-    let with_script = plain.subcommand(script)?;
-    let with_both = with_script.subcommand(serve)?;
-    Ok(with_both)
+    let with_script = with_script(alloc, plain)?;
+    let serve = serve_line(alloc)?;
+    with_script.subcommand(serve)
+}
+
+// The command with the subcommand that answers a script.
+fn with_script<'a>(alloc: Global, command: Command<'a>) -> Result<Command<'a>, AllocError>
+    ensures { IfOk result (λ line. app_of line ≡ with_subcommand (app_of command.entry) (new_app (codes "script")).top) }
+{
+    let script = Command::new(alloc, "script").about(
+        "Answers a script on standard input, line by line",
+    );
+    command.subcommand(script)
 }
 
 // The subcommand that serves clients.
@@ -30,48 +36,104 @@ fn serve_line<'a>(alloc: Global) -> Result<Command<'a>, AllocError>
     ensures line { IfOk result (λ command. app_of command ≡ serve_line) }
     ensures local { IfOk result (λ command. (out-Command command).has_globals ≡ false) }
 {
-    let session = file(alloc, "session").help("The session object");
-    let deals = file(alloc, "deals").help("The deals of the session, in PBN");
-    let port = number(alloc, "port", 1, 65_535)
+    let plain = Command::new(alloc, "serve").about("Serves clients over WebSockets on 127.0.0.1");
+    let with_files = with_files(alloc, plain)?;
+    let port = number(alloc, "port", (1, 65_535))
         .required(true)
         .help("The port on 127.0.0.1");
-    let displays = number(alloc, "displays", 1, 32)
-        .default_value("4")
-        .help("How many clients are served at once");
-    let workers = number(alloc, "workers", 0, 16)
-        .default_value("2")
-        .help("How many threads solve deals");
-    let connections = number(alloc, "connections", 0, 1_000_000)
-        .default_value("0")
-        .help("After how many connections each display ends (0: never)");
-    let plain = Command::new(alloc, "serve").about("Serves clients over WebSockets on 127.0.0.1");
-    let with_session = plain.arg(session)?;
-    let with_deals = with_session.arg(deals)?;
-    let with_port = with_deals.arg(port)?;
-    let with_displays = with_port.arg(displays)?;
-    let with_workers = with_displays.arg(workers)?;
-    let with_all = with_workers.arg(connections)?;
-    Ok(with_all)
+    let with_port = with_files.arg(port)?;
+    with_counts(alloc, with_port)
 }
 
-// An option that has to name a file.
-fn file<'a>(alloc: Global, name: &'a str) -> Arg<'a>
-    ensures rule { rule_of result ≡ file_rule name.now }
-    ensures local { result.global ≡ false }
+// The command with the files of the session as its next options.
+fn with_files<'a>(alloc: Global, command: Command<'a>) -> Result<Command<'a>, AllocError>
+    ensures line { IfOk result (λ line. app_of line ≡ with_files (app_of command.entry)) }
+    ensures local { IfOk result (λ line. (out-Command line).has_globals ≡ (out-Command command.entry).has_globals) }
 {
-    Arg::new(alloc, name)
+    let with_session = with_file(alloc, command, "session", "The session object")?;
+    with_file(
+        alloc,
+        with_session,
+        "deals",
+        "The deals of the session, in PBN",
+    )
+}
+
+// The command with one more option, which has to name a file.
+fn with_file<'a>(
+    alloc: Global,
+    command: Command<'a>,
+    name: &'a str,
+    help: &'a str,
+) -> Result<Command<'a>, AllocError>
+    ensures line { IfOk result (λ line. app_of line ≡ with_rule (app_of command.entry) (file_rule name.now)) }
+    ensures local { IfOk result (λ line. (out-Command line).has_globals ≡ (out-Command command.entry).has_globals) }
+{
+    let file = Arg::new(alloc, name)
         .long(name)
         .value_name("FILE")
         .required(true)
+        .help(help);
+    command.arg(file)
 }
 
-// An option that has a number from one to the other.
-fn number<'a>(alloc: Global, name: &'a str, least: i64, most: i64) -> Arg<'a>
-    ensures rule { rule_of result ≡ number_rule name.now least most }
+// The command with the numbers that have a default as its next options.
+fn with_counts<'a>(alloc: Global, command: Command<'a>) -> Result<Command<'a>, AllocError>
+    ensures line { IfOk result (λ line. app_of line ≡ with_counts (app_of command.entry)) }
+    ensures local { IfOk result (λ line. (out-Command line).has_globals ≡ (out-Command command.entry).has_globals) }
+{
+    let with_displays = with_count(
+        alloc,
+        command,
+        "displays",
+        (1, 32),
+        "4",
+        "How many clients are served at once",
+    )?;
+    let with_workers = with_count(
+        alloc,
+        with_displays,
+        "workers",
+        (0, 16),
+        "2",
+        "How many threads solve deals",
+    )?;
+    with_count(
+        alloc,
+        with_workers,
+        "connections",
+        (0, 1_000_000),
+        "0",
+        "After how many connections each display ends (0: never)",
+    )
+}
+
+// The command with one more option, which has a number within these limits, and this one where it isn't there.
+fn with_count<'a>(
+    alloc: Global,
+    command: Command<'a>,
+    name: &'a str,
+    limits: (i64, i64),
+    default: &'a str,
+    help: &'a str,
+) -> Result<Command<'a>, AllocError>
+    ensures line { IfOk result (λ line. app_of line
+        ≡ with_rule (app_of command.entry) (default_rule name.now limits.0 limits.1 default.now)) }
+    ensures local { IfOk result (λ line. (out-Command line).has_globals ≡ (out-Command command.entry).has_globals) }
+{
+    let count = number(alloc, name, limits)
+        .default_value(default)
+        .help(help);
+    command.arg(count)
+}
+
+// An option that has a number within these limits.
+fn number<'a>(alloc: Global, name: &'a str, limits: (i64, i64)) -> Arg<'a>
+    ensures rule { rule_of result ≡ number_rule name.now limits.0 limits.1 }
     ensures local { result.global ≡ false }
 {
     Arg::new(alloc, name)
         .long(name)
         .value_name("NUMBER")
-        .value_parser(ValueParser::signed(least, most))
+        .value_parser(ValueParser::signed(limits.0, limits.1))
 }

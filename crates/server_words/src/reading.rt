@@ -46,7 +46,6 @@ fn matches_of<'a>(alloc: Global, words: &'a [String]) -> Result<ArgMatches<'a>, 
 }
 
 // How clients are to be served.
-#[tactic(auto, using(crate::proofs::RowLemmas::first_in_rows))]
 fn serving_of<'a>(given: &ArgMatches<'a>) -> Option<Serving<'a>>
     ensures session { IfSome result (λ serving. first_of (codes "session") (rows_of (found_of given.now)) ≡ Some serving.session.now) }
     ensures deals { IfSome result (λ serving. first_of (codes "deals") (rows_of (found_of given.now)) ≡ Some serving.deals.now) }

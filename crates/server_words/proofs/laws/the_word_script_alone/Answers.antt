@@ -1,7 +1,6 @@
 use Rattle.std.proofs.Common.{refl, List, ℕ, [], ◌∷◌, ◌≡◌, codes, Some, option_map}
 use Rattle.clap.proofs.OnLiterals.{clap_on_literals}
-use Rattle.server_words.specs.Words.{AsksFor, faults_in, subcommand_in}
-use Rattle.server_words.specs.declared.words.Words.TheVariants.{Script}
+use Rattle.server_words.specs.Words.{faults_in, subcommand_in}
 use Rattle.server_words.proofs.laws.the_word_script_alone.Goals as goal
 
 no_fault : (name : List ℕ) → faults_in (name ∷ codes "script" ∷ []) ≡ []
