@@ -7,7 +7,6 @@ pub mod HandTextLemmas
 pub mod HandUnionLemmas
 pub mod HandsLemmas
 pub mod Law2Lemmas
-pub mod NameLemmas
 pub mod PairReadingLemmas
 pub mod PartsLemmas
 pub mod PlayLemmas

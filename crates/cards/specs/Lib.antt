@@ -1,13 +1,13 @@
+pub use Rattle.user_names.specs.First
+pub use Rattle.user_names.specs.Name
 pub mod Card
 pub mod CardBits
 pub mod Cards
-pub mod First
 pub mod FourHands
 pub mod HandReading
 pub mod HandText
 pub mod Hands
 pub mod Law2
-pub mod Name
 pub mod Pair
 pub mod PairReading
 pub mod Place

@@ -26,7 +26,7 @@ use Rattle.rbac.specs.Separation.{separation_sets, set_number, has_both}
 use Rattle.rbac.specs.Account.{is_user_name, HasAccount, IsAssigned, with_change}
 use Rattle.rbac.specs.RoleData.{RoleData, assign_user, deassign_user, add_inheritance}
 use Rattle.rbac.specs.Authorization.{IsReached, IsBroken, IsValid, reached}
-use Rattle.cards.specs.First.{IsFirst}
+use Rattle.user_names.specs.First.{IsFirst}
 use Rattle.rbac.specs.Refusals.{add_user_place, RefusesUser, assign_place, RefusesAssignment, deassign_place, RefusesDeassignment, inheritance_place, RefusesInheritance, RefusesDeletion}
 use Rattle.rbac.proofs.RoleLemmas.{listed_roles_that, has_roles_that}
 use Rattle.rbac.proofs.AccountLemmas.{FoundAt, AreApart, change_is_write, has_account, of_the_one, by_the_one, any_here, same_default}

@@ -1,5 +1,5 @@
 use crate::role_set::RoleSet;
-use cards::Name;
+use user_names::Name;
 
 /// A user's account: its name, and the roles that are assigned to it (core RBAC of INCITS 359-2012).
 #[derive(Clone, Copy, Debug)]

@@ -12,7 +12,7 @@ use crate::hierarchy::Hierarchy;
 use crate::role::Role;
 use crate::role_set::RoleSet;
 use crate::separation_set::SeparationSet;
-use cards::Name;
+use user_names::Name;
 
 /// Whether a byte is a letter, a digit, `-` or `_`.
 fn is_name_byte(b: u8) -> bool

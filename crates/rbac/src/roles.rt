@@ -11,7 +11,7 @@ ghost use Rattle.rbac.specs.Account.{HasAccount};
 ghost use Rattle.rbac.specs.Inheritance.{opening_pairs};
 ghost use Rattle.rbac.specs.RoleData.{opening_data, add_user, assign_user, deassign_user, add_inheritance, delete_inheritance, after};
 ghost use Rattle.rbac.specs.Authorization.{AreAuthorized, HasPermission, IsValid, authorized_roles, has_permission, reached};
-ghost use Rattle.cards.specs.First.{IsFirst};
+ghost use Rattle.user_names.specs.First.{IsFirst};
 ghost use Rattle.rbac.specs.Refusals.{add_user_place, RefusesUser, assign_place, RefusesAssignment, deassign_place, RefusesDeassignment, inheritance_place, RefusesInheritance, RefusesDeletion};
 
 use crate::account::Account;
@@ -28,9 +28,9 @@ use crate::operation::Operation;
 use crate::role::Role;
 use crate::role_set::RoleSet;
 use crate::separation_set::SeparationSet;
-use cards::Name;
 use std::alloc::{AllocError, Global};
 use std::marker::Model;
+use user_names::Name;
 
 /// The users of a session, the roles that are assigned to them, and the role hierarchy. Clauses see the accounts and
 /// the inheritance pairs, each in the order of adding. After `new` no call takes memory, and a refusal changes nothing.

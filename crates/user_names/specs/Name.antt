@@ -1,7 +1,7 @@
 -- The name of a user, as its text's bytes.
 use Rattle.std.specs.Prelude.{◌≡◌, ℕ, ◌-◌, ◌≤◌, List, ◌++◌, length, take, drop, replicate, IsUtf8}
 use Rattle.std.proofs.Common.{sym, ap, subst, ◌∙◌, take-append-drop, length-take-le}
-use Rattle.cards.specs.declared.name.Name.TheInside.{Inside}
+use Rattle.user_names.specs.declared.name.Name.TheInside.{Inside}
 
 -- the text fills the front of the 32 places, and zeros the rest
 pub record IsName (name : Inside) : Type 0 where

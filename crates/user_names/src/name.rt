@@ -16,7 +16,7 @@ impl Model for Name {
 
     ghost Value = { List ℕ };
 
-    ghost use Rattle.cards.specs.Name.{IsName, text_of, name_of, name_of-text_of};
+    ghost use Rattle.user_names.specs.Name.{IsName, text_of, name_of, name_of-text_of};
 
     ghost view = { text_of };
 

@@ -1,6 +1,6 @@
 use Rattle.std.proofs.Common.{◌∙◌, arith}
-use Rattle.cards.proofs.NameLemmas.{name_of_text}
-use Rattle.cards.proofs.name.Name.new.Goals as goal
+use Rattle.user_names.proofs.NameLemmas.{name_of_text}
+use Rattle.user_names.proofs.name.Name.new.Goals as goal
 
 pub invariant_of-result : goal.invariant_of-result
 invariant_of-result c =

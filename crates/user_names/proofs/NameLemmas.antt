@@ -3,7 +3,7 @@ use Rattle.std.proofs.Common.{◌≡◌, ℕ, ◌+◌, ◌-◌, ◌≤◌, List,
 use Rattle.std.specs.Prelude.{IsUtf8}
 use Rattle.std.proofs.Math.Seq.{drop-append_seam, take-append_seam}
 use Rattle.std.proofs.lemmas.List.{drop-replicate}
-use Rattle.cards.specs.Name.{IsName}
+use Rattle.user_names.specs.Name.{IsName}
 
 back_up : (n : ℕ) → n ≤ 32 → n + (32 - n) ≡ 32
 back_up n h = omega arith

@@ -1,0 +1,6 @@
+//! The names of users.
+#![tactic(auto)]
+
+mod name;
+
+pub use name::{Name, NameTooLong};
