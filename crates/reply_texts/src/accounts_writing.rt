@@ -3,6 +3,7 @@
 ghost use Rattle.std.specs.Prelude.{◌≡◌, IfOk};
 ghost use Rattle.rbac.specs.Role.{roles_that, has};
 ghost use Rattle.serde_json.specs.View.{view};
+ghost use Rattle.reply_texts.specs.DataOf.{list_data};
 ghost use Rattle.reply_texts.specs.ListText.{role_data, account_data, inheritance_data, accounts_data};
 
 use crate::to_json::{ToJson, list_value};
@@ -17,9 +18,7 @@ pub(crate) fn accounts_value(
 ) -> Result<Value, AllocError>
     ensures { IfOk result (λ value. view value ≡ accounts_data users.now pairs.now) }
 {
-    let inherits = list_value(alloc, pairs)?;
-    let users = list_value(alloc, users)?;
-    json!(in alloc; {"inherits": inherits, "users": users})
+    json!(in alloc; {"inherits": list_value(alloc, pairs)?, "users": list_value(alloc, users)?})
 }
 
 impl ToJson for Inheritance {
@@ -34,9 +33,7 @@ impl ToJson for Account {
     ghost json = { account_data };
 
     fn to_json(&self, alloc: Global) -> Result<Value, AllocError> {
-        let assigned = assigned_roles(alloc, self.assigned)?;
-        let roles = list_value(alloc, assigned.as_slice())?;
-        json!(in alloc; [self.name.as_str(), roles])
+        json!(in alloc; [self.name.as_str(), roles_value(alloc, self.assigned)?])
     }
 }
 
@@ -48,14 +45,23 @@ impl ToJson for Role {
     }
 }
 
+fn roles_value(alloc: Global, assigned: RoleSet) -> Result<Value, AllocError>
+    ensures { IfOk result (λ value. view value ≡ list_data role_data (roles_that (has assigned))) }
+{
+    let roles = roles_in(alloc, assigned)?;
+    list_value(alloc, roles.as_slice())
+}
+
 // The roles of a set, in their order.
 #[tactic(auto, unfolding(rbac::specs::Role::roles_that))]
-fn assigned_roles(alloc: Global, assigned: RoleSet) -> Result<Vec<Role>, AllocError>
-    ensures { IfOk result (λ found. found.items ≡ roles_that (has assigned)) }
+fn roles_in(alloc: Global, assigned: RoleSet) -> Result<Vec<Role>, AllocError>
+    ensures { IfOk result (λ roles. roles.items ≡ roles_that (has assigned)) }
 {
-    Role::ALL
-        .iter()
-        .copied()
-        .filter(|role| assigned.has(*role))
-        .collect(alloc)
+    let mut roles = Vec::new(alloc);
+    for role in Role::ALL {
+        if assigned.has(role) {
+            roles.push(role)?;
+        }
+    }
+    Ok(roles)
 }

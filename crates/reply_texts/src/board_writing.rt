@@ -19,14 +19,11 @@ pub(crate) fn board_value(
 ) -> Result<Value, AllocError>
     ensures { IfOk result (λ value. view value ≡ board_data number deal.now marks) }
 {
-    let hands = deal.to_string(alloc)?;
-    let dealer = marks.dealer.to_string(alloc)?;
-    let vulnerable = marks.vulnerability.to_string(alloc)?;
     json!(in alloc; {
-        "deal": hands,
-        "dealer": dealer,
+        "deal": deal.to_string(alloc)?,
+        "dealer": marks.dealer.to_string(alloc)?,
         "number": number,
-        "vul": vulnerable
+        "vul": marks.vulnerability.to_string(alloc)?
     })
 }
 
@@ -37,8 +34,7 @@ pub(crate) fn analysis_value(
 ) -> Result<Value, AllocError>
     ensures { IfOk result (λ value. view value ≡ analysis_data number tricks.now) }
 {
-    let tricks = found_tricks(alloc, tricks)?;
-    json!(in alloc; {"board": number, "tricks": tricks})
+    json!(in alloc; {"board": number, "tricks": found_tricks(alloc, tricks)?})
 }
 
 fn found_tricks(alloc: Global, tricks: &Option<TrickTable>) -> Result<Value, AllocError>
@@ -53,11 +49,12 @@ fn found_tricks(alloc: Global, tricks: &Option<TrickTable>) -> Result<Value, All
 fn tricks_value(alloc: Global, tricks: &TrickTable) -> Result<Value, AllocError>
     ensures { IfOk result (λ value. view value ≡ tricks_data tricks.now) }
 {
-    let east = declarer_value(alloc, tricks, Place::East)?;
-    let north = declarer_value(alloc, tricks, Place::North)?;
-    let south = declarer_value(alloc, tricks, Place::South)?;
-    let west = declarer_value(alloc, tricks, Place::West)?;
-    json!(in alloc; {"E": east, "N": north, "S": south, "W": west})
+    json!(in alloc; {
+        "E": declarer_value(alloc, tricks, Place::East)?,
+        "N": declarer_value(alloc, tricks, Place::North)?,
+        "S": declarer_value(alloc, tricks, Place::South)?,
+        "W": declarer_value(alloc, tricks, Place::West)?
+    })
 }
 
 fn declarer_value(alloc: Global, tricks: &TrickTable, declarer: Place) -> Result<Value, AllocError>

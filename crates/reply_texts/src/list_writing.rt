@@ -12,15 +12,13 @@ use std::alloc::{AllocError, Global};
 pub(crate) fn boards_value(alloc: Global, boards: &[u8], more: bool) -> Result<Value, AllocError>
     ensures { IfOk result (λ value. view value ≡ boards_data boards.now more) }
 {
-    let boards = list_value(alloc, boards)?;
-    json!(in alloc; {"boards": boards, "more": more})
+    json!(in alloc; {"boards": list_value(alloc, boards)?, "more": more})
 }
 
 impl ToJson for Standing {
     ghost json = { standing_data };
 
     fn to_json(&self, alloc: Global) -> Result<Value, AllocError> {
-        let pair = self.pair.to_string(alloc)?;
-        json!(in alloc; [pair, self.earned, self.tops])
+        json!(in alloc; [self.pair.to_string(alloc)?, self.earned, self.tops])
     }
 }

@@ -109,9 +109,11 @@ impl ToJson for Seated {
     ghost json = { seat_data };
 
     fn to_json(&self, alloc: Global) -> Result<Value, AllocError> {
-        let pair = self.seat.pair.to_string(alloc)?;
-        let place = self.seat.place.to_string(alloc)?;
-        json!(in alloc; [self.name.as_str(), pair, place])
+        json!(in alloc; [
+            self.name.as_str(),
+            self.seat.pair.to_string(alloc)?,
+            self.seat.place.to_string(alloc)?
+        ])
     }
 }
 

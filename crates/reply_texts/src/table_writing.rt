@@ -20,8 +20,11 @@ pub(crate) fn play_value(
 ) -> Result<Value, AllocError>
     ensures { IfOk result (λ value. view value ≡ play_data cell cards.now) }
 {
-    let cards = cards_value(alloc, cards)?;
-    json!(in alloc; {"board": cell.board, "cards": cards, "table": cell.table})
+    json!(in alloc; {
+        "board": cell.board,
+        "cards": cards_value(alloc, cards)?,
+        "table": cell.table
+    })
 }
 
 fn cards_value(alloc: Global, cards: &Option<Play>) -> Result<Value, AllocError>
@@ -49,8 +52,11 @@ pub(crate) fn costs_value(
 ) -> Result<Value, AllocError>
     ensures { IfOk result (λ value. view value ≡ costs_data cell costs.now) }
 {
-    let costs = found_costs(alloc, costs)?;
-    json!(in alloc; {"board": cell.board, "costs": costs, "table": cell.table})
+    json!(in alloc; {
+        "board": cell.board,
+        "costs": found_costs(alloc, costs)?,
+        "table": cell.table
+    })
 }
 
 fn found_costs(alloc: Global, costs: &Option<CardCosts>) -> Result<Value, AllocError>

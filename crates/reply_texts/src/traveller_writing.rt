@@ -19,8 +19,7 @@ pub(crate) fn traveller_value(
 ) -> Result<Value, AllocError>
     ensures { IfOk result (λ value. view value ≡ traveller_data number rows.now) }
 {
-    let rows = list_value(alloc, rows)?;
-    json!(in alloc; {"board": number, "rows": rows})
+    json!(in alloc; {"board": number, "rows": list_value(alloc, rows)?})
 }
 
 impl ToJson for TravellerRow {
@@ -51,14 +50,11 @@ fn played_value(
     ensures { IfOk result (λ value. view value
         ≡ result_data row.now.table row.now.north_south row.now.east_west (Played outcome score points)) }
 {
-    let east_west = row.east_west.to_string(alloc)?;
-    let north_south = row.north_south.to_string(alloc)?;
-    let outcome = outcome_value(alloc, outcome)?;
     json!(in alloc; {
-        "ew": east_west,
-        "ns": north_south,
+        "ew": row.east_west.to_string(alloc)?,
+        "ns": row.north_south.to_string(alloc)?,
         "points": points,
-        "result": outcome,
+        "result": outcome_value(alloc, outcome)?,
         "score": score,
         "table": row.table
     })
@@ -73,11 +69,9 @@ fn ruled_value(
     ensures { IfOk result (λ value. view value ≡ result_data row.now.table row.now.north_south row.now.east_west
         (Ruled north_south_percentage east_west_percentage)) }
 {
-    let east_west = row.east_west.to_string(alloc)?;
-    let north_south = row.north_south.to_string(alloc)?;
     json!(in alloc; {
-        "ew": east_west,
-        "ns": north_south,
+        "ew": row.east_west.to_string(alloc)?,
+        "ns": row.north_south.to_string(alloc)?,
         "ruling": [north_south_percentage, east_west_percentage],
         "table": row.table
     })
@@ -88,16 +82,12 @@ fn outcome_value(alloc: Global, outcome: Outcome) -> Result<Value, AllocError>
 {
     match outcome {
         Outcome::PassedOut => Value::try_from_str(alloc, "pass"),
-        Outcome::Played { contract, tricks } => {
-            let declarer = contract.declarer.to_string(alloc)?;
-            let strain = contract.strain.to_string(alloc)?;
-            json!(in alloc; {
-                "by": declarer,
-                "doubled": contract.doubling.number(),
-                "level": contract.level.number(),
-                "strain": strain,
-                "tricks": tricks.number()
-            })
-        }
+        Outcome::Played { contract, tricks } => json!(in alloc; {
+            "by": contract.declarer.to_string(alloc)?,
+            "doubled": contract.doubling.number(),
+            "level": contract.level.number(),
+            "strain": contract.strain.to_string(alloc)?,
+            "tricks": tricks.number()
+        }),
     }
 }
