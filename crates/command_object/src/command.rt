@@ -13,7 +13,7 @@ use crate::play::play_of;
 use crate::result::result_of;
 use cards::Name;
 use json_fields::{has_only, name_at, text_at};
-use message_fields::{RequestFault, small_at};
+use message_fields::{RequestFault, is_one_of, small_at};
 use rbac::Role;
 use scoring::Outcome;
 use serde_json::Value;
@@ -25,23 +25,28 @@ use user_fields::{digest_of, pair_of, place_of, role_named};
 fn is_command_word(word: &str) -> bool
     ensures { result ≡ is_word_of commands word.now }
 {
-    word == "Enter"
-        || word == "Confirm"
-        || word == "Correct"
-        || word == "Rule"
-        || word == "Void"
-        || word == "Hold"
-        || word == "Release"
-        || word == "Seat"
-        || word == "Unseat"
-        || word == "NextRound"
-        || word == "Close"
-        || word == "Finalise"
-        || word == "AddUser"
-        || word == "Assign"
-        || word == "Deassign"
-        || word == "AddInheritance"
-        || word == "DeleteInheritance"
+    is_one_of(
+        word,
+        &[
+            "Enter",
+            "Confirm",
+            "Correct",
+            "Rule",
+            "Void",
+            "Hold",
+            "Release",
+            "Seat",
+            "Unseat",
+            "NextRound",
+            "Close",
+            "Finalise",
+            "AddUser",
+            "Assign",
+            "Deassign",
+            "AddInheritance",
+            "DeleteInheritance",
+        ],
+    )
 }
 
 #[tactic(auto, unfolding(crate::specs::Command::is_unknown))]

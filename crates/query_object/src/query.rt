@@ -9,7 +9,7 @@ ghost use Rattle.query_object.specs.Query.{queries, query_called, IsFiltered};
 
 use crate::list::list_query;
 use json_fields::has_only;
-use message_fields::{RequestFault, small_at};
+use message_fields::{RequestFault, is_one_of, small_at};
 use movement::Cell;
 use serde_json::Value;
 use session_queries::Query;
@@ -19,16 +19,21 @@ use std::alloc::Global;
 pub fn is_query_word(word: &str) -> bool
     ensures { result ≡ is_word_of queries word.now }
 {
-    word == "status"
-        || word == "ranking"
-        || word == "accounts"
-        || word == "board"
-        || word == "traveller"
-        || word == "analysis"
-        || word == "play"
-        || word == "costs"
-        || word == "reason"
-        || word == "list"
+    is_one_of(
+        word,
+        &[
+            "status",
+            "ranking",
+            "accounts",
+            "board",
+            "traveller",
+            "analysis",
+            "play",
+            "costs",
+            "reason",
+            "list",
+        ],
+    )
 }
 
 fn status_query(value: &Value) -> Result<Query, RequestFault>
