@@ -1,7 +1,7 @@
 use cards::{Deal, Place, Vulnerability};
 
 /// A board: its deal and its marks.
-#[derive(Clone, Copy, Debug)]
+#[derive(Clone, Copy)]
 pub struct Board {
     pub deal: Deal,
     pub dealer: Place,

@@ -122,12 +122,8 @@ fn is_hand_form(part: &[u8]) -> bool
 fn has_rank_letters_and_dots(part: &[u8]) -> bool
     ensures { IsTrue result ↔ All (λ byte. (byte ≡ 46) ⊎ IsRankLetter byte) part.now }
 {
-    for byte in part {
-        if *byte != b'.' && !is_rank_letter(*byte) {
-            return false;
-        }
-    }
-    true
+    part.iter()
+        .all(|byte| *byte == b'.' || is_rank_letter(*byte))
 }
 
 fn dots(part: &[u8]) -> usize

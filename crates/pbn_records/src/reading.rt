@@ -1,6 +1,8 @@
-ghost use Rattle.std.specs.Prelude.{◌≡◌, IfOk, IfErr, IfSome, IfNone};
+ghost use Rattle.std.specs.Prelude.{◌≡◌, [], IfOk, OnOk, IfErr, IfSome, IfNone};
 ghost use Rattle.pbn_records.specs.Tags as tags;
 ghost use Rattle.pbn_records.specs.Reads.{Reads, IsRefused};
+ghost use Rattle.pbn_records.specs.Values.{no_values};
+ghost use Rattle.pbn_records.specs.At.{IsAt};
 ghost use Rattle.pbn_records.specs.InText.{HasRead};
 ghost use Rattle.pbn_records.specs.Each.{KnowsFirst, IsUnknown, HasFirst};
 
@@ -16,14 +18,14 @@ pub fn read_deals(alloc: Global, text: &[u8], boards: u8) -> Result<BoardSet, De
     ensures set { IfOk result (Reads text.now boards) }
     ensures refused { IfErr result (λ error. IsRefused error text.now boards) }
 {
-    let state = match read_games(alloc, text, boards) {
-        Ok(state) => state,
+    let known = match read_games(alloc, text, boards) {
+        Ok(state) => state.known,
         Err(error) => return Err(error),
     };
-    if let Some(number) = unknown_board(&state.known, boards) {
+    if let Some(number) = unknown_board(&known, boards) {
         return Err(DealsError::MissingBoard(number));
     }
-    match board_set(state.known, boards) {
+    match board_set(known, boards) {
         Some(set) => Ok(set),
         None => Err(DealsError::OutOfMemory),
     }
@@ -35,6 +37,18 @@ fn read_games(alloc: Global, text: &[u8], boards: u8) -> Result<State<'_>, Deals
     ensures refused { IfErr result (λ error. IsRefused error text.now boards) }
 {
     let mut state = State::new(alloc, boards);
+    match take_all(&mut state, text) {
+        Ok(()) => Ok(state),
+        Err(error) => Err(error),
+    }
+}
+
+/// Goes over all pieces of a text, at whose start the state is.
+fn take_all<'t>(state: &mut State<'t>, text: &'t [u8]) -> Result<(), DealsError>
+    requires { IsAt state.old (record { done = []; before = no_values; game = [] }) }
+    ensures read { OnOk result (HasRead text.now state.old.boards state.new) }
+    ensures refused { IfErr result (λ error. IsRefused error text.now state.old.boards) }
+{
     let mut pieces = Pieces::new(without_mark(text));
     let mut offset = text.len() - pieces.left();
     while let Some(found) = pieces.next_piece() {
@@ -44,10 +58,7 @@ fn read_games(alloc: Global, text: &[u8], boards: u8) -> Result<State<'_>, Deals
         }
         offset = text.len() - pieces.left();
     }
-    match state.end_game() {
-        Ok(()) => Ok(state),
-        Err(error) => Err(error),
-    }
+    state.end_game()
 }
 
 /// The text without the bytes that may stand before it to say that it is UTF-8.

@@ -1,10 +1,10 @@
 use Rattle.std.proofs.Common.{◌≡◌, ◌-◌, length}
 use Rattle.pbn_records.specs.InText.{StandsInText}
-use Rattle.pbn_records.proofs.reading.read_games.Given as goal
+use Rattle.pbn_records.proofs.reading.take_all.Given as goal
 
 abbrev pub invariant-loop-found : goal.invariant-loop-found
 invariant-loop-found l = record {
-  stands : StandsInText l.text l.pieces l.boards l.state;
+  stands : StandsInText l.text l.pieces l.fn.state.boards l.state;
   offset : l.offset ≡ length l.text - length l.pieces.rest;
 }
 

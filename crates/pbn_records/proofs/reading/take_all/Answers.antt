@@ -1,6 +1,7 @@
 use Rattle.std.proofs.Common.{ap, ◌-◌, length, arith}
 use Rattle.pbn_records.proofs.InTextLemmas.{shrinks, stands_on, refused_taken, refused_at_end, reads_all}
-use Rattle.pbn_records.proofs.reading.read_games.Goals as goal
+use Rattle.pbn_records.proofs.StateLemmas.{ok_of, err_of}
+use Rattle.pbn_records.proofs.reading.take_all.Goals as goal
 
 pub returns-in-Err-clause-refused : goal.returns-in-Err-clause-refused
 returns-in-Err-clause-refused c =
@@ -20,12 +21,16 @@ loop-found-preserved c = record {
   offset = ap (λ n. length c.args.text.now - n) c.left-in-Some.ensures;
 }
 
-pub returns-in-Ok-end_game-clause-read : goal.returns-in-Ok-end_game-clause-read
-returns-in-Ok-end_game-clause-read c =
+pub returns-clause-read : goal.returns-clause-read
+returns-clause-read c =
     let stands = c.loop-found.invariant.stands in
-    reads_all _ _ _ _ _ stands c.in_default.ensures.none c.end_game.ensures.boards (c.in-Ok-end_game.ensures.ended stands.walk stands.at)
+    ok_of c.end_game.result
+    (λ ended same. reads_all _ _ _ _ _ stands c.in_default.ensures.none c.end_game.ensures.boards (ended stands.walk stands.at))
+    c.end_game.ensures.ended c.end_game.ensures.ended
 
 pub returns-clause-refused : goal.returns-clause-refused
 returns-clause-refused c =
     let stands = c.loop-found.invariant.stands in
-    refused_at_end _ _ _ _ _ stands c.in_default.ensures.none (c.in-Err-end_game.ensures.fault stands.walk stands.at)
+    err_of c.end_game.result
+    (λ error faults. refused_at_end _ _ _ _ _ stands c.in_default.ensures.none (faults stands.walk stands.at))
+    c.end_game.ensures.fault
