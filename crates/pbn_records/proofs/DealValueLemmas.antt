@@ -1,6 +1,6 @@
 -- The parts of a Deal, and the hands that they are the texts of.
 use Rattle.std.proofs.Common.{◌≡◌, ℕ, zero, suc, ◌<◌, List, [], ◌∷◌, ◌++◌, sym, subst, ◌∙◌, arith}
-use Rattle.std.specs.Prelude.{All, codes, Option, Some, None, IfNone}
+use Rattle.std.specs.Prelude.{All, codes, Option, Some, None, IfSome, IfNone}
 use Rattle.std.specs.Str.{IsAscii}
 use Rattle.std.specs.Char.{to_ascii_uppercase}
 use Rattle.std.proofs.lemmas.List.Elements.{All-append}
@@ -50,6 +50,10 @@ pub no_deal_of_texts : (first : Place) (a b c d : Cards) (own left opposite righ
     (¬ IsDeal (clockwise_from first a b c d)) → (hands : Hands) → ¬ IsDealOf hands first own left opposite right
 no_deal_of_texts first a b c d own left opposite right in_a in_b in_c in_d none hands is =
     none (subst IsDeal (hands_of_texts first a b c d own left opposite right hands in_a in_b in_c in_d is) is.deal)
+
+pub if_some_both : {A : Type 0} {P Q R : A → Type 0} (o : Option A) → ((x : A) → P x → Q x → R x) → IfSome o P → IfSome o Q → IfSome o R
+if_some_both None f one other = one
+if_some_both (Some x) f one other = f x one other
 
 pub if_none_map : {A : Type 0} {P Q : Type 0} (o : Option A) → (P → Q) → IfNone o P → IfNone o Q
 if_none_map None f is = f is

@@ -46,7 +46,6 @@ fn are_hidden(parts: &DealParts<'_>) -> bool
 }
 
 /// The deal, if each part is a hand's text and they are a deal.
-#[tactic(auto, using(crate::proofs::DealValueLemmas::deal_of_texts))]
 fn deal_of(parts: &DealParts<'_>) -> Option<Deal>
     ensures deal { IfSome result (λ deal. IsDealOf deal parts.now.first parts.now.own.now parts.now.left.now parts.now.opposite.now parts.now.right.now) }
     ensures none { IfNone result ((hands : Hands) → ¬ IsDealOf hands parts.now.first parts.now.own.now parts.now.left.now parts.now.opposite.now parts.now.right.now) }
