@@ -1,82 +1,88 @@
-//! The boards of a PBN text on standard input, a line each, or why none are read: to check a file before a session.
+//! The boards of PBN texts, a line each, or why they can't be read: to check files before a session.
 #![tactic(auto)]
 
+mod fault;
 mod line;
+mod reading;
+mod words;
 
-use crate::line::board_line;
-use pbn_records::{BoardSet, DealsError, read_deals};
-use std::env;
-use std::io::{self, BufReader, Read, Write};
+use crate::fault::Fault;
+use crate::reading::{STANDARD_INPUT, read_lines};
+use crate::words::{Check, boards_in, called_with, check_in};
+use std::io;
 use std::process::ExitCode;
 
-const USAGE: &str =
-    "usage: pbn_boards BOARDS\n\nReads a PBN text, and writes the boards 1 to BOARDS (at most 255), or why they can't be read.";
+const USAGE: &str = "usage: pbn_boards BOARDS
+       pbn_boards BOARDS FILE [BOARDS FILE]..
 
-/// How many bytes a text has at most.
-const MOST_BYTES: u64 = 16_777_216;
+Writes the boards 1 to BOARDS (at most 255) of a PBN text, or why they can't be read: of standard input, or of each
+FILE under its name. The FILE - is standard input.";
 
 fn main(rt: HostRuntime) -> ExitCode {
-    let boards = match boards_asked_for(&rt) {
-        Ok(Some(boards)) => boards,
-        Err(error) if error.kind() == io::ErrorKind::OutOfMemory => return ExitCode::from(4),
-        Ok(None) | Err(_) => {
-            let _ = eprintln!(rt; "{USAGE}");
-            return ExitCode::from(2);
-        }
-    };
-    ExitCode::from(match read_text(&rt) {
-        Ok(text) if text.len() as u64 > MOST_BYTES => 3,
-        Ok(text) => match read_deals(rt.alloc(), text.as_slice(), boards) {
-            Ok(set) => write_boards(&rt, &set),
-            Err(error) => name_error(&rt, error),
-        },
+    ExitCode::from(match called_with(&rt) {
+        Ok(words) => run(&rt, words.as_slice()),
         Err(error) if error.kind() == io::ErrorKind::OutOfMemory => 4,
-        Err(_) => 3,
+        // Some word is no text.
+        Err(_) => explain(&rt),
     })
 }
 
-// The number of boards that is asked for, by the one word.
-fn boards_asked_for(rt: &HostRuntime) -> io::Result<Option<u8>> {
-    let mut words = env::args(rt)?;
-    let _name = words.next();
-    let Some(word) = words.next() else {
-        return Ok(None);
-    };
-    if words.next().is_some() {
-        return Ok(None);
+// Does what the words ask for, and says with which status the program ends.
+fn run(rt: &HostRuntime, words: &[String]) -> u8 {
+    match words {
+        [] => explain(rt),
+        [boards] => match boards_in(boards) {
+            Some(boards) => write_boards(rt, boards),
+            None => explain(rt),
+        },
+        checks => check_files(rt, checks),
     }
-    Ok(word.as_str().parse().ok())
 }
 
-// All of standard input, and of a longer one a byte more than a text may have.
-fn read_text(rt: &HostRuntime) -> io::Result<Vec<u8>> {
-    let mut text = Vec::new(rt.alloc());
-    let reader = BufReader::new(rt.alloc(), rt.reader())?;
-    reader.take(MOST_BYTES + 1).read_to_end(&mut text)?;
-    Ok(text)
+// Says how the program is called.
+fn explain(rt: &HostRuntime) -> u8 {
+    // Where it can't be written, the status still tells.
+    let _unwritten = eprintln!(rt; "{USAGE}");
+    2
 }
 
-// Writes a line for each board, and says with which status the program ends.
-fn write_boards(rt: &HostRuntime, set: &BoardSet) -> u8 {
-    let mut writer = io::writer(rt);
-    for board in 1..=set.boards() {
-        let Ok(line) = board_line(rt.alloc(), set, board) else {
-            return 4;
-        };
-        if writer.write_all(line.as_bytes()).is_err() {
-            return 3;
+// Writes the boards of standard input.
+fn write_boards(rt: &HostRuntime, boards: u8) -> u8 {
+    match read_lines(rt, STANDARD_INPUT, boards) {
+        Ok(lines) => status_written(print!(rt; "{lines}"), 0),
+        Err(fault) => {
+            // Where it can't be written, the status still tells.
+            let _unwritten = eprintln!(rt; "pbn_boards: {fault}");
+            fault.status()
         }
     }
-    0
 }
 
-// Says why no boards were read, and with which status the program ends.
-fn name_error(rt: &HostRuntime, error: DealsError) -> u8 {
-    match error {
-        DealsError::OutOfMemory => 4,
-        _ => {
-            let _ = eprintln!(rt; "pbn_boards: {error}");
-            1
-        }
+// Checks one file after another, if all words are understood. The status is the greatest of theirs.
+fn check_files(rt: &HostRuntime, words: &[String]) -> u8 {
+    if words.chunks(2).any(|pair| check_in(pair).is_none()) {
+        return explain(rt);
+    }
+    let mut status = 0;
+    for check in words.chunks(2).filter_map(check_in) {
+        status = status.max(check_file(rt, check));
+    }
+    status
+}
+
+// Writes the boards of a file under its name, or after that why they can't be read.
+fn check_file(rt: &HostRuntime, check: Check<'_>) -> u8 {
+    let file = check.file;
+    match read_lines(rt, file, check.boards) {
+        Ok(lines) => status_written(print!(rt; "{file}:\n{lines}"), 0),
+        Err(fault) => status_written(println!(rt; "{file}: {fault}"), fault.status()),
+    }
+}
+
+// The status, or 3 where what was to be written isn't.
+fn status_written(written: io::Result<()>, status: u8) -> u8 {
+    match written {
+        Ok(()) => status,
+        Err(_) => 3,
     }
 }
