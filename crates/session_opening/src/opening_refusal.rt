@@ -1,29 +1,51 @@
 use rbac::SeparationSet;
-use thiserror::Error;
+use std::error::Error;
+use std::fmt;
 
 /// Why a session isn't opened, in the order in which the causes are looked at: first user by user, then of all users.
-#[derive(Clone, Copy, Debug, PartialEq, Eq, Error)]
+#[derive(Clone, Copy, Debug, PartialEq, Eq)]
 pub enum OpeningRefusal {
-    #[error("a name has 1 to 32 letters, digits, `-` and `_`")]
     BadName,
-    #[error("there is a user of this name")]
     UserExists,
-    #[error("there are more than 256 users")]
     TooManyUsers,
-    #[error("a role is assigned to a user twice")]
     AlreadyAssigned,
-    #[error("a user would be authorized for both roles of {0}")]
     Separation(SeparationSet),
-    #[error("the section has no such pair")]
     NoSuchPair,
-    #[error("the pair doesn't sit in this direction")]
     WrongDirection,
-    #[error("a user has a seat and isn't authorized for Contestant")]
     NotContestant,
-    #[error("another user has the seat")]
     SeatTaken,
-    #[error("nobody is authorized for Administrator")]
     LastAdministrator,
-    #[error("out of memory")]
     OutOfMemory,
 }
+
+impl OpeningRefusal {
+    // What is said of it; where it names something, what is said beside the name.
+    fn text(&self) -> &'static str {
+        match self {
+            OpeningRefusal::BadName => "a name has 1 to 32 letters, digits, `-` and `_`",
+            OpeningRefusal::UserExists => "there is a user of this name",
+            OpeningRefusal::TooManyUsers => "there are more than 256 users",
+            OpeningRefusal::AlreadyAssigned => "a role is assigned to a user twice",
+            OpeningRefusal::Separation(_) => "a user would be authorized for both roles of",
+            OpeningRefusal::NoSuchPair => "the section has no such pair",
+            OpeningRefusal::WrongDirection => "the pair doesn't sit in this direction",
+            OpeningRefusal::NotContestant =>
+                "a user has a seat and isn't authorized for Contestant",
+            OpeningRefusal::SeatTaken => "another user has the seat",
+            OpeningRefusal::LastAdministrator => "nobody is authorized for Administrator",
+            OpeningRefusal::OutOfMemory => "out of memory",
+        }
+    }
+}
+
+impl fmt::Display for OpeningRefusal {
+    fn fmt<W: fmt::Write>(&self, f: &mut fmt::Formatter<W>) -> fmt::Result {
+        let text = self.text();
+        match self {
+            OpeningRefusal::Separation(set) => write!(f, "{text} {set}"),
+            _ => f.write_str(text),
+        }
+    }
+}
+
+impl Error for OpeningRefusal {}

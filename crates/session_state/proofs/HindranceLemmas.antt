@@ -1,6 +1,6 @@
 -- What holds where nothing hinders a command.
 use Rattle.std.proofs.Common.{◌≡◌, ℕ, ◌<◌, Bool, true, false, List, [], ◌∷◌, refl, sym, ◌∙◌, inl, inr}
-use Rattle.std.specs.Prelude.{Option, Some, None, is_some, not, nat_le}
+use Rattle.std.specs.Prelude.{Option, Some, None, not, nat_le}
 use Rattle.std.specs.Bool.{then_some}
 use Rattle.std.specs.Option.{option_or}
 use Rattle.std.proofs.lemmas.Bool.{false≢true, cases_lt, le-leb}

@@ -23,7 +23,7 @@ use Rattle.solver_results.specs.PlayAnswer.{PlayedDeal}
 use Rattle.session_state.specs.Apply.{apply, effect, confirmed}
 use Rattle.session_state.specs.CellState.{has_result, is_contract_of, same_play, is_played_as, is_counted, with_costs}
 use Rattle.session_state.specs.OwnNumbers.{IsHandsOf, IsCostsOf, IsCounting, TellsOwn, KeepsOwn}
-use Rattle.session_state.specs.Refusal.{first_of, own_causes, hindrance_of}
+use Rattle.session_state.specs.Refusal.{first_of, hindrance_of}
 use Rattle.session_state.specs.SessionState.{SessionState, cell_at, table_at, same_hands, is_dealt, place_of, IsPlaced}
 use Rattle.session_state.specs.declared.cell_state.CellState.{CellState}
 use Rattle.session_state.specs.declared.cell_state.CellState.TheVariants.{Empty, Entered, Confirmed, Ruled}

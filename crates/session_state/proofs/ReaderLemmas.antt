@@ -1,6 +1,6 @@
 -- The digest of a user, place by place.
-use Rattle.std.proofs.Common.{◌≡◌, ℕ, zero, suc, ◌+◌, ◌<◌, ◌≤◌, Bool, true, false, cond, List, [], ◌∷◌, length, drop, get_or, refl, ap, ◌∙◌, arith}
-use Rattle.std.specs.Prelude.{Option, Some, None}
+use Rattle.std.proofs.Common.{◌≡◌, ℕ, zero, suc, ◌<◌, ◌≤◌, cond, List, [], ◌∷◌, length, drop, get_or, refl, arith}
+use Rattle.std.specs.Prelude.{Some, None}
 use Rattle.rbac.specs.Account.{same_name}
 use Rattle.rbac.specs.declared.account.Account.{Account}
 use Rattle.session_state.specs.declared.digest.Digest.{Digest}

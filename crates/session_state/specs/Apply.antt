@@ -1,5 +1,5 @@
 -- What an entry makes of a state.
-use Rattle.std.specs.Prelude.{ℕ, ◌+◌, ◌-◌, ◌++◌, [], ◌∷◌, Some, None, is_some, slice_set, if◌then◌else◌}
+use Rattle.std.specs.Prelude.{◌+◌, ◌-◌, ◌++◌, [], ◌∷◌, Some, None, is_some, slice_set, if◌then◌else◌}
 use Rattle.movement.specs.declared.cell.Cell.{Cell}
 use Rattle.movement.specs.Movement.{most_boards}
 use Rattle.rbac.specs.RoleData.{RoleData, add_user, assign_user, deassign_user, add_inheritance, delete_inheritance}

@@ -1,5 +1,5 @@
 -- What is read of a state's users in the order of the accounts.
-use Rattle.std.specs.Prelude.{ℕ, Option, Some, None, option_map, if◌then◌else◌, List, [], ◌∷◌, slice_get}
+use Rattle.std.specs.Prelude.{ℕ, Option, Some, None, option_map, if◌then◌else◌, List, [], ◌∷◌}
 use Rattle.std.specs.List.{filter_map}
 use Rattle.rbac.specs.Account.{same_name}
 use Rattle.rbac.specs.declared.account.Account.{Account}

@@ -3,7 +3,7 @@
 -- own: the causes and their order are this project's. Nobody but who has the permission gives a command; a result is told only
 -- of a board that the table is scheduled to play and that has come up, what is confirmed is what was entered, and nobody sits
 -- there who was shown something of the board before.
-use Rattle.std.specs.Prelude.{◌≡◌, ℕ, ◌-◌, Bool, true, false, not, ◌&&◌, ◌||◌, nat_le, nat_lt, if◌then◌else◌}
+use Rattle.std.specs.Prelude.{◌≡◌, ℕ, Bool, true, false, not, ◌&&◌, ◌||◌, nat_le, nat_lt, if◌then◌else◌}
 use Rattle.std.specs.Prelude.{Option, None, IsSomeAnd, is_some, option_map, List, [], ◌∷◌, ◌++◌, length}
 use Rattle.std.specs.Bool.{then_some}
 use Rattle.std.specs.List.{list_all, range_with_len}

@@ -1,89 +1,50 @@
 use cards::Name;
 use rbac::SeparationSet;
-use thiserror::Error;
+use std::error::Error;
+use std::fmt;
 
 /// Why a command is refused. Each command's causes are looked at in this order, but for those of its own.
-#[derive(Clone, Copy, Debug, PartialEq, Eq, Error)]
+#[derive(Clone, Copy, Debug, PartialEq, Eq)]
 pub enum Refusal {
-    #[error("the user has no permission for the command")]
     NotPermitted,
-    #[error("there is no such user")]
     NoSuchUser,
-    #[error("the table is not scheduled to play the board")]
     NoSuchCell,
-    #[error("the session has no such board")]
     NoSuchBoard,
-    #[error("the session has another phase")]
     WrongPhase,
-    #[error("the round has not started")]
     RoundNotStarted,
-    #[error("the play has a card twice, or a passed-out board has a play")]
     BadResult,
-    #[error("there is a result already")]
     AlreadyLive,
-    #[error("nothing is entered that could be confirmed")]
     NothingEntered,
-    #[error("something else is entered")]
     Mismatch,
-    #[error("{0} sits there and was shown something of the board")]
     Spoiled(Name),
-    #[error("there is no result")]
     NotLive,
-    #[error("a percentage is at most 100, and a reason is 1 to 99")]
     BadRuling,
-    #[error("the board is held already")]
     AlreadyHeld,
-    #[error("the board is not held")]
     NotHeld,
-    #[error("the section has no such pair")]
     NoSuchPair,
-    #[error("the place is not one of the pair's side")]
     WrongDirection,
-    #[error("the user is not authorized for Contestant")]
     NotContestant,
-    #[error("the user has a seat already")]
     AlreadySeated,
-    #[error("somebody sits there")]
     SeatTaken,
-    #[error("the user has no seat")]
     NotSeated,
-    #[error("this is the last round")]
     NoMoreRounds,
-    #[error("a scheduled board has no result at a table")]
     NotAllLive,
-    #[error("a name has 1 to 32 letters, digits, `-` and `_`")]
     BadName,
-    #[error("there is a user of this name")]
     UserExists,
-    #[error("there are 256 users")]
     TooManyUsers,
-    #[error("the role is assigned to the user already")]
     AlreadyAssigned,
-    #[error("a user would be authorized for both roles of {0}")]
     Separation(SeparationSet),
-    #[error("the role is not assigned to the user")]
     NotAssigned,
-    #[error("a seated user would not be authorized for Contestant")]
     StillSeated,
-    #[error("nobody would be authorized for Administrator")]
     LastAdministrator,
-    #[error("the junior role inherits the senior one")]
     Cycle,
-    #[error("the pair is there already")]
     AlreadyThere,
-    #[error("the pair is not there")]
     NotThere,
-    #[error("the table is of another deal")]
     StrangeDeal,
-    #[error("it is solved already")]
     AlreadySolved,
-    #[error("the costs are of another deal, contract or play")]
     StrangePlay,
-    #[error("the journal is full")]
     JournalFull,
-    #[error("out of memory")]
     OutOfMemory,
-    #[error("a command before it found no memory")]
     NotTried,
 }
 
@@ -97,4 +58,63 @@ impl Refusal {
     {
         matches!(self, Refusal::OutOfMemory)
     }
+
+    // What is said of it; where it names somebody or something, what is said beside the name.
+    fn text(&self) -> &'static str {
+        match self {
+            Refusal::NotPermitted => "the user has no permission for the command",
+            Refusal::NoSuchUser => "there is no such user",
+            Refusal::NoSuchCell => "the table is not scheduled to play the board",
+            Refusal::NoSuchBoard => "the session has no such board",
+            Refusal::WrongPhase => "the session has another phase",
+            Refusal::RoundNotStarted => "the round has not started",
+            Refusal::BadResult => "the play has a card twice, or a passed-out board has a play",
+            Refusal::AlreadyLive => "there is a result already",
+            Refusal::NothingEntered => "nothing is entered that could be confirmed",
+            Refusal::Mismatch => "something else is entered",
+            Refusal::Spoiled(_) => "sits there and was shown something of the board",
+            Refusal::NotLive => "there is no result",
+            Refusal::BadRuling => "a percentage is at most 100, and a reason is 1 to 99",
+            Refusal::AlreadyHeld => "the board is held already",
+            Refusal::NotHeld => "the board is not held",
+            Refusal::NoSuchPair => "the section has no such pair",
+            Refusal::WrongDirection => "the place is not one of the pair's side",
+            Refusal::NotContestant => "the user is not authorized for Contestant",
+            Refusal::AlreadySeated => "the user has a seat already",
+            Refusal::SeatTaken => "somebody sits there",
+            Refusal::NotSeated => "the user has no seat",
+            Refusal::NoMoreRounds => "this is the last round",
+            Refusal::NotAllLive => "a scheduled board has no result at a table",
+            Refusal::BadName => "a name has 1 to 32 letters, digits, `-` and `_`",
+            Refusal::UserExists => "there is a user of this name",
+            Refusal::TooManyUsers => "there are 256 users",
+            Refusal::AlreadyAssigned => "the role is assigned to the user already",
+            Refusal::Separation(_) => "a user would be authorized for both roles of",
+            Refusal::NotAssigned => "the role is not assigned to the user",
+            Refusal::StillSeated => "a seated user would not be authorized for Contestant",
+            Refusal::LastAdministrator => "nobody would be authorized for Administrator",
+            Refusal::Cycle => "the junior role inherits the senior one",
+            Refusal::AlreadyThere => "the pair is there already",
+            Refusal::NotThere => "the pair is not there",
+            Refusal::StrangeDeal => "the table is of another deal",
+            Refusal::AlreadySolved => "it is solved already",
+            Refusal::StrangePlay => "the costs are of another deal, contract or play",
+            Refusal::JournalFull => "the journal is full",
+            Refusal::OutOfMemory => "out of memory",
+            Refusal::NotTried => "a command before it found no memory",
+        }
+    }
 }
+
+impl fmt::Display for Refusal {
+    fn fmt<W: fmt::Write>(&self, f: &mut fmt::Formatter<W>) -> fmt::Result {
+        let text = self.text();
+        match self {
+            Refusal::Spoiled(name) => write!(f, "{name} {text}"),
+            Refusal::Separation(set) => write!(f, "{text} {set}"),
+            _ => f.write_str(text),
+        }
+    }
+}
+
+impl Error for Refusal {}

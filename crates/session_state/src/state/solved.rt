@@ -24,6 +24,7 @@ impl State {
         ensures { self.new ≡ effect self.old (Analysed cell.table cell.board costs) }
     {
         let place = place_of(cell);
-        self.cells[place] = self.cells[place].with_costs(costs);
+        let known = self.cell(cell);
+        self.cells[place] = known.with_costs(costs);
     }
 }

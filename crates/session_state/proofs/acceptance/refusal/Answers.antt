@@ -1,4 +1,4 @@
-use Rattle.std.proofs.Common.{[], ◌∷◌, sym, ap, ◌∙◌}
+use Rattle.std.proofs.Common.{[], ◌∷◌, sym, ◌∙◌}
 use Rattle.session_state.specs.Refusal.{first_of}
 use Rattle.session_state.proofs.RefusalLemmas.{refused_actor, refused_hindrance, refused_last}
 use Rattle.session_state.proofs.acceptance.refusal.Goals as goal

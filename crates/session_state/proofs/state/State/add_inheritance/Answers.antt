@@ -1,6 +1,5 @@
 use Rattle.std.proofs.Common.{◌≡◌, None, length, sym, ap, subst, ◌∙◌, arith}
 use Rattle.rbac.specs.RoleData.{RoleData}
-use Rattle.rbac.specs.Refusals.{RefusesInheritance}
 use Rattle.session_state.specs.Apply.{effect}
 use Rattle.session_state.specs.Refusal.{hindrance_of}
 use Rattle.session_state.specs.Seats.{AreSeated}

@@ -1,4 +1,4 @@
-use Rattle.std.proofs.Common.{◌≡◌, ◌<◌, None, false, length, refl, sym, ap, ◌∙◌, subst, arith}
+use Rattle.std.proofs.Common.{◌≡◌, ◌<◌, false, length, refl, sym, ap, ◌∙◌, subst, arith}
 use Rattle.std.specs.Prelude.{slice_set}
 use Rattle.session_state.specs.declared.cell_state.CellState.TheVariants.{Entered}
 use Rattle.session_state.specs.declared.command.Command.TheVariants.{Enter}

@@ -1,4 +1,4 @@
-use Rattle.std.proofs.Common.{◌≡◌, ◌<◌, None, ap, ◌∙◌, arith}
+use Rattle.std.proofs.Common.{ap, ◌∙◌, arith}
 use Rattle.session_state.specs.Refusal.{hindrance_of}
 use Rattle.session_state.specs.contracts.state.State.{the_view}
 use Rattle.session_state.specs.declared.command.Command.TheVariants.{NextRound}
