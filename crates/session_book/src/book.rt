@@ -96,11 +96,9 @@ impl Book {
         ensures opening { IfOk result (λ book. book.opening ≡ opening) }
         ensures journal { IfOk result (λ book. book.journal ≡ []) }
     {
-        let state = opening.copy(alloc)?;
-        let mut exposure = Exposure::new(alloc)?;
-        let boards = opening.public().movement.boards();
-        exposure.ask_all(&opening, boards);
         let journal = Vec::with_capacity(alloc, FIRST_ROOM)?;
+        let exposure = Exposure::at_opening(alloc, &opening)?;
+        let state = opening.copy(alloc)?;
         Ok(Book {
             opening,
             journal,

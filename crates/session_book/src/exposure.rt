@@ -1,11 +1,11 @@
 ghost use Rattle.std.specs.Prelude.{◌≡◌, ℕ, ◌||◌, ◌<◌, ◌≤◌, length, [], replicate, IfOk};
-ghost use Rattle.movement.specs.Movement.{most_boards};
+ghost use Rattle.movement.specs.Movement.{boards_of, most_boards};
 ghost use Rattle.rbac.specs.Account.{most_users};
 ghost use Rattle.rbac.specs.Authorization.{IsValid};
 ghost use Rattle.session_book.specs.Exposure.{users_of};
 ghost use Rattle.session_book.specs.Touched.{touched_at, touched_before};
 ghost use Rattle.session_book.specs.declared.touched.Touched.TheVariants.{Board, User};
-ghost use Rattle.session_book.specs.ExposureTable.{is_noted, user_at, IsAsked, one_board, first_boards, first_users};
+ghost use Rattle.session_book.specs.ExposureTable.{is_noted, user_at, IsAsked, IsNoted, one_board, first_boards, first_users};
 
 use crate::touched::Touched;
 use cards::Name;
@@ -17,7 +17,7 @@ use std::alloc::{AllocError, Global};
 use std::marker::Model;
 
 /// Who was shown something of which board: clauses see, for the account at each place, the list of the boards, ascending.
-#[derive(Debug, Drop)]
+#[derive(Drop)]
 pub struct Exposure {
     words: Vec<u64>,
 }
@@ -36,8 +36,19 @@ impl Model for Exposure {
 }
 
 impl Exposure {
-    /// Nobody was shown anything, with room for all users.
-    pub fn new(alloc: Global) -> Result<Exposure, AllocError>
+    /// What users are shown at the opening of a session, with room for all users that it can have.
+    pub fn at_opening(alloc: Global, opening: &State) -> Result<Exposure, AllocError>
+        ensures noted { IfOk result (λ exposure. IsNoted opening.now [] opening.now exposure) }
+        ensures boards { IfOk result (λ _. boards_of opening.now.public.movement ≤ most_boards) }
+    {
+        let mut exposure = Exposure::new(alloc)?;
+        let boards = opening.public().movement.boards();
+        exposure.ask_all(opening, boards);
+        Ok(exposure)
+    }
+
+    // Nobody was shown anything, with room for all users.
+    fn new(alloc: Global) -> Result<Exposure, AllocError>
         ensures { IfOk result (λ exposure. exposure ≡ replicate most_users []) }
     {
         let words = filled(alloc, 0, Roles::MOST_USERS)?;
