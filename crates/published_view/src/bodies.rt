@@ -20,6 +20,7 @@ use movement::Cell;
 use query_filter::Filter;
 use rbac::{Account, Inheritance};
 use session_queries::{Body, Query};
+use session_state::room::with_room;
 use session_state::{CellState, Seated, State};
 use shown_facts::{Items, analysis_of, costs_of, play_of, push_found, reason_of, shown_results};
 use standings::{Earning, add_earnings, ranking_of, traveller_rows};
@@ -223,11 +224,8 @@ fn accounts(alloc: Global, state: &State) -> Result<Body, AllocError>
 fn accounts_of(alloc: Global, state: &State) -> Result<Vec<Account>, AllocError>
     ensures { IfOk result (λ users. users.items ≡ state.now.roles.accounts) }
 {
-    let mut users = Vec::new(alloc);
-    for account in state.accounts() {
-        users.push(*account)?;
-    }
-    Ok(users)
+    let accounts = state.accounts();
+    with_room(alloc, accounts, accounts.len())
 }
 
 /// The pairs of the role hierarchy, in the order in which they were added.
