@@ -6,7 +6,7 @@ use movement::Movement;
 use std::marker::Model;
 
 /// Some boards of a session, as those that are held: clauses see the list of their numbers, ascending.
-#[derive(Debug, Drop)]
+#[derive(Drop)]
 pub struct Boards {
     bits: u64,
 }

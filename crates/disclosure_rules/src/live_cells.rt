@@ -7,7 +7,7 @@ use movement::{Cell, Movement};
 use std::marker::Model;
 
 /// Where there is a result: clauses see, for each board, the list of the tables, ascending.
-#[derive(Debug, Drop)]
+#[derive(Drop)]
 pub struct LiveCells {
     words: [u16; 64],
 }

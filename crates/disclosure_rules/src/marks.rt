@@ -1,7 +1,7 @@
 use cards::{Place, Vulnerability};
 
 /// What is marked on a board (Law 2).
-#[derive(Clone, Copy, Debug, PartialEq, Eq, Hash)]
+#[derive(Clone, Copy, Debug, PartialEq, Eq)]
 pub struct Marks {
     pub dealer: Place,
     pub vulnerability: Vulnerability,

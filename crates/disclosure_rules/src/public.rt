@@ -8,7 +8,7 @@ use crate::phase::Phase;
 use movement::Movement;
 
 /// What every member of a session may see, beside the seats.
-#[derive(Debug, Drop)]
+#[derive(Drop)]
 pub struct Public {
     pub movement: Movement,
     /// The markings of board 1, 2, ..

@@ -1,7 +1,7 @@
 use cards::{Pair, Place};
 
 /// Where a user sits: one of the two places of a pair.
-#[derive(Clone, Copy, Debug, PartialEq, Eq, Hash)]
+#[derive(Clone, Copy, Debug, PartialEq, Eq)]
 pub struct Seat {
     pub pair: Pair,
     pub place: Place,

@@ -3,7 +3,7 @@ use cards::{Place, Strain, Vulnerability};
 use scoring::Doubling;
 
 /// What a filter asks of a board, on one fact. An atom on results looks for a shown result of its own.
-#[derive(Clone, Copy, Debug, PartialEq, Eq)]
+#[derive(Clone, Copy)]
 pub enum Atom {
     /// The board is marked so (Law 2).
     Vulnerability(Vulnerability),

@@ -2,7 +2,7 @@ ghost use Rattle.std.specs.Prelude.{◌≡◌};
 ghost use Rattle.query_filter.specs.Bounds.{is_between, is_score_between};
 
 /// From `min` to `max`, both included; none where `min` is above `max`.
-#[derive(Clone, Copy, Debug, PartialEq, Eq)]
+#[derive(Clone, Copy)]
 pub struct Bounds {
     pub min: u8,
     pub max: u8,
@@ -18,7 +18,7 @@ impl Bounds {
 }
 
 /// From `min` to `max` points, both included; none where `min` is above `max`.
-#[derive(Clone, Copy, Debug, PartialEq, Eq)]
+#[derive(Clone, Copy)]
 pub struct ScoreBounds {
     pub min: i32,
     pub max: i32,

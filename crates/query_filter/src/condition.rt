@@ -2,7 +2,7 @@ use crate::atom::Atom;
 
 /// A condition on a board: an atom, or one that is put together of others. What it says is a formula, by which clauses
 /// know it.
-#[derive(Debug, Drop)]
+#[derive(Drop)]
 pub enum Condition {
     Atom(Atom),
     /// The other doesn't hold.

@@ -10,7 +10,7 @@ use crate::limits::is_within_limits;
 use std::marker::Model;
 
 /// A condition that isn't too large: at most 8 deep, with at most 32 atoms, and with 1 to 32 members in each list.
-#[derive(Debug, Drop)]
+#[derive(Drop)]
 pub struct Filter {
     condition: Condition,
 }

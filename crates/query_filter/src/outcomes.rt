@@ -4,7 +4,7 @@ use scoring::Outcome;
 use std::marker::Model;
 
 /// The results that are shown of a board.
-#[derive(Debug, Drop)]
+#[derive(Drop)]
 pub struct Outcomes {
     outcomes: Vec<Outcome>,
 }

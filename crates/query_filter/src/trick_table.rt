@@ -4,7 +4,7 @@ ghost use Rattle.query_filter.specs.TrickTable.{strain_tricks, tricks_of};
 use cards::{Place, Strain};
 
 /// The double-dummy tricks of the four declarers in one strain.
-#[derive(Clone, Copy, Debug, PartialEq, Eq)]
+#[derive(Clone, Copy)]
 pub struct StrainTricks {
     pub north: u8,
     pub east: u8,
@@ -13,7 +13,7 @@ pub struct StrainTricks {
 }
 
 /// The twenty numbers of a double-dummy table.
-#[derive(Clone, Copy, Debug, PartialEq, Eq)]
+#[derive(Clone, Copy)]
 pub struct TrickTable {
     pub spades: StrainTricks,
     pub hearts: StrainTricks,

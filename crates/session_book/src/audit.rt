@@ -9,14 +9,14 @@ use std::marker::Model;
 use thiserror::Error;
 
 /// An entry of the journal, and its number from 1.
-#[derive(Clone, Copy, Debug)]
+#[derive(Clone, Copy)]
 pub struct AuditRow {
     pub number: usize,
     pub entry: Entry,
 }
 
 /// Rows of the audit, in the order of their numbers: clauses see the list of the rows.
-#[derive(Debug, Drop)]
+#[derive(Drop)]
 pub struct AuditRows {
     rows: Vec<AuditRow>,
 }

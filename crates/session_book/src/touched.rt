@@ -5,7 +5,7 @@ use cards::Name;
 use session_state::Command;
 
 /// Whom a command may let see the hands of a board, who didn't see them before.
-#[derive(Clone, Copy, Debug)]
+#[derive(Clone, Copy)]
 pub enum Touched {
     /// Nobody.
     Nothing,

@@ -10,7 +10,7 @@ pub struct BatchReceipt {
 }
 
 /// What is told of an audit.
-#[derive(Debug, Drop)]
+#[derive(Drop)]
 pub struct AuditReceipt {
     /// The rows, or why there are none.
     pub rows: Result<AuditRows, AuditError>,

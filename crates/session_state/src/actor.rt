@@ -1,7 +1,7 @@
 use cards::Name;
 
 /// Who gives a command.
-#[derive(Clone, Copy, Debug)]
+#[derive(Clone, Copy)]
 pub enum Actor {
     /// The user of this name.
     User(Name),

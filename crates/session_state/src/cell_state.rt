@@ -7,7 +7,7 @@ use scoring::{Contract, Outcome};
 use solver_results::PlayCosts;
 
 /// What is known of a board at a table.
-#[derive(Clone, Copy, Debug)]
+#[derive(Clone, Copy)]
 pub enum CellState {
     /// Nothing is entered yet.
     Empty,

@@ -9,7 +9,7 @@ use scoring::Outcome;
 use solver_results::{DdTable, PlayCosts};
 
 /// What a user wants done, or what the solver found.
-#[derive(Clone, Copy, Debug)]
+#[derive(Clone, Copy)]
 pub enum Command {
     /// Enters how a board ended at a table, and the cards as they were played, in place of what was entered before.
     Enter {

@@ -1,7 +1,7 @@
 use scoring::Outcome;
 
 /// The result of a board at a table.
-#[derive(Clone, Copy, Debug)]
+#[derive(Clone, Copy)]
 pub enum CellResult {
     /// It was played, and both sides agree how it ended.
     Confirmed(Outcome),

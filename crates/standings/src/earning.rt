@@ -1,7 +1,7 @@
 use cards::Pair;
 
 /// What a result earns for its two pairs, in hundredths of a scoring unit (Law 78A), and what either could have earned.
-#[derive(Clone, Copy, Debug)]
+#[derive(Clone, Copy)]
 pub struct Earning {
     pub north_south: Pair,
     pub east_west: Pair,

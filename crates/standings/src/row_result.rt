@@ -1,7 +1,7 @@
 use scoring::Outcome;
 
 /// What a row of a traveller says of how its board ended.
-#[derive(Clone, Copy, Debug)]
+#[derive(Clone, Copy)]
 pub enum RowResult {
     /// It was played: what it scored for North-South (Law 77), and North-South's scoring units among the scores of the
     /// traveller (Law 78A).

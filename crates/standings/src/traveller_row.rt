@@ -2,7 +2,7 @@ use crate::row_result::RowResult;
 use cards::Pair;
 
 /// A row of a board's traveller: what happened at one table.
-#[derive(Clone, Copy, Debug)]
+#[derive(Clone, Copy)]
 pub struct TravellerRow {
     pub table: u8,
     pub north_south: Pair,
