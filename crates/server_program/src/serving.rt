@@ -5,7 +5,8 @@ use crate::session_server::SessionServer;
 use program::{Fault, open_session};
 use server_words::Serving;
 use session_keeper::PlainKeeper;
-use std::net::Net;
+use std::io::{Read, Write};
+use std::net::{Net, OpenListener};
 use std::rt::Files;
 use std::sync::Wait;
 use std::time::Clock;
@@ -16,17 +17,48 @@ pub(crate) fn serve<R: Files + Net + Clock + Wait + AllocGlobal>(
     rt: &R,
     serving: &Serving<'_>,
 ) -> Result<(), Fault> {
-    let keeper = keeper_of_files(rt, serving)?;
-    let Ok(listener) = listen(rt, serving.port) else {
-        return Err(Fault::Input);
-    };
-    let server = SessionServer::new(keeper);
-    if serving.connections == 0 {
-        serve_forever(rt, rt.alloc(), &listener, server);
-        return Ok(());
+    match keeper_of_files(rt, serving) {
+        Ok(keeper) => serve_session(rt, serving, keeper),
+        Err(fault) => Err(fault),
     }
-    serve_clients(rt, rt.alloc(), &listener, serving.connections, server);
-    Ok(())
+}
+
+// Serves clients in an open session.
+fn serve_session<R: Net + Clock + Wait + AllocGlobal>(
+    rt: &R,
+    serving: &Serving<'_>,
+    keeper: PlainKeeper,
+) -> Result<(), Fault> {
+    match listen(rt, serving.port) {
+        Ok(listener) => {
+            serve_at(
+                rt,
+                &listener,
+                serving.connections,
+                SessionServer::new(keeper),
+            );
+            Ok(())
+        }
+        Err(_) => Err(Fault::Input),
+    }
+}
+
+// Serves so many clients of a listener, or where that is 0 all of them.
+fn serve_at<R: Clock + Wait + AllocGlobal, L: OpenListener>(
+    rt: &R,
+    listener: &L,
+    connections: u32,
+    server: SessionServer<PlainKeeper>,
+)
+where
+    L::Stream: Read + Write,
+{
+    match connections {
+        0 => serve_forever(rt, rt.alloc(), listener, server),
+        _ => {
+            serve_clients(rt, rt.alloc(), listener, connections, server);
+        }
+    }
 }
 
 // The session that the files open: the session object's is read first.
