@@ -1,8 +1,8 @@
-use std::error::Error;
 use std::fmt;
+use thiserror::Error;
 
 /// Why no boards are read from a text. An offset is that of a `[`, from the text's first byte.
-#[derive(Clone, Copy, Debug, PartialEq, Eq)]
+#[derive(Clone, Copy, Debug, PartialEq, Eq, Error)]
 pub enum DealsError {
     /// A `[` that begins no tag.
     BadTag(usize),
@@ -28,5 +28,3 @@ impl fmt::Display for DealsError {
         write!(f, "{self:?}")
     }
 }
-
-impl Error for DealsError {}

@@ -1,9 +1,9 @@
 use rbac::SeparationSet;
-use std::error::Error;
 use std::fmt;
+use thiserror::Error;
 
 /// Why a session isn't opened, in the order in which the causes are looked at: first user by user, then of all users.
-#[derive(Clone, Copy, Debug, PartialEq, Eq)]
+#[derive(Clone, Copy, Debug, PartialEq, Eq, Error)]
 pub enum OpeningRefusal {
     BadName,
     UserExists,
@@ -47,5 +47,3 @@ impl fmt::Display for OpeningRefusal {
         }
     }
 }
-
-impl Error for OpeningRefusal {}

@@ -1,10 +1,10 @@
 use cards::Name;
 use rbac::SeparationSet;
-use std::error::Error;
 use std::fmt;
+use thiserror::Error;
 
 /// Why a command is refused. Each command's causes are looked at in this order, but for those of its own.
-#[derive(Clone, Copy, Debug, PartialEq, Eq)]
+#[derive(Clone, Copy, Debug, PartialEq, Eq, Error)]
 pub enum Refusal {
     NotPermitted,
     NoSuchUser,
@@ -116,5 +116,3 @@ impl fmt::Display for Refusal {
         }
     }
 }
-
-impl Error for Refusal {}
