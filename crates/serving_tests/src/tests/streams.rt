@@ -1,8 +1,10 @@
 //! A client's bytes in memory, and what is written for them.
 
 use super::Counting;
-use std::alloc::Global;
+use std::alloc::{AllocError, Global};
 use std::io::{self, ErrorKind, Read, Write};
+use std::process::Abort;
+use std::sync::Wait;
 use std::test::Fail;
 use websocket_server::{LONGEST_MESSAGE, serve_stream};
 
@@ -34,18 +36,18 @@ impl Client {
         })
     }
 
+    // With a whole frame for each message.
+    fn with_messages(alloc: Global, messages: &[(u8, &[u8])]) -> Result<Client, Fail> {
+        let mut client = Client::new(alloc, HANDSHAKE)?;
+        for (opcode, payload) in messages {
+            client.send(alloc, *opcode, payload)?;
+        }
+        Ok(client)
+    }
+
     // Sends a whole frame with a mask of zeros.
     fn send(&mut self, alloc: Global, opcode: u8, payload: &[u8]) -> Result<(), Fail> {
-        let mut frame = Vec::new(alloc);
-        frame.push(0x80 | opcode)?;
-        let length = payload.len();
-        if length < 126 {
-            frame.push(0x80 | length as u8)?;
-        } else {
-            frame.push(0xFF)?;
-            frame.extend_from_slice((length as u64).to_be_bytes().as_slice())?;
-        }
-        frame.extend_from_slice(&[0, 0, 0, 0])?;
+        let mut frame = head_of(alloc, opcode, payload.len())?;
         frame.extend_from_slice(payload)?;
         self.parts.push(frame)?;
         Ok(())
@@ -61,6 +63,19 @@ impl Client {
         }
         &[]
     }
+}
+
+// What stands before the payload of a frame.
+fn head_of(alloc: Global, opcode: u8, length: usize) -> Result<Vec<u8>, AllocError> {
+    let mut head = Vec::from_slice(alloc, &[0x80 | opcode])?;
+    if length < 126 {
+        head.push(0x80 | length as u8)?;
+    } else {
+        head.push(0xFF)?;
+        head.extend_from_slice((length as u64).to_be_bytes().as_slice())?;
+    }
+    head.extend_from_slice(&[0, 0, 0, 0])?;
+    Ok(head)
 }
 
 impl Read for Client {
@@ -103,68 +118,96 @@ const CLOSE: u8 = 8;
 
 const PING: u8 = 9;
 
+// Serves a client, and says how many of its texts were answered.
+fn served<R: Wait>(rt: &R, alloc: Global, client: &mut Client) -> u32 {
+    let mut server = Counting::new();
+    serve_stream(rt, alloc, client, &mut server);
+    server.messages
+}
+
+const MESSAGES: [(u8, &[u8]); 7] = [
+    (TEXT, b"hello"),
+    (PING, b"p"),
+    (BINARY, b"hello"),
+    (TEXT, b"none"),
+    (TEXT, b""),
+    (CLOSE, &[3, 232]),
+    (TEXT, b"late"),
+];
+
+// The close comes back, and nothing after it.
+const ANSWERS: &[u8] = b"\x81\x041: 5\x8a\x01p\x81\x06binary\x81\x09no memory\
+\x81\x042: 0\x88\x02\x03\xe8";
+
 #[test]
 fn each_text_has_one_text(rt: HostRuntime) -> Result<(), Fail> {
-    let alloc = rt.alloc();
-    let mut client = Client::new(alloc, HANDSHAKE)?;
-    client.send(alloc, TEXT, b"hello")?;
-    client.send(alloc, PING, b"p")?;
-    client.send(alloc, BINARY, b"hello")?;
-    client.send(alloc, TEXT, b"none")?;
-    client.send(alloc, TEXT, b"")?;
-    client.send(alloc, CLOSE, &[3, 232])?;
-    client.send(alloc, TEXT, b"late")?;
-    let mut server = Counting::new();
-    serve_stream(&rt, alloc, &mut client, &mut server);
-    let mut expected = Vec::from_slice(alloc, b"\x81\x041: 5\x8a\x01p")?;
-    expected.extend_from_slice(b"\x81\x06binary")?;
-    expected.extend_from_slice(b"\x81\x09no memory")?;
-    expected.extend_from_slice(b"\x81\x042: 0\x88\x02\x03\xe8")?;
-    assert_eq!(rt; client.frames(), expected.as_slice());
-    assert_eq!(rt; server.messages, 2);
+    let mut client = Client::with_messages(rt.alloc(), &MESSAGES)?;
+    assert_eq!(rt; served(&rt, rt.alloc(), &mut client), 2);
+    assert_eq!(rt; client.frames(), ANSWERS);
+    Ok(())
+}
+
+// An unmasked frame, a reserved opcode and a text that is no UTF-8, each with a text after it; then streams that end, in the
+// middle of a frame and before one: nobody is left to hear a code.
+const NO_FRAMES: [(&[u8], &[u8]); 5] = [
+    (b"\x81\x01a\x81\x81\0\0\0\0b", b"\x88\x02\x03\xea"),
+    (b"\x83\x80\0\0\0\0\x81\x81\0\0\0\0b", b"\x88\x02\x03\xea"),
+    (
+        b"\x81\x81\0\0\0\0\xff\x81\x81\0\0\0\0b",
+        b"\x88\x02\x03\xef",
+    ),
+    (b"\x81\x8a\0\0\0\0abc", b""),
+    (b"", b""),
+];
+
+// After a text that is answered, these bytes have this close.
+fn ends_with<R: Wait + Abort>(
+    rt: &R,
+    alloc: Global,
+    bytes: &[u8],
+    close: &[u8],
+) -> Result<(), Fail> {
+    let mut client = Client::with_messages(alloc, &[(TEXT, b"abc")])?;
+    client.parts.push(Vec::from_slice(alloc, bytes)?)?;
+    served(rt, alloc, &mut client);
+    let frames = client.frames();
+    assert!(rt; frames.strip_prefix(b"\x81\x041: 3") == Some(close));
     Ok(())
 }
 
 #[test]
 fn what_no_frame_may_be_ends_the_connection(rt: HostRuntime) -> Result<(), Fail> {
-    let alloc = rt.alloc();
-    // An unmasked frame, a reserved opcode and a text that is no UTF-8, each with a text after it; then streams that end,
-    // in the middle of a frame and before one: nobody is left to hear a code.
-    let cases: [(&[u8], &[u8]); 5] = [
-        (b"\x81\x01a\x81\x81\0\0\0\0b", b"\x88\x02\x03\xea"),
-        (b"\x83\x80\0\0\0\0\x81\x81\0\0\0\0b", b"\x88\x02\x03\xea"),
-        (
-            b"\x81\x81\0\0\0\0\xff\x81\x81\0\0\0\0b",
-            b"\x88\x02\x03\xef",
-        ),
-        (b"\x81\x8a\0\0\0\0abc", b""),
-        (b"", b""),
-    ];
-    for (frame, close) in cases {
-        let mut client = Client::new(alloc, HANDSHAKE)?;
-        client.send(alloc, TEXT, b"abc")?;
-        client.parts.push(Vec::from_slice(alloc, frame)?)?;
-        let mut server = Counting::new();
-        serve_stream(&rt, alloc, &mut client, &mut server);
-        let mut expected = Vec::from_slice(alloc, b"\x81\x041: 3")?;
-        expected.extend_from_slice(close)?;
-        assert_eq!(rt; client.frames(), expected.as_slice());
+    for (bytes, close) in NO_FRAMES {
+        ends_with(&rt, rt.alloc(), bytes, close)?;
     }
     Ok(())
 }
 
+// So many letters.
+fn letters(alloc: Global, count: usize) -> Result<Vec<u8>, AllocError> {
+    let mut text = Vec::new(alloc);
+    text.resize(count, b'a')?;
+    Ok(text)
+}
+
+// A client that sends the longest message, one that is longer, and then one more.
+fn at_the_limit(alloc: Global) -> Result<Client, Fail> {
+    let longest = letters(alloc, LONGEST_MESSAGE)?;
+    let longer = letters(alloc, LONGEST_MESSAGE + 1)?;
+    Client::with_messages(
+        alloc,
+        &[
+            (TEXT, longest.as_slice()),
+            (TEXT, longer.as_slice()),
+            (TEXT, b"late"),
+        ],
+    )
+}
+
 #[test]
 fn a_message_is_kept_up_to_its_limit(rt: HostRuntime) -> Result<(), Fail> {
-    let alloc = rt.alloc();
-    let mut text = Vec::new(alloc);
-    text.resize(LONGEST_MESSAGE, b'a')?;
-    let mut client = Client::new(alloc, HANDSHAKE)?;
-    client.send(alloc, TEXT, text.as_slice())?;
-    text.push(b'a')?;
-    client.send(alloc, TEXT, text.as_slice())?;
-    client.send(alloc, TEXT, b"late")?;
-    let mut server = Counting::new();
-    serve_stream(&rt, alloc, &mut client, &mut server);
+    let mut client = at_the_limit(rt.alloc())?;
+    served(&rt, rt.alloc(), &mut client);
     assert_eq!(rt;
         client.frames(),
         b"\x81\x081: 65537\x88\x02\x03\xf1".as_slice()
@@ -174,33 +217,36 @@ fn a_message_is_kept_up_to_its_limit(rt: HostRuntime) -> Result<(), Fail> {
 
 #[test]
 fn a_failed_write_ends_the_connection(rt: HostRuntime) -> Result<(), Fail> {
-    let alloc = rt.alloc();
-    let mut client = Client::new(alloc, HANDSHAKE)?;
-    client.send(alloc, TEXT, b"abc")?;
-    client.send(alloc, TEXT, b"late")?;
+    let mut client = Client::with_messages(rt.alloc(), &[(TEXT, b"abc"), (TEXT, b"late")])?;
     client.writes_left = 1;
-    let mut server = Counting::new();
-    serve_stream(&rt, alloc, &mut client, &mut server);
+    assert_eq!(rt; served(&rt, rt.alloc(), &mut client), 1);
     assert_eq!(rt; client.frames(), b"".as_slice());
-    assert_eq!(rt; server.messages, 1);
     Ok(())
 }
 
 #[test]
 fn the_handshake_is_the_standards(rt: HostRuntime) -> Result<(), Fail> {
-    let alloc = rt.alloc();
-    let mut client = Client::new(alloc, HANDSHAKE)?;
-    serve_stream(&rt, alloc, &mut client, &mut Counting::new());
+    let mut client = Client::new(rt.alloc(), HANDSHAKE)?;
+    served(&rt, rt.alloc(), &mut client);
     let written = client.written.as_slice();
     assert!(rt; written.starts_with(b"HTTP/1.1 101 "));
     assert!(rt; written.windows(ACCEPTED.len()).any(|part| part == ACCEPTED));
+    Ok(())
+}
+
+// Nothing is written for a request that is none of a WebSocket, and no text after it is answered.
+fn has_no_handshake<R: Wait + Abort>(rt: &R, alloc: Global, request: &[u8]) -> Result<(), Fail> {
+    let mut client = Client::new(alloc, request)?;
+    client.send(alloc, TEXT, b"late")?;
+    assert_eq!(rt; served(rt, alloc, &mut client), 0);
+    assert!(rt; client.written.is_empty());
+    Ok(())
+}
+
+#[test]
+fn another_request_has_no_handshake(rt: HostRuntime) -> Result<(), Fail> {
     for request in [b"GET / HTTP/1.1\r\n\r\n".as_slice(), b"hello\r\n\r\n", b""] {
-        let mut client = Client::new(alloc, request)?;
-        client.send(alloc, TEXT, b"late")?;
-        let mut server = Counting::new();
-        serve_stream(&rt, alloc, &mut client, &mut server);
-        assert_eq!(rt; server.messages, 0);
-        assert!(rt; client.written.is_empty());
+        has_no_handshake(&rt, rt.alloc(), request)?;
     }
     Ok(())
 }
