@@ -10,7 +10,8 @@ use Rattle.cards.specs.HandText.{hand_text, deal_text}
 use Rattle.cards.specs.declared.suit.Suit.TheVariants.{Spades, Hearts, Diamonds, Clubs}
 use Rattle.cards.specs.FourHands.{clockwise_from}
 use Rattle.cards.specs.HandReading.{IsHandText, IsDealText}
-use Rattle.cards.proofs.PartsLemmas.{HasNo, no_mark_before, no_mark_in_both, JoinsFour, same_four}
+use Rattle.cards.specs.Parts.{HasNo, JoinsFour}
+use Rattle.cards.proofs.PartsLemmas.{no_mark_before, no_mark_in_both, same_four}
 use Rattle.cards.proofs.HandReadingLemmas.{no_space}
 use Rattle.cards.proofs.HandLawsLemmas.{hand_reads, one_hand}
 

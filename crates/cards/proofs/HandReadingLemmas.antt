@@ -18,7 +18,8 @@ use Rattle.cards.specs.Card.{card_cmp, number_in_pack}
 use Rattle.cards.specs.Rank.{rank_letter, ranks_down}
 use Rattle.cards.specs.Cards.{Cards}
 use Rattle.cards.specs.CardBits.{each_rank, card_cmp_total, tied_is_equal, same_number}
-use Rattle.cards.proofs.PartsLemmas.{HasNo, JoinsFour, same_four}
+use Rattle.cards.specs.Parts.{HasNo, JoinsFour}
+use Rattle.cards.proofs.PartsLemmas.{same_four}
 use Rattle.cards.specs.HandReading.{Names, names, IsHoldingText, IsHandText}
 
 -- the rank of a letter

@@ -5,7 +5,7 @@ use Rattle.std.specs.FinSet as set
 use Rattle.std.specs.Int.{bit_at, bit_not, w64, trailing_zeros}
 use Rattle.std.proofs.lemmas.Bool.{cases_lt, cases_eq, eq-eqb, ne_eqb, lt-ltb, le-ltb, and_from, and_left, and_right}
 use Rattle.std.proofs.lemmas.Nat.Bits.{bit_at-lt, bit_at_and, bit_at_not, bit_at_above, bit_at_mask_inside, bit_at_mask_below, bit_at_mask_above, bit_at-trailing_zeros}
-use Rattle.std.proofs.lemmas.Nat.{pow_below}
+use Rattle.std.proofs.lemmas.Nat.{pow_below, and_le_l}
 use Rattle.std.proofs.Math.Nat.{mod-eq_of_lt, pow-suc, mul_comm, pow-le-pow_right}
 use Rattle.cards.specs.declared.card.Card.{Card}
 use Rattle.cards.specs.declared.suit.Suit.{Suit}
@@ -29,6 +29,10 @@ flipped : (y : ℕ) → y < 2 → nat_eq (1 - y) 1 ≡ not (nat_eq y 1)
 flipped zero h = refl
 flipped (suc zero) h = refl
 flipped (suc (suc y)) h = absurd (omega arith)
+
+-- what is cut out of a word is no greater
+pub and_below : (a b n : ℕ) → a < n → bit_and a b < n
+and_below a b n small = omega (arith, and_le_l a b)
 
 -- a card's bit in a word that is cut by another
 pub has_bit-and : (a b : ℕ) (card : Card) → has_bit (bit_and a b) card ≡ (has_bit a card && has_bit b card)

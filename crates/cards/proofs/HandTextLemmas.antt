@@ -5,7 +5,9 @@ use Rattle.std.specs.FinSet as set
 use Rattle.std.proofs.lemmas.List.{take_more}
 use Rattle.cards.specs.declared.suit.Suit.{Suit}
 use Rattle.cards.specs.declared.rank.Rank.{Rank}
+use Rattle.cards.specs.declared.suit.Suit.TheVariants.{Spades, Hearts, Diamonds, Clubs}
 use Rattle.cards.specs.Rank.{rank_letter}
+use Rattle.cards.specs.Suit.{suit_letter}
 use Rattle.cards.specs.Cards.{Cards}
 use Rattle.cards.specs.CardBits.{each_rank}
 use Rattle.cards.specs.HandText.{held_letters}
@@ -27,7 +29,14 @@ held_letters_more cards suit ranks i d b within is =
     ∙ passing_push p (take i ranks) (get_or ranks i d)
     ∙ ap (λ b. map rank_letter (filter p (take i ranks)) ++ cond b (rank_letter (get_or ranks i d) ∷ []) []) (sym is)
 
--- a rank's letter is one byte of text
+-- a letter of a rank or a suit is one byte of text
 pub encode-rank_letter : (rank : Rank) → encode_utf8 (rank_letter rank) ≡ rank_letter rank ∷ []
 unfolding lib.Utf8.encode
 encode-rank_letter = each_rank (λ rank. encode_utf8 (rank_letter rank) ≡ rank_letter rank ∷ []) refl refl refl refl refl refl refl refl refl refl refl refl refl
+
+pub encode-suit_letter : (suit : Suit) → encode_utf8 (suit_letter suit) ≡ suit_letter suit ∷ []
+unfolding lib.Utf8.encode
+encode-suit_letter Spades = refl
+encode-suit_letter Hearts = refl
+encode-suit_letter Diamonds = refl
+encode-suit_letter Clubs = refl

@@ -1,12 +1,9 @@
--- A text in four parts with a mark between them: the suits of a hand, and the hands of a deal.
+-- How a text is cut at a mark, once and into four parts.
 use Rattle.std.proofs.Common.{◌≡◌, ◌≢◌, ℕ, zero, suc, ◌<◌, List, [], ◌∷◌, ◌++◌, length, get_or, Some, None, refl, sym, ap, ◌∙◌, arith, length-append}
 use Rattle.std.specs.Borrow.{Bor}
 use Rattle.std.proofs.lemmas.List.{get_or_at}
 use Rattle.std.proofs.lemmas.Str.Pattern.{IsSplitOnceResult, split_parts}
-
--- the mark does not stand in the text
-abbrev pub HasNo : ℕ → List ℕ → Type 0
-HasNo mark text = (i : ℕ) → i < length text → get_or text i 0 ≢ mark
+use Rattle.cards.specs.Parts.{HasNo, JoinsFour}
 
 no_mark_after : (mark first : ℕ) (text : List ℕ) → HasNo mark (first ∷ text) → HasNo mark text
 no_mark_after mark first text none i within = none (suc i) (omega arith)
@@ -35,13 +32,6 @@ pub no_parts : (mark : ℕ) (text before after : List ℕ) → HasNo mark text �
 no_parts mark text before after none is =
     let within : length before < length text = omega (arith, ap length is, length-append before (mark ∷ after)) in
     none (length before) within (ap (λ bs. get_or bs (length before) 0) is ∙ get_or_at before mark after 0 (length before) refl)
-
--- the text is four parts with the mark between them, and the mark stands in none but perhaps the last
-pub record JoinsFour (mark : ℕ) (text one two three four : List ℕ) : Type 0 where
-  pub joined : text ≡ one ++ mark ∷ (two ++ mark ∷ (three ++ mark ∷ four))
-  pub in_one : HasNo mark one
-  pub in_two : HasNo mark two
-  pub in_three : HasNo mark three
 
 -- what is left of such a text once parts are cut off
 after_one : (mark : ℕ) (text one two three four before after : List ℕ) → JoinsFour mark text one two three four → text ≡ before ++ mark ∷ after → HasNo mark before → (one ≡ before) × (two ++ mark ∷ (three ++ mark ∷ four) ≡ after)

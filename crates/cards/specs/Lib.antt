@@ -10,6 +10,7 @@ pub mod Hands
 pub mod Law2
 pub mod Pair
 pub mod PairReading
+pub mod Parts
 pub mod Place
 pub mod Play
 pub mod Position

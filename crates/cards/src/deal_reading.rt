@@ -8,6 +8,7 @@ ghost use Rattle.cards.specs.HandReading.{IsDealText, ReadsDeal};
 use crate::deal::{Deal, NotADeal};
 use crate::hand::Hand;
 use crate::hand_reading::read_hand;
+use crate::parts::in_four;
 use crate::place::Place;
 use std::str::FromStr;
 use thiserror::Error;
@@ -74,9 +75,7 @@ fn read_hands(text: &str) -> Option<FourHands>
     ensures none { IfNone result ((hands : Hands) → ¬ IsDealText hands text.now) }
 {
     let (first, rest) = read_first(text)?;
-    let (own, rest) = rest.split_once(' ')?;
-    let (left, rest) = rest.split_once(' ')?;
-    let (opposite, right) = rest.split_once(' ')?;
+    let (own, left, opposite, right) = in_four(rest, ' ')?;
     Some(FourHands {
         first,
         own: read_hand(own)?,

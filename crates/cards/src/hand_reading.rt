@@ -6,6 +6,7 @@ ghost use Rattle.cards.specs.HandReading.{IsHoldingText, IsHandText, ReadsHand};
 
 use crate::card::Card;
 use crate::hand::Hand;
+use crate::parts::in_four;
 use crate::rank::Rank;
 use crate::suit::Suit;
 use std::str::FromStr;
@@ -33,9 +34,7 @@ pub(crate) fn read_hand(text: &str) -> Option<Hand>
     ensures hand { IfSome result (λ hand. IsHandText hand text.now) }
     ensures none { IfNone result ((cards : Cards) → ¬ IsHandText cards text.now) }
 {
-    let (spades, rest) = text.split_once('.')?;
-    let (hearts, rest) = rest.split_once('.')?;
-    let (diamonds, clubs) = rest.split_once('.')?;
+    let (spades, hearts, diamonds, clubs) = in_four(text, '.')?;
     let spades = read_holding(Suit::Spades, spades)?;
     let hearts = read_holding(Suit::Hearts, hearts)?;
     let diamonds = read_holding(Suit::Diamonds, diamonds)?;

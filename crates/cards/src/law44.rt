@@ -14,7 +14,7 @@ pub fn strength(trump: Option<Suit>, led: Suit, card: Card) -> u8
 {
     if trump == Some(card.suit) {
         14 + card.rank as u8
-    } else if card.suit == led {
+    } else if led == card.suit {
         1 + card.rank as u8
     } else {
         0

@@ -13,6 +13,7 @@ pub mod laws;
 mod pack;
 mod pair;
 mod pair_reading;
+mod parts;
 mod place;
 mod position;
 mod rank;
