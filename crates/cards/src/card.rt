@@ -9,7 +9,7 @@ use std::str::FromStr;
 use thiserror::Error;
 
 /// One of the 52 cards of the pack (Law 1).
-#[derive(Clone, Copy, Debug, PartialEq, Eq, Hash)]
+#[derive(Clone, Copy, Debug, PartialEq, Eq)]
 pub struct Card {
     pub suit: Suit,
     pub rank: Rank,

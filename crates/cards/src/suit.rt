@@ -5,7 +5,7 @@ ghost use Rattle.cards.specs.declared.suit.Suit.{Suit};
 use std::fmt;
 
 /// A suit of the pack (Law 1), in the order in which a hand is written.
-#[derive(Clone, Copy, Debug, PartialEq, Eq, Hash)]
+#[derive(Clone, Copy, Debug, PartialEq, Eq)]
 pub enum Suit {
     Spades,
     Hearts,

@@ -1,5 +1,5 @@
 /// A table and a board that it is scheduled to play.
-#[derive(Clone, Copy, Debug, PartialEq, Eq, Hash)]
+#[derive(Clone, Copy, Debug, PartialEq, Eq)]
 pub struct Cell {
     pub table: u8,
     pub board: u8,

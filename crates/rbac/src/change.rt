@@ -1,7 +1,7 @@
 use crate::role::Role;
 
 /// A change that takes authorization away, as `Roles::authorized_if` looks ahead to it.
-#[derive(Clone, Copy, Debug)]
+#[derive(Clone, Copy)]
 pub enum Change<'a> {
     /// The user's name, and the role that is no longer assigned to it.
     Deassign(&'a str, Role),

@@ -7,7 +7,7 @@ use crate::role::Role;
 use crate::role_set::RoleSet;
 
 /// For each role the roles that it reaches down the inheritance pairs, itself among them.
-#[derive(Clone, Copy, Debug)]
+#[derive(Clone, Copy)]
 pub struct Hierarchy {
     reached: [RoleSet; 6],
 }

@@ -3,7 +3,7 @@ ghost use Rattle.std.specs.Prelude.{◌≡◌, vec_capacity};
 use crate::role::Role;
 
 /// A pair of the role hierarchy (INCITS 359-2012): the senior role inherits what the junior one may do.
-#[derive(Clone, Copy, Debug, PartialEq, Eq, Hash)]
+#[derive(Clone, Copy, Debug, PartialEq, Eq)]
 pub struct Inheritance {
     pub senior: Role,
     pub junior: Role,

@@ -7,7 +7,7 @@ use crate::role::Role;
 use crate::role_set::RoleSet;
 
 /// What a user may do with a session (an operation of INCITS 359-2012).
-#[derive(Clone, Copy, Debug, Hash)]
+#[derive(Clone, Copy)]
 pub enum Operation {
     Enter,
     Confirm,

@@ -38,7 +38,7 @@ use user_names::Name;
 /// A name is looked for among the accounts in turn, and what each role reaches is kept as a table of six bytes. So
 /// `authorized` costs one scan of the names and at most six unions of a byte, `add_inheritance` that union for each account
 /// and separation set, and a deletion works the table out anew from the pairs.
-#[derive(Debug, Drop)]
+#[derive(Drop)]
 pub struct Roles {
     accounts: Vec<Account>,
     pairs: Vec<Inheritance>,
