@@ -1,5 +1,6 @@
 mod calling;
 mod client;
 mod files;
+mod running;
 mod serving;
 mod statuses;

@@ -1,7 +1,8 @@
 //! The program as it is called: its words, its streams and its statuses.
 
-use super::files::words_of;
+use super::running::{run, run_over, words_of};
 use server_program::run_words;
+use std::alloc::{AllocError, Global};
 use std::io::{self, BufWriter, ErrorKind, Read, Write};
 use std::net::Net;
 use std::process::Abort;
@@ -43,6 +44,15 @@ struct FailingWriter {
     room: usize,
 }
 
+impl FailingWriter {
+    fn new(alloc: Global, room: usize) -> FailingWriter {
+        FailingWriter {
+            held: Vec::new(alloc),
+            room,
+        }
+    }
+}
+
 impl Write for FailingWriter {
     fn write(&mut self, buf: &[u8]) -> io::Result<usize> {
         if self.room == 0 {
@@ -59,44 +69,40 @@ impl Write for FailingWriter {
     }
 }
 
-/// Runs the program with these words over a script, and compares its status, its answers, and how what it says besides begins.
+/// Runs the program with the words of a line over a script, and compares its status, its answers, and how what it says besides
+/// begins.
 fn ends<R: Files + Net + Clock + Wait + Abort + AllocGlobal>(
     rt: &R,
-    words: &[&str],
+    line: &str,
     script: &str,
-    ended: (u8, &str, &str),
+    (status, answers, said): (u8, &str, &str),
 ) -> Result<(), Fail> {
-    let list = words_of(rt.alloc(), words)?;
-    let mut writer = Vec::new(rt.alloc());
-    let mut errors = Vec::new(rt.alloc());
-    let status = run_words(
-        rt,
-        list.as_slice(),
-        &mut script.as_bytes(),
-        &mut writer,
-        &mut errors,
+    let ended = run(rt, line, script)?;
+    assert_eq!(rt;
+        (ended.status, ended.written.as_str()),
+        (status, answers),
+        "{line} {script}"
     );
-    let errors = String::from_utf8(errors)?;
-    assert_eq!(rt; status, ended.0, "{words:?} {script}");
-    assert_eq!(rt; writer.as_slice(), ended.1.as_bytes(), "{words:?} {script}");
-    assert!(rt; errors.starts_with(ended.2), "{words:?} {script} {errors}");
-    assert_eq!(rt; errors.is_empty(), ended.2.is_empty(), "{words:?} {script}");
+    assert!(rt;
+        ended.said.starts_with(said),
+        "{line} {script} {}",
+        ended.said
+    );
+    assert_eq!(rt; ended.said.is_empty(), said.is_empty(), "{line} {script}");
     Ok(())
+}
+
+/// A script with one message.
+fn script_of_a_message(alloc: Global) -> Result<String, AllocError> {
+    format!(in alloc; "{SESSION}\n{MESSAGE}\n")
 }
 
 #[test]
 fn answers_a_script_for_one_word_alone(rt: HostRuntime) -> Result<(), Fail> {
-    let script = format!(in rt.alloc(); "{SESSION}\n{MESSAGE}\n")?;
-    ends(&rt, &["script"], script.as_str(), (0, ANSWER, ""))?;
-    let others: [&[&str]; 5] = [
-        &[],
-        &["Script"],
-        &["script", "script"],
-        &["serve"],
-        &["-script"],
-    ];
-    for words in others {
-        ends(&rt, words, script.as_str(), (2, "", "error: "))?;
+    let script = script_of_a_message(rt.alloc())?;
+    ends(&rt, "script", script.as_str(), (0, ANSWER, ""))?;
+    for line in ["", "Script", "script script", "serve", "-script"] {
+        ends(&rt, line, script.as_str(), (2, "", "error: "))?;
     }
     Ok(())
 }
@@ -106,7 +112,7 @@ fn answers_a_script_for_one_word_alone(rt: HostRuntime) -> Result<(), Fail> {
 fn answers_nothing_where_nothing_is_asked(rt: HostRuntime) -> Result<(), Fail> {
     for end in ["", "\n", "\n\n"] {
         let script = format!(in rt.alloc(); "{SESSION}{end}")?;
-        ends(&rt, &["script"], script.as_str(), (0, "", ""))?;
+        ends(&rt, "script", script.as_str(), (0, "", ""))?;
     }
     Ok(())
 }
@@ -116,7 +122,7 @@ fn answers_nothing_where_nothing_is_asked(rt: HostRuntime) -> Result<(), Fail> {
 fn ends_with_the_status_of_a_refused_session(rt: HostRuntime) -> Result<(), Fail> {
     let ended = (1, "", "bridge_server: Malformed\n");
     for script in ["", "\n", "\r\n", "\n{}\n", "{\"budget\":0"] {
-        ends(&rt, &["script"], script, ended)?;
+        ends(&rt, "script", script, ended)?;
     }
     Ok(())
 }
@@ -124,44 +130,48 @@ fn ends_with_the_status_of_a_refused_session(rt: HostRuntime) -> Result<(), Fail
 /// What is said of words can't be written: of bad ones the status tells all the same, and help that isn't given is a fault.
 #[test]
 fn ends_with_the_status_of_words_that_nobody_hears_of(rt: HostRuntime) -> Result<(), Fail> {
-    for (word, status, written, said) in [("again", 2, 0, 7), ("help", 3, 7, 0)] {
-        let list = words_of(rt.alloc(), &[word])?;
-        let mut writer = FailingWriter {
-            held: Vec::new(rt.alloc()),
-            room: 7,
-        };
-        let mut errors = FailingWriter {
-            held: Vec::new(rt.alloc()),
-            room: 7,
-        };
-        let mut reader = SESSION.as_bytes();
-        let ended = run_words(&rt, list.as_slice(), &mut reader, &mut writer, &mut errors);
-        assert_eq!(rt; ended, status, "{word}");
-        assert_eq!(rt; writer.held.len(), written, "{word}");
-        assert_eq!(rt; errors.held.len(), said, "{word}");
-        assert_eq!(rt; reader.len(), SESSION.len(), "{word}");
-    }
+    assert_eq!(rt; run_in_little_room(&rt, "again")?, (2, 0, 7));
+    assert_eq!(rt; run_in_little_room(&rt, "help")?, (3, 7, 0));
     Ok(())
+}
+
+// Runs the program with this word, which leaves its script alone, over writers that fail after seven bytes: the status, and how
+// much was written and said.
+fn run_in_little_room<R: Files + Net + Clock + Wait + Abort + AllocGlobal>(
+    rt: &R,
+    word: &str,
+) -> Result<(u8, usize, usize), Fail> {
+    let words = words_of(rt.alloc(), word)?;
+    let mut reader = SESSION.as_bytes();
+    let mut writer = FailingWriter::new(rt.alloc(), 7);
+    let mut errors = FailingWriter::new(rt.alloc(), 7);
+    let status = run_words(rt, words.as_slice(), &mut reader, &mut writer, &mut errors);
+    assert_eq!(rt; reader.len(), SESSION.len(), "{word}");
+    Ok((status, writer.held.len(), errors.held.len()))
 }
 
 #[test]
 fn ends_with_the_status_of_a_fault(rt: HostRuntime) -> Result<(), Fail> {
-    let list = words_of(rt.alloc(), &["script"])?;
-    let script = format!(in rt.alloc(); "{SESSION}\n{MESSAGE}\n")?;
+    let script = script_of_a_message(rt.alloc())?;
     for (good, room) in [(10, usize::MAX), (usize::MAX, 10), (usize::MAX, 0)] {
-        let mut reader = FailingReader {
+        let reader = FailingReader {
             bytes: script.as_bytes(),
             good,
         };
-        let inner = FailingWriter {
-            held: Vec::new(rt.alloc()),
-            room,
-        };
-        let mut writer = BufWriter::new(rt.alloc(), inner)?;
-        let mut errors = Vec::new(rt.alloc());
-        let ended = run_words(&rt, list.as_slice(), &mut reader, &mut writer, &mut errors);
-        assert_eq!(rt; ended, 3, "{good} {room}");
-        assert_eq!(rt; errors.len(), 0, "{good} {room}");
+        let writer = FailingWriter::new(rt.alloc(), room);
+        ends_with_a_fault(&rt, reader, writer)?;
     }
+    Ok(())
+}
+
+// Runs a script over these streams, one of which fails.
+fn ends_with_a_fault<R: Files + Net + Clock + Wait + Abort + AllocGlobal>(
+    rt: &R,
+    mut reader: FailingReader<'_>,
+    writer: FailingWriter,
+) -> Result<(), Fail> {
+    let mut writer = BufWriter::new(rt.alloc(), writer)?;
+    let (status, said) = run_over(rt, "script", &mut reader, &mut writer)?;
+    assert_eq!(rt; (status, said.as_str()), (3, ""));
     Ok(())
 }

@@ -1,6 +1,5 @@
 //! The files of a session of three tables.
 
-use std::alloc::{AllocError, Global};
 use std::fs;
 use std::rt::Files;
 use std::test::Fail;
@@ -20,25 +19,21 @@ pub(super) const DEALS: &str = r#"[Board "1"]
 [Deal "S:AKQJT98765432... .AKQJT98765432.. ..AKQJT98765432. ...AKQJT98765432"]
 "#;
 
-/// Writes a file that no other test has, and gives its path.
-pub(super) fn file_of<R: Files>(
-    rt: &R,
-    alloc: Global,
-    number: u32,
-    name: &str,
-    text: &str,
-) -> Result<String, Fail> {
-    let path = format!(in alloc; "/tmp/bridge_server_test_{number}_{name}")?;
-    fs::write(rt, path.as_str(), text)?;
-    Ok(path)
+/// Makes a folder for the files of a test, and gives its path. No other test has this port.
+pub(super) fn folder_of<R: Files + AllocGlobal>(rt: &R, port: u16) -> Result<String, Fail> {
+    let folder = format!(in rt.alloc(); "/tmp/bridge_server_test_{port}")?;
+    fs::create_dir_all(rt, folder.as_str())?;
+    Ok(folder)
 }
 
-/// These words, as the program is called with them.
-pub(super) fn words_of(alloc: Global, words: &[&str]) -> Result<Vec<String>, AllocError> {
-    let mut list = Vec::new(alloc);
-    list.push(String::from_str(alloc, "bridge_server")?)?;
-    for word in words {
-        list.push(String::from_str(alloc, word)?)?;
-    }
-    Ok(list)
+/// Writes a file into a folder.
+pub(super) fn write_file<R: Files + AllocGlobal>(
+    rt: &R,
+    folder: &str,
+    name: &str,
+    text: &str,
+) -> Result<(), Fail> {
+    let path = format!(in rt.alloc(); "{folder}/{name}")?;
+    fs::write(rt, path.as_str(), text)?;
+    Ok(())
 }

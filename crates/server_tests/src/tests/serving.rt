@@ -1,17 +1,17 @@
 //! Clients that are served.
 
 use super::client::{asks, connect, free_port, hears, leaves, stream_to};
-use super::files::{DEALS, SESSION, file_of, words_of};
+use super::files::{DEALS, SESSION, folder_of, write_file};
+use super::running::words_of;
 use server_program::run_words;
-use std::alloc::Global;
 use std::io::Write;
 use std::net::Net;
 use std::process::Abort;
 use std::rt::Files;
 use std::sync::Wait;
 use std::test::Fail;
+use std::thread;
 use std::time::Clock;
-use std::{process, thread};
 use tungstenite::Message;
 
 const HELLO: &str = r#"{"hello":"n1","token":"abc"}"#;
@@ -28,33 +28,19 @@ const HELD: &str =
 
 const UNKNOWN: &str = r#"{"error":"NotSignedIn"}"#;
 
-// The words that serve so many connections at this port, in a session of files that no other test has.
-fn words_to_serve<R: Files>(
+// The words that serve so many connections at this port, in a session of files.
+fn words_to_serve<R: Files + AllocGlobal>(
     rt: &R,
-    alloc: Global,
-    number: u32,
     port: u16,
-    connections: &str,
+    connections: u32,
 ) -> Result<Vec<String>, Fail> {
-    let name = format!(in alloc; "{connections}.json")?;
-    let session = file_of(rt, alloc, number, name.as_str(), SESSION)?;
-    let name = format!(in alloc; "{connections}.pbn")?;
-    let deals = file_of(rt, alloc, number, name.as_str(), DEALS)?;
-    let port = port.to_string(alloc)?;
-    let words = [
-        "serve",
-        "--session",
-        session.as_str(),
-        "--deals",
-        deals.as_str(),
-        "--port",
-        port.as_str(),
-        "--displays",
-        "1",
-        "--connections",
-        connections,
-    ];
-    Ok(words_of(alloc, &words)?)
+    let folder = folder_of(rt, port)?;
+    write_file(rt, folder.as_str(), "session", SESSION)?;
+    write_file(rt, folder.as_str(), "deals", DEALS)?;
+    let line = format!(in rt.alloc();
+        "serve --session {folder}/session --deals {folder}/deals --port {port} --displays 1 --connections {connections}"
+    )?;
+    Ok(words_of(rt.alloc(), line.as_str())?)
 }
 
 // Runs the program with these words: its status, and how many bytes it writes and says.
@@ -71,36 +57,41 @@ fn served<R: Files + Net + Clock + Wait + AllocGlobal>(
 
 #[test]
 fn a_player_is_denied_a_board_that_is_still_to_play(rt: HostRuntime) -> Result<(), Fail> {
-    let number = process::id(rt.process());
     let port = free_port(&rt)?;
-    let words = words_to_serve(&rt, rt.alloc(), number, port, "1")?;
+    let words = words_to_serve(&rt, port, 1)?;
     let server_rt = rt.clone()?;
     let server = thread::spawn(&rt, move || served(&server_rt, words.as_slice()))?;
-    let mut client = connect(&rt, port)?;
-    asks(&rt, &mut client, HELLO, GREETED)?;
-    asks(&rt, &mut client, BOARD, STILL_TO_PLAY)?;
-    leaves(&rt, &mut client)?;
+    is_denied(&rt, port)?;
     assert_eq!(rt; server.join(&rt), (0, 0, 0));
     Ok(())
 }
 
+// A player who signs in, and asks for a board.
+fn is_denied<R: Net + Clock + Abort + AllocGlobal>(rt: &R, port: u16) -> Result<(), Fail> {
+    let mut client = connect(rt, port)?;
+    asks(rt, &mut client, HELLO, GREETED)?;
+    asks(rt, &mut client, BOARD, STILL_TO_PLAY)?;
+    leaves(rt, &mut client)
+}
+
 #[test]
 fn each_client_is_alone_with_its_faults(rt: HostRuntime) -> Result<(), Fail> {
-    let number = process::id(rt.process());
     let port = free_port(&rt)?;
-    let words = words_to_serve(&rt, rt.alloc(), number, port, "4")?;
+    let words = words_to_serve(&rt, port, 4)?;
     let server_rt = rt.clone()?;
     let server = thread::spawn(&rt, move || served(&server_rt, words.as_slice()))?;
-
-    // No handshake.
-    let mut stream = stream_to(&rt, port)?;
-    stream.write_all(b"GET / HTTP/1.1\r\n\r\n")?;
-    drop(stream);
-
+    shakes_no_hands(&rt, port)?;
     leaves_within_a_frame(&rt, port)?;
     is_signed_in_by_a_text_alone(&rt, port)?;
     sees_what_was_done(&rt, port)?;
     assert_eq!(rt; server.join(&rt), (0, 0, 0));
+    Ok(())
+}
+
+// A client whose request is no handshake.
+fn shakes_no_hands<R: Net + Clock>(rt: &R, port: u16) -> Result<(), Fail> {
+    let mut stream = stream_to(rt, port)?;
+    stream.write_all(b"GET / HTTP/1.1\r\n\r\n")?;
     Ok(())
 }
 
