@@ -1,0 +1,11 @@
+use Rattle.std.proofs.Common.{add-one, arith}
+use Rattle.json_fields.proofs.ListLemmas.{each_kept}
+use Rattle.message_fields.proofs.ReadingLemmas.{is_there}
+use Rattle.command_object.specs.Command.{command_of}
+use Rattle.command_object.proofs.command.commands_in.Goals as goal
+
+pub loop-value-preserved : goal.loop-value-preserved
+loop-value-preserved c =
+    let l = c.loop-value in
+    rw (add-one, c.in_ok-push.ensures.items)
+    (each_kept command_of l.commands.items c.args.list.now l.value-index c.value-item.result c.in_ok-command.command _ l.invariant (omega (arith, c.loop-value-test.true)) c.value-item.is (is_there _ _ c.in_ok-command.ensures))
