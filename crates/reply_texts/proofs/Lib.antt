@@ -1,3 +1,4 @@
 pub mod ReplyLemmas
 pub mod FloatLemmas
 pub mod RangeLemmas
+pub mod WritingLemmas
