@@ -5,3 +5,4 @@ pub mod QueryLemmas
 pub mod ReceiptLemmas
 pub mod RequestLemmas
 pub mod SourceLemmas
+pub mod WritingLemmas

@@ -35,8 +35,7 @@ fn refusal_value(alloc: Global) -> Result<Value, AllocError>
 fn audit_value(alloc: Global, rows: &AuditRows, version: usize) -> Result<Value, AllocError>
     ensures { IfOk result (λ value. view value ≡ audit_data rows.now version) }
 {
-    let rows = rows_value(alloc, rows.as_slice())?;
-    json!(in alloc; {"audit": rows, "version": version})
+    json!(in alloc; {"audit": rows_value(alloc, rows.as_slice())?, "version": version})
 }
 
 fn rows_value(alloc: Global, rows: &[AuditRow]) -> Result<Value, AllocError>
@@ -53,13 +52,11 @@ fn rows_value(alloc: Global, rows: &[AuditRow]) -> Result<Value, AllocError>
 fn row_value(alloc: Global, row: &AuditRow) -> Result<Value, AllocError>
     ensures { IfOk result (λ value. view value ≡ row_data row.now) }
 {
-    let actor = actor_value(alloc, row.entry.actor)?;
-    let target = target_text(alloc, &row.entry.command)?;
     json!(in alloc; [
         row.number,
-        actor,
+        actor_value(alloc, row.entry.actor)?,
         command_word(&row.entry.command),
-        target
+        target_text(alloc, &row.entry.command)?
     ])
 }
 

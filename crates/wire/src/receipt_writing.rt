@@ -31,9 +31,8 @@ fn receipt_value(
     ensures { IfOk result (λ value. view value
         ≡ receipt_data submission.now.answers.items submission.now.first submission.now.last version) }
 {
-    let answers = answers_value(alloc, submission.answers.as_slice())?;
     json!(in alloc; {
-        "answers": answers,
+        "answers": answers_value(alloc, submission.answers.as_slice())?,
         "first": submission.first,
         "last": submission.last,
         "version": version
