@@ -4,10 +4,11 @@ use program::{Fault, run_script};
 use std::alloc::{AllocError, Global};
 use std::cell::Cell;
 use std::io::{BufWriter, ErrorKind};
+use std::process::Abort;
 use std::test::Fail;
 
 /// The lines of a script after the session's, with what ends each, and what answers each.
-const LINES: [(&str, &str); 7] = [
+const LINES: &[(&str, &str)] = &[
     (
         "{\"as\":\"n2\",\"ask\":\"board\",\"board\":2}\r\n",
         "{\"denied\":{\"board\":2,\"rule\":5,\"table\":2,\"why\":\"your pair has still to play this board\"},\"version\":0}\n",
@@ -78,17 +79,31 @@ fn unread_after(script: usize, room: usize) -> usize {
 fn answers_what_it_read_before_a_read_failed(rt: HostRuntime) -> Result<(), Fail> {
     let (script, _) = whole(rt.alloc())?;
     for good in 0..=script.len() {
-        let mut reader = FailingReader {
-            bytes: script.as_bytes(),
-            good: Some(good),
-        };
-        let mut writer = Vec::new(rt.alloc());
-        let ended = run_script(rt.alloc(), &mut reader, &mut writer);
-        assert_eq!(rt; ended, Err(Fault::Input), "after {good} bytes");
         let answers = answers_within(rt.alloc(), good)?;
-        assert_eq!(rt; writer.as_slice(), answers.as_bytes(), "after {good} bytes");
+        let written = written_before_a_read_failed(&rt, script.as_bytes(), good);
+        assert_eq!(rt;
+            written.as_slice(),
+            answers.as_bytes(),
+            "after {good} bytes"
+        );
     }
     Ok(())
+}
+
+/// What is written of a script whose reader fails after so many bytes.
+fn written_before_a_read_failed<R: Abort + AllocGlobal>(
+    rt: &R,
+    script: &[u8],
+    good: usize,
+) -> Vec<u8> {
+    let mut reader = FailingReader {
+        bytes: script,
+        good: Some(good),
+    };
+    let mut writer = Vec::new(rt.alloc());
+    let ended = run_script(rt.alloc(), &mut reader, &mut writer);
+    assert_eq!(rt; ended, Err(Fault::Input), "after {good} bytes");
+    writer
 }
 
 /// A write that failed isn't tried again, though it would succeed, and nothing is read after it.
@@ -96,27 +111,38 @@ fn answers_what_it_read_before_a_read_failed(rt: HostRuntime) -> Result<(), Fail
 fn writes_a_first_part_where_a_write_fails(rt: HostRuntime) -> Result<(), Fail> {
     let (script, answers) = whole(rt.alloc())?;
     for room in 0..answers.len() {
-        let mut reader = script.as_bytes();
-        let mut writer = FailingWriter {
-            held: Vec::new(rt.alloc()),
-            room: Some(room),
-            at_once: 1000,
-            fault: ErrorKind::Interrupted,
-        };
-        let ended = run_script(rt.alloc(), &mut reader, &mut writer);
-        assert_eq!(rt; ended, Err(Fault::Output), "{room} bytes of room");
+        let unread = unread_after(script.len(), room);
+        let written = written_before_a_write_failed(&rt, script.as_bytes(), room, unread);
         assert_eq!(rt;
-            Some(writer.held.as_slice()),
+            Some(written.as_slice()),
             answers.as_bytes().get(..room),
-            "{room} bytes of room"
-        );
-        assert_eq!(rt;
-            reader.len(),
-            unread_after(script.len(), room),
             "{room} bytes of room"
         );
     }
     Ok(())
+}
+
+/// What is written of a script whose writer fails after so many bytes, where so many of the script are left unread.
+fn written_before_a_write_failed<R: Abort + AllocGlobal>(
+    rt: &R,
+    script: &[u8],
+    room: usize,
+    unread: usize,
+) -> Vec<u8> {
+    let mut reader = script;
+    let mut writer = FailingWriter {
+        held: Vec::new(rt.alloc()),
+        room: Some(room),
+        at_once: 1000,
+        fault: ErrorKind::Interrupted,
+    };
+    let ended = run_script(rt.alloc(), &mut reader, &mut writer);
+    assert_eq!(rt;
+        (ended, reader.len()),
+        (Err(Fault::Output), unread),
+        "{room} bytes of room"
+    );
+    writer.held
 }
 
 /// Also through a writer that keeps small writes back until it is flushed.
@@ -126,16 +152,26 @@ fn writes_each_response_before_it_reads_the_next_line(rt: HostRuntime) -> Result
     let first = session_line(rt.alloc())?;
     let mut reader = Waiting {
         first: first.as_bytes(),
-        lines: &LINES,
+        lines: LINES,
         line: 0,
         at: 0,
         due: 0,
         arrived: &arrived,
     };
-    let mut writer = BufWriter::new(rt.alloc(), Arriving { arrived: &arrived })?;
-    run_script(rt.alloc(), &mut reader, &mut writer)?;
-    assert_eq!(rt; reader.line, LINES.len());
-    assert_eq!(rt; arrived.get(), whole(rt.alloc())?.1.len());
+    run_through_buffer(rt.alloc(), &mut reader, &arrived)?;
+    let (_, answers) = whole(rt.alloc())?;
+    assert_eq!(rt; (reader.line, arrived.get()), (LINES.len(), answers.len()));
+    Ok(())
+}
+
+/// Runs a script whose answers arrive through a writer that keeps small writes back.
+fn run_through_buffer(
+    alloc: Global,
+    reader: &mut Waiting<'_, '_>,
+    arrived: &Cell<usize>,
+) -> Result<(), Fail> {
+    let mut writer = BufWriter::new(alloc, Arriving { arrived })?;
+    run_script(alloc, reader, &mut writer)?;
     Ok(())
 }
 
