@@ -16,30 +16,71 @@ pub(crate) fn answer_connections<R: Wait + AllocGlobal, O: Write>(
     text: &str,
     writer: &mut O,
 ) -> io::Result<bool> {
-    let mut lines = text.lines();
-    let Some(object) = lines.next() else {
+    let Some((object, messages)) = text.split_once('\n') else {
         return Ok(false);
     };
-    let Some(keeper) = opened(rt.alloc(), object) else {
-        return Ok(false);
-    };
-    let mut connection = Connection::new(keeper);
-    for line in lines {
-        if line.is_empty() {
-            connection = Connection::new(connection.into_keeper());
-            writer.write_all(b"\n")?;
-            continue;
-        }
-        match connection.serve_message(rt, rt.alloc(), line.as_bytes()) {
-            Ok(text) => writeln!(writer, "{text}")?,
-            Err(_) => writeln!(writer, "{}", fault_text(RequestFault::OutOfMemory))?,
-        }
+    match opened(rt.alloc(), object) {
+        Some(keeper) => answer_one_by_one(rt, keeper, messages, writer),
+        None => Ok(false),
     }
-    Ok(true)
 }
 
 // The session of an object, where it is one.
 fn opened(alloc: Global, object: &str) -> Option<PlainKeeper> {
     let SessionObject { config, .. } = read_session(alloc, object.as_bytes(), None).ok()?;
     PlainKeeper::open(alloc, config).ok()
+}
+
+// Answers one connection after another.
+fn answer_one_by_one<R: Wait + AllocGlobal, O: Write>(
+    rt: &R,
+    keeper: PlainKeeper,
+    text: &str,
+    writer: &mut O,
+) -> io::Result<bool> {
+    let mut keeper = keeper;
+    for messages in text.split_inclusive("\n\n") {
+        keeper = answer_connection(rt, keeper, messages, writer)?;
+    }
+    Ok(true)
+}
+
+// Answers a connection, and gives back who keeps the session.
+fn answer_connection<R: Wait + AllocGlobal, O: Write>(
+    rt: &R,
+    keeper: PlainKeeper,
+    messages: &str,
+    writer: &mut O,
+) -> io::Result<PlainKeeper> {
+    let mut connection = Connection::new(keeper);
+    answer_messages(rt, &mut connection, messages, writer)?;
+    Ok(connection.into_keeper())
+}
+
+fn answer_messages<R: Wait + AllocGlobal, O: Write>(
+    rt: &R,
+    connection: &mut Connection<PlainKeeper>,
+    messages: &str,
+    writer: &mut O,
+) -> io::Result<()> {
+    for message in messages.lines() {
+        if message.is_empty() {
+            writer.write_all(b"\n")?;
+        } else {
+            answer_message(rt, connection, message, writer)?;
+        }
+    }
+    Ok(())
+}
+
+fn answer_message<R: Wait + AllocGlobal, O: Write>(
+    rt: &R,
+    connection: &mut Connection<PlainKeeper>,
+    message: &str,
+    writer: &mut O,
+) -> io::Result<()> {
+    match connection.serve_message(rt, rt.alloc(), message.as_bytes()) {
+        Ok(text) => writeln!(writer, "{text}"),
+        Err(_) => writeln!(writer, "{}", fault_text(RequestFault::OutOfMemory)),
+    }
 }

@@ -33,20 +33,33 @@ fn main(rt: HostRuntime) -> ExitCode {
 fn answer_all<R: Runtime + Net + Wait + AllocGlobal>(rt: &R) -> io::Result<bool> {
     let mut text = String::new(rt.alloc());
     BufReader::new(rt.alloc(), rt.reader())?.read_to_string(&mut text)?;
+    answer_parts(rt, &text)
+}
+
+fn answer_parts<R: Runtime + Net + Wait + AllocGlobal>(rt: &R, text: &str) -> io::Result<bool> {
     let Some(parts) = text.strip_prefix("\n== ") else {
         return Ok(false);
     };
     let mut writer = io::writer(rt);
     for part in parts.split("\n== ") {
-        let Some((name, text)) = part.split_once('\n') else {
-            return Ok(false);
-        };
-        write!(writer, "\n== {name}\n")?;
-        if !answer_part(rt, name, text, &mut writer)? {
+        if !answer_named(rt, part, &mut writer)? {
             return Ok(false);
         }
     }
     Ok(true)
+}
+
+// Writes the name of a part and what its text gets.
+fn answer_named<R: Runtime + Net + Wait + AllocGlobal, O: Write>(
+    rt: &R,
+    part: &str,
+    writer: &mut O,
+) -> io::Result<bool> {
+    let Some((name, text)) = part.split_once('\n') else {
+        return Ok(false);
+    };
+    write!(writer, "\n== {name}\n")?;
+    answer_part(rt, name, text, writer)
 }
 
 fn answer_part<R: Runtime + Net + Wait + AllocGlobal, O: Write>(

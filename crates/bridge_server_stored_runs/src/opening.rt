@@ -2,7 +2,7 @@
 //! writes: why the session isn't opened, or its answer to a first message.
 
 use server_program::run_words;
-use std::alloc::AllocError;
+use std::alloc::{AllocError, Global};
 use std::io::{self, Write};
 use std::net::Net;
 use std::rt::Runtime;
@@ -31,21 +31,40 @@ fn line_of<R: Runtime + Net + Wait + AllocGlobal>(
 ) -> Result<Vec<u8>, AllocError> {
     let alloc = rt.alloc();
     let script = format!(in alloc; "{object}\n{MESSAGE}\n")?;
-    let mut words = Vec::new(alloc);
-    words.push(String::from_str(alloc, "bridge_server")?)?;
-    words.push(String::from_str(alloc, "script")?)?;
     let mut answers = Vec::new(alloc);
     let mut errors = Vec::new(alloc);
-    let status = run_words(
+    let status = status_of(rt, &script, &mut answers, &mut errors)?;
+    joined(alloc, status, errors.as_slice(), answers.as_slice())
+}
+
+fn status_of<R: Runtime + Net + Wait + AllocGlobal>(
+    rt: &R,
+    script: &str,
+    answers: &mut Vec<u8>,
+    errors: &mut Vec<u8>,
+) -> Result<u8, AllocError> {
+    let words = words_for_a_script(rt.alloc())?;
+    Ok(run_words(
         rt,
         words.as_slice(),
         &mut script.as_bytes(),
-        &mut answers,
-        &mut errors,
-    );
+        answers,
+        errors,
+    ))
+}
+
+fn words_for_a_script(alloc: Global) -> Result<Vec<String>, AllocError> {
+    let mut words = Vec::new(alloc);
+    for word in ["bridge_server", "script"] {
+        words.push(String::from_str(alloc, word)?)?;
+    }
+    Ok(words)
+}
+
+fn joined(alloc: Global, status: u8, errors: &[u8], answers: &[u8]) -> Result<Vec<u8>, AllocError> {
     let status = format!(in alloc; "{status} ")?;
     let mut line = Vec::from_slice(alloc, status.as_bytes())?;
-    line.extend_from_slice(errors.as_slice())?;
-    line.extend_from_slice(answers.as_slice())?;
+    line.extend_from_slice(errors)?;
+    line.extend_from_slice(answers)?;
     Ok(line)
 }

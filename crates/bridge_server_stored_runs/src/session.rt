@@ -19,18 +19,26 @@ pub(crate) fn answer_beside_solver<O: Write>(
     text: &str,
     writer: &mut O,
 ) -> io::Result<bool> {
-    let mut lines = text.lines();
-    let Some(object) = lines.next() else {
+    let Some((object, lines)) = text.split_once('\n') else {
         return Ok(false);
     };
-    let Some(mut session) = Session::open(alloc, object) else {
-        return Ok(false);
-    };
-    for line in lines {
-        let Some(answer) = session.respond(alloc, line) else {
-            return Ok(false);
-        };
-        writeln!(writer, "{answer}")?;
+    match Session::open(alloc, object) {
+        Some(mut session) => answer_lines(alloc, &mut session, lines, writer),
+        None => Ok(false),
+    }
+}
+
+fn answer_lines<O: Write>(
+    alloc: Global,
+    session: &mut Session,
+    lines: &str,
+    writer: &mut O,
+) -> io::Result<bool> {
+    for line in lines.lines() {
+        match session.respond(alloc, line) {
+            Some(answer) => writeln!(writer, "{answer}")?,
+            None => return Ok(false),
+        }
     }
     Ok(true)
 }
