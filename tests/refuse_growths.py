@@ -3,6 +3,7 @@
 
     tests/refuse_growths.py crates/bridge_server/out/bridge_server <(tests/stored_runs.py desk) [COMMANDS]
     tests/refuse_growths.py crates/deal_tables/out/deal_tables LINES
+    tests/refuse_growths.py crates/bridge_server_stored_runs/out/bridge_server_stored_runs solver
     tests/refuse_growths.py crates/solver_pool_tests/out/solver_pool_tests_tests loses_no_more
 
 Runs `bridge_server script` on the script, followed by so many more commands of its first director (none where no number is
@@ -26,12 +27,17 @@ Of `deal_tables` each line is run alone, a deal for `table`, an ending for `solv
 it, and then with the Nth request refused, for each N. Each of these must write the same numbers or none: then the line is named
 as not solved (OutOfMemory), or the program ends with a status of its own, for it couldn't read the line or write the answer.
 
+Of `bridge_server_stored_runs` the part of this name is run, as `solver`, which tells tables and what cards cost: with a request refused
+its answers are those that are stored up to some line, and the next one says OutOfMemory or isn't there.
+
 Of a program of tests, which `rt test` leaves, each test whose name has the word is run alone, with ample memory and then with the Nth
 request refused, for each N, and must pass each time: it says itself that the answer is the one with ample memory, or OutOfMemory.
 
 It needs a C compiler (cc) for the allocator that refuses, which is loaded under the program (LD_PRELOAD).
 """
 import json, os, subprocess, sys, tempfile
+
+import stored_runs
 
 REFUSING = r"""
 #define _GNU_SOURCE
@@ -205,6 +211,30 @@ def refuse_tables(program, deals, words, room):
         print(f"{line.decode()}: {asked} requests: {unsolved} not solved, {ended} ended the program, {same} with the same numbers")
 
 
+def refuse_part(program, part, room):
+    given = f"\n== {part}\n{stored_runs.read('stdin')[part]}".encode()
+    wanted = f"\n== {part}\n{stored_runs.read('stdout')[part]}".encode().splitlines()
+    status, out, err, asked = run([program], given, room, 0)
+    assert (status, err, out.splitlines()) == (0, b"", wanted), f"with ample memory: status {status}, {err!r}"
+    assert asked > 0, "the program asked for no memory through this allocator: nothing is tried"
+    kinds = {}
+    for n in range(1, asked + 1):
+        status, out, err, _ = run([program], given, room, n)
+        lines = out.splitlines()
+        same = next((k for k, pair in enumerate(zip(lines, wanted)) if pair[0] != pair[1]), len(lines))
+        if same < len(lines):
+            assert b"OutOfMemory" in lines[same], f"with request {n} of {asked} refused: line {same + 1} is {lines[same]!r}"
+            kind = "said OutOfMemory"
+        elif same < len(wanted):
+            assert status != 0, f"with request {n} of {asked} refused: {same} lines and status 0"
+            kind = "ended the program"
+        else:
+            assert (status, err) == (0, b""), f"with request {n} of {asked} refused: status {status}, {err!r}"
+            kind = "the same lines"
+        kinds[kind] = kinds.get(kind, 0) + 1
+    print(f"{part}: {asked} requests, each refused in turn: " + ", ".join(f"{kind} {count}" for kind, count in kinds.items()))
+
+
 def refuse_tests(program, word, room):
     listed = subprocess.run([program, "--list"], capture_output=True, text=True).stdout.split()
     names = [name.rstrip(":") for name in listed if word in name]
@@ -227,6 +257,8 @@ def main():
         subprocess.run(["cc", "-O1", "-shared", "-fPIC", "-o", f"{room}/refusing.so", f"{room}/refusing.c", "-ldl"], check=True)
         if os.path.basename(program) == "deal_tables":
             refuse_tables(program, given, words, room)
+        elif os.path.basename(program) == "bridge_server_stored_runs":
+            refuse_part(program, given, room)
         elif os.path.basename(program).endswith("_tests"):
             refuse_tests(program, given, room)
         else:
