@@ -78,17 +78,7 @@ fn ends<R: Files + Net + Clock + Wait + Abort + AllocGlobal>(
     (status, answers, said): (u8, &str, &str),
 ) -> Result<(), Fail> {
     let ended = run(rt, line, script)?;
-    assert_eq!(rt;
-        (ended.status, ended.written.as_str()),
-        (status, answers),
-        "{line} {script}"
-    );
-    assert!(rt;
-        ended.said.starts_with(said),
-        "{line} {script} {}",
-        ended.said
-    );
-    assert_eq!(rt; ended.said.is_empty(), said.is_empty(), "{line} {script}");
+    assert!(rt; ended.is(status, answers, said), "{line} {script}");
     Ok(())
 }
 

@@ -50,6 +50,18 @@ pub(super) fn connect<R: Net + Clock + AllocGlobal>(rt: &R, port: u16) -> Result
     }
 }
 
+/// Asks one question after another, and compares each answer.
+pub(super) fn asks_all<R: Net + Abort + AllocGlobal>(
+    rt: &R,
+    client: &mut Client<R>,
+    rows: &[(&str, &str)],
+) -> Result<(), Fail> {
+    for (question, answer) in rows {
+        asks(rt, client, question, answer)?;
+    }
+    Ok(())
+}
+
 /// Asks, and compares the answer.
 pub(super) fn asks<R: Net + Abort + AllocGlobal>(
     rt: &R,
@@ -67,10 +79,9 @@ pub(super) fn hears<R: Net + Abort>(
     client: &mut Client<R>,
     answer: &str,
 ) -> Result<(), Fail> {
-    match client.read()? {
-        Message::Text(text) => assert_eq!(rt; text.as_str(), answer),
-        _ => assert!(rt; false, "a text: {answer}"),
-    }
+    let message = client.read()?;
+    let is_heard = matches!(&message, Message::Text(text) if text.as_str() == answer);
+    assert!(rt; is_heard, "{answer}");
     Ok(())
 }
 

@@ -19,6 +19,16 @@ pub(super) struct Ended {
     pub(super) unread: usize,
 }
 
+impl Ended {
+    /// Whether it has this status, wrote this, and said something that begins so: nothing, where that is empty.
+    pub(super) fn is(&self, status: u8, written: &str, said: &str) -> bool {
+        self.status == status
+            && self.written.as_str() == written
+            && self.said.starts_with(said)
+            && self.said.is_empty() == said.is_empty()
+    }
+}
+
 /// Runs the program with the words of a line over a script.
 pub(super) fn run<R: Files + Net + Clock + Wait + AllocGlobal>(
     rt: &R,

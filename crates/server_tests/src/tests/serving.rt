@@ -1,6 +1,6 @@
 //! Clients that are served.
 
-use super::client::{asks, connect, free_port, hears, leaves, stream_to};
+use super::client::{Client, asks, asks_all, connect, free_port, hears, leaves, stream_to};
 use super::files::{DEALS, SESSION, folder_of, write_file};
 use super::running::words_of;
 use server_program::run_words;
@@ -69,8 +69,7 @@ fn a_player_is_denied_a_board_that_is_still_to_play(rt: HostRuntime) -> Result<(
 // A player who signs in, and asks for a board.
 fn is_denied<R: Net + Clock + Abort + AllocGlobal>(rt: &R, port: u16) -> Result<(), Fail> {
     let mut client = connect(rt, port)?;
-    asks(rt, &mut client, HELLO, GREETED)?;
-    asks(rt, &mut client, BOARD, STILL_TO_PLAY)?;
+    asks_all(rt, &mut client, &[(HELLO, GREETED), (BOARD, STILL_TO_PLAY)])?;
     leaves(rt, &mut client)
 }
 
@@ -113,21 +112,34 @@ fn is_signed_in_by_a_text_alone<R: Net + Clock + Abort + AllocGlobal>(
 ) -> Result<(), Fail> {
     let mut client = connect(rt, port)?;
     asks(rt, &mut client, BOARD, UNKNOWN)?;
-    client.send(Message::binary(rt.alloc(), HELLO.as_bytes())?)?;
-    hears(rt, &mut client, r#"{"error":"Malformed"}"#)?;
+    is_malformed_in_bytes(rt, &mut client)?;
     asks(rt, &mut client, BOARD, UNKNOWN)?;
     leaves(rt, &mut client)
 }
 
+// A greeting in a binary message.
+fn is_malformed_in_bytes<R: Net + Abort + AllocGlobal>(
+    rt: &R,
+    client: &mut Client<R>,
+) -> Result<(), Fail> {
+    client.send(Message::binary(rt.alloc(), HELLO.as_bytes())?)?;
+    hears(rt, client, r#"{"error":"Malformed"}"#)
+}
+
+// What a director does, and what a player is told afterwards.
+const DONE: [(&str, &str); 4] = [
+    (r#"{"hello":"d","token":"abc"}"#, r#"{"hello":"d"}"#),
+    (
+        r#"{"do":[{"board":1,"cmd":"Hold"}]}"#,
+        r#"{"answers":["ok"],"first":1,"last":1,"version":1}"#,
+    ),
+    (HELLO, GREETED),
+    (BOARD, HELD),
+];
+
 // What one client did, the next one sees.
 fn sees_what_was_done<R: Net + Clock + Abort + AllocGlobal>(rt: &R, port: u16) -> Result<(), Fail> {
     let mut client = connect(rt, port)?;
-    let director = r#"{"hello":"d","token":"abc"}"#;
-    asks(rt, &mut client, director, r#"{"hello":"d"}"#)?;
-    let hold = r#"{"do":[{"board":1,"cmd":"Hold"}]}"#;
-    let taken = r#"{"answers":["ok"],"first":1,"last":1,"version":1}"#;
-    asks(rt, &mut client, hold, taken)?;
-    asks(rt, &mut client, HELLO, GREETED)?;
-    asks(rt, &mut client, BOARD, HELD)?;
+    asks_all(rt, &mut client, &DONE)?;
     leaves(rt, &mut client)
 }

@@ -47,33 +47,25 @@ fn the_first_fault_ends_it(rt: HostRuntime) -> Result<(), Fail> {
     let port = listener.local_addr()?.port();
     let folder = folder_of(&rt, port)?;
     write_files(&rt, folder.as_str())?;
-    for (session, deals, status, said) in ROWS {
-        let line = format!(in rt.alloc();
-            "serve --session {folder}/{session} --deals {folder}/{deals} --port {port}"
-        )?;
-        ends(&rt, line.as_str(), status, said)?;
+    for row in &ROWS {
+        ends(&rt, folder.as_str(), port, row)?;
     }
     Ok(())
 }
 
-// Runs the program with these words, by which nothing is written or read, and compares the status and what is said.
+// Runs the program with the words of a row, by which nothing is written or read, and compares the status and what is said.
 fn ends<R: Files + Net + Clock + Wait + Abort + AllocGlobal>(
     rt: &R,
-    line: &str,
-    status: u8,
-    said: &str,
+    folder: &str,
+    port: u16,
+    (session, deals, status, said): &(&str, &str, u8, &str),
 ) -> Result<(), Fail> {
-    let ended = run(rt, line, SESSION)?;
-    assert_eq!(rt;
-        (ended.status, ended.said.as_str()),
-        (status, said),
-        "{line}"
-    );
-    assert_eq!(rt;
-        (ended.written.as_str(), ended.unread),
-        ("", SESSION.len()),
-        "{line}"
-    );
+    let line = format!(in rt.alloc();
+        "serve --session {folder}/{session} --deals {folder}/{deals} --port {port}"
+    )?;
+    let ended = run(rt, line.as_str(), SESSION)?;
+    let is_exact = ended.said.as_str() == *said && ended.unread == SESSION.len();
+    assert!(rt; ended.is(*status, "", said) && is_exact, "{line}");
     Ok(())
 }
 
@@ -100,9 +92,8 @@ fn is_refused<R: Files + Net + Clock + Wait + Abort + AllocGlobal>(
     line: &str,
 ) -> Result<(), Fail> {
     let ended = run(rt, line, SESSION)?;
-    assert_eq!(rt; (ended.status, ended.written.as_str()), (2, ""), "{line}");
-    assert!(rt; ended.said.starts_with("error: "), "{line} {}", ended.said);
-    assert_eq!(rt; ended.unread, SESSION.len(), "{line}");
+    let is_unread = ended.unread == SESSION.len();
+    assert!(rt; ended.is(2, "", "error: ") && is_unread, "{line}");
     Ok(())
 }
 
@@ -112,12 +103,9 @@ fn is_helped<R: Files + Net + Clock + Wait + Abort + AllocGlobal>(
     line: &str,
 ) -> Result<(), Fail> {
     let ended = run(rt, line, SESSION)?;
-    assert_eq!(rt; (ended.status, ended.said.as_str()), (0, ""), "{line}");
-    assert!(rt;
-        ended.written.contains("Usage: bridge_server"),
-        "{line} {}",
-        ended.written
-    );
-    assert_eq!(rt; ended.unread, SESSION.len(), "{line}");
+    let is_silent = ended.status == 0 && ended.said.is_empty();
+    let is_unread = ended.unread == SESSION.len();
+    let is_told = ended.written.contains("Usage: bridge_server");
+    assert!(rt; is_silent && is_unread && is_told, "{line}");
     Ok(())
 }
