@@ -1,8 +1,10 @@
 //! Lines read from a reader that fails once, and texts written to a writer that stops once.
 
-use script_lines::{LineEnd, ReadFault, WriteFault, read_line, write_text};
+use script_lines::{LineEnd, ReadFault, read_line, write_text};
+use std::alloc::{AllocError, Global};
 use std::io;
 use std::io::{ErrorKind, Read, Write};
+use std::process::Abort;
 use std::test::Fail;
 
 /// A reader of these bytes that fails once, after so many of them, and then goes on.
@@ -62,137 +64,172 @@ impl Write for StopsOnce {
     }
 }
 
+/// Whether the next line that is read ends so, and has this text.
+fn reads<R: Read>(
+    reader: &mut R,
+    line: &mut Vec<u8>,
+    most: usize,
+    left: &mut usize,
+    end: Result<LineEnd, ReadFault>,
+    text: &[u8],
+) -> bool {
+    read_line(reader, line, most, left) == end && line.as_slice() == text
+}
+
+static LINES: [(&[u8], LineEnd); 6] = [
+    (b"a,b", LineEnd::LineFeed),
+    (b"", LineEnd::LineFeed),
+    (b"c\r", LineEnd::LineFeed),
+    (b"", LineEnd::LineFeed),
+    (b"last\r", LineEnd::EndOfInput),
+    (b"", LineEnd::EndOfInput),
+];
+
 #[test]
-fn reads_lines(rt: HostRuntime) -> Result<(), Fail> {
+fn reads_lines(rt: HostRuntime) {
     let mut input: &[u8] = b"a,b\n\r\nc\r\r\n\nlast\r";
     let mut line = Vec::new(rt.alloc());
     let mut left = 16;
-    let rows: [(&[u8], LineEnd); 6] = [
-        (b"a,b", LineEnd::LineFeed),
-        (b"", LineEnd::LineFeed),
-        (b"c\r", LineEnd::LineFeed),
-        (b"", LineEnd::LineFeed),
-        (b"last\r", LineEnd::EndOfInput),
-        (b"", LineEnd::EndOfInput),
-    ];
-    for (text, end) in rows {
-        assert_eq!(rt; read_line(&mut input, &mut line, 5, &mut left), Ok(end));
-        assert_eq!(rt; line.as_slice(), text);
+    for (text, end) in &LINES {
+        assert!(rt; reads(&mut input, &mut line, 5, &mut left, Ok(*end), text));
     }
     assert_eq!(rt; left, 0);
-    Ok(())
+}
+
+/// Every byte value but LF (10) from 0 on, again and again.
+fn long_text(alloc: Global, count: usize) -> Result<Vec<u8>, AllocError> {
+    let mut text = Vec::new(alloc);
+    for i in 0..count {
+        let byte = i % 255;
+        text.push(if byte < 10 {
+            byte as u8
+        } else {
+            (byte + 1) as u8
+        })?;
+    }
+    Ok(text)
+}
+
+/// Whether a text of one line is read to its end, and so many of its bytes are kept. One byte more than it has could be read.
+fn keeps(line: &mut Vec<u8>, text: &[u8], most: usize, kept: usize) -> bool {
+    let mut input = text;
+    let mut left = 100_001;
+    let read = read_line(&mut input, line, most, &mut left);
+    read == Ok(LineEnd::EndOfInput)
+        && left == 1
+        && line.len() == kept
+        && text.starts_with(line.as_slice())
 }
 
 /// Every byte value but LF stands in it. It is kept whole where so many bytes are wanted; of 65,536 that are, one more is
 /// kept and shows that there are more.
 #[test]
 fn reads_a_line_of_100_000_bytes(rt: HostRuntime) -> Result<(), Fail> {
-    let mut text = Vec::new(rt.alloc());
-    for byte in (0..=255)
-        .filter(|byte| *byte != b'\n')
-        .cycle()
-        .take(100_000)
-    {
-        text.push(byte)?;
-    }
+    let text = long_text(rt.alloc(), 100_000)?;
     let mut line = Vec::new(rt.alloc());
     for (most, kept) in [(100_000, 100_000), (65_536, 65_537)] {
-        let mut left = 100_001;
-        let read = read_line(&mut text.as_slice(), &mut line, most, &mut left);
-        assert_eq!(rt; read, Ok(LineEnd::EndOfInput));
-        assert_eq!(rt; left, 1);
-        assert!(rt; line.as_slice() == &text[..kept], "{most}");
+        assert!(rt; keeps(&mut line, &text, most, kept), "{most}");
     }
     Ok(())
+}
+
+/// Lines about two bytes, and what is kept of each.
+static ABOUT_TWO: [(&[u8], &[u8]); 12] = [
+    (b"ab\n", b"ab"),
+    (b"ab\r\n", b"ab"),
+    (b"ab\r\r\n", b"ab\r"),
+    (b"abc\n", b"abc"),
+    (b"abc\r\n", b"abc"),
+    (b"abcd\n", b"abc"),
+    (b"abcd\r\n", b"abc"),
+    (b"abcdefgh\n", b"abc"),
+    (b"ab\rdefg\n", b"ab\r"),
+    (b"ab\r", b"ab\r"),
+    (b"abc\r", b"abc"),
+    (b"abcdefgh", b"abc"),
+];
+
+/// Whether a line of which two bytes are wanted is read whole, and this is kept.
+fn keeps_of_two(line: &mut Vec<u8>, text: &[u8], kept: &[u8]) -> bool {
+    let mut input = text;
+    let mut left = text.len();
+    read_line(&mut input, line, 2, &mut left).is_ok() && line.as_slice() == kept && left == 0
 }
 
 /// Lines about the two bytes that are wanted: one CR before an LF is none of theirs, and any other is.
 #[test]
-fn keeps_one_byte_more_than_is_wanted(rt: HostRuntime) -> Result<(), Fail> {
-    let rows: [(&[u8], &[u8]); 12] = [
-        (b"ab\n", b"ab"),
-        (b"ab\r\n", b"ab"),
-        (b"ab\r\r\n", b"ab\r"),
-        (b"abc\n", b"abc"),
-        (b"abc\r\n", b"abc"),
-        (b"abcd\n", b"abc"),
-        (b"abcd\r\n", b"abc"),
-        (b"abcdefgh\n", b"abc"),
-        (b"ab\rdefg\n", b"ab\r"),
-        (b"ab\r", b"ab\r"),
-        (b"abc\r", b"abc"),
-        (b"abcdefgh", b"abc"),
-    ];
+fn keeps_one_byte_more_than_is_wanted(rt: HostRuntime) {
     let mut line = Vec::new(rt.alloc());
-    for (text, kept) in rows {
-        let mut input = text;
-        let mut left = text.len();
-        assert!(rt; read_line(&mut input, &mut line, 2, &mut left).is_ok());
-        assert_eq!(rt; line.as_slice(), kept);
-        assert_eq!(rt; left, 0);
+    for (text, kept) in &ABOUT_TWO {
+        assert!(rt; keeps_of_two(&mut line, text, kept), "{text:?}");
     }
-    Ok(())
 }
 
 /// The input may have three bytes: the fourth is a fault, and no want of memory.
 #[test]
-fn an_input_over_the_limit_is_a_fault(rt: HostRuntime) -> Result<(), Fail> {
+fn an_input_over_the_limit_is_a_fault(rt: HostRuntime) {
     let mut input: &[u8] = b"a\nbc";
     let mut line = Vec::new(rt.alloc());
     let mut left = 3;
-    for read in [Ok(LineEnd::LineFeed), Err(ReadFault::Input)] {
-        assert_eq!(rt; read_line(&mut input, &mut line, 1, &mut left), read);
-    }
-    Ok(())
+    assert!(rt; read_line(&mut input, &mut line, 1, &mut left) == Ok(LineEnd::LineFeed));
+    assert!(rt; read_line(&mut input, &mut line, 1, &mut left) == Err(ReadFault::Input));
 }
 
-/// What was read of the line is kept, and the next call goes on after it.
+/// Whether a read of "abc" and an LF that fails after its first bytes keeps them, and the next call goes on after them.
+fn goes_on(alloc: Global, before: &[u8], after: &[u8]) -> bool {
+    let mut reader = FailsOnce {
+        bytes: b"abc\n",
+        good: before.len(),
+        fault: Some(ErrorKind::Interrupted),
+    };
+    let mut line = Vec::new(alloc);
+    let mut left = 100;
+    let fault = Err(ReadFault::Input);
+    let end = Ok(LineEnd::LineFeed);
+    reads(&mut reader, &mut line, 3, &mut left, fault, before)
+        && reads(&mut reader, &mut line, 3, &mut left, end, after)
+}
+
+/// What is read before the fault, and after it.
+static CUTS: [(&[u8], &[u8]); 4] = [(b"", b"abc"), (b"a", b"bc"), (b"ab", b"c"), (b"abc", b"")];
+
 #[test]
-fn a_read_that_fails_once_is_a_fault(rt: HostRuntime) -> Result<(), Fail> {
-    let text: &[u8] = b"abc";
-    for good in 0..4 {
-        let mut reader = FailsOnce {
-            bytes: b"abc\n",
-            good,
-            fault: Some(ErrorKind::Interrupted),
+fn a_read_that_fails_once_is_a_fault(rt: HostRuntime) {
+    for (before, after) in &CUTS {
+        assert!(rt; goes_on(rt.alloc(), before, after), "{before:?}");
+    }
+}
+
+/// Whether a text is written whole where there is room for it, and as far as there is room where not; and whether the
+/// writer goes on after that.
+fn writes(mut writer: StopsOnce, text: &[u8]) -> bool {
+    let room = writer.room;
+    let is_whole = write_text(&mut writer, text).is_ok();
+    let count = text.len().min(room);
+    is_whole == (room >= text.len())
+        && writer.held.as_slice() == &text[..count]
+        && write_text(&mut writer, b"").is_ok()
+}
+
+/// Holds what is written against where the writer stops: after none of the bytes, after one, and so on past the last.
+fn write_to_each(rt: &impl Abort, alloc: Global, at_once: usize, fault: Option<ErrorKind>) {
+    for room in 0..20 {
+        let writer = StopsOnce {
+            held: Vec::new(alloc),
+            room,
+            at_once,
+            fault,
+            has_stopped: false,
         };
-        let mut line = Vec::new(rt.alloc());
-        let mut left = 100;
-        let read = read_line(&mut reader, &mut line, 3, &mut left);
-        assert_eq!(rt; read, Err(ReadFault::Input), "{good}");
-        assert_eq!(rt; line.as_slice(), &text[..good], "{good}");
-        let read = read_line(&mut reader, &mut line, 3, &mut left);
-        assert_eq!(rt; read, Ok(LineEnd::LineFeed), "{good}");
-        assert_eq!(rt; line.as_slice(), &text[good..], "{good}");
+        assert!(rt; writes(writer, b"a line of text\n"), "{room}");
     }
-    Ok(())
 }
 
 #[test]
-fn a_write_that_stops_once_is_a_fault(rt: HostRuntime) -> Result<(), Fail> {
-    let text = b"a line of text\n";
-    for fault in [
-        Some(ErrorKind::Interrupted),
-        Some(ErrorKind::WouldBlock),
-        None,
-    ] {
-        for at_once in 1..4 {
-            for room in 0..20 {
-                let mut writer = StopsOnce {
-                    held: Vec::new(rt.alloc()),
-                    room,
-                    at_once,
-                    fault,
-                    has_stopped: false,
-                };
-                let wrote = write_text(&mut writer, text);
-                let whole = room >= text.len();
-                assert_eq!(rt; wrote.is_ok(), whole, "{room}");
-                let count = if whole { text.len() } else { room };
-                assert_eq!(rt; writer.held.as_slice(), &text[..count], "{room}");
-                assert_eq!(rt; write_text(&mut writer, b""), Ok(()));
-            }
-        }
+fn a_write_that_stops_once_is_a_fault(rt: HostRuntime) {
+    for at_once in 1..4 {
+        write_to_each(&rt, rt.alloc(), at_once, Some(ErrorKind::Interrupted));
+        write_to_each(&rt, rt.alloc(), at_once, Some(ErrorKind::WouldBlock));
+        write_to_each(&rt, rt.alloc(), at_once, None);
     }
-    Ok(())
 }

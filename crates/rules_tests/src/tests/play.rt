@@ -35,10 +35,10 @@ fn position(
 }
 
 /// The position after these plays, North's first.
-fn played(hands: &Hands, strain: Strain, plays: &[Card]) -> Result<Position, Fail> {
+fn played(hands: &Hands, strain: Strain, plays: &str) -> Result<Position, Fail> {
     let mut position = position(hands, strain, Place::North, &[])??;
-    for card in plays {
-        position.play(*card)?;
+    for word in plays.split_whitespace() {
+        position.play(word.parse()?)?;
     }
     Ok(position)
 }
@@ -62,8 +62,8 @@ static TRICKS: [(Hands, Strain, &str, Place); 7] = [
 #[test]
 fn the_winner_of_a_trick_leads_to_the_next(rt: HostRuntime) -> Result<(), Fail> {
     for (hands, strain, plays, winner) in &TRICKS {
-        let position = played(hands, *strain, &cards(rt.alloc(), plays)?)?;
-        assert_eq!(rt; position.leader(), *winner, "{strain}: {plays}");
+        let position = played(hands, *strain, plays)?;
+        assert!(rt; position.leader() == *winner, "{strain}: {plays}");
     }
     Ok(())
 }
@@ -82,13 +82,28 @@ static CHOICES: [(&str, Place, &str, bool); 10] = [
     ("SA S3 HK SK", Place::South, "HA", true),
 ];
 
+/// After these plays: whose turn it is, where a trick is left, and whether the card may be played.
+fn choice(plays: &str, card: &str) -> Result<(Option<Place>, bool), Fail> {
+    let position = played(&PLAIN, Strain::Hearts, plays)?;
+    Ok((turn_in(&position), position.legal(card.parse()?)))
+}
+
+/// Whose turn it is, where a trick is left.
+fn turn_in(position: &Position) -> Option<Place> {
+    if position.tricks_left() == 0 {
+        return None;
+    }
+    Some(position.to_play())
+}
+
 #[test]
 fn a_revoke_is_refused(rt: HostRuntime) -> Result<(), Fail> {
     for (plays, turn, card, is_legal) in &CHOICES {
-        let position = played(&PLAIN, Strain::Hearts, &cards(rt.alloc(), plays)?)?;
-        assert!(rt; position.tricks_left() > 0);
-        assert_eq!(rt; position.to_play(), *turn, "{plays}");
-        assert_eq!(rt; position.legal(card.parse()?), *is_legal, "{plays}: {card}");
+        let (found, may_be_played) = choice(plays, card)?;
+        assert!(rt;
+            found == Some(*turn) && may_be_played == *is_legal,
+            "{plays}: {card}"
+        );
     }
     Ok(())
 }
@@ -113,32 +128,43 @@ static NO_POSITIONS: [(Hands, &str, Place); 7] = [
     (["...", "3...", "4...", "5..."], "S2", Place::East),
 ];
 
+/// Whether these hands and the cards on the table are a position.
+fn is_position(alloc: Global, hands: &Hands, table: &str, leader: Place) -> Result<bool, Fail> {
+    let found = position(hands, Strain::NoTrump, leader, &cards(alloc, table)?)?;
+    Ok(found.is_ok())
+}
+
 #[test]
-fn knows_positions_from_others(rt: HostRuntime) -> Result<(), Fail> {
-    for (rows, is_position) in [
-        (POSITIONS.as_slice(), true),
-        (NO_POSITIONS.as_slice(), false),
-    ] {
-        for (hands, table, leader) in rows {
-            let found = position(hands, Strain::NoTrump, *leader, &cards(rt.alloc(), table)?)?;
-            assert_eq!(rt; found.is_ok(), is_position, "{table}");
-        }
+fn knows_positions(rt: HostRuntime) -> Result<(), Fail> {
+    for (hands, table, leader) in &POSITIONS {
+        assert!(rt; is_position(rt.alloc(), hands, table, *leader)?, "{table}");
     }
     Ok(())
 }
+
+#[test]
+fn knows_what_is_no_position(rt: HostRuntime) -> Result<(), Fail> {
+    for (hands, table, leader) in &NO_POSITIONS {
+        assert!(rt; !is_position(rt.alloc(), hands, table, *leader)?, "{table}");
+    }
+    Ok(())
+}
+
+/// Declarer, and the opening lead of the player at declarer's left.
+static LEADS: [(Place, &str); 4] = [
+    (Place::North, "HA"),
+    (Place::East, "DA"),
+    (Place::South, "CA"),
+    (Place::West, "SA"),
+];
 
 /// North has the spades, East the hearts, South the diamonds and West the clubs.
 #[test]
 fn the_player_at_declarers_left_makes_the_opening_lead(rt: HostRuntime) -> Result<(), Fail> {
     let suits = "N:AKQJT98765432... .AKQJT98765432.. ..AKQJT98765432. ...AKQJT98765432";
     let deal = suits.parse::<Deal>()?;
-    for (declarer, lead) in [
-        (Place::North, "HA"),
-        (Place::East, "DA"),
-        (Place::South, "CA"),
-        (Place::West, "SA"),
-    ] {
-        let position = Position::start(deal, Strain::Spades, declarer);
+    for (declarer, lead) in &LEADS {
+        let position = Position::start(deal, Strain::Spades, *declarer);
         assert!(rt; position.legal(lead.parse()?), "{declarer}");
     }
     Ok(())

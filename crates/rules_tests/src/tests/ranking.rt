@@ -2,47 +2,54 @@
 
 use cards::{Pair, Side};
 use scoring::{Standing, matchpoints, rank_order};
+use std::alloc::{AllocError, Global};
 use std::cmp::Ordering;
 use std::test::Fail;
 
+/// Whether these scores earn these units. No board here has more than 64 scores.
+fn earn(alloc: Global, scores: &[i32], units: &[u32]) -> Result<bool, AllocError> {
+    if scores.len() > 64 {
+        return Ok(false);
+    }
+    Ok(matchpoints(alloc, scores)?.as_slice() == units)
+}
+
+static BOARDS: [(&[i32], &[u32]); 4] = [
+    (&[420, 450, 420], &[1, 4, 1]),
+    (&[50], &[0]),
+    (&[], &[]),
+    (&[-100, 620, -100, 650, -100, 620], &[2, 7, 2, 10, 2, 7]),
+];
+
 #[test]
 fn boards_in_matchpoints(rt: HostRuntime) -> Result<(), Fail> {
-    let rows: [(&[i32], &[u32]); 4] = [
-        (&[420, 450, 420], &[1, 4, 1]),
-        (&[50], &[0]),
-        (&[], &[]),
-        (&[-100, 620, -100, 650, -100, 620], &[2, 7, 2, 10, 2, 7]),
-    ];
-    for (scores, units) in rows {
-        assert!(rt; scores.len() < 7);
-        assert_eq!(rt;
-            matchpoints(rt.alloc(), scores)?.as_slice(),
-            units,
-            "{scores:?}"
-        );
+    for (scores, units) in &BOARDS {
+        assert!(rt; earn(rt.alloc(), scores, units)?, "{scores:?}");
     }
     Ok(())
 }
 
 /// Two tables have each score, and beat all that stand before them: they get 1 unit, 5, 9 and so on.
+fn earn_by_twos(alloc: Global, tables: u16) -> Result<bool, AllocError> {
+    let mut scores = Vec::new(alloc);
+    let mut units = Vec::new(alloc);
+    for table in 0..tables {
+        scores.push(i32::from(table / 2) * 10 - 200)?;
+        units.push(u32::from(table / 2) * 4 + 1)?;
+    }
+    earn(alloc, &scores, &units)
+}
+
 #[test]
 fn boards_of_many_tables(rt: HostRuntime) -> Result<(), Fail> {
-    for tables in [2u16, 16, 64] {
-        let mut scores = Vec::new(rt.alloc());
-        let mut units = Vec::new(rt.alloc());
-        for table in 0..tables {
-            scores.push(i32::from(table / 2) * 10 - 200)?;
-            units.push(u32::from(table / 2) * 4 + 1)?;
-        }
-        assert!(rt; scores.len() <= 64);
-        let points = matchpoints(rt.alloc(), &scores)?;
-        assert_eq!(rt; points.as_slice(), units.as_slice(), "{tables}");
+    for tables in [2, 16, 64] {
+        assert!(rt; earn_by_twos(rt.alloc(), tables)?, "{tables}");
     }
     Ok(())
 }
 
 /// Side, number, earned and tops: each standing ranks right before the next.
-const ORDER: [(Side, u8, u64, u64); 11] = [
+static ORDER: [(Side, u8, u64, u64); 11] = [
     (
         Side::EastWest,
         9,
@@ -76,12 +83,8 @@ fn standing((side, number, earned, tops): (Side, u8, u64, u64)) -> Standing {
 
 #[test]
 fn pairs_in_their_order(rt: HostRuntime) {
-    for (first, second) in ORDER.iter().zip(ORDER.iter().skip(1)) {
-        let (first, second) = (standing(*first), standing(*second));
-        assert_eq!(rt;
-            rank_order(first, second),
-            Ordering::Less,
-            "{first:?} {second:?}"
-        );
+    for i in 1..ORDER.len() {
+        let order = rank_order(standing(ORDER[i - 1]), standing(ORDER[i]));
+        assert!(rt; order == Ordering::Less, "{i}");
     }
 }

@@ -4,7 +4,6 @@ use super::figures::{Figures, MAJOR, MINOR, NO_TRUMP};
 use cards::{Place, Strain, Vulnerability};
 use scoring::{Contract, Doubling, Level, Outcome, Tricks, ns_score, score};
 use std::process::Abort;
-use std::test::Fail;
 
 fn figures_of(strain: Strain) -> &'static Figures {
     match strain {
@@ -12,6 +11,39 @@ fn figures_of(strain: Strain) -> &'static Figures {
         Strain::Hearts | Strain::Spades => &MAJOR,
         Strain::NoTrump => &NO_TRUMP,
     }
+}
+
+/// The score of this contract of North's, if there are such a level and so many tricks.
+fn scored(
+    strain: Strain,
+    level: u8,
+    doubling: Doubling,
+    vulnerable: bool,
+    tricks: u8,
+) -> Option<i32> {
+    let contract = Contract {
+        level: Level::new(level)?,
+        strain,
+        declarer: Place::North,
+        doubling,
+    };
+    Some(score(contract, vulnerable, Tricks::new(tricks)?))
+}
+
+/// Whether one level at each number of tricks scores as another scorer has it.
+fn is_row(
+    strain: Strain,
+    level: u8,
+    doubling: Doubling,
+    vulnerable: bool,
+    row: &[i32; 14],
+) -> bool {
+    for (tricks, want) in (0u8..).zip(row) {
+        if scored(strain, level, doubling, vulnerable, tricks) != Some(*want) {
+            return false;
+        }
+    }
+    true
 }
 
 /// One strain at each level and number of tricks, as another scorer has it.
@@ -23,17 +55,10 @@ fn compare(
     rows: &[[i32; 14]; 7],
 ) {
     for (level, row) in (1u8..).zip(rows) {
-        let contract = Contract {
-            level: Level::new(level).expect(rt, "levels are 1 to 7"),
-            strain,
-            declarer: Place::North,
-            doubling,
-        };
-        for (number, want) in (0u8..).zip(row) {
-            let tricks = Tricks::new(number).expect(rt, "tricks are 0 to 13");
-            let got = score(contract, vulnerable, tricks);
-            assert_eq!(rt; got, *want, "{contract:?} {vulnerable} {number}");
-        }
+        assert!(rt;
+            is_row(strain, level, doubling, vulnerable, row),
+            "{level}{strain}"
+        );
     }
 }
 
@@ -58,19 +83,23 @@ static FOUR_HEARTS: [(Place, Vulnerability, u8, i32); 6] = [
     (Place::West, Vulnerability::Neither, 8, 100),
 ];
 
+/// The score of four hearts for North-South.
+fn four_hearts(declarer: Place, vulnerability: Vulnerability, tricks: u8) -> Option<i32> {
+    let contract = Contract {
+        level: Level::new(4)?,
+        strain: Strain::Hearts,
+        declarer,
+        doubling: Doubling::Undoubled,
+    };
+    let tricks = Tricks::new(tricks)?;
+    Some(ns_score(Outcome::Played { contract, tricks }, vulnerability))
+}
+
 #[test]
-fn scores_for_north_south(rt: HostRuntime) -> Result<(), Fail> {
-    assert_eq!(rt; ns_score(Outcome::PassedOut, Vulnerability::Both), 0);
+fn scores_for_north_south(rt: HostRuntime) {
     for (declarer, vulnerability, tricks, want) in &FOUR_HEARTS {
-        let contract = Contract {
-            level: Level::new(4).ok_or("no such level")?,
-            strain: Strain::Hearts,
-            declarer: *declarer,
-            doubling: Doubling::Undoubled,
-        };
-        let tricks = Tricks::new(*tricks).ok_or("no such tricks")?;
-        let scored = ns_score(Outcome::Played { contract, tricks }, *vulnerability);
-        assert_eq!(rt; scored, *want, "{declarer} {vulnerability}");
+        let got = four_hearts(*declarer, *vulnerability, *tricks);
+        assert!(rt; got == Some(*want), "{declarer} {vulnerability}");
     }
-    Ok(())
+    assert!(rt; ns_score(Outcome::PassedOut, Vulnerability::Both) == 0);
 }
