@@ -1,12 +1,14 @@
 //! Two workers work beside one another: one of them finishes the second job while the first job waits at the gate.
 
-use super::{SUITS, SUITS_FROM_EAST, give, table_work};
-use crossbeam_channel::unbounded;
-use solver_pool::{Done, Found, Gate, Job, Pool, run_worker};
-use std::alloc::Global;
+use super::{SUITS, SUITS_FROM_EAST, give, table_work, take_unsolved};
+use crossbeam_channel::{Receiver, Sender, unbounded};
+use solver_pool::{Done, Gate, Job, Pool, run_worker};
+use std::alloc::{AllocError, Global};
+use std::sync::Wait;
 use std::sync::atomic::{AtomicBool, Ordering};
 use std::test::Fail;
 use std::thread;
+use std::thread::Threads;
 use std::time::{Clock, Duration};
 
 /// Holds the first job until the second is done, for at most a thousand turns of a millisecond.
@@ -43,35 +45,52 @@ impl<R: Clock> Gate for HoldsFirst<'_, R> {
     }
 }
 
-#[test]
-fn the_second_job_is_done_while_the_first_waits(rt: HostRuntime) -> Result<(), Fail> {
-    let alloc: Global = rt.alloc();
-    let mut pool = Pool::new(alloc)?;
+/// The pool's jobs of two boards, which have been sent to workers.
+fn jobs_sent(rt: &impl Wait, alloc: Global, pool: &mut Pool) -> Result<Receiver<Job>, Fail> {
     let (to_workers, jobs) = unbounded::<Job, Global>(alloc)?;
-    let (from_workers, results) = unbounded::<Done, Global>(alloc)?;
     for (board, deal) in [(1, SUITS), (2, SUITS_FROM_EAST)] {
-        give(&rt, &mut pool, &to_workers, &table_work(board, deal)?)?;
+        give(rt, pool, &to_workers, &table_work(board, deal)?)?;
     }
-    drop(to_workers);
+    Ok(jobs)
+}
+
+/// Whether the second job is done while the first waits, where there are two workers. Each has a visit for a job.
+fn second_is_first<R: Threads + Wait + Clock + Sync>(
+    rt: &R,
+    alloc: Global,
+    jobs: &Receiver<Job>,
+    from_workers: &Sender<Done>,
+) -> bool {
     let gate = HoldsFirst {
-        clock: &rt,
+        clock: rt,
         second_is_done: AtomicBool::new(false),
         first_saw_it: AtomicBool::new(false),
     };
     thread::join(
-        &rt,
-        || run_worker(&rt, alloc, &gate, &jobs, &from_workers, 1),
-        || run_worker(&rt, alloc, &gate, &jobs, &from_workers, 1),
+        rt,
+        || run_worker(rt, alloc, &gate, jobs, from_workers, 1),
+        || run_worker(rt, alloc, &gate, jobs, from_workers, 1),
     );
+    gate.first_saw_it.load(Ordering::SeqCst)
+}
+
+/// Whether it is, and the pool takes both results.
+fn work_beside<R: Threads + Wait + Clock + Sync>(
+    rt: &R,
+    alloc: Global,
+    pool: &mut Pool,
+    jobs: &Receiver<Job>,
+) -> Result<bool, AllocError> {
+    let (from_workers, results) = unbounded::<Done, Global>(alloc)?;
+    let overtaken = second_is_first(rt, alloc, jobs, &from_workers);
     drop(from_workers);
-    assert!(rt;
-        gate.first_saw_it.load(Ordering::SeqCst),
-        "the first job didn't wait, or waited in vain"
-    );
-    for _ in 0..2 {
-        let done = results.recv(&rt)?;
-        assert!(rt; matches!(done.found(), Found::OutOfBudget));
-        assert_eq!(rt; pool.collect(&done), Ok(()));
-    }
+    Ok(overtaken && take_unsolved(rt, pool, &results) == (2, true))
+}
+
+#[test]
+fn the_second_job_is_done_while_the_first_waits(rt: HostRuntime) -> Result<(), Fail> {
+    let mut pool = Pool::new(rt.alloc())?;
+    let jobs = jobs_sent(&rt, rt.alloc(), &mut pool)?;
+    assert!(rt; work_beside(&rt, rt.alloc(), &mut pool, &jobs)?);
     Ok(())
 }

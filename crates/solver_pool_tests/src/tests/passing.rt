@@ -1,9 +1,9 @@
 //! What a worker does of each job, in turn: it waits for the job, passes the gate, tells the gate, and sends the result.
 
-use super::{SUITS, table_work};
+use super::{SUITS, table_work, take_unsolved};
 use crossbeam_channel::{Receiver, Sender, unbounded};
-use solver_pool::{Done, Found, Gate, Job, Pool, run_worker};
-use std::alloc::Global;
+use solver_pool::{Done, Gate, Job, Pool, run_worker};
+use std::alloc::{AllocError, Global};
 use std::sync::Wait;
 use std::sync::atomic::{AtomicBool, AtomicU32, Ordering};
 use std::test::Fail;
@@ -52,10 +52,10 @@ fn send_slowly(rt: &(impl Wait + Clock), to_worker: Sender<Job>, first: Job, sec
 fn works_in_turn<R: Threads + Wait + Clock + Sync>(
     rt: &R,
     alloc: Global,
-    (to_worker, jobs): (Sender<Job>, Receiver<Job>),
     (from_worker, results): (&Sender<Done>, &Receiver<Done>),
     (first, second): (Job, Job),
-) -> bool {
+) -> Result<bool, AllocError> {
+    let (to_worker, jobs) = unbounded::<Job, Global>(alloc)?;
     let gate = InTurn {
         results,
         calls: AtomicU32::new(0),
@@ -66,31 +66,28 @@ fn works_in_turn<R: Threads + Wait + Clock + Sync>(
         || send_slowly(rt, to_worker, first, second),
         || run_worker(rt, alloc, &gate, &jobs, from_worker, 0),
     );
-    gate.calls.load(Ordering::SeqCst) == 4 && !gate.out_of_turn.load(Ordering::SeqCst)
+    Ok(gate.calls.load(Ordering::SeqCst) == 4 && !gate.out_of_turn.load(Ordering::SeqCst))
+}
+
+/// Whether a worker without visits works so, and the pool takes both results.
+fn answers_in_turn<R: Threads + Wait + Clock + Sync>(
+    rt: &R,
+    alloc: Global,
+    pool: &mut Pool,
+    jobs: (Job, Job),
+) -> Result<bool, AllocError> {
+    let (from_worker, results) = unbounded::<Done, Global>(alloc)?;
+    let in_turn = works_in_turn(rt, alloc, (&from_worker, &results), jobs)?;
+    drop(from_worker);
+    Ok(in_turn && take_unsolved(rt, pool, &results) == (2, true))
 }
 
 #[test]
 fn each_job_passes_the_gate_and_is_told_before_it_is_sent(rt: HostRuntime) -> Result<(), Fail> {
-    let alloc: Global = rt.alloc();
-    let mut pool = Pool::new(alloc)?;
     let work = table_work(1, SUITS)?;
+    let mut pool = Pool::new(rt.alloc())?;
     let first = pool.add(work)?;
     let second = pool.add(work)?;
-    let to_worker = unbounded::<Job, Global>(alloc)?;
-    let (from_worker, results) = unbounded::<Done, Global>(alloc)?;
-    assert!(rt;
-        works_in_turn(
-            &rt,
-            alloc,
-            to_worker,
-            (&from_worker, &results),
-            (first, second)
-        )
-    );
-    drop(from_worker);
-    for done in results.iter(&rt) {
-        assert!(rt; matches!(done.found(), Found::OutOfBudget));
-        assert_eq!(rt; pool.collect(&done), Ok(()));
-    }
+    assert!(rt; answers_in_turn(&rt, rt.alloc(), &mut pool, (first, second))?);
     Ok(())
 }
