@@ -1,4 +1,3 @@
 pub mod ReplyLemmas
 pub mod FloatLemmas
 pub mod RangeLemmas
-pub mod WritingLemmas

@@ -5,4 +5,3 @@ pub mod QueryLemmas
 pub mod ReceiptLemmas
 pub mod RequestLemmas
 pub mod SourceLemmas
-pub mod WritingLemmas
