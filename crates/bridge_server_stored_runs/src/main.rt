@@ -1,4 +1,5 @@
-//! The results server once more, for a stored run of many sessions: standard input has parts, and each is an LF, a line with its
+//! The results server once more, for a stored run of words that it doesn't understand, and of many sessions. Called with words it
+//! first does what `bridge_server` does, and ends with that status. Standard input has parts, and each is an LF, a line with its
 //! name and then its text. Most parts are a whole script, which begins with a session object of its own; of four kinds that are
 //! none, the name says which it is.
 #![tactic(auto)]
@@ -14,6 +15,8 @@ use crate::opening::open_all;
 use crate::repeating::answer_repeated;
 use crate::session::answer_beside_solver;
 use program::run_script;
+use server_program::run_program;
+use std::env;
 use std::io::{self, BufReader, Read, Write};
 use std::net::Net;
 use std::process::ExitCode;
@@ -21,11 +24,21 @@ use std::rt::Runtime;
 use std::sync::Wait;
 
 fn main(rt: HostRuntime) -> ExitCode {
-    match answer_all(&rt) {
-        Ok(true) => ExitCode::SUCCESS,
-        Ok(false) => ExitCode::from(1),
+    match run(&rt, &mut rt.stderr()) {
+        Ok(status) => ExitCode::from(status),
         Err(_) => ExitCode::from(3),
     }
+}
+
+// Words that aren't understood leave the input for the parts, and write nothing before their answers.
+fn run<R: Runtime + Net + Wait + AllocGlobal, E: Write>(rt: &R, errors: &mut E) -> io::Result<u8> {
+    let has_words = env::args(rt)?.nth(1).is_some();
+    let status = if has_words {
+        run_program(rt, errors)
+    } else {
+        0
+    };
+    Ok(if answer_all(rt)? { status } else { 1 })
 }
 
 // Writes the name of each part and what its text gets, in the form that the input has. A part that isn't answered to its end
