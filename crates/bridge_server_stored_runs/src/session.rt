@@ -54,7 +54,8 @@ impl Session {
     /// The session of an object, if it opens one.
     pub(crate) fn open(alloc: Global, object: &str) -> Option<Session> {
         let read = read_session(alloc, object.as_bytes(), None).ok()?;
-        let book = Book::open(alloc, read.config).ok()?;
+        let opening = read.config.open(alloc).ok()?;
+        let book = Book::open(alloc, opening).ok()?;
         let view = View::open(alloc, &book).ok()?;
         Some(Session { book, view })
     }

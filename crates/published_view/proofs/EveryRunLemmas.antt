@@ -15,6 +15,7 @@ use Rattle.session_book.specs.Journal.{IsAccepted}
 use Rattle.session_book.specs.Replay.{replay}
 use Rattle.session_book.proofs.LastingLemmas.{replay_lasts}
 use Rattle.session_book.proofs.OwnNumberLemmas.{deals_kept, all_kept}
+use Rattle.session_opening.proofs.OwnNumberLemmas.{opening_own}
 use Rattle.session_book.proofs.SpoilerLemmas.{none_foreknows}
 use Rattle.session_queries.specs.Query.{fact_of}
 use Rattle.session_queries.specs.declared.body.Body.TheVariants.{Denied}
@@ -101,7 +102,7 @@ are_exhaustive config history reading reply section is told = record {
     state = state_there opening history reply
 
     keeps : KeepsOwn state
-    keeps = all_kept config entries section
+    keeps = all_kept opening entries section (opening_own config)
 
     same_section : IsSection state.public.movement
     same_section = subst IsSection (sym (replay_lasts opening entries).movement) section

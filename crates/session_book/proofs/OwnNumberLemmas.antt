@@ -1,19 +1,14 @@
 -- The solver's numbers are of the session's own deals.
-use Rattle.std.proofs.Common.{◌≡◌, ℕ, zero, suc, ◌-◌, Bool, true, false, List, [], ◌∷◌, ◌++◌, get_or, length, replicate, refl, sym, ap, ◌∙◌, subst}
+use Rattle.std.proofs.Common.{◌≡◌, ℕ, Bool, true, false, List, [], ◌∷◌, ◌++◌, length, refl, sym, ap, ◌∙◌, subst}
 use Rattle.std.specs.Prelude.{Option, Some, None}
 use Rattle.std.specs.List.{fold}
 use Rattle.std.specs.Option.{option_or}
-use Rattle.cards.specs.Hands.{Hands}
-use Rattle.movement.specs.Movement.{IsSection, most_boards}
-use Rattle.session_opening.specs.Opening.{opening_of}
-use Rattle.session_opening.specs.declared.config.Config.{Config}
+use Rattle.movement.specs.Movement.{IsSection}
 use Rattle.session_state.specs.Apply.{apply}
 use Rattle.session_state.specs.OwnNumbers.{TellsOwn, KeepsOwn}
 use Rattle.session_state.specs.Refusal.{first_of, is_permitted, hindrance_of, refusal_of}
-use Rattle.session_state.specs.SessionState.{SessionState, place_of, most_cells}
+use Rattle.session_state.specs.SessionState.{SessionState}
 use Rattle.session_state.specs.declared.actor.Actor.{Actor}
-use Rattle.session_state.specs.declared.cell_state.CellState.{CellState}
-use Rattle.session_state.specs.declared.cell_state.CellState.TheVariants.{Empty, Confirmed}
 use Rattle.session_state.specs.declared.command.Command.{Command}
 use Rattle.session_state.specs.declared.entry.Entry.{Entry}
 use Rattle.session_state.specs.declared.refusal.Refusal.{Refusal}
@@ -65,19 +60,7 @@ still_own state [] is_section keeps = keeps
 still_own state (entry ∷ entries) is_section keeps =
     still_own (apply state entry) entries (subst IsSection (sym (entry_part state entry).movement) is_section) (entry_keeps state entry is_section keeps)
 
-same_items : {A : Type 0} (n i : ℕ) (a : A) → get_or (replicate n a) i a ≡ a
-same_items zero i a = refl
-same_items (suc n) zero a = refl
-same_items (suc n) (suc i) a = same_items n i a
-
--- at the opening nothing is solved
-opening_own : (config : Config) → KeepsOwn (opening_of config)
-opening_own config = record {
-  tables = λ board table is. let never : None ≡ Some table = sym (same_items {A = Option Hands} most_boards (board - 1) None) ∙ is in absurd cc;
-  costs = λ cell outcome play costs placed is. let never : Empty ≡ Confirmed outcome play (Some costs) = sym (same_items most_cells (place_of cell) Empty) ∙ is in absurd cc;
-}
-
 -- what is kept of a session is of its own
-pub all_kept : (config : Config) (journal : List Entry) → IsSection config.movement → KeepsOwn (replay (opening_of config) journal)
+pub all_kept : (opening : SessionState) (journal : List Entry) → IsSection opening.public.movement → KeepsOwn opening → KeepsOwn (replay opening journal)
 unfolding replay
-all_kept config journal is_section = still_own (opening_of config) journal is_section (opening_own config)
+all_kept opening journal is_section keeps = still_own opening journal is_section keeps

@@ -9,9 +9,6 @@ ghost use Rattle.session_book.specs.declared.audit.AuditError.TheVariants.{NotPe
 ghost use Rattle.session_book.specs.Exposure.{Exposed, is_exposed, spoiler_of, spoiler_at, spoils, result_cell, users_of};
 ghost use Rattle.session_book.specs.ExposureTable.{user_at};
 ghost use Rattle.session_book.specs.Journal.{IsAccepted, MayFollow, refusal_at, state_of, entry_of};
-ghost use Rattle.session_opening.specs.Opening.{opening_of};
-ghost use Rattle.session_opening.specs.OpeningRefusal.{opening_refusal};
-ghost use Rattle.session_opening.specs.declared.opening_refusal.OpeningRefusal.TheVariants as opening_cause;
 ghost use Rattle.session_state.specs.Refusal.{most_entries};
 ghost use Rattle.session_book.specs.Run.{Runs, IsTried, stops, answer_of, first_number, last_number, most_commands};
 ghost use Rattle.session_state.specs.declared.actor.Actor.TheVariants.{Solver};
@@ -30,7 +27,6 @@ use cards::Name;
 use disclosure_rules::is_seated_at;
 use movement::Cell;
 use rbac::{Account, Operation};
-use session_opening::{Config, OpeningRefusal};
 use session_state::room::{push_copy, push_within};
 use session_state::{Actor, Command, DdTable, Entry, PlayCosts, Refusal, State};
 use std::alloc::{AllocError, Global};
@@ -73,26 +69,9 @@ impl Book {
     /// How many commands a batch has at most.
     pub const MOST_COMMANDS: usize = 64;
 
-    /// The book of a new session, whose journal is empty. There is room for all that the session's state can need.
-    pub fn open(alloc: Global, config: Config) -> Result<Book, OpeningRefusal>
-        requires { boards_of config.movement ≤ length config.boards }
-        ensures opening { IfOk result (λ book. book.opening ≡ opening_of config) }
-        ensures journal { IfOk result (λ book. book.journal ≡ []) }
-        ensures ok { IfOk result (λ book. opening_refusal config ≡ None) }
-        ensures err { IfErr result (λ cause. (opening_refusal config ≡ Some cause)
-            ⊎ ((cause ≡ opening_cause.OutOfMemory) × (opening_refusal config ≡ None))) }
-    {
-        match config.open(alloc) {
-            Ok(opening) => match Book::of(alloc, opening) {
-                Ok(book) => Ok(book),
-                Err(_) => Err(OpeningRefusal::OutOfMemory),
-            },
-            Err(cause) => Err(cause),
-        }
-    }
-
-    // The book of a session that opens in a state.
-    fn of(alloc: Global, opening: State) -> Result<Book, AllocError>
+    /// The book of a session that opens in a state. Its journal is empty, and there is room for all that the session's state
+    /// can need.
+    pub fn open(alloc: Global, opening: State) -> Result<Book, AllocError>
         ensures opening { IfOk result (λ book. book.opening ≡ opening) }
         ensures journal { IfOk result (λ book. book.journal ≡ []) }
     {

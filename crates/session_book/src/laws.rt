@@ -4,8 +4,6 @@ ghost use Rattle.movement.specs.declared.cell.Cell.{Cell};
 ghost use Rattle.movement.specs.Movement.{IsSection, most_boards};
 ghost use Rattle.disclosure_rules.specs.Seating.{IsSeatedAt};
 ghost use Rattle.session_state.specs.SessionState.{SessionState, viewer_of};
-ghost use Rattle.session_opening.specs.Opening.{opening_of};
-ghost use Rattle.session_opening.specs.declared.config.Config.{Config};
 ghost use Rattle.session_state.specs.OwnNumbers.{TellsOwn, KeepsOwn};
 ghost use Rattle.session_state.specs.declared.entry.Entry.{Entry};
 ghost use Rattle.session_book.specs.Exposure.{SomeAllowed, is_exposed, result_cell};
@@ -34,11 +32,12 @@ pub fn only_the_touched_are_newly_exposed()
 
 /// The solver's numbers are of the session's own deals, whose hands no entry changes. What an accepted journal tells is of its
 /// board's hands, and of the contract and the play of its cell's result at that moment; so is what is kept after any
-/// journal of a session. Since the types of tables and costs keep the numbers, each is the exhaustive one.
+/// journal of a session that opens with nothing else. Since the types of tables and costs keep the numbers, each is the
+/// exhaustive one.
 pub fn numbers_are_of_the_sessions_deals()
     ensures told { (opening : SessionState) (before after : List Entry) (entry : Entry) →
         IsAccepted opening (before ++ entry ∷ after) → TellsOwn (replay opening before) entry.command }
     ensures deals { (opening : SessionState) (journal : List Entry) → (replay opening journal).deals ≡ opening.deals }
-    ensures kept { (config : Config) (journal : List Entry) → IsSection config.movement →
-        KeepsOwn (replay (opening_of config) journal) }
+    ensures kept { (opening : SessionState) (journal : List Entry) → IsSection opening.public.movement →
+        KeepsOwn opening → KeepsOwn (replay opening journal) }
 {}

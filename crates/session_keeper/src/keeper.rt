@@ -56,11 +56,21 @@ impl PlainKeeper {
         ensures err { IfErr result (λ cause. (opening_refusal config ≡ Some cause)
             ⊎ ((cause ≡ opening_cause.OutOfMemory) × (opening_refusal config ≡ None))) }
     {
-        let book = Book::open(alloc, config)?;
-        match View::open(alloc, &book) {
-            Ok(view) => Ok(PlainKeeper { book, view }),
+        let opening = config.open(alloc)?;
+        match PlainKeeper::of(alloc, opening) {
+            Ok(keeper) => Ok(keeper),
             Err(_) => Err(OpeningRefusal::OutOfMemory),
         }
+    }
+
+    // The keeper of a session that opens in a state.
+    fn of(alloc: Global, opening: State) -> Result<PlainKeeper, AllocError>
+        ensures opening { IfOk result (λ keeper. keeper.opening ≡ opening) }
+        ensures journal { IfOk result (λ keeper. keeper.journal ≡ []) }
+    {
+        let book = Book::open(alloc, opening)?;
+        let view = View::open(alloc, &book)?;
+        Ok(PlainKeeper { book, view })
     }
 
     /// How many entries the journal has. Each keeper's journal is accepted.

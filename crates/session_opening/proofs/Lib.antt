@@ -3,3 +3,4 @@ pub mod OpeningLawLemmas
 pub mod OpeningLemmas
 pub mod OpeningRefusalLemmas
 pub mod OpeningSeatLemmas
+pub mod OwnNumberLemmas

@@ -5,6 +5,7 @@ ghost use Rattle.rbac.specs.declared.role.Role.TheVariants.{Administrator};
 ghost use Rattle.session_opening.specs.Opening.{opening_of};
 ghost use Rattle.session_opening.specs.OpeningRefusal.{opening_refusal};
 ghost use Rattle.session_opening.specs.declared.config.Config.{Config};
+ghost use Rattle.session_state.specs.OwnNumbers.{KeepsOwn};
 
 /// A session that opens has somebody who is authorized for Administrator, and nobody who is authorized for both roles of a
 /// separation set (static separation of duty of INCITS 359-2012).
@@ -12,4 +13,9 @@ pub fn openings_are_sound()
     ensures separation { (config : Config) → opening_refusal config ≡ None → KeepsSeparation (opening_of config).roles }
     ensures administrator { (config : Config) → opening_refusal config ≡ None →
         (name : List ℕ) × IsAuthorized (opening_of config).roles name Administrator }
+{}
+
+/// A session opens with no numbers of a solver, so with none of another deal.
+pub fn openings_have_no_foreign_numbers()
+    ensures { (config : Config) → KeepsOwn (opening_of config) }
 {}
