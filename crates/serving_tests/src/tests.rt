@@ -6,6 +6,36 @@ mod listening;
 mod streams;
 mod words;
 
+// The example of RFC 6455, section 1.3, without its subprotocols.
+const HANDSHAKE: &[u8] = b"GET /chat HTTP/1.1\r\nHost: server.example.com\r\nUpgrade: websocket\r\n\
+Connection: Upgrade\r\nSec-WebSocket-Key: dGhlIHNhbXBsZSBub25jZQ==\r\nSec-WebSocket-Version: 13\r\n\r\n";
+
+// The accept of that example.
+const ACCEPTED: &[u8] = b"s3pPLMBiTxaQ9kYGzzhZRbK+xOo=";
+
+// With an empty line the head of a request or of an answer ends.
+const END_OF_HEAD: &[u8] = b"\r\n\r\n";
+
+// The bytes after the first such part, if there is one.
+fn after<'b>(bytes: &'b [u8], part: &[u8]) -> Option<&'b [u8]> {
+    for at in 0..bytes.len() {
+        if let Some(rest) = bytes[at..].strip_prefix(part) {
+            return Some(rest);
+        }
+    }
+    None
+}
+
+// Whether the handshake is accepted as the standard says.
+fn is_accepted(written: &[u8]) -> bool {
+    written.starts_with(b"HTTP/1.1 101 ") && after(written, ACCEPTED).is_some()
+}
+
+// Whether the handshake is accepted, and these frames follow it.
+fn has_frames(written: &[u8], frames: &[u8]) -> bool {
+    is_accepted(written) && after(written, END_OF_HEAD) == Some(frames)
+}
+
 // It answers with how many messages came since the last client did, and with the message; none where it is "none".
 #[derive(Drop)]
 struct Counting {

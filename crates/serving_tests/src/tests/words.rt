@@ -4,28 +4,13 @@ use clap::Error;
 use clap::error::ErrorKind;
 use server_words::{Serving, Words, read_words};
 use std::alloc::{AllocError, Global};
-use std::process::Abort;
 use std::test::Fail;
 
-// The words of a line, after the program's name.
-fn words_of(alloc: Global, line: &str) -> Result<Vec<String>, AllocError> {
-    let mut words = Vec::new(alloc);
-    words.push(String::from_str(alloc, "/usr/local/bin/bridge_server")?)?;
-    for word in line.split_ascii_whitespace() {
-        words.push(String::from_str(alloc, word)?)?;
-    }
-    Ok(words)
-}
+// The kind of an error, the exit status, and whether standard error hears of it.
+type Ending = (ErrorKind, i32, bool);
 
-// A line's words ask for this.
-fn asks_for<R: Abort + AllocGlobal>(rt: &R, line: &str, asked: Words) -> Result<(), Fail> {
-    let words = words_of(rt.alloc(), line)?;
-    match read_words(rt.alloc(), words.as_slice()) {
-        Ok(read) => assert!(rt; read == asked, "{line}"),
-        Err(error) => return Err(Fail::new(error)),
-    }
-    Ok(())
-}
+// A line's words ask for this, or they are not taken, and the program ends so.
+type Outcome = Result<Words<'static>, Ending>;
 
 // What is served where only what must be said is said.
 const DEFAULTS: Serving<'static> = Serving {
@@ -52,132 +37,127 @@ const MOST: Serving<'static> = Serving {
     ..DEFAULTS
 };
 
-const SERVED: [(&str, Serving<'static>); 4] = [
-    ("serve --session s.json --deals d.pbn --port 8080", DEFAULTS),
-    ("serve --port=8080 --deals=d.pbn --session=s.json", DEFAULTS),
+const HELP: Outcome = Err((ErrorKind::DisplayHelp, 0, false));
+
+const UNKNOWN: Outcome = Err((ErrorKind::UnknownArgument, 2, true));
+
+const MISSING: Outcome = Err((ErrorKind::MissingRequiredArgument, 2, true));
+
+const OUT_OF_RANGE: Outcome = Err((ErrorKind::ValueValidation, 2, true));
+
+const LINES: &[(&str, Outcome)] = &[
+    ("script", Ok(Words::Script)),
+    (
+        "serve --session s.json --deals d.pbn --port 8080",
+        Ok(Words::Serve(DEFAULTS)),
+    ),
+    (
+        "serve --port=8080 --deals=d.pbn --session=s.json",
+        Ok(Words::Serve(DEFAULTS)),
+    ),
     (
         "serve --session s.json --deals d.pbn --port 1 --displays 1 --workers 0 --connections 0",
-        LEAST,
+        Ok(Words::Serve(LEAST)),
     ),
     (
         "serve --connections 1000000 --workers 16 --displays 32 --port 65535 --deals d.pbn --session s.json",
-        MOST,
+        Ok(Words::Serve(MOST)),
     ),
-];
-
-#[test]
-fn serves_with_what_is_given(rt: HostRuntime) -> Result<(), Fail> {
-    for (line, serving) in SERVED {
-        asks_for(&rt, line, Words::Serve(serving))?;
-    }
-    asks_for(&rt, "script", Words::Script)
-}
-
-// The kind of an error, the exit status, and whether standard error hears of it.
-type Ending = (ErrorKind, i32, bool);
-
-// A line's words are not taken, and the program ends so.
-fn ends_with<R: Abort + AllocGlobal>(rt: &R, line: &str, ending: Ending) -> Result<(), Fail> {
-    let words = words_of(rt.alloc(), line)?;
-    match read_words(rt.alloc(), words.as_slice()) {
-        Ok(_) => assert!(rt; false, "{line}"),
-        Err(error) => is_ending(rt, line, &error, ending),
-    }
-    Ok(())
-}
-
-fn is_ending<R: Abort>(rt: &R, line: &str, error: &Error, (kind, status, is_fault): Ending) {
-    assert_eq!(rt; error.kind(), kind, "{line}");
-    assert_eq!(rt; error.exit_code(), status, "{line}");
-    assert_eq!(rt; error.use_stderr(), is_fault, "{line}");
-}
-
-const REFUSED: [(&str, ErrorKind); 19] = [
-    ("", ErrorKind::MissingSubcommand),
-    ("scripts", ErrorKind::InvalidSubcommand),
-    ("script again", ErrorKind::UnknownArgument),
-    ("serve", ErrorKind::MissingRequiredArgument),
-    (
-        "serve --session s --deals d",
-        ErrorKind::MissingRequiredArgument,
-    ),
-    (
-        "serve --session s --port 1",
-        ErrorKind::MissingRequiredArgument,
-    ),
-    (
-        "serve --deals d --port 1",
-        ErrorKind::MissingRequiredArgument,
-    ),
-    (
-        "serve --session s --deals d --port 0",
-        ErrorKind::ValueValidation,
-    ),
-    (
-        "serve --session s --deals d --port 65536",
-        ErrorKind::ValueValidation,
-    ),
-    (
-        "serve --session s --deals d --port ws",
-        ErrorKind::ValueValidation,
-    ),
+    ("", Err((ErrorKind::MissingSubcommand, 2, true))),
+    ("scripts", Err((ErrorKind::InvalidSubcommand, 2, true))),
+    ("script again", UNKNOWN),
+    ("serve", MISSING),
+    ("serve --session s --deals d", MISSING),
+    ("serve --session s --port 1", MISSING),
+    ("serve --deals d --port 1", MISSING),
+    ("serve --session s --deals d --port 0", OUT_OF_RANGE),
+    ("serve --session s --deals d --port 65536", OUT_OF_RANGE),
+    ("serve --session s --deals d --port ws", OUT_OF_RANGE),
     (
         "serve --session s --deals d --port 1 --displays 0",
-        ErrorKind::ValueValidation,
+        OUT_OF_RANGE,
     ),
     (
         "serve --session s --deals d --port 1 --displays 33",
-        ErrorKind::ValueValidation,
+        OUT_OF_RANGE,
     ),
     (
         "serve --session s --deals d --port 1 --workers 17",
-        ErrorKind::ValueValidation,
+        OUT_OF_RANGE,
     ),
     (
         "serve --session s --deals d --port 1 --connections 1000001",
-        ErrorKind::ValueValidation,
+        OUT_OF_RANGE,
     ),
     (
         "serve --session s --deals d --port 1 --connections -1",
-        ErrorKind::UnknownArgument,
+        UNKNOWN,
     ),
     (
         "serve --session s --deals d --port 1 --port 2",
-        ErrorKind::ArgumentConflict,
+        Err((ErrorKind::ArgumentConflict, 2, true)),
     ),
-    (
-        "serve --session s --deals d --port 1 --host h",
-        ErrorKind::UnknownArgument,
-    ),
-    (
-        "serve --session s --deals d --port 1 again",
-        ErrorKind::UnknownArgument,
-    ),
+    ("serve --session s --deals d --port 1 --host h", UNKNOWN),
+    ("serve --session s --deals d --port 1 again", UNKNOWN),
     (
         "serve --session --deals d --port 1",
-        ErrorKind::InvalidValue,
+        Err((ErrorKind::InvalidValue, 2, true)),
     ),
+    ("--help", HELP),
+    ("-h", HELP),
+    ("help", HELP),
+    ("help serve", HELP),
+    ("serve --help", HELP),
+    ("script -h", HELP),
 ];
 
-#[test]
-fn refuses_bad_words(rt: HostRuntime) -> Result<(), Fail> {
-    for (line, kind) in REFUSED {
-        ends_with(&rt, line, (kind, 2, true))?;
+// One word more.
+fn add_word(alloc: Global, words: &mut Vec<String>, word: &str) -> Result<(), AllocError> {
+    let word = String::from_str(alloc, word)?;
+    words.push(word)?;
+    Ok(())
+}
+
+// Adds the words of a line, after the program's name.
+fn add_line(alloc: Global, words: &mut Vec<String>, line: &str) -> Result<(), AllocError> {
+    add_word(alloc, words, "/usr/local/bin/bridge_server")?;
+    for word in line.split_ascii_whitespace() {
+        add_word(alloc, words, word)?;
     }
     Ok(())
 }
 
-#[test]
-fn shows_help(rt: HostRuntime) -> Result<(), Fail> {
-    for line in [
-        "--help",
-        "-h",
-        "help",
-        "help serve",
-        "serve --help",
-        "script -h",
-    ] {
-        ends_with(&rt, line, (ErrorKind::DisplayHelp, 0, false))?;
+fn is_outcome(read: &Result<Words<'_>, Error>, outcome: &Outcome) -> bool {
+    match (read, outcome) {
+        (Ok(read), Ok(asked)) => read == asked,
+        (Err(error), Err(ending)) => ending_of(error) == *ending,
+        _ => false,
     }
+}
+
+fn ending_of(error: &Error) -> Ending {
+    (error.kind(), error.exit_code(), error.use_stderr())
+}
+
+// Whether this comes of the words of a line.
+fn comes_of(alloc: Global, line: &str, outcome: &Outcome) -> Result<bool, AllocError> {
+    let mut words = Vec::new(alloc);
+    add_line(alloc, &mut words, line)?;
+    Ok(is_outcome(&read_words(alloc, words.as_slice()), outcome))
+}
+
+// The first line of which something else comes, if there is one.
+fn wrong_line(alloc: Global) -> Result<Option<&'static str>, AllocError> {
+    for (line, outcome) in LINES {
+        if !comes_of(alloc, line, outcome)? {
+            return Ok(Some(line));
+        }
+    }
+    Ok(None)
+}
+
+#[test]
+fn each_line_asks_or_is_refused(rt: HostRuntime) -> Result<(), Fail> {
+    assert_eq!(rt; wrong_line(rt.alloc())?, None);
     Ok(())
 }
