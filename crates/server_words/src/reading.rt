@@ -1,6 +1,6 @@
 //! What the program's words ask for, read by `clap`.
 
-ghost use Rattle.std.specs.Prelude.{MatchResult, ◌≡◌, ◌⊎◌, [], codes, map, string_bytes, Some, IfOk, IfErr, IfSome};
+ghost use Rattle.std.specs.Prelude.{MatchResult, ◌≡◌, ◌⊎◌, ℕ, List, [], codes, map, string_bytes, Some, IfOk, IfErr, IfSome, IsSome};
 ghost use Rattle.clap.specs.Words.{HasKind, first_of, found_of, kind_of, rows_of};
 ghost use Rattle.clap.specs.declared.error.kind.ErrorKind.TheVariants.{InvalidValue, OutOfMemory};
 ghost use Rattle.server_words.specs.Words.{AsksFor, IsInRange, IsReadFrom, faults_in};
@@ -8,7 +8,7 @@ ghost use Rattle.server_words.specs.Words.{AsksFor, IsInRange, IsReadFrom, fault
 use crate::command_line::command_line;
 use crate::words::{Serving, Words};
 use clap::error::ErrorKind;
-use clap::{ArgMatches, Error};
+use clap::{ArgMatches, Command, Error};
 use std::alloc::Global;
 
 /// What the words ask for, the program's name first. The error has the text for who called the program: of a mistake, or the
@@ -24,13 +24,24 @@ pub fn read_words<'a>(alloc: Global, words: &'a [String]) -> Result<Words<'a>, E
         Ok(matches) => matches,
         Err(error) => return Err(error),
     };
+    match words_of(&matches) {
+        Some(words) => Ok(words),
+        None => Err(unread(alloc)),
+    }
+}
+
+// What words ask for in which `clap` found no fault.
+fn words_of<'a>(matches: &ArgMatches<'a>) -> Option<Words<'a>>
+    ensures asked { (words : List (List ℕ)) → IsReadFrom words matches.now → IfSome result (AsksFor words) }
+    ensures script { (words : List (List ℕ)) → IsReadFrom words matches.now → AsksFor words Words.Script → IsSome result }
+{
     match matches.subcommand() {
-        Some(("script", _)) => Ok(Words::Script),
+        Some(("script", _)) => Some(Words::Script),
         Some(("serve", given)) => match serving_of(given) {
-            Some(serving) => Ok(Words::Serve(serving)),
-            None => Err(unread(alloc)),
+            Some(serving) => Some(Words::Serve(serving)),
+            None => None,
         },
-        _ => Err(unread(alloc)),
+        _ => None,
     }
 }
 
@@ -70,10 +81,16 @@ fn serving_of<'a>(given: &ArgMatches<'a>) -> Option<Serving<'a>>
 fn unread(alloc: Global) -> Error
     ensures { (kind_of result ≡ InvalidValue) ⊎ (kind_of result ≡ OutOfMemory) }
 {
-    let mut command = match command_line(alloc) {
-        Ok(command) => command,
-        Err(error) => return Error::from(error),
-    };
+    match command_line(alloc) {
+        Ok(mut command) => out_of_range(&mut command),
+        Err(error) => Error::from(error),
+    }
+}
+
+// What is said of such a value. The command is lent, and dropped where it was made.
+fn out_of_range(command: &mut Command<'_>) -> Error
+    ensures { (kind_of result ≡ InvalidValue) ⊎ (kind_of result ≡ OutOfMemory) }
+{
     match command.error(ErrorKind::InvalidValue, "a value is out of its range") {
         Ok(error) => error,
         Err(error) => Error::from(error),
