@@ -4,7 +4,6 @@ use script_lines::{LineEnd, ReadFault, read_line, write_text};
 use std::alloc::{AllocError, Global};
 use std::io;
 use std::io::{ErrorKind, Read, Write};
-use std::process::Abort;
 use std::test::Fail;
 
 /// A reader of these bytes that fails once, after so many of them, and then goes on.
@@ -85,15 +84,15 @@ static LINES: [(&[u8], LineEnd); 6] = [
     (b"", LineEnd::EndOfInput),
 ];
 
-#[test]
-fn reads_lines(rt: HostRuntime) {
+fn reads_each(line: &mut Vec<u8>) -> bool {
     let mut input: &[u8] = b"a,b\n\r\nc\r\r\n\nlast\r";
-    let mut line = Vec::new(rt.alloc());
     let mut left = 16;
     for (text, end) in &LINES {
-        assert!(rt; reads(&mut input, &mut line, 5, &mut left, Ok(*end), text));
+        if !reads(&mut input, line, 5, &mut left, Ok(*end), text) {
+            return false;
+        }
     }
-    assert_eq!(rt; left, 0);
+    left == 0
 }
 
 /// Every byte value but LF (10) from 0 on, again and again.
@@ -121,19 +120,8 @@ fn keeps(line: &mut Vec<u8>, text: &[u8], most: usize, kept: usize) -> bool {
         && text.starts_with(line.as_slice())
 }
 
-/// Every byte value but LF stands in it. It is kept whole where so many bytes are wanted; of 65,536 that are, one more is
-/// kept and shows that there are more.
-#[test]
-fn reads_a_line_of_100_000_bytes(rt: HostRuntime) -> Result<(), Fail> {
-    let text = long_text(rt.alloc(), 100_000)?;
-    let mut line = Vec::new(rt.alloc());
-    for (most, kept) in [(100_000, 100_000), (65_536, 65_537)] {
-        assert!(rt; keeps(&mut line, &text, most, kept), "{most}");
-    }
-    Ok(())
-}
-
-/// Lines about two bytes, and what is kept of each.
+/// Lines about the two bytes that are wanted, and what is kept of each: one CR before an LF is none of theirs, and any
+/// other is.
 static ABOUT_TWO: [(&[u8], &[u8]); 12] = [
     (b"ab\n", b"ab"),
     (b"ab\r\n", b"ab"),
@@ -156,48 +144,62 @@ fn keeps_of_two(line: &mut Vec<u8>, text: &[u8], kept: &[u8]) -> bool {
     read_line(&mut input, line, 2, &mut left).is_ok() && line.as_slice() == kept && left == 0
 }
 
-/// Lines about the two bytes that are wanted: one CR before an LF is none of theirs, and any other is.
-#[test]
-fn keeps_one_byte_more_than_is_wanted(rt: HostRuntime) {
-    let mut line = Vec::new(rt.alloc());
+fn keeps_each_of_two(line: &mut Vec<u8>) -> bool {
     for (text, kept) in &ABOUT_TWO {
-        assert!(rt; keeps_of_two(&mut line, text, kept), "{text:?}");
+        if !keeps_of_two(line, text, kept) {
+            return false;
+        }
     }
+    true
 }
 
-/// The input may have three bytes: the fourth is a fault, and no want of memory.
-#[test]
-fn an_input_over_the_limit_is_a_fault(rt: HostRuntime) {
+/// Whether the fourth byte of an input that may have three is a fault, and no want of memory.
+fn is_over_the_limit(line: &mut Vec<u8>) -> bool {
     let mut input: &[u8] = b"a\nbc";
-    let mut line = Vec::new(rt.alloc());
     let mut left = 3;
-    assert!(rt; read_line(&mut input, &mut line, 1, &mut left) == Ok(LineEnd::LineFeed));
-    assert!(rt; read_line(&mut input, &mut line, 1, &mut left) == Err(ReadFault::Input));
+    read_line(&mut input, line, 1, &mut left) == Ok(LineEnd::LineFeed)
+        && read_line(&mut input, line, 1, &mut left) == Err(ReadFault::Input)
 }
 
 /// Whether a read of "abc" and an LF that fails after its first bytes keeps them, and the next call goes on after them.
-fn goes_on(alloc: Global, before: &[u8], after: &[u8]) -> bool {
+fn goes_on(line: &mut Vec<u8>, before: &[u8], after: &[u8]) -> bool {
     let mut reader = FailsOnce {
         bytes: b"abc\n",
         good: before.len(),
         fault: Some(ErrorKind::Interrupted),
     };
-    let mut line = Vec::new(alloc);
     let mut left = 100;
     let fault = Err(ReadFault::Input);
     let end = Ok(LineEnd::LineFeed);
-    reads(&mut reader, &mut line, 3, &mut left, fault, before)
-        && reads(&mut reader, &mut line, 3, &mut left, end, after)
+    reads(&mut reader, line, 3, &mut left, fault, before)
+        && reads(&mut reader, line, 3, &mut left, end, after)
 }
 
 /// What is read before the fault, and after it.
 static CUTS: [(&[u8], &[u8]); 4] = [(b"", b"abc"), (b"a", b"bc"), (b"ab", b"c"), (b"abc", b"")];
 
-#[test]
-fn a_read_that_fails_once_is_a_fault(rt: HostRuntime) {
+fn goes_on_at_each(line: &mut Vec<u8>) -> bool {
     for (before, after) in &CUTS {
-        assert!(rt; goes_on(rt.alloc(), before, after), "{before:?}");
+        if !goes_on(line, before, after) {
+            return false;
+        }
     }
+    true
+}
+
+/// A text of 100,000 bytes, in which every byte value but LF stands, is kept whole where so many bytes are wanted; of 65,536
+/// that are, one more is kept and shows that there are more.
+#[test]
+fn reads_lines_and_their_faults(rt: HostRuntime) -> Result<(), Fail> {
+    let text = long_text(rt.alloc(), 100_000)?;
+    let mut line = Vec::new(rt.alloc());
+    assert!(rt; reads_each(&mut line));
+    assert!(rt; keeps(&mut line, &text, 100_000, 100_000));
+    assert!(rt; keeps(&mut line, &text, 65_536, 65_537));
+    assert!(rt; keeps_each_of_two(&mut line));
+    assert!(rt; is_over_the_limit(&mut line));
+    assert!(rt; goes_on_at_each(&mut line));
+    Ok(())
 }
 
 /// Whether a text is written whole where there is room for it, and as far as there is room where not; and whether the
@@ -211,8 +213,8 @@ fn writes(mut writer: StopsOnce, text: &[u8]) -> bool {
         && write_text(&mut writer, b"").is_ok()
 }
 
-/// Holds what is written against where the writer stops: after none of the bytes, after one, and so on past the last.
-fn write_to_each(rt: &impl Abort, alloc: Global, at_once: usize, fault: Option<ErrorKind>) {
+/// Whether it is so where the writer stops after none of the bytes, after one, and so on past the last.
+fn writes_to_each(alloc: Global, at_once: usize, fault: Option<ErrorKind>) -> bool {
     for room in 0..20 {
         let writer = StopsOnce {
             held: Vec::new(alloc),
@@ -221,15 +223,23 @@ fn write_to_each(rt: &impl Abort, alloc: Global, at_once: usize, fault: Option<E
             fault,
             has_stopped: false,
         };
-        assert!(rt; writes(writer, b"a line of text\n"), "{room}");
+        if !writes(writer, b"a line of text\n") {
+            return false;
+        }
     }
+    true
+}
+
+/// Whether it is so of each fault.
+fn stops_at_each(alloc: Global, at_once: usize) -> bool {
+    writes_to_each(alloc, at_once, Some(ErrorKind::Interrupted))
+        && writes_to_each(alloc, at_once, Some(ErrorKind::WouldBlock))
+        && writes_to_each(alloc, at_once, None)
 }
 
 #[test]
 fn a_write_that_stops_once_is_a_fault(rt: HostRuntime) {
-    for at_once in 1..4 {
-        write_to_each(&rt, rt.alloc(), at_once, Some(ErrorKind::Interrupted));
-        write_to_each(&rt, rt.alloc(), at_once, Some(ErrorKind::WouldBlock));
-        write_to_each(&rt, rt.alloc(), at_once, None);
-    }
+    assert!(rt; stops_at_each(rt.alloc(), 1));
+    assert!(rt; stops_at_each(rt.alloc(), 2));
+    assert!(rt; stops_at_each(rt.alloc(), 3));
 }

@@ -2,19 +2,13 @@
 
 use cards::{Card, Deal, Hand, NotAPosition, Place, Position, Strain};
 use std::alloc::Global;
-use std::test::Fail;
 
-fn hand(text: &str) -> Result<Hand, Fail> {
-    Ok(text.parse()?)
+fn hand(text: &str) -> Option<Hand> {
+    text.parse().ok()
 }
 
-/// The cards of a text, with spaces between them.
-fn cards(alloc: Global, text: &str) -> Result<Vec<Card>, Fail> {
-    let mut cards = Vec::new(alloc);
-    for word in text.split_whitespace() {
-        cards.push(word.parse()?)?;
-    }
-    Ok(cards)
+fn card(text: &str) -> Option<Card> {
+    text.parse().ok()
 }
 
 /// Four hands, clockwise from North.
@@ -25,22 +19,32 @@ fn position(
     strain: Strain,
     leader: Place,
     table: &[Card],
-) -> Result<Result<Position, NotAPosition>, Fail> {
+) -> Option<Result<Position, NotAPosition>> {
     let [north, east, south, west] = *hands;
     let north = hand(north)?;
     let east = hand(east)?;
     let south = hand(south)?;
     let west = hand(west)?;
-    Ok(Position::new(north, east, south, west, strain, leader, table))
+    Some(Position::new(north, east, south, west, strain, leader, table))
+}
+
+/// Whether a card can be read and played.
+fn plays(position: &mut Position, word: &str) -> bool {
+    match card(word) {
+        Some(card) => position.play(card).is_ok(),
+        None => false,
+    }
 }
 
 /// The position after these plays, North's first.
-fn played(hands: &Hands, strain: Strain, plays: &str) -> Result<Position, Fail> {
-    let mut position = position(hands, strain, Place::North, &[])??;
-    for word in plays.split_whitespace() {
-        position.play(word.parse()?)?;
+fn played(hands: &Hands, strain: Strain, words: &str) -> Option<Position> {
+    let mut position = position(hands, strain, Place::North, &[])?.ok()?;
+    for word in words.split_whitespace() {
+        if !plays(&mut position, word) {
+            return None;
+        }
     }
-    Ok(position)
+    Some(position)
 }
 
 const PLAIN: Hands = ["A2...", "3.2..", ".AK..", "K.3.."];
@@ -59,13 +63,21 @@ static TRICKS: [(Hands, Strain, &str, Place); 7] = [
     (FOLLOWED, Strain::Hearts, "S2 H3 S3 SA", Place::East),
 ];
 
-#[test]
-fn the_winner_of_a_trick_leads_to_the_next(rt: HostRuntime) -> Result<(), Fail> {
-    for (hands, strain, plays, winner) in &TRICKS {
-        let position = played(hands, *strain, plays)?;
-        assert!(rt; position.leader() == *winner, "{strain}: {plays}");
+fn leads(hands: &Hands, strain: Strain, words: &str, winner: Place) -> bool {
+    match played(hands, strain, words) {
+        Some(position) => position.leader() == winner,
+        None => false,
     }
-    Ok(())
+}
+
+/// Whether the winner of each trick leads to the next.
+fn winners_lead() -> bool {
+    for (hands, strain, words, winner) in &TRICKS {
+        if !leads(hands, *strain, words, *winner) {
+            return false;
+        }
+    }
+    true
 }
 
 /// Refused: another's card, a ruff and a discard with a spade in hand, a card that was played.
@@ -82,30 +94,29 @@ static CHOICES: [(&str, Place, &str, bool); 10] = [
     ("SA S3 HK SK", Place::South, "HA", true),
 ];
 
-/// After these plays: whose turn it is, where a trick is left, and whether the card may be played.
-fn choice(plays: &str, card: &str) -> Result<(Option<Place>, bool), Fail> {
-    let position = played(&PLAIN, Strain::Hearts, plays)?;
-    Ok((turn_in(&position), position.legal(card.parse()?)))
+/// Whether a trick is left, it is this player's turn, and the card may be played or not.
+fn may_play(position: &Position, turn: Place, card: Card, is_legal: bool) -> bool {
+    position.tricks_left() > 0 && position.to_play() == turn && position.legal(card) == is_legal
 }
 
-/// Whose turn it is, where a trick is left.
-fn turn_in(position: &Position) -> Option<Place> {
-    if position.tricks_left() == 0 {
-        return None;
+/// Whether it is so after these plays.
+fn is_choice(words: &str, turn: Place, word: &str, is_legal: bool) -> bool {
+    let Some(card) = card(word) else {
+        return false;
+    };
+    match played(&PLAIN, Strain::Hearts, words) {
+        Some(position) => may_play(&position, turn, card, is_legal),
+        None => false,
     }
-    Some(position.to_play())
 }
 
-#[test]
-fn a_revoke_is_refused(rt: HostRuntime) -> Result<(), Fail> {
-    for (plays, turn, card, is_legal) in &CHOICES {
-        let (found, may_be_played) = choice(plays, card)?;
-        assert!(rt;
-            found == Some(*turn) && may_be_played == *is_legal,
-            "{plays}: {card}"
-        );
+fn refuses_revokes() -> bool {
+    for (words, turn, card, is_legal) in &CHOICES {
+        if !is_choice(words, *turn, card, *is_legal) {
+            return false;
+        }
     }
-    Ok(())
+    true
 }
 
 static POSITIONS: [(Hands, &str, Place); 5] = [
@@ -128,26 +139,35 @@ static NO_POSITIONS: [(Hands, &str, Place); 7] = [
     (["...", "3...", "4...", "5..."], "S2", Place::East),
 ];
 
-/// Whether these hands and the cards on the table are a position.
-fn is_position(alloc: Global, hands: &Hands, table: &str, leader: Place) -> Result<bool, Fail> {
-    let found = position(hands, Strain::NoTrump, leader, &cards(alloc, table)?)?;
-    Ok(found.is_ok())
+/// Reads the cards of a text, with spaces between them, if there is room for them.
+fn reads_cards(cards: &mut Vec<Card>, text: &str) -> bool {
+    for word in text.split_whitespace() {
+        let Some(card) = card(word) else {
+            return false;
+        };
+        if cards.push(card).is_err() {
+            return false;
+        }
+    }
+    true
 }
 
-#[test]
-fn knows_positions(rt: HostRuntime) -> Result<(), Fail> {
-    for (hands, table, leader) in &POSITIONS {
-        assert!(rt; is_position(rt.alloc(), hands, table, *leader)?, "{table}");
+/// Whether these hands and the cards on the table are a position. None, where they can't be read.
+fn is_position(alloc: Global, hands: &Hands, words: &str, leader: Place) -> Option<bool> {
+    let mut table = Vec::new(alloc);
+    if !reads_cards(&mut table, words) {
+        return None;
     }
-    Ok(())
+    Some(position(hands, Strain::NoTrump, leader, &table)?.is_ok())
 }
 
-#[test]
-fn knows_what_is_no_position(rt: HostRuntime) -> Result<(), Fail> {
-    for (hands, table, leader) in &NO_POSITIONS {
-        assert!(rt; !is_position(rt.alloc(), hands, table, *leader)?, "{table}");
+fn knows_each(alloc: Global, rows: &[(Hands, &str, Place)], is_one: bool) -> bool {
+    for (hands, words, leader) in rows {
+        if is_position(alloc, hands, words, *leader) != Some(is_one) {
+            return false;
+        }
     }
-    Ok(())
+    true
 }
 
 /// Declarer, and the opening lead of the player at declarer's left.
@@ -159,13 +179,38 @@ static LEADS: [(Place, &str); 4] = [
 ];
 
 /// North has the spades, East the hearts, South the diamonds and West the clubs.
-#[test]
-fn the_player_at_declarers_left_makes_the_opening_lead(rt: HostRuntime) -> Result<(), Fail> {
-    let suits = "N:AKQJT98765432... .AKQJT98765432.. ..AKQJT98765432. ...AKQJT98765432";
-    let deal = suits.parse::<Deal>()?;
-    for (declarer, lead) in &LEADS {
-        let position = Position::start(deal, Strain::Spades, *declarer);
-        assert!(rt; position.legal(lead.parse()?), "{declarer}");
+const SUITS: &str = "N:AKQJT98765432... .AKQJT98765432.. ..AKQJT98765432. ...AKQJT98765432";
+
+/// Whether that card may be led.
+fn may_lead(deal: Deal, declarer: Place, lead: &str) -> bool {
+    match card(lead) {
+        Some(lead) => Position::start(deal, Strain::Spades, declarer).legal(lead),
+        None => false,
     }
-    Ok(())
+}
+
+/// Whether the player at declarer's left makes the opening lead.
+fn left_leads() -> bool {
+    let Ok(deal) = SUITS.parse::<Deal>() else {
+        return false;
+    };
+    for (declarer, lead) in &LEADS {
+        if !may_lead(deal, *declarer, lead) {
+            return false;
+        }
+    }
+    true
+}
+
+#[test]
+fn cards_are_played_by_the_laws(rt: HostRuntime) {
+    assert!(rt; left_leads());
+    assert!(rt; winners_lead());
+    assert!(rt; refuses_revokes());
+}
+
+#[test]
+fn knows_positions(rt: HostRuntime) {
+    assert!(rt; knows_each(rt.alloc(), &POSITIONS, true));
+    assert!(rt; knows_each(rt.alloc(), &NO_POSITIONS, false));
 }

@@ -2,50 +2,58 @@
 
 use cards::{Pair, Side};
 use scoring::{Standing, matchpoints, rank_order};
-use std::alloc::{AllocError, Global};
+use std::alloc::Global;
 use std::cmp::Ordering;
-use std::test::Fail;
 
-/// Whether these scores earn these units. No board here has more than 64 scores.
-fn earn(alloc: Global, scores: &[i32], units: &[u32]) -> Result<bool, AllocError> {
-    if scores.len() > 64 {
-        return Ok(false);
-    }
-    Ok(matchpoints(alloc, scores)?.as_slice() == units)
-}
-
-static BOARDS: [(&[i32], &[u32]); 4] = [
+/// Scores, and the units that they earn. Of the last three boards two tables have each score, and beat all that stand before
+/// them.
+static BOARDS: [(&[i32], &[u32]); 7] = [
     (&[420, 450, 420], &[1, 4, 1]),
     (&[50], &[0]),
     (&[], &[]),
     (&[-100, 620, -100, 650, -100, 620], &[2, 7, 2, 10, 2, 7]),
+    (&[-200, -200], &[1, 1]),
+    (
+        &[
+            -200, -200, -190, -190, -180, -180, -170, -170, -160, -160, -150, -150, -140, -140,
+            -130, -130,
+        ],
+        &[1, 1, 5, 5, 9, 9, 13, 13, 17, 17, 21, 21, 25, 25, 29, 29],
+    ),
+    (
+        &[
+            -200, -200, -190, -190, -180, -180, -170, -170, -160, -160, -150, -150, -140, -140,
+            -130, -130, -120, -120, -110, -110, -100, -100, -90, -90, -80, -80, -70, -70, -60, -60,
+            -50, -50, -40, -40, -30, -30, -20, -20, -10, -10, 0, 0, 10, 10, 20, 20, 30, 30, 40, 40,
+            50, 50, 60, 60, 70, 70, 80, 80, 90, 90, 100, 100, 110, 110,
+        ],
+        &[
+            1, 1, 5, 5, 9, 9, 13, 13, 17, 17, 21, 21, 25, 25, 29, 29, 33, 33, 37, 37, 41, 41, 45,
+            45, 49, 49, 53, 53, 57, 57, 61, 61, 65, 65, 69, 69, 73, 73, 77, 77, 81, 81, 85, 85, 89,
+            89, 93, 93, 97, 97, 101, 101, 105, 105, 109, 109, 113, 113, 117, 117, 121, 121, 125,
+            125,
+        ],
+    ),
 ];
 
-#[test]
-fn boards_in_matchpoints(rt: HostRuntime) -> Result<(), Fail> {
+/// Whether these scores earn these units. No board here has more than 64 scores.
+fn earn(alloc: Global, scores: &[i32], units: &[u32]) -> bool {
+    if scores.len() > 64 {
+        return false;
+    }
+    match matchpoints(alloc, scores) {
+        Ok(earned) => earned.as_slice() == units,
+        Err(_) => false,
+    }
+}
+
+fn each_earns(alloc: Global) -> bool {
     for (scores, units) in &BOARDS {
-        assert!(rt; earn(rt.alloc(), scores, units)?, "{scores:?}");
+        if !earn(alloc, scores, units) {
+            return false;
+        }
     }
-    Ok(())
-}
-
-/// Two tables have each score, and beat all that stand before them: they get 1 unit, 5, 9 and so on.
-fn earn_by_twos(alloc: Global, tables: u16) -> Result<bool, AllocError> {
-    let mut scores = Vec::new(alloc);
-    let mut units = Vec::new(alloc);
-    for table in 0..tables {
-        scores.push(i32::from(table / 2) * 10 - 200)?;
-        units.push(u32::from(table / 2) * 4 + 1)?;
-    }
-    earn(alloc, &scores, &units)
-}
-
-#[test]
-fn boards_of_many_tables(rt: HostRuntime) -> Result<(), Fail> {
-    for tables in [2, 16, 64] {
-        assert!(rt; earn_by_twos(rt.alloc(), tables)?, "{tables}");
-    }
-    Ok(())
+    true
 }
 
 /// Side, number, earned and tops: each standing ranks right before the next.
@@ -81,10 +89,17 @@ fn standing((side, number, earned, tops): (Side, u8, u64, u64)) -> Standing {
     }
 }
 
-#[test]
-fn pairs_in_their_order(rt: HostRuntime) {
+fn each_ranks_before_the_next() -> bool {
     for i in 1..ORDER.len() {
-        let order = rank_order(standing(ORDER[i - 1]), standing(ORDER[i]));
-        assert!(rt; order == Ordering::Less, "{i}");
+        if rank_order(standing(ORDER[i - 1]), standing(ORDER[i])) != Ordering::Less {
+            return false;
+        }
     }
+    true
+}
+
+#[test]
+fn boards_in_matchpoints_and_pairs_in_their_order(rt: HostRuntime) {
+    assert!(rt; each_earns(rt.alloc()));
+    assert!(rt; each_ranks_before_the_next());
 }

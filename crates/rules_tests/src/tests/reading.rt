@@ -1,10 +1,47 @@
 //! Texts of cards, hands, deals, pairs and names, and of what isn't one.
 
-use super::says;
-use cards::{
-    Card, Deal, DealTextError, Hand, Name, NameTooLong, NotACard, NotAHand, NotAPair, Pair,
-};
-use std::test::Fail;
+use super::is_printed;
+use cards::{Card, Deal, DealTextError, Hand, Name, NameTooLong, Pair};
+use std::alloc::Global;
+use std::fmt::Display;
+use std::str::FromStr;
+
+/// Whether a text is read, and printed so.
+fn reads<T: FromStr + Display + Copy>(alloc: Global, text: &str, written: &str) -> bool
+where
+    T::Err: Copy,
+{
+    match text.parse::<T>() {
+        Ok(value) => is_printed(alloc, &value, written),
+        Err(_) => false,
+    }
+}
+
+/// Whether each text of these is read, and printed as the one beside it.
+fn reads_each<T: FromStr + Display + Copy>(alloc: Global, rows: &[(&str, &str)]) -> bool
+where
+    T::Err: Copy,
+{
+    for (text, written) in rows {
+        if !reads::<T>(alloc, text, written) {
+            return false;
+        }
+    }
+    true
+}
+
+/// Whether none of these texts is read.
+fn reads_none<T: FromStr + Copy>(texts: &[&str]) -> bool
+where
+    T::Err: Copy,
+{
+    for text in texts {
+        if text.parse::<T>().is_ok() {
+            return false;
+        }
+    }
+    true
+}
 
 /// North has the spades, East the hearts, South the diamonds and West the clubs.
 const SUITS: &str = "N:AKQJT98765432... .AKQJT98765432.. ..AKQJT98765432. ...AKQJT98765432";
@@ -30,18 +67,6 @@ static DEALS: [(&str, &str); 5] = [
     ),
 ];
 
-fn deal(text: &str) -> Result<Deal, DealTextError> {
-    text.parse()
-}
-
-#[test]
-fn reads_any_players_hand_first(rt: HostRuntime) -> Result<(), Fail> {
-    for (text, written) in &DEALS {
-        says(&rt, rt.alloc(), &deal(text)?, written)?;
-    }
-    Ok(())
-}
-
 static NO_DEALS: [&str; 4] = [
     "N:AKQJT9876543... .AKQJT98765432.. ..AKQJT98765432. ...AKQJT98765432",
     "N:AKQJT98765432... AKQJT98765432... ..AKQJT98765432. ...AKQJT98765432",
@@ -65,21 +90,17 @@ static NO_DEAL_TEXTS: [&str; 13] = [
     "N:AAKQJT9876543... .AKQJT98765432.. ..AKQJT98765432. ...AKQJT98765432",
 ];
 
-/// Whether a text is refused for this reason.
-fn is_no_deal(text: &str, reason: DealTextError) -> bool {
-    deal(text) == Err(reason)
+/// Whether each of these texts is refused for this reason.
+fn refuses_each(texts: &[&str], reason: DealTextError) -> bool {
+    for text in texts {
+        if text.parse::<Deal>() != Err(reason) {
+            return false;
+        }
+    }
+    true
 }
 
-#[test]
-fn refuses_what_is_no_deal(rt: HostRuntime) {
-    for text in &NO_DEALS {
-        assert!(rt; is_no_deal(text, DealTextError::NotADeal), "{text}");
-    }
-    for text in &NO_DEAL_TEXTS {
-        assert!(rt; is_no_deal(text, DealTextError::NotADealText), "{text}");
-    }
-}
-
+/// The suits of a hand in any order, and either case.
 static HANDS: [(&str, &str); 4] = [
     ("akq.jt.98765.432", "AKQ.JT.98765.432"),
     ("QAK.tJ.56789.324", "AKQ.JT.98765.432"),
@@ -103,97 +124,76 @@ static NO_HANDS: [&str; 13] = [
     "AKQ.JT.98765.43♣",
 ];
 
-fn hand(text: &str) -> Result<Hand, NotAHand> {
-    text.parse()
-}
-
-fn is_same_hand(one: &str, other: &str) -> bool {
-    hand(one) == hand(other)
-}
-
-#[test]
-fn reads_each_suit_in_any_order_and_either_case(rt: HostRuntime) -> Result<(), Fail> {
-    for (text, written) in &HANDS {
-        assert!(rt; is_same_hand(text, written), "{text}");
-        says(&rt, rt.alloc(), &hand(text)?, written)?;
+/// Whether what is printed of each hand is read as that hand.
+fn are_alike(rows: &[(&str, &str)]) -> bool {
+    for (text, written) in rows {
+        if text.parse::<Hand>() != written.parse::<Hand>() {
+            return false;
+        }
     }
-    for text in &NO_HANDS {
-        assert!(rt; hand(text).is_err(), "{text}");
-    }
-    Ok(())
+    true
 }
 
-static PAIRS: [&str; 4] = ["NS1", "EW9", "NS10", "EW255"];
+static PAIRS: [(&str, &str); 4] = [
+    ("NS1", "NS1"),
+    ("EW9", "EW9"),
+    ("NS10", "NS10"),
+    ("EW255", "EW255"),
+];
 
 static NO_PAIRS: [&str; 15] = [
     "", "1", "NS", "NS0", "NS01", "NS256", "NS1000", "ns1", "EW+1", "EW-1", "EW 1", "EW1 ", "EW1a",
     "SN1", "NSEW1",
 ];
 
-fn pair(text: &str) -> Result<Pair, NotAPair> {
-    text.parse()
-}
-
-#[test]
-fn reads_pairs(rt: HostRuntime) -> Result<(), Fail> {
-    for text in &PAIRS {
-        says(&rt, rt.alloc(), &pair(text)?, text)?;
-    }
-    for text in &NO_PAIRS {
-        assert!(rt; pair(text).is_err(), "{text}");
-    }
-    Ok(())
-}
-
-static CARDS: [&str; 3] = ["HT", "SA", "C2"];
+static CARDS: [(&str, &str); 3] = [("HT", "HT"), ("SA", "SA"), ("C2", "C2")];
 
 static NO_CARDS: [&str; 7] = ["", "S", "SA ", "AS", "NA", "S1", "sA"];
 
-fn card(text: &str) -> Result<Card, NotACard> {
-    text.parse()
-}
-
-#[test]
-fn reads_cards(rt: HostRuntime) -> Result<(), Fail> {
-    for text in &CARDS {
-        says(&rt, rt.alloc(), &card(text)?, text)?;
-    }
-    for text in &NO_CARDS {
-        assert!(rt; card(text).is_err(), "{text}");
-    }
-    Ok(())
-}
-
-/// The fourth name has 16 letters of two bytes, the last 8 of four.
-static NAMES: [&str; 6] = [
-    "",
-    "n1",
-    "abcdefghijklmnopqrstuvwxyz-_0123",
-    "éééééééééééééééé",
-    "Łukasz Żółć",
-    "🂡🂱🃁🃑🂡🂱🃁🃑",
+/// Texts, and whether each is a name, which has 32 bytes at most. The fourth has 16 letters of two bytes, the sixth 8 of four.
+static NAMES: [(&str, bool); 9] = [
+    ("", true),
+    ("n1", true),
+    ("abcdefghijklmnopqrstuvwxyz-_0123", true),
+    ("éééééééééééééééé", true),
+    ("Łukasz Żółć", true),
+    ("🂡🂱🃁🃑🂡🂱🃁🃑", true),
+    ("abcdefghijklmnopqrstuvwxyz-_01234", false),
+    ("aéééééééééééééééé", false),
+    ("🂡🂱🃁🃑🂡🂱🃁🃑🂡", false),
 ];
 
-static TOO_LONG: [&str; 3] = [
-    "abcdefghijklmnopqrstuvwxyz-_01234",
-    "aéééééééééééééééé",
-    "🂡🂱🃁🃑🂡🂱🃁🃑🂡",
-];
-
-/// Whether a text is a name, and is kept as it stands.
-fn is_name(text: &str) -> bool {
+/// Whether a text that is a name is kept as it stands, and another is refused.
+fn is_judged(text: &str, is_name: bool) -> bool {
     match Name::new(text) {
-        Ok(name) => name.as_str() == text,
-        Err(NameTooLong) => false,
+        Ok(name) => is_name && name.as_str() == text,
+        Err(NameTooLong) => !is_name,
     }
 }
 
+fn names_are_judged() -> bool {
+    for (text, is_name) in &NAMES {
+        if !is_judged(text, *is_name) {
+            return false;
+        }
+    }
+    true
+}
+
 #[test]
-fn a_name_has_32_bytes_at_most(rt: HostRuntime) {
-    for text in &NAMES {
-        assert!(rt; is_name(text), "{text}");
-    }
-    for text in &TOO_LONG {
-        assert!(rt; Name::new(text).is_err(), "{text}");
-    }
+fn reads_and_prints_texts(rt: HostRuntime) {
+    assert!(rt; reads_each::<Deal>(rt.alloc(), &DEALS));
+    assert!(rt; reads_each::<Hand>(rt.alloc(), &HANDS) && are_alike(&HANDS));
+    assert!(rt; reads_each::<Pair>(rt.alloc(), &PAIRS));
+    assert!(rt; reads_each::<Card>(rt.alloc(), &CARDS));
+    assert!(rt; names_are_judged());
+}
+
+#[test]
+fn refuses_other_texts(rt: HostRuntime) {
+    assert!(rt; refuses_each(&NO_DEALS, DealTextError::NotADeal));
+    assert!(rt; refuses_each(&NO_DEAL_TEXTS, DealTextError::NotADealText));
+    assert!(rt; reads_none::<Hand>(&NO_HANDS));
+    assert!(rt; reads_none::<Pair>(&NO_PAIRS));
+    assert!(rt; reads_none::<Card>(&NO_CARDS));
 }

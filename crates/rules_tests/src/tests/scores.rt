@@ -3,7 +3,6 @@
 use super::figures::{Figures, MAJOR, MINOR, NO_TRUMP};
 use cards::{Place, Strain, Vulnerability};
 use scoring::{Contract, Doubling, Level, Outcome, Tricks, ns_score, score};
-use std::process::Abort;
 
 fn figures_of(strain: Strain) -> &'static Figures {
     match strain {
@@ -30,47 +29,35 @@ fn scored(
     Some(score(contract, vulnerable, Tricks::new(tricks)?))
 }
 
-/// Whether one level at each number of tricks scores as another scorer has it.
-fn is_row(
-    strain: Strain,
-    level: u8,
-    doubling: Doubling,
-    vulnerable: bool,
-    row: &[i32; 14],
-) -> bool {
-    for (tricks, want) in (0u8..).zip(row) {
-        if scored(strain, level, doubling, vulnerable, tricks) != Some(*want) {
+static DOUBLINGS: [Doubling; 3] = [Doubling::Undoubled, Doubling::Doubled, Doubling::Redoubled];
+
+/// Whether a case scores as another scorer has it. Its number counts the tricks first, then levels, vulnerable or not,
+/// doublings and strains.
+fn is_as_figured(case: usize) -> bool {
+    let strain = Strain::ALL[case / 588 % 5];
+    let doubled = case / 196 % 3;
+    let vulnerable = case / 98 % 2;
+    let level = case / 14 % 7;
+    let tricks = case % 14;
+    let want = figures_of(strain)[doubled][vulnerable][level][tricks];
+    let doubling = DOUBLINGS[doubled];
+    scored(
+        strain,
+        level as u8 + 1,
+        doubling,
+        vulnerable == 1,
+        tricks as u8,
+    ) == Some(want)
+}
+
+/// Every contract and number of tricks.
+fn all_are_as_figured() -> bool {
+    for case in 0..2_940 {
+        if !is_as_figured(case) {
             return false;
         }
     }
     true
-}
-
-/// One strain at each level and number of tricks, as another scorer has it.
-fn compare(
-    rt: &impl Abort,
-    strain: Strain,
-    doubling: Doubling,
-    vulnerable: bool,
-    rows: &[[i32; 14]; 7],
-) {
-    for (level, row) in (1u8..).zip(rows) {
-        assert!(rt;
-            is_row(strain, level, doubling, vulnerable, row),
-            "{level}{strain}"
-        );
-    }
-}
-
-#[test]
-fn every_contract_as_another_scorer_has_it(rt: HostRuntime) {
-    let doublings = [Doubling::Undoubled, Doubling::Doubled, Doubling::Redoubled];
-    for strain in Strain::ALL {
-        for (doubling, [not_vulnerable, vulnerable]) in doublings.iter().zip(figures_of(strain)) {
-            compare(&rt, strain, *doubling, false, not_vulnerable);
-            compare(&rt, strain, *doubling, true, vulnerable);
-        }
-    }
 }
 
 /// Four hearts: made and set, on either side.
@@ -95,11 +82,17 @@ fn four_hearts(declarer: Place, vulnerability: Vulnerability, tricks: u8) -> Opt
     Some(ns_score(Outcome::Played { contract, tricks }, vulnerability))
 }
 
-#[test]
-fn scores_for_north_south(rt: HostRuntime) {
+fn are_for_north_south() -> bool {
     for (declarer, vulnerability, tricks, want) in &FOUR_HEARTS {
-        let got = four_hearts(*declarer, *vulnerability, *tricks);
-        assert!(rt; got == Some(*want), "{declarer} {vulnerability}");
+        if four_hearts(*declarer, *vulnerability, *tricks) != Some(*want) {
+            return false;
+        }
     }
-    assert!(rt; ns_score(Outcome::PassedOut, Vulnerability::Both) == 0);
+    ns_score(Outcome::PassedOut, Vulnerability::Both) == 0
+}
+
+#[test]
+fn every_contract_scores_as_another_scorer_has_it(rt: HostRuntime) {
+    assert!(rt; all_are_as_figured());
+    assert!(rt; are_for_north_south());
 }

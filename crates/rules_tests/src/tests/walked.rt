@@ -1,42 +1,21 @@
 //! The movement as it is printed, and as it is walked through round by round.
 
 use movement::{Movement, MovementError};
-use std::alloc::{AllocError, Global};
-use std::collections::VecDeque;
-use std::process::Abort;
-use std::test::Fail;
 
-/// The East-West pairs and the sets, from table 1 on.
-#[derive(Drop)]
-struct Tables {
-    pairs: VecDeque<u8>,
-    sets: VecDeque<u8>,
+/// The pairs, and the sets, from table 1 on in the first round.
+const FIRST: [u8; 16] = [1, 2, 3, 4, 5, 6, 7, 8, 9, 10, 11, 12, 13, 14, 15, 16];
+
+/// Each moves up a table, and the last comes to table 1.
+fn move_up(seats: &mut [u8]) {
+    for i in 1..seats.len() {
+        seats.swap(0, i);
+    }
 }
 
-impl Tables {
-    /// The first round.
-    fn new(alloc: Global, tables: u8) -> Result<Tables, AllocError> {
-        let mut pairs = VecDeque::new(alloc);
-        let mut sets = VecDeque::new(alloc);
-        for number in 1..=tables {
-            pairs.push_back(number)?;
-            sets.push_back(number)?;
-        }
-        Ok(Tables { pairs, sets })
-    }
-
-    fn pairs_move_up(&mut self) -> Result<(), AllocError> {
-        if let Some(last) = self.pairs.pop_back() {
-            self.pairs.push_front(last)?;
-        }
-        Ok(())
-    }
-
-    fn sets_move_down(&mut self) -> Result<(), AllocError> {
-        if let Some(first) = self.sets.pop_front() {
-            self.sets.push_back(first)?;
-        }
-        Ok(())
+/// Each moves down a table, and the first comes to the last table.
+fn move_down(seats: &mut [u8]) {
+    for i in 1..seats.len() {
+        seats.swap(i - 1, i);
     }
 }
 
@@ -56,33 +35,41 @@ fn is_row(movement: Movement, table: u8, round: u8, pair: u8, set: u8) -> bool {
     movement.ew_at(table, round).number == pair
 }
 
-fn same_round(rt: &impl Abort, movement: Movement, round: u8, at: &Tables) {
-    for below in 0..movement.tables() {
-        let pair = at
-            .pairs
-            .get(usize::from(below))
-            .expect(rt, "a pair a table");
-        let set = at.sets.get(usize::from(below)).expect(rt, "a set a table");
-        assert!(rt; is_row(movement, below + 1, round, *pair, *set), "{round}");
+/// Whether each table's row in a round is so.
+fn is_round(movement: Movement, round: u8, pairs: &[u8], sets: &[u8]) -> bool {
+    for ((table, pair), set) in (1u8..).zip(pairs).zip(sets) {
+        if !is_row(movement, table, round, *pair, *set) {
+            return false;
+        }
     }
+    true
 }
 
 /// After each round the East-West pairs move up a table and the sets down one, and at an even number of tables the pairs
 /// skip one more in the middle.
-fn walk(rt: &impl Abort, alloc: Global, movement: Movement) -> Result<(), Fail> {
+fn is_walked(movement: Movement, pairs: &mut [u8], sets: &mut [u8]) -> bool {
     let tables = movement.tables();
-    let mut at = Tables::new(alloc, tables)?;
     for round in 1..=movement.rounds() {
         if round > 1 {
-            at.pairs_move_up()?;
-            at.sets_move_down()?;
+            move_up(pairs);
+            move_down(sets);
         }
         if tables % 2 == 0 && round == tables / 2 + 1 {
-            at.pairs_move_up()?;
+            move_up(pairs);
         }
-        same_round(rt, movement, round, &at);
+        if !is_round(movement, round, pairs, sets) {
+            return false;
+        }
     }
-    Ok(())
+    true
+}
+
+/// Whether a movement is as walked through from the first round.
+fn is_walked_from_first(movement: Movement) -> bool {
+    let tables = usize::from(movement.tables()).min(16);
+    let mut pairs = FIRST;
+    let mut sets = FIRST;
+    is_walked(movement, &mut pairs[..tables], &mut sets[..tables])
 }
 
 /// Whether there is no such movement, for this reason.
@@ -90,49 +77,52 @@ fn is_refused(tables: u8, rounds: u8, per_set: u8, reason: MovementError) -> boo
     Movement::new(tables, rounds, per_set) == Err(reason)
 }
 
-/// Walks through this movement, or holds it against the 64 boards that are the most.
-fn walk_or_refuse(
-    rt: &impl Abort,
-    alloc: Global,
-    tables: u8,
-    rounds: u8,
-    per_set: u8,
-) -> Result<(), Fail> {
+/// Whether a movement is as asked for and as walked, or has more than the 64 boards that are the most.
+fn is_walked_or_refused(tables: u8, rounds: u8, per_set: u8) -> bool {
     match Movement::new(tables, rounds, per_set) {
         Ok(movement) => {
-            assert!(rt; movement.rounds() == rounds && movement.per_set() == per_set);
-            walk(rt, alloc, movement)
+            movement.rounds() == rounds
+                && movement.per_set() == per_set
+                && is_walked_from_first(movement)
         }
-        Err(error) => {
-            assert!(rt; error == MovementError::BadSets && tables > 8 && per_set == 8);
-            Ok(())
-        }
+        Err(error) => error == MovementError::BadSets && tables > 8 && per_set == 8,
     }
 }
 
-/// Up to 16 tables, all the rounds that can be played, 8 boards in a set and 64 in all.
-#[test]
-fn movements_are_as_walked(rt: HostRuntime) -> Result<(), Fail> {
-    for tables in 3..=16 {
+/// Whether it is so with up to 8 boards in a set.
+fn are_walked(tables: u8, rounds: u8) -> bool {
+    is_walked_or_refused(tables, rounds, 1)
+        && is_walked_or_refused(tables, rounds, 2)
+        && is_walked_or_refused(tables, rounds, 4)
+        && is_walked_or_refused(tables, rounds, 8)
+}
+
+/// Whether it is so of so many rounds, the most that these tables can play, and of fewer.
+fn are_walked_up_to(tables: u8, most: u8) -> bool {
+    for rounds in 1..=most {
+        if !are_walked(tables, rounds) {
+            return false;
+        }
+    }
+    is_refused(tables, most.saturating_add(1), 1, MovementError::BadRounds)
+}
+
+/// Whether it is so of 3 to 16 tables. An even number of them plays a round less.
+fn all_are_walked() -> bool {
+    for tables in 3u8..17 {
         let most = if tables % 2 == 0 { tables - 1 } else { tables };
-        for rounds in 1..=most {
-            for per_set in [1, 2, 4, 8] {
-                walk_or_refuse(&rt, rt.alloc(), tables, rounds, per_set)?;
-            }
+        if !are_walked_up_to(tables, most) {
+            return false;
         }
-        assert!(rt; is_refused(tables, most + 1, 1, MovementError::BadRounds));
     }
-    Ok(())
+    true
 }
 
-#[test]
-fn other_numbers_of_tables_are_refused(rt: HostRuntime) {
-    for tables in [0, 2, 17, 255] {
-        assert!(rt;
-            is_refused(tables, 0, 0, MovementError::BadTables),
-            "{tables}"
-        );
-    }
+fn refuses_other_numbers_of_tables() -> bool {
+    is_refused(0, 0, 0, MovementError::BadTables)
+        && is_refused(2, 0, 0, MovementError::BadTables)
+        && is_refused(17, 0, 0, MovementError::BadTables)
+        && is_refused(255, 0, 0, MovementError::BadTables)
 }
 
 /// The tables, then what one of them plays in a round: the table, the round, the board and the East-West pair.
@@ -152,14 +142,21 @@ static PRINTED: [(u8, u8, u8, u8, u8); 12] = [
 ];
 
 /// Three tables, and the skip at four: what each table plays in each round.
-#[test]
-fn movements_are_as_printed(rt: HostRuntime) -> Result<(), Fail> {
+fn are_as_printed() -> bool {
     for (tables, table, round, board, east_west) in &PRINTED {
-        let movement = Movement::new(*tables, 3, 1)?;
-        assert!(rt;
-            is_row(movement, *table, *round, *east_west, *board),
-            "{table} {round}"
-        );
+        let Ok(movement) = Movement::new(*tables, 3, 1) else {
+            return false;
+        };
+        if !is_row(movement, *table, *round, *east_west, *board) {
+            return false;
+        }
     }
-    Ok(())
+    true
+}
+
+#[test]
+fn movements_are_as_walked_and_as_printed(rt: HostRuntime) {
+    assert!(rt; all_are_walked());
+    assert!(rt; refuses_other_numbers_of_tables());
+    assert!(rt; are_as_printed());
 }
