@@ -3,6 +3,7 @@ mod faults;
 mod figures;
 mod lines;
 mod play;
+mod pool;
 mod ranking;
 mod reading;
 mod scores;

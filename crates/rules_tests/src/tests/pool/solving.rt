@@ -1,6 +1,6 @@
 //! What a worker finds.
 
-use super::{SUITS, give, results_of, table_work, take_unsolved};
+use super::{SUITS, gives, results_of, table_work, take_unsolved};
 use cards::{Card, Deal, Place, Position, Strain};
 use crossbeam_channel::{Receiver, Sender, unbounded};
 use double_dummy::{Budget, DdTable, PlayAnswer, SolveError, solve};
@@ -10,7 +10,6 @@ use scoring::{Contract, Doubling, Level};
 use solver_pool::{Done, Found, Job, Pool, Work, solve_job};
 use std::alloc::Global;
 use std::sync::Wait;
-use std::test::Fail;
 
 /// One no trump by North.
 fn one_no_trump() -> Option<Contract> {
@@ -22,43 +21,49 @@ fn one_no_trump() -> Option<Contract> {
     })
 }
 
-/// A trick with this second card.
-fn trick(second: &str) -> Result<Play, Fail> {
-    let cards = [
-        "S2".parse::<Card>()?,
-        second.parse::<Card>()?,
-        "C2".parse::<Card>()?,
-        "SA".parse::<Card>()?,
-    ];
-    Ok(Play::new(&cards).ok_or("a play")?)
+fn card(text: &str) -> Option<Card> {
+    text.parse().ok()
 }
 
-/// The costs of a trick with this second card, where North's two of spades and East's two of hearts have changed hands.
-fn costs_work(second: &str) -> Result<Work, Fail> {
-    let deal = "N:AKQJT9876543.2.. 2.AKQJT9876543.. ..AKQJT98765432. ...AKQJT98765432".parse::<
-        Deal,
-    >()?;
-    Ok(Work::Costs {
-        cell: Cell { table: 1, board: 2 },
+/// A trick with this second card.
+fn trick(second: &str) -> Option<Play> {
+    let cards = [card("S2")?, card(second)?, card("C2")?, card("SA")?];
+    Play::new(&cards)
+}
+
+/// North's two of spades and East's two of hearts have changed hands.
+const CHANGED: &str = "N:AKQJT9876543.2.. 2.AKQJT9876543.. ..AKQJT98765432. ...AKQJT98765432";
+
+/// The costs of a trick with this second card, of that deal.
+fn costs_work(second: &str) -> Option<Work> {
+    let deal = CHANGED.parse::<Deal>().ok()?;
+    let contract = one_no_trump()?;
+    let play = trick(second)?;
+    let cell = Cell { table: 1, board: 2 };
+    Some(Work::Costs {
+        cell,
         deal,
-        contract: one_no_trump().ok_or("a contract")?,
-        play: trick(second)?,
+        contract,
+        play,
     })
 }
 
 /// The only job of a pool, which has been sent to a worker.
-fn job_sent(rt: &impl Wait, alloc: Global, work: &Work) -> Result<Receiver<Job>, Fail> {
-    let mut pool = Pool::new(alloc)?;
-    let (to_worker, jobs) = unbounded::<Job, Global>(alloc)?;
-    give(rt, &mut pool, &to_worker, work)?;
-    Ok(jobs)
+fn job_sent(rt: &impl Wait, alloc: Global, work: &Work) -> Option<Receiver<Job>> {
+    let mut pool = Pool::new(alloc).ok()?;
+    let (to_worker, jobs) = unbounded::<Job, Global>(alloc).ok()?;
+    if gives(rt, &mut pool, &to_worker, 1, work) {
+        Some(jobs)
+    } else {
+        None
+    }
 }
 
 /// What a worker sends of one job.
-fn sent_of(rt: &impl Wait, alloc: Global, work: &Work) -> Result<Done, Fail> {
+fn sent_of(rt: &impl Wait, alloc: Global, work: &Work) -> Option<Done> {
     let jobs = job_sent(rt, alloc, work)?;
-    let results = results_of(rt, alloc, &jobs, 1_000_000)?;
-    Ok(results.recv(rt)?)
+    let results = results_of(rt, alloc, &jobs, 1_000_000).ok()?;
+    results.recv(rt).ok()
 }
 
 /// The tricks of North and South, and those of East and West, with each trump: who has the trumps takes all tricks;
@@ -92,11 +97,14 @@ fn is_of_long_suits(found: &Found) -> bool {
     true
 }
 
-#[test]
-fn finds_a_table(rt: HostRuntime) -> Result<(), Fail> {
-    let done = sent_of(&rt, rt.alloc(), &table_work(1, SUITS)?)?;
-    assert!(rt; done.job().number == 1 && is_of_long_suits(done.found()));
-    Ok(())
+fn finds_a_table(rt: &impl Wait, alloc: Global) -> bool {
+    let Some(work) = table_work(1, SUITS) else {
+        return false;
+    };
+    match sent_of(rt, alloc, &work) {
+        Some(done) => done.job().number == 1 && is_of_long_suits(done.found()),
+        None => false,
+    }
 }
 
 /// Whether these costs of a play were found.
@@ -111,17 +119,20 @@ fn are_costs(found: Found, costs: &[u8]) -> bool {
 }
 
 /// In one no trump by North, East leads the two of spades, and gives away eleven tricks by it.
-#[test]
-fn finds_costs(rt: HostRuntime) -> Result<(), Fail> {
-    let done = sent_of(&rt, rt.alloc(), &costs_work("D2")?)?;
-    assert!(rt; done.job().number == 1 && are_costs(done.into_found(), &[11, 0, 0, 0]));
-    Ok(())
+fn finds_costs(rt: &impl Wait, alloc: Global) -> bool {
+    let Some(work) = costs_work("D2") else {
+        return false;
+    };
+    match sent_of(rt, alloc, &work) {
+        Some(done) => done.job().number == 1 && are_costs(done.into_found(), &[11, 0, 0, 0]),
+        None => false,
+    }
 }
 
 /// What is found of the costs of a trick with this second card, without a visit.
-fn found_unpaid(alloc: Global, second: &str) -> Result<Found, Fail> {
+fn found_unpaid(alloc: Global, second: &str) -> Option<Found> {
     let work = costs_work(second)?;
-    Ok(solve_job(alloc, Job { number: 1, work }, 0).into_found())
+    Some(solve_job(alloc, Job { number: 1, work }, 0).into_found())
 }
 
 /// Whether the second card was named, and the start of that play isn't solved without a visit.
@@ -136,50 +147,55 @@ fn names_second(alloc: Global, found: &Found) -> bool {
 }
 
 /// Without a visit nothing is solved, but a card that is not legal is named.
-#[test]
-fn names_an_illegal_card_without_a_visit(rt: HostRuntime) -> Result<(), Fail> {
-    let unpaid = found_unpaid(rt.alloc(), "D2")?;
-    assert!(rt; matches!(unpaid, Found::OutOfBudget));
-    let illegal = found_unpaid(rt.alloc(), "H2")?;
-    assert!(rt; names_second(rt.alloc(), &illegal));
-    Ok(())
+fn names_an_illegal_card(alloc: Global) -> bool {
+    match found_unpaid(alloc, "H2") {
+        Some(found) => names_second(alloc, &found),
+        None => false,
+    }
 }
 
-/// Gives three jobs, and sends them to a worker as far as there is room.
-fn send_three(rt: &impl Wait, pool: &mut Pool, to_worker: &Sender<Job>) -> Result<(), Fail> {
+#[test]
+fn finds_tables_and_costs_and_names_illegal_cards(rt: HostRuntime) {
+    assert!(rt; finds_a_table(&rt, rt.alloc()));
+    assert!(rt; finds_costs(&rt, rt.alloc()));
+    assert!(rt; matches!(found_unpaid(rt.alloc(), "D2"), Some(Found::OutOfBudget)));
+    assert!(rt; names_an_illegal_card(rt.alloc()));
+}
+
+/// Whether the pool gives three jobs. They are sent to a worker as far as there is room.
+fn sends_three(rt: &impl Wait, pool: &mut Pool, to_worker: &Sender<Job>) -> bool {
     for board in 1u8..4 {
-        let job = pool.add(table_work(board, SUITS)?)?;
+        let Some(work) = table_work(board, SUITS) else {
+            return false;
+        };
+        let Ok(job) = pool.add(work) else {
+            return false;
+        };
         let _ = to_worker.send(rt, job);
     }
-    Ok(())
+    true
 }
 
-/// How many results of three jobs come, and whether the pool takes each. None, where a channel has no room to begin.
-fn results_of_three(
-    rt: &impl Wait,
-    alloc: Global,
-    pool: &mut Pool,
-) -> Result<Option<(u32, bool)>, Fail> {
+/// Whether two of three results come at least, and the pool takes each; or a channel has no room to begin.
+fn loses_one_at_most(rt: &impl Wait, alloc: Global, pool: &mut Pool) -> bool {
     let Ok((to_worker, jobs)) = unbounded::<Job, Global>(alloc) else {
-        return Ok(None);
+        return true;
     };
-    send_three(rt, pool, &to_worker)?;
+    let sent = sends_three(rt, pool, &to_worker);
     drop(to_worker);
     let Ok(results) = results_of(rt, alloc, &jobs, 0) else {
-        return Ok(None);
+        return sent;
     };
-    Ok(Some(take_unsolved(rt, pool, &results)))
+    let (came, all) = take_unsolved(rt, pool, &results);
+    sent && all && came >= 2
 }
 
 /// Holds whichever growth is refused: where there is room to begin, one of three jobs or results is lost at most, and the
 /// worker goes on.
 #[test]
-fn loses_no_more_than_one_result(rt: HostRuntime) -> Result<(), Fail> {
+fn loses_no_more_than_one_result(rt: HostRuntime) {
     let Ok(mut pool) = Pool::new(rt.alloc()) else {
-        return Ok(());
+        return;
     };
-    if let Some((came, all)) = results_of_three(&rt, rt.alloc(), &mut pool)? {
-        assert!(rt; all && came >= 2, "{came} of three");
-    }
-    Ok(())
+    assert!(rt; loses_one_at_most(&rt, rt.alloc(), &mut pool));
 }

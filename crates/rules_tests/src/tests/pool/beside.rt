@@ -1,9 +1,9 @@
 //! Two workers work beside one another: one of them finishes the second job while the first job waits at the gate.
 
-use super::{SUITS, SUITS_FROM_EAST, give, table_work, take_unsolved};
+use super::{SUITS, SUITS_FROM_EAST, gives, table_work, take_unsolved};
 use crossbeam_channel::{Receiver, Sender, unbounded};
 use solver_pool::{Done, Gate, Job, Pool, run_worker};
-use std::alloc::{AllocError, Global};
+use std::alloc::Global;
 use std::sync::Wait;
 use std::sync::atomic::{AtomicBool, Ordering};
 use std::test::Fail;
@@ -45,13 +45,15 @@ impl<R: Clock> Gate for HoldsFirst<'_, R> {
     }
 }
 
-/// The pool's jobs of two boards, which have been sent to workers.
-fn jobs_sent(rt: &impl Wait, alloc: Global, pool: &mut Pool) -> Result<Receiver<Job>, Fail> {
-    let (to_workers, jobs) = unbounded::<Job, Global>(alloc)?;
-    for (board, deal) in [(1, SUITS), (2, SUITS_FROM_EAST)] {
-        give(rt, pool, &to_workers, &table_work(board, deal)?)?;
-    }
-    Ok(jobs)
+/// Whether the pool gives the jobs of two boards, which are sent to workers.
+fn gives_two(rt: &impl Wait, pool: &mut Pool, to_workers: &Sender<Job>) -> bool {
+    let Some(first) = table_work(1, SUITS) else {
+        return false;
+    };
+    let Some(second) = table_work(2, SUITS_FROM_EAST) else {
+        return false;
+    };
+    gives(rt, pool, to_workers, 1, &first) && gives(rt, pool, to_workers, 2, &second)
 }
 
 /// Whether the second job is done while the first waits, where there are two workers. Each has a visit for a job.
@@ -80,17 +82,28 @@ fn work_beside<R: Threads + Wait + Clock + Sync>(
     alloc: Global,
     pool: &mut Pool,
     jobs: &Receiver<Job>,
-) -> Result<bool, AllocError> {
-    let (from_workers, results) = unbounded::<Done, Global>(alloc)?;
+) -> bool {
+    let Ok((from_workers, results)) = unbounded::<Done, Global>(alloc) else {
+        return false;
+    };
     let overtaken = second_is_first(rt, alloc, jobs, &from_workers);
     drop(from_workers);
-    Ok(overtaken && take_unsolved(rt, pool, &results) == (2, true))
+    overtaken && take_unsolved(rt, pool, &results) == (2, true)
+}
+
+/// Whether they do so of two jobs that the pool gives.
+fn answer_beside<R: Threads + Wait + Clock + Sync>(rt: &R, alloc: Global, pool: &mut Pool) -> bool {
+    let Ok((to_workers, jobs)) = unbounded::<Job, Global>(alloc) else {
+        return false;
+    };
+    let given = gives_two(rt, pool, &to_workers);
+    drop(to_workers);
+    given && work_beside(rt, alloc, pool, &jobs)
 }
 
 #[test]
 fn the_second_job_is_done_while_the_first_waits(rt: HostRuntime) -> Result<(), Fail> {
     let mut pool = Pool::new(rt.alloc())?;
-    let jobs = jobs_sent(&rt, rt.alloc(), &mut pool)?;
-    assert!(rt; work_beside(&rt, rt.alloc(), &mut pool, &jobs)?);
+    assert!(rt; answer_beside(&rt, rt.alloc(), &mut pool));
     Ok(())
 }

@@ -1,3 +1,5 @@
+//! The pool and its workers: what it refuses, that workers work beside one another, and what they find.
+
 mod beside;
 mod passing;
 mod pooling;
@@ -8,7 +10,6 @@ use crossbeam_channel::{Receiver, Sender, unbounded};
 use solver_pool::{Done, Found, Job, OpenGate, Pool, Work, run_worker};
 use std::alloc::{AllocError, Global};
 use std::sync::Wait;
-use std::test::Fail;
 
 const SUITS: &str = "N:AKQJT98765432... .AKQJT98765432.. ..AKQJT98765432. ...AKQJT98765432";
 
@@ -16,25 +17,39 @@ const SUITS_FROM_EAST: &str =
     "E:AKQJT98765432... .AKQJT98765432.. ..AKQJT98765432. ...AKQJT98765432";
 
 /// The table of a board whose deal is written so.
-fn table_work(board: u8, deal: &str) -> Result<Work, Fail> {
-    let deal = deal.parse::<Deal>()?;
-    Ok(Work::Table { board, deal })
+fn table_work(board: u8, deal: &str) -> Option<Work> {
+    match deal.parse::<Deal>() {
+        Ok(deal) => Some(Work::Table { board, deal }),
+        Err(_) => None,
+    }
 }
 
-/// Gives the work the next number, and sends its job to a worker.
-fn give(
+/// The job of this work.
+fn job_of(number: u32, work: &Work) -> Job {
+    let work = *work;
+    Job { number, work }
+}
+
+/// Whether the pool gives the work this number.
+fn is_given(pool: &mut Pool, number: u32, work: &Work) -> bool {
+    match pool.add(*work) {
+        Ok(job) => job.number == number,
+        Err(_) => false,
+    }
+}
+
+/// Whether the pool gives the work this number, and its job can be sent to a worker.
+fn gives(
     rt: &impl Wait,
     pool: &mut Pool,
     to_worker: &Sender<Job>,
+    number: u32,
     work: &Work,
-) -> Result<u32, Fail> {
-    let given = *work;
-    let job = pool.add(given)?;
-    let number = job.number;
-    let Ok(()) = to_worker.send(rt, job) else {
-        return Err("room for a job".into());
-    };
-    Ok(number)
+) -> bool {
+    match pool.add(*work) {
+        Ok(job) => job.number == number && to_worker.send(rt, job).is_ok(),
+        Err(_) => false,
+    }
 }
 
 /// The results of a worker that has so many visits for each job, once it has worked on all of them.

@@ -1,9 +1,9 @@
 //! What a worker does of each job, in turn: it waits for the job, passes the gate, tells the gate, and sends the result.
 
-use super::{SUITS, table_work, take_unsolved};
+use super::{SUITS, is_given, job_of, table_work, take_unsolved};
 use crossbeam_channel::{Receiver, Sender, unbounded};
-use solver_pool::{Done, Gate, Job, Pool, run_worker};
-use std::alloc::{AllocError, Global};
+use solver_pool::{Done, Gate, Job, Pool, Work, run_worker};
+use std::alloc::Global;
 use std::sync::Wait;
 use std::sync::atomic::{AtomicBool, AtomicU32, Ordering};
 use std::test::Fail;
@@ -40,11 +40,11 @@ impl Gate for InTurn<'_> {
     }
 }
 
-/// Sends two jobs, each after a while.
-fn send_slowly(rt: &(impl Wait + Clock), to_worker: Sender<Job>, first: Job, second: Job) {
-    for job in [first, second] {
+/// Sends two jobs of this work, each after a while.
+fn send_slowly(rt: &(impl Wait + Clock), to_worker: Sender<Job>, work: &Work) {
+    for number in 1..3 {
         thread::sleep(rt, Duration::from_millis(20));
-        let _ = to_worker.send(rt, job);
+        let _ = to_worker.send(rt, job_of(number, work));
     }
 }
 
@@ -52,10 +52,13 @@ fn send_slowly(rt: &(impl Wait + Clock), to_worker: Sender<Job>, first: Job, sec
 fn works_in_turn<R: Threads + Wait + Clock + Sync>(
     rt: &R,
     alloc: Global,
-    (from_worker, results): (&Sender<Done>, &Receiver<Done>),
-    (first, second): (Job, Job),
-) -> Result<bool, AllocError> {
-    let (to_worker, jobs) = unbounded::<Job, Global>(alloc)?;
+    from_worker: &Sender<Done>,
+    results: &Receiver<Done>,
+    work: &Work,
+) -> bool {
+    let Ok((to_worker, jobs)) = unbounded::<Job, Global>(alloc) else {
+        return false;
+    };
     let gate = InTurn {
         results,
         calls: AtomicU32::new(0),
@@ -63,31 +66,35 @@ fn works_in_turn<R: Threads + Wait + Clock + Sync>(
     };
     thread::join(
         rt,
-        || send_slowly(rt, to_worker, first, second),
+        || send_slowly(rt, to_worker, work),
         || run_worker(rt, alloc, &gate, &jobs, from_worker, 0),
     );
-    Ok(gate.calls.load(Ordering::SeqCst) == 4 && !gate.out_of_turn.load(Ordering::SeqCst))
+    gate.calls.load(Ordering::SeqCst) == 4 && !gate.out_of_turn.load(Ordering::SeqCst)
 }
 
-/// Whether a worker without visits works so, and the pool takes both results.
+/// Whether a worker without visits works so, and the pool takes the results of both jobs that it gave.
 fn answers_in_turn<R: Threads + Wait + Clock + Sync>(
     rt: &R,
     alloc: Global,
     pool: &mut Pool,
-    jobs: (Job, Job),
-) -> Result<bool, AllocError> {
-    let (from_worker, results) = unbounded::<Done, Global>(alloc)?;
-    let in_turn = works_in_turn(rt, alloc, (&from_worker, &results), jobs)?;
+) -> bool {
+    let Some(work) = table_work(1, SUITS) else {
+        return false;
+    };
+    if !is_given(pool, 1, &work) || !is_given(pool, 2, &work) {
+        return false;
+    }
+    let Ok((from_worker, results)) = unbounded::<Done, Global>(alloc) else {
+        return false;
+    };
+    let in_turn = works_in_turn(rt, alloc, &from_worker, &results, &work);
     drop(from_worker);
-    Ok(in_turn && take_unsolved(rt, pool, &results) == (2, true))
+    in_turn && take_unsolved(rt, pool, &results) == (2, true)
 }
 
 #[test]
 fn each_job_passes_the_gate_and_is_told_before_it_is_sent(rt: HostRuntime) -> Result<(), Fail> {
-    let work = table_work(1, SUITS)?;
     let mut pool = Pool::new(rt.alloc())?;
-    let first = pool.add(work)?;
-    let second = pool.add(work)?;
-    assert!(rt; answers_in_turn(&rt, rt.alloc(), &mut pool, (first, second))?);
+    assert!(rt; answers_in_turn(&rt, rt.alloc(), &mut pool));
     Ok(())
 }
