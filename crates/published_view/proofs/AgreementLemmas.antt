@@ -6,10 +6,10 @@ use Rattle.std.proofs.lemmas.Bool.{cases_Bool}
 use Rattle.disclosure_rules.specs.declared.fact.Fact.{Fact}
 use Rattle.disclosure_rules.specs.declared.public.Public.{Public}
 use Rattle.session_state.specs.SessionState.{SessionState, viewer_of}
-use Rattle.shown_facts.specs.Content.{content}
-use Rattle.shown_facts.specs.Facts.{facts}
-use Rattle.shown_facts.specs.Reading.{as_public}
-use Rattle.shown_facts.specs.Shown.{is_allowed, said, shown}
+use Rattle.session_queries.specs.Content.{content}
+use Rattle.session_queries.specs.Facts.{facts}
+use Rattle.session_queries.specs.Reading.{as_public}
+use Rattle.session_queries.specs.Shown.{is_allowed, said, shown}
 use Rattle.session_queries.specs.declared.query.Query.{Query}
 use Rattle.published_view.specs.Agreement.{Agree}
 use Rattle.published_view.proofs.ElementLemmas.{contains_first, contains_later}

@@ -19,11 +19,11 @@ use Rattle.session_state.specs.Readers.{seats_in_order}
 use Rattle.session_state.specs.SessionState.{SessionState, cell_at, IsPlaced}
 use Rattle.session_state.proofs.ScheduleLemmas.{placed}
 use Rattle.query_filter.specs.declared.trick_table.TrickTable.{TrickTable}
-use Rattle.shown_facts.specs.Content.{Content, analysis_of, play_of, costs_of, reason_of}
-use Rattle.shown_facts.specs.Facts.{has_board}
-use Rattle.shown_facts.specs.Reading.{as_public, as_seats, as_accounts, as_pairs, as_hands, as_analysis, as_play, as_costs, as_reason, shown_public, shown_seats, shown_hands, shown_marks, shown_results, shown_analysis}
-use Rattle.shown_facts.specs.Shown.{Shown, is_allowed, shown}
-use Rattle.shown_facts.proofs.ShownLemmas.{content_allowed, content_denied}
+use Rattle.session_queries.specs.Content.{Content, analysis_of, play_of, costs_of, reason_of}
+use Rattle.session_queries.specs.Facts.{has_board}
+use Rattle.session_queries.specs.Reading.{as_public, as_seats, as_accounts, as_pairs, as_hands, as_analysis, as_play, as_costs, as_reason, shown_public, shown_seats, shown_hands, shown_marks, shown_results, shown_analysis}
+use Rattle.session_queries.specs.Shown.{Shown, is_allowed, shown}
+use Rattle.session_queries.proofs.ShownLemmas.{content_allowed, content_denied}
 use Rattle.session_queries.specs.declared.body.Body.TheVariants as body
 use Rattle.session_queries.specs.declared.query.Query.TheVariants as query
 use Rattle.published_view.specs.Answers.{status_by, board_by, traveller_by, analysis_by, list_by, ranking_by, accounts_by, answer_from, earnings_by, board_earnings}

@@ -24,14 +24,14 @@ use Rattle.query_filter.specs.declared.trick_table.TrickTable.{TrickTable}
 use Rattle.session_state.specs.OwnNumbers.{KeepsOwn}
 use Rattle.session_state.specs.SessionState.{SessionState, cell_at, seat_of, viewer_of}
 use Rattle.session_state.specs.declared.seated.Seated.{Seated}
-use Rattle.shown_facts.specs.Content.{Content, analysis_of, costs_of}
-use Rattle.shown_facts.specs.Facts.{has_place}
-use Rattle.shown_facts.specs.Numbers.{IsAnalysisOf, IsCountOf}
-use Rattle.shown_facts.specs.Reading.{as_analysis, as_costs, shown_public, shown_seats, shown_accounts, shown_pairs, shown_hands, shown_marks, shown_analysis, shown_costs}
-use Rattle.shown_facts.specs.Shown.{Shown, shown, content_shown}
-use Rattle.shown_facts.specs.declared.card_costs.CardCosts.{CardCosts}
-use Rattle.shown_facts.specs.declared.card_costs.CardCosts.TheVariants.{Pending, NoCards}
-use Rattle.shown_facts.proofs.NumberLemmas.{analysis_own, costs_own}
+use Rattle.session_queries.specs.Content.{Content, analysis_of, costs_of}
+use Rattle.session_queries.specs.Facts.{has_place}
+use Rattle.session_queries.specs.Numbers.{IsAnalysisOf, IsCountOf}
+use Rattle.session_queries.specs.Reading.{as_analysis, as_costs, shown_public, shown_seats, shown_accounts, shown_pairs, shown_hands, shown_marks, shown_analysis, shown_costs}
+use Rattle.session_queries.specs.Shown.{Shown, shown, content_shown}
+use Rattle.session_queries.specs.declared.card_costs.CardCosts.{CardCosts}
+use Rattle.session_queries.specs.declared.card_costs.CardCosts.TheVariants.{Pending, NoCards}
+use Rattle.session_queries.proofs.NumberLemmas.{analysis_own, costs_own}
 use Rattle.session_queries.specs.Query.{fact_of, no_such_place}
 use Rattle.session_queries.specs.declared.body.Body.{Body}
 use Rattle.session_queries.specs.declared.body.Body.TheVariants as body

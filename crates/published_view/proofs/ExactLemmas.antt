@@ -8,10 +8,10 @@ use Rattle.disclosure_rules.specs.declared.viewer.Viewer.{Viewer}
 use Rattle.disclosure_rules.specs.Policy.{first_rule}
 use Rattle.disclosure_rules.proofs.FirstLemmas.{none_forbids, no_first}
 use Rattle.session_state.specs.SessionState.{SessionState, viewer_of}
-use Rattle.shown_facts.specs.Content.{Content, content}
-use Rattle.shown_facts.specs.Facts.{facts, same_fact}
-use Rattle.shown_facts.specs.Shown.{Shown, is_allowed, said, shown, content_shown}
-use Rattle.shown_facts.proofs.FactLemmas.{same_fact_is, fact_there}
+use Rattle.session_queries.specs.Content.{Content, content}
+use Rattle.session_queries.specs.Facts.{facts, same_fact}
+use Rattle.session_queries.specs.Shown.{Shown, is_allowed, said, shown, content_shown}
+use Rattle.session_queries.proofs.FactLemmas.{same_fact_is, fact_there}
 use Rattle.published_view.specs.History.{IsAllowed, IsAllowedFact}
 use Rattle.published_view.proofs.ElementLemmas.{contains_map, from_map, contains_filter, from_filter}
 use Rattle.published_view.proofs.PlaceLemmas.{fact_in, fact_has}

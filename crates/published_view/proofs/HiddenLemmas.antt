@@ -15,9 +15,9 @@ use Rattle.rbac.specs.declared.account.Account.{Account}
 use Rattle.session_state.specs.SessionState.{SessionState, viewer_of}
 use Rattle.session_state.specs.declared.seated.Seated.{Seated}
 use Rattle.session_queries.specs.declared.query.Query.{Query}
-use Rattle.shown_facts.specs.Content.{content, says_public, says_accounts, says_hands, says_analysis, says_result, says_play, says_costs, says_reason, tricks_of_deal, result_of, play_of, costs_of, reason_of}
-use Rattle.shown_facts.specs.Facts.{has_place}
-use Rattle.shown_facts.specs.Shown.{is_allowed}
+use Rattle.session_queries.specs.Content.{content, says_public, says_accounts, says_hands, says_analysis, says_result, says_play, says_costs, says_reason, tricks_of_deal, result_of, play_of, costs_of, reason_of}
+use Rattle.session_queries.specs.Facts.{has_place}
+use Rattle.session_queries.specs.Shown.{is_allowed}
 use Rattle.published_view.specs.Agreement.{DifferAt}
 use Rattle.published_view.specs.Reply.{reply_of}
 use Rattle.published_view.proofs.AgreementLemmas.{same_replies}

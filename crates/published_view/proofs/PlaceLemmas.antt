@@ -7,8 +7,8 @@ use Rattle.movement.specs.Movement.{Section, boards_of}
 use Rattle.movement.specs.Schedule.{is_scheduled}
 use Rattle.disclosure_rules.specs.declared.fact.Fact.{Fact}
 use Rattle.disclosure_rules.specs.declared.fact.Fact.TheVariants as fact
-use Rattle.shown_facts.specs.Facts.{cell_on, cells_of_board, facts_of_cell, facts_of_board, boards, facts, same_fact, has_board, has_place}
-use Rattle.shown_facts.proofs.FactLemmas.{has_fact, same_fact_is}
+use Rattle.session_queries.specs.Facts.{cell_on, cells_of_board, facts_of_cell, facts_of_board, boards, facts, same_fact, has_board, has_place}
+use Rattle.session_queries.proofs.FactLemmas.{has_fact, same_fact_is}
 use Rattle.published_view.proofs.ElementLemmas.{none_there, contains_first, contains_later, contains_cases, from_filter, from_flat, from_range}
 
 -- a fact that is among some is in their list

@@ -5,9 +5,9 @@ use Rattle.movement.specs.Schedule.{is_scheduled}
 use Rattle.disclosure_rules.specs.declared.fact.Fact.{Fact}
 use Rattle.disclosure_rules.specs.declared.fact.Fact.TheVariants as fact
 use Rattle.session_state.specs.SessionState.{SessionState, cell_at, table_at, viewer_of}
-use Rattle.shown_facts.specs.Content.{content}
-use Rattle.shown_facts.specs.Facts.{has_board, has_place}
-use Rattle.shown_facts.specs.Shown.{is_allowed}
+use Rattle.session_queries.specs.Content.{content}
+use Rattle.session_queries.specs.Facts.{has_board, has_place}
+use Rattle.session_queries.specs.Shown.{is_allowed}
 
 -- two states agree for a user where the user has the same roles and the same seat, what every member may see is the
 -- same, and each fact of the session that is allowed to the user says the same; that the same facts are allowed in

@@ -12,12 +12,12 @@ use Rattle.query_filter.specs.Formula.{Formula}
 use Rattle.query_filter.specs.declared.trick_table.TrickTable.{TrickTable}
 use Rattle.session_state.specs.declared.entry.Entry.{Entry}
 use Rattle.session_state.specs.SessionState.{SessionState, seat_of, viewer_of}
-use Rattle.shown_facts.specs.Content.{content}
-use Rattle.shown_facts.specs.Facts.{has_place}
-use Rattle.shown_facts.specs.Numbers.{IsAnalysisOf, IsCountOf}
-use Rattle.shown_facts.specs.Shown.{Shown, shown}
-use Rattle.shown_facts.specs.declared.card_costs.CardCosts.{CardCosts}
-use Rattle.shown_facts.specs.declared.card_costs.CardCosts.TheVariants.{Pending, NoCards}
+use Rattle.session_queries.specs.Content.{content}
+use Rattle.session_queries.specs.Facts.{has_place}
+use Rattle.session_queries.specs.Numbers.{IsAnalysisOf, IsCountOf}
+use Rattle.session_queries.specs.Shown.{Shown, shown}
+use Rattle.session_queries.specs.declared.card_costs.CardCosts.{CardCosts}
+use Rattle.session_queries.specs.declared.card_costs.CardCosts.TheVariants.{Pending, NoCards}
 use Rattle.session_book.specs.Exposure.{result_cell}
 use Rattle.session_book.specs.Journal.{IsAccepted}
 use Rattle.session_book.specs.Replay.{replay}

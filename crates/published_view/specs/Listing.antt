@@ -10,9 +10,9 @@ use Rattle.query_filter.specs.declared.trick_table.TrickTable.{TrickTable}
 use Rattle.standings.specs.declared.cell_result.CellResult.{CellResult}
 use Rattle.standings.specs.declared.cell_result.CellResult.TheVariants as cell_result
 use Rattle.standings.specs.declared.table_result.TableResult.{TableResult}
-use Rattle.shown_facts.specs.Facts.{boards}
-use Rattle.shown_facts.specs.Reading.{shown_hands, shown_marks, shown_analysis, shown_results}
-use Rattle.shown_facts.specs.Shown.{Shown}
+use Rattle.session_queries.specs.Facts.{boards}
+use Rattle.session_queries.specs.Reading.{shown_hands, shown_marks, shown_analysis, shown_results}
+use Rattle.session_queries.specs.Shown.{Shown}
 
 -- the outcome of a result, if it was played
 abbrev pub outcome_of : CellResult → Option Outcome

@@ -6,8 +6,8 @@ use Rattle.disclosure_rules.specs.declared.viewer.Viewer.{Viewer}
 use Rattle.disclosure_rules.specs.declared.fact.Fact.{Fact}
 use Rattle.denials.specs.Evidence.{denial_of}
 use Rattle.session_state.specs.SessionState.{SessionState, viewer_of}
-use Rattle.shown_facts.specs.Facts.{has_place}
-use Rattle.shown_facts.specs.Shown.{shown}
+use Rattle.session_queries.specs.Facts.{has_place}
+use Rattle.session_queries.specs.Shown.{shown}
 use Rattle.session_queries.specs.declared.query.Query.{Query}
 use Rattle.session_queries.specs.declared.body.Body.{Body}
 use Rattle.session_queries.specs.declared.body.Body.TheVariants.{Behind, Denied}

@@ -10,19 +10,20 @@ ghost use Rattle.session_queries.specs.declared.body.Body.TheVariants as body;
 ghost use Rattle.session_queries.specs.declared.query.Query.TheVariants as query;
 ghost use Rattle.published_view.specs.Answers.{answer_from, traveller_by, list_by, ranking_by, board_earnings, all_earnings};
 ghost use Rattle.session_queries.specs.Query.{fact_of};
-ghost use Rattle.shown_facts.specs.Content.{analysis_of};
-ghost use Rattle.shown_facts.specs.Facts.{has_board, has_place};
-ghost use Rattle.shown_facts.specs.Shown.{shown};
+ghost use Rattle.session_queries.specs.Content.{analysis_of};
+ghost use Rattle.session_queries.specs.Facts.{has_board, has_place};
+ghost use Rattle.session_queries.specs.Shown.{shown};
 
 use crate::listing::listed_from;
 use disclosure_rules::{Fact, Viewer, decide};
 use movement::Cell;
 use query_filter::Filter;
 use rbac::{Account, Inheritance};
-use session_queries::{Body, Query};
+use session_queries::{
+    Body, Items, Query, analysis_of, costs_of, play_of, push_found, reason_of, shown_results,
+};
 use session_state::room::with_room;
 use session_state::{CellState, Seated, State};
-use shown_facts::{Items, analysis_of, costs_of, play_of, push_found, reason_of, shown_results};
 use standings::{Earning, add_earnings, ranking_of, traveller_rows};
 use std::alloc::{AllocError, Global};
 

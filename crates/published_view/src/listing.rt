@@ -2,16 +2,16 @@ ghost use Rattle.std.specs.Prelude.{◌≡◌, ◌++◌, ◌∷◌, [], ◌&&◌
 ghost use Rattle.disclosure_rules.specs.declared.fact.Fact.TheVariants as fact;
 ghost use Rattle.disclosure_rules.specs.Policy.{first_rule};
 ghost use Rattle.movement.specs.Movement.{IsSection};
-ghost use Rattle.shown_facts.specs.Facts.{has_board};
-ghost use Rattle.shown_facts.specs.Reading.{shown_analysis};
-ghost use Rattle.shown_facts.specs.Shown.{shown};
+ghost use Rattle.session_queries.specs.Facts.{has_board};
+ghost use Rattle.session_queries.specs.Reading.{shown_analysis};
+ghost use Rattle.session_queries.specs.Shown.{shown};
 ghost use Rattle.published_view.specs.Listing.{facts_for, is_listed, listed_from, outcome_of, outcomes_of, tricks_shown};
 
 use disclosure_rules::{Fact, Marks, Viewer, decide};
 use query_filter::{BoardFacts, Filter, Outcomes, TrickTable};
 use scoring::Outcome;
+use session_queries::{analysis_of, push_found, shown_results};
 use session_state::State;
-use shown_facts::{analysis_of, push_found, shown_results};
 use standings::{CellResult, TableResult};
 use std::alloc::{AllocError, Global};
 

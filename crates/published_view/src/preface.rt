@@ -4,7 +4,7 @@ ghost use Rattle.movement.specs.Movement.{IsSection};
 ghost use Rattle.movement.specs.Schedule.{is_scheduled};
 ghost use Rattle.session_queries.specs.Query.{no_such_place};
 ghost use Rattle.published_view.specs.Reply.{before_answer};
-ghost use Rattle.shown_facts.specs.Facts.{has_place};
+ghost use Rattle.session_queries.specs.Facts.{has_place};
 
 use denials::deny;
 use disclosure_rules::{Fact, Public, Viewer};

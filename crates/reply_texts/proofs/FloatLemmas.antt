@@ -16,8 +16,8 @@ use Rattle.session_queries.specs.declared.body.Body.{Body}
 use Rattle.session_queries.specs.declared.body.Body.TheVariants as body
 use Rattle.session_queries.specs.declared.reply.Reply.{Reply}
 use Rattle.session_state.specs.declared.seated.Seated.{Seated}
-use Rattle.shown_facts.specs.declared.card_costs.CardCosts.{CardCosts}
-use Rattle.shown_facts.specs.declared.card_costs.CardCosts.TheVariants.{Pending, NoCards, Each, NotAPlay}
+use Rattle.session_queries.specs.declared.card_costs.CardCosts.{CardCosts}
+use Rattle.session_queries.specs.declared.card_costs.CardCosts.TheVariants.{Pending, NoCards, Each, NotAPlay}
 use Rattle.standings.specs.declared.row_result.RowResult.{RowResult}
 use Rattle.standings.specs.declared.row_result.RowResult.TheVariants.{Played, Ruled}
 use Rattle.standings.specs.declared.traveller_row.TravellerRow.{TravellerRow}

@@ -5,8 +5,8 @@ use Rattle.serde_json.specs.Data.{Data, string, array, object, member, no_member
 use Rattle.cards.specs.declared.card.Card.{Card}
 use Rattle.cards.specs.Card.{card_text}
 use Rattle.movement.specs.declared.cell.Cell.{Cell}
-use Rattle.shown_facts.specs.declared.card_costs.CardCosts.{CardCosts}
-use Rattle.shown_facts.specs.declared.card_costs.CardCosts.TheVariants.{Pending, NoCards, Each, NotAPlay}
+use Rattle.session_queries.specs.declared.card_costs.CardCosts.{CardCosts}
+use Rattle.session_queries.specs.declared.card_costs.CardCosts.TheVariants.{Pending, NoCards, Each, NotAPlay}
 use Rattle.reply_texts.specs.DataOf.{number_data, list_data, option_data}
 
 abbrev pub card_data : Card → Data

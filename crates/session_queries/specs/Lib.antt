@@ -1,1 +1,7 @@
+pub mod Content
+pub mod Facts
+pub mod Shown
+pub mod Reading
+pub mod Results
+pub mod Numbers
 pub mod Query

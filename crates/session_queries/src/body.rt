@@ -1,3 +1,5 @@
+use crate::card_costs::CardCosts;
+use crate::items::Items;
 use cards::Deal;
 use denials::Denial;
 use disclosure_rules::{Marks, Public};
@@ -6,7 +8,6 @@ use query_filter::TrickTable;
 use rbac::{Account, Inheritance};
 use scoring::Standing;
 use session_state::{Play, Seated};
-use shown_facts::{CardCosts, Items};
 use standings::TravellerRow;
 
 /// What a query is answered.

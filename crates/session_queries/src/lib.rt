@@ -1,10 +1,22 @@
-//! What a user may ask of a session, and what a reply can be.
+//! What a user may ask of a session, what a reply can be, and what it shows: each fact of the session's state that the
+//! policy allows the user, with what it says.
 #![tactic(auto)]
 
 mod body;
+mod card_costs;
+mod items;
+mod known;
+pub mod laws;
+mod push;
 mod query;
 mod reply;
+mod results;
 
 pub use body::Body;
+pub use card_costs::CardCosts;
+pub use items::Items;
+pub use known::{analysis_of, costs_of, play_of, reason_of, result_of};
+pub use push::push_found;
 pub use query::Query;
 pub use reply::Reply;
+pub use results::shown_results;

@@ -1,7 +1,7 @@
 use Rattle.std.proofs.Common.{rules, ◌≡◌, ◌+◌, ◌++◌, sym, ap, ◌∙◌, arith}
 use Rattle.std.specs.List.{flat_map, range_with_len}
 use Rattle.movement.specs.Movement.{boards_of}
-use Rattle.shown_facts.specs.Shown.{shown}
+use Rattle.session_queries.specs.Shown.{shown}
 use Rattle.published_view.specs.Answers.{board_earnings, all_earnings}
 use Rattle.published_view.proofs.ListLemmas.{flat_map_range_more}
 use Rattle.published_view.proofs.bodies.earnings_of.Goals as goal

@@ -1,6 +1,6 @@
 use Rattle.std.proofs.Common.{◌≡◌, ◌*◌, ◌≤◌, vec_len}
 use Rattle.std.specs.List.{flat_map, range_with_len}
-use Rattle.shown_facts.specs.Shown.{shown}
+use Rattle.session_queries.specs.Shown.{shown}
 use Rattle.published_view.specs.Answers.{board_earnings}
 use Rattle.published_view.proofs.bodies.earnings_of.Given as goal
 

@@ -4,7 +4,7 @@ use Rattle.movement.specs.Movement.{boards_of}
 use Rattle.disclosure_rules.specs.declared.fact.Fact.TheVariants as fact
 use Rattle.disclosure_rules.specs.Policy.{first_rule}
 use Rattle.query_filter.specs.Holds.{holds}
-use Rattle.shown_facts.specs.Shown.{shown}
+use Rattle.session_queries.specs.Shown.{shown}
 use Rattle.published_view.specs.Listing.{facts_for, passes}
 use Rattle.published_view.proofs.AnswerLemmas.{not_listed, listed_by}
 use Rattle.published_view.proofs.listing.is_listed.Goals as goal

@@ -2,7 +2,7 @@ use Rattle.std.proofs.Common.{rules, ◌≡◌, ℕ, ◌+◌, ◌++◌, [], ◌�
 use Rattle.std.specs.Prelude.{Bool, cond, ◌&&◌, nat_le, filter}
 use Rattle.std.specs.List.{range_with_len}
 use Rattle.movement.specs.Movement.{boards_of}
-use Rattle.shown_facts.specs.Shown.{shown}
+use Rattle.session_queries.specs.Shown.{shown}
 use Rattle.published_view.specs.Listing.{is_listed, listed_from}
 use Rattle.published_view.proofs.ListLemmas.{filter_range_more}
 use Rattle.published_view.proofs.listing.listed_from.Goals as goal

@@ -1,7 +1,7 @@
 use Rattle.std.proofs.Common.{◌≡◌}
 use Rattle.std.specs.Prelude.{◌&&◌, nat_le, filter}
 use Rattle.std.specs.List.{range_with_len}
-use Rattle.shown_facts.specs.Shown.{shown}
+use Rattle.session_queries.specs.Shown.{shown}
 use Rattle.published_view.specs.Listing.{is_listed}
 use Rattle.published_view.proofs.listing.listed_from.Given as goal
 

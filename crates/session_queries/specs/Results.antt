@@ -8,10 +8,10 @@ use Rattle.movement.specs.declared.cell.Cell.{Cell}
 use Rattle.movement.specs.Schedule.{is_scheduled}
 use Rattle.session_state.specs.SessionState.{SessionState, cell_at}
 use Rattle.standings.specs.declared.table_result.TableResult.{TableResult}
-use Rattle.shown_facts.specs.Content.{result_of}
-use Rattle.shown_facts.specs.Facts.{cell_on}
-use Rattle.shown_facts.specs.Reading.{result_at}
-use Rattle.shown_facts.specs.Shown.{is_allowed}
+use Rattle.session_queries.specs.Content.{result_of}
+use Rattle.session_queries.specs.Facts.{cell_on}
+use Rattle.session_queries.specs.Reading.{result_at}
+use Rattle.session_queries.specs.Shown.{is_allowed}
 
 -- the result of a cell, where there is one and the user may see it
 abbrev pub allowed_at : SessionState → Viewer → Cell → Option TableResult

@@ -1,9 +1,9 @@
 ghost use Rattle.std.specs.Prelude.{◌≡◌, ◌≤◌, ◌+◌, [], ◌++◌, All, IfOk, OnOk, vec_len};
 ghost use Rattle.movement.specs.Movement.{IsCell};
 ghost use Rattle.session_state.specs.SessionState.{IsPlaced};
-ghost use Rattle.shown_facts.specs.Reading.{shown_results};
-ghost use Rattle.shown_facts.specs.Results.{allowed_at, allowed_result, allowed_results};
-ghost use Rattle.shown_facts.specs.Shown.{shown};
+ghost use Rattle.session_queries.specs.Reading.{shown_results};
+ghost use Rattle.session_queries.specs.Results.{allowed_at, allowed_result, allowed_results};
+ghost use Rattle.session_queries.specs.Shown.{shown};
 
 use crate::known::result_of;
 use crate::push::push_found;

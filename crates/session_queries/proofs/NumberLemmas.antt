@@ -12,10 +12,10 @@ use Rattle.session_state.specs.declared.cell_state.CellState.{CellState}
 use Rattle.session_state.specs.declared.cell_state.CellState.TheVariants.{Empty, Entered, Confirmed, Ruled}
 use Rattle.solver_results.specs.PlayAnswer.{answer_of}
 use Rattle.standings.specs.declared.cell_result.CellResult.TheVariants as cell_result
-use Rattle.shown_facts.specs.Content.{analysis_of, costs_of, found_of, play_of, result_of, tricks_of_deal}
-use Rattle.shown_facts.specs.Numbers.{IsAnalysisOf, IsCountOf}
-use Rattle.shown_facts.specs.declared.card_costs.CardCosts.{CardCosts}
-use Rattle.shown_facts.specs.declared.card_costs.CardCosts.TheVariants.{Pending, NoCards}
+use Rattle.session_queries.specs.Content.{analysis_of, costs_of, found_of, play_of, result_of, tricks_of_deal}
+use Rattle.session_queries.specs.Numbers.{IsAnalysisOf, IsCountOf}
+use Rattle.session_queries.specs.declared.card_costs.CardCosts.{CardCosts}
+use Rattle.session_queries.specs.declared.card_costs.CardCosts.TheVariants.{Pending, NoCards}
 
 -- an analysis has the numbers of its board's hands
 pub analysis_own : (state : SessionState) (board : ℕ) (tricks : TrickTable) → KeepsOwn state → analysis_of state board ≡ Some tricks → IsAnalysisOf state board tricks

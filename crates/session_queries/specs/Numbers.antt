@@ -9,8 +9,8 @@ use Rattle.scoring.specs.declared.outcome.Outcome.TheVariants.{Played}
 use Rattle.session_state.specs.OwnNumbers.{IsHandsOf}
 use Rattle.session_state.specs.SessionState.{SessionState, cell_at}
 use Rattle.solver_results.specs.PlayAnswer.{answer_of}
-use Rattle.shown_facts.specs.Content.{found_of, play_of, result_of, tricks_of_deal}
-use Rattle.shown_facts.specs.declared.card_costs.CardCosts.{CardCosts}
+use Rattle.session_queries.specs.Content.{found_of, play_of, result_of, tricks_of_deal}
+use Rattle.session_queries.specs.declared.card_costs.CardCosts.{CardCosts}
 use Rattle.standings.specs.declared.cell_result.CellResult.TheVariants.{Confirmed}
 
 -- the twenty numbers are those of the board's hands

@@ -1,5 +1,5 @@
-use Rattle.shown_facts.proofs.NumberLemmas.{analysis_own, costs_own}
-use Rattle.shown_facts.proofs.laws.said_numbers_are_exhaustive.Goals as goal
+use Rattle.session_queries.proofs.NumberLemmas.{analysis_own, costs_own}
+use Rattle.session_queries.proofs.laws.said_numbers_are_exhaustive.Goals as goal
 
 pub returns-clause-analysis : goal.returns-clause-analysis
 returns-clause-analysis c = analysis_own

@@ -12,13 +12,13 @@ use Rattle.disclosure_rules.specs.declared.marks.Marks.{Marks}
 use Rattle.disclosure_rules.specs.declared.public.Public.{Public}
 use Rattle.query_filter.specs.declared.trick_table.TrickTable.{TrickTable}
 use Rattle.session_state.specs.declared.seated.Seated.{Seated}
-use Rattle.shown_facts.specs.declared.card_costs.CardCosts.{CardCosts}
+use Rattle.session_queries.specs.declared.card_costs.CardCosts.{CardCosts}
 use Rattle.standings.specs.declared.cell_result.CellResult.{CellResult}
 use Rattle.standings.specs.declared.table_result.TableResult.{TableResult}
-use Rattle.shown_facts.specs.Content.{Content, says_public, says_accounts, says_hands, says_analysis, says_result, says_play}
-use Rattle.shown_facts.specs.Content.{says_costs, says_reason}
-use Rattle.shown_facts.specs.Facts.{cells_of_board}
-use Rattle.shown_facts.specs.Shown.{Shown, content_shown}
+use Rattle.session_queries.specs.Content.{Content, says_public, says_accounts, says_hands, says_analysis, says_result, says_play}
+use Rattle.session_queries.specs.Content.{says_costs, says_reason}
+use Rattle.session_queries.specs.Facts.{cells_of_board}
+use Rattle.session_queries.specs.Shown.{Shown, content_shown}
 
 -- what every member may see, if that is what is said
 abbrev pub as_public : Content → Option Public

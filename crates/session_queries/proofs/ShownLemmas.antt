@@ -8,10 +8,10 @@ use Rattle.disclosure_rules.specs.declared.fact.Fact.{Fact}
 use Rattle.disclosure_rules.specs.declared.viewer.Viewer.{Viewer}
 use Rattle.disclosure_rules.specs.Policy.{first_rule}
 use Rattle.session_state.specs.SessionState.{SessionState}
-use Rattle.shown_facts.specs.Content.{Content, content}
-use Rattle.shown_facts.specs.Facts.{facts, same_fact, has_place}
-use Rattle.shown_facts.specs.Shown.{Shown, is_allowed, said, shown, content_shown}
-use Rattle.shown_facts.proofs.FactLemmas.{same_fact_is, same_fact_self, has_fact, fact_there}
+use Rattle.session_queries.specs.Content.{Content, content}
+use Rattle.session_queries.specs.Facts.{facts, same_fact, has_place}
+use Rattle.session_queries.specs.Shown.{Shown, is_allowed, said, shown, content_shown}
+use Rattle.session_queries.proofs.FactLemmas.{same_fact_is, same_fact_self, has_fact, fact_there}
 
 module _ (state : SessionState) (keeps : Fact → Bool) (asked : Fact) where
   -- of some facts with what they say, what the asked one says

@@ -7,8 +7,8 @@ use Rattle.disclosure_rules.specs.declared.public.Public.{Public}
 use Rattle.disclosure_rules.specs.declared.viewer.Viewer.{Viewer}
 use Rattle.disclosure_rules.specs.Policy.{first_rule}
 use Rattle.session_state.specs.SessionState.{SessionState}
-use Rattle.shown_facts.specs.Content.{Content, content}
-use Rattle.shown_facts.specs.Facts.{facts, same_fact}
+use Rattle.session_queries.specs.Content.{Content, content}
+use Rattle.session_queries.specs.Facts.{facts, same_fact}
 
 -- a fact with what it says
 pub record Shown : Type 0 where

@@ -23,8 +23,8 @@ use Rattle.session_state.specs.declared.seated.Seated.{Seated}
 use Rattle.play_record.specs.Play.{has_card}
 use Rattle.session_state.specs.Readers.{seats_in_order}
 use Rattle.session_state.specs.SessionState.{SessionState, cell_at, table_at}
-use Rattle.shown_facts.specs.declared.card_costs.CardCosts.{CardCosts}
-use Rattle.shown_facts.specs.declared.card_costs.CardCosts.TheVariants.{Pending, NoCards, Each, NotAPlay}
+use Rattle.session_queries.specs.declared.card_costs.CardCosts.{CardCosts}
+use Rattle.session_queries.specs.declared.card_costs.CardCosts.TheVariants.{Pending, NoCards, Each, NotAPlay}
 use Rattle.standings.specs.declared.cell_result.CellResult.{CellResult}
 use Rattle.standings.specs.declared.cell_result.CellResult.TheVariants as cell_result
 

@@ -1,6 +1,6 @@
 ghost use Rattle.std.specs.Prelude.{◌≡◌, ◌≤◌};
 ghost use Rattle.movement.specs.Movement.{most_boards};
-ghost use Rattle.shown_facts.specs.Content.{analysis_of, costs_of, costs_of_play, found_of, play_of, reason_of, result_of, strain_of_deal, tricks_of_deal};
+ghost use Rattle.session_queries.specs.Content.{analysis_of, costs_of, costs_of_play, found_of, play_of, reason_of, result_of, strain_of_deal, tricks_of_deal};
 
 use crate::card_costs::CardCosts;
 use cards::{Place, Strain};

@@ -16,12 +16,12 @@ use Rattle.disclosure_rules.specs.Policy.{first_rule}
 use Rattle.session_state.specs.SessionState.{SessionState, cell_at}
 use Rattle.standings.specs.declared.cell_result.CellResult.{CellResult}
 use Rattle.standings.specs.declared.table_result.TableResult.{TableResult}
-use Rattle.shown_facts.specs.Content.{Content, result_of}
-use Rattle.shown_facts.specs.Facts.{cell_on, cells_of_board}
-use Rattle.shown_facts.specs.Reading.{as_result, result_at, shown_result, shown_results}
-use Rattle.shown_facts.specs.Results.{allowed_at, allowed_result, allowed_results}
-use Rattle.shown_facts.specs.Shown.{is_allowed, shown, content_shown}
-use Rattle.shown_facts.proofs.ShownLemmas.{content_allowed, content_denied}
+use Rattle.session_queries.specs.Content.{Content, result_of}
+use Rattle.session_queries.specs.Facts.{cell_on, cells_of_board}
+use Rattle.session_queries.specs.Reading.{as_result, result_at, shown_result, shown_results}
+use Rattle.session_queries.specs.Results.{allowed_at, allowed_result, allowed_results}
+use Rattle.session_queries.specs.Shown.{is_allowed, shown, content_shown}
+use Rattle.session_queries.proofs.ShownLemmas.{content_allowed, content_denied}
 
 module _ (state : SessionState) (viewer : Viewer) where
   -- whether the table of a cell plays its board

@@ -13,7 +13,7 @@ use Rattle.movement.proofs.ScheduleTests.{scheduled-cell}
 use Rattle.denials.specs.Evidence.{board_number, table_number}
 use Rattle.disclosure_rules.specs.declared.fact.Fact.{Fact}
 use Rattle.disclosure_rules.specs.declared.fact.Fact.TheVariants as fact
-use Rattle.shown_facts.specs.Facts.{cell_on, cells_of_board, facts_of_cell, facts_of_board, boards, facts, kind_of, same_fact, has_place, has_board}
+use Rattle.session_queries.specs.Facts.{cell_on, cells_of_board, facts_of_cell, facts_of_board, boards, facts, kind_of, same_fact, has_place, has_board}
 
 -- the fact of a kind, of a board and of a table
 abbrev fact_by : ℕ → ℕ → ℕ → Fact

@@ -1,6 +1,6 @@
 use Rattle.std.proofs.Common.{◌≡◌, ◌≤◌, vec_len}
-use Rattle.shown_facts.specs.Results.{allowed_results}
-use Rattle.shown_facts.proofs.results.allowed_results.Given as goal
+use Rattle.session_queries.specs.Results.{allowed_results}
+use Rattle.session_queries.proofs.results.allowed_results.Given as goal
 
 abbrev pub invariant-loop-below : goal.invariant-loop-below
 invariant-loop-below l = record {

@@ -4,10 +4,10 @@ ghost use Rattle.movement.specs.declared.cell.Cell.{Cell};
 ghost use Rattle.query_filter.specs.declared.trick_table.TrickTable.{TrickTable};
 ghost use Rattle.session_state.specs.OwnNumbers.{KeepsOwn};
 ghost use Rattle.session_state.specs.SessionState.{SessionState, cell_at, IsPlaced};
-ghost use Rattle.shown_facts.specs.Content.{analysis_of, costs_of};
-ghost use Rattle.shown_facts.specs.Numbers.{IsAnalysisOf, IsCountOf};
-ghost use Rattle.shown_facts.specs.declared.card_costs.CardCosts.{CardCosts};
-ghost use Rattle.shown_facts.specs.declared.card_costs.CardCosts.TheVariants.{Pending, NoCards};
+ghost use Rattle.session_queries.specs.Content.{analysis_of, costs_of};
+ghost use Rattle.session_queries.specs.Numbers.{IsAnalysisOf, IsCountOf};
+ghost use Rattle.session_queries.specs.declared.card_costs.CardCosts.{CardCosts};
+ghost use Rattle.session_queries.specs.declared.card_costs.CardCosts.TheVariants.{Pending, NoCards};
 
 /// Each double-dummy number that a fact says is the exhaustive one: an analysis has the numbers of its board's hands, and costs
 /// are the answer for the board's hands, the contract of the cell's result and the cards as they were played. The state of

@@ -1,8 +1,8 @@
 use Rattle.std.proofs.Common.{rules, [], ◌++◌, sym, ◌∙◌}
 use Rattle.std.specs.List.{cons_option}
-use Rattle.shown_facts.specs.Results.{allowed_results}
-use Rattle.shown_facts.proofs.ResultLemmas.{allowed_more}
-use Rattle.shown_facts.proofs.results.allowed_results.Goals as goal
+use Rattle.session_queries.specs.Results.{allowed_results}
+use Rattle.session_queries.proofs.ResultLemmas.{allowed_more}
+use Rattle.session_queries.proofs.results.allowed_results.Goals as goal
 
 pub loop-below-init : goal.loop-below-init
 unfolding allowed_results

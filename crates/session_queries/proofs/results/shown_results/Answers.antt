@@ -1,8 +1,8 @@
 use Rattle.std.proofs.Common.{All, subst, sym}
 use Rattle.movement.specs.Movement.{IsCell}
 use Rattle.standings.specs.declared.table_result.TableResult.{TableResult}
-use Rattle.shown_facts.proofs.ResultLemmas.{allowed_cells}
-use Rattle.shown_facts.proofs.results.shown_results.Goals as goal
+use Rattle.session_queries.proofs.ResultLemmas.{allowed_cells}
+use Rattle.session_queries.proofs.results.shown_results.Goals as goal
 
 pub returns-clause-cells : goal.returns-clause-cells
 returns-clause-cells c =

@@ -1,6 +1,0 @@
-pub mod Content
-pub mod Facts
-pub mod Shown
-pub mod Reading
-pub mod Results
-pub mod Numbers
