@@ -1,26 +1,42 @@
-//! A client of the server.
+//! A client of the server, whose bytes are those of RFC 6455.
 
+use std::alloc::{AllocError, Global};
+use std::io::{self, Read, Write};
 use std::net::{Ipv4Addr, Net, OpenListener, SocketAddr, TcpListener, TcpStream};
-use std::process::Abort;
-use std::random::RandomSource;
-use std::test::Fail;
+use std::thread;
 use std::time::{Clock, Duration};
-use std::{io, thread};
-use tungstenite::handshake::client::request_of;
-use tungstenite::{Message, RandomKeys, WebSocket, client};
 
-/// A socket of a client.
-pub(super) type Client<R> = WebSocket<<R as Net>::Stream, RandomKeys<Fives>>;
+/// The first byte of a frame that is a whole text (5.2).
+pub(super) const TEXT: u8 = 0x81;
 
-/// A source all of whose bytes are five: a test's masking keys are no secret.
-#[derive(Clone, Copy, Debug)]
-pub(super) struct Fives;
+/// The first byte of a frame that is a whole binary message.
+pub(super) const BINARY: u8 = 0x82;
 
-impl RandomSource for Fives {
-    fn fill_bytes(&self, bytes: &mut [u8]) -> io::Result<()> {
-        bytes.fill(5);
-        Ok(())
-    }
+/// The first byte of a frame that ends the connection.
+pub(super) const CLOSE: u8 = 0x88;
+
+/// The request of the standard's own example (1.2, 1.3).
+pub(super) const HANDSHAKE: &[u8] = b"GET / HTTP/1.1\r\nHost: 127.0.0.1\r\nUpgrade: websocket\r\n\
+Connection: Upgrade\r\nSec-WebSocket-Key: dGhlIHNhbXBsZSBub25jZQ==\r\nSec-WebSocket-Version: 13\r\n\r\n";
+
+/// What the head of its answer has, in small letters.
+pub(super) const ACCEPTED: &[&str] = &[
+    "http/1.1 101 ",
+    "\r\nupgrade: websocket\r\n",
+    "\r\nconnection: upgrade\r\n",
+    "\r\nsec-websocket-accept: s3pplmbitxaq9kygzzhzrbk+xoo=\r\n",
+];
+
+/// A frame's first byte and its text, of fewer than 126 bytes.
+type Frame = (u8, &'static str);
+
+/// What a client sends and how it is answered: a handshake, frame for frame, and what it leaves with.
+pub(super) struct Client {
+    pub(super) name: &'static str,
+    pub(super) handshake: &'static [u8],
+    pub(super) accepted: &'static [&'static str],
+    pub(super) frames: &'static [(Frame, Frame)],
+    pub(super) last: &'static [u8],
 }
 
 /// A port at which nothing listens.
@@ -30,7 +46,7 @@ pub(super) fn free_port<R: Net>(rt: &R) -> io::Result<u16> {
 }
 
 /// A stream to the server, which may still have to open its session.
-pub(super) fn stream_to<R: Net + Clock>(rt: &R, port: u16) -> io::Result<R::Stream> {
+fn stream_to<R: Net + Clock>(rt: &R, port: u16) -> io::Result<R::Stream> {
     for _ in 0..1000 {
         if let Ok(stream) = TcpStream::connect(rt, (Ipv4Addr::LOCALHOST, port)) {
             return Ok(stream);
@@ -40,54 +56,103 @@ pub(super) fn stream_to<R: Net + Clock>(rt: &R, port: u16) -> io::Result<R::Stre
     TcpStream::connect(rt, (Ipv4Addr::LOCALHOST, port))
 }
 
-/// A client after its handshake.
-pub(super) fn connect<R: Net + Clock + AllocGlobal>(rt: &R, port: u16) -> Result<Client<R>, Fail> {
-    let stream = stream_to(rt, port)?;
-    let request = request_of(rt.alloc(), "ws://127.0.0.1/")?;
-    match client(rt.alloc(), Fives, request, stream) {
-        Ok((socket, _)) => Ok(socket),
-        Err(error) => Err(Fail::new(error)),
+/// Whether the server answers a client so.
+pub(super) fn is_served<R: Net + Clock>(rt: &R, alloc: Global, port: u16, client: &Client) -> bool {
+    match stream_to(rt, port) {
+        Ok(mut stream) => is_answered(&mut stream, alloc, client),
+        Err(_) => false,
     }
 }
 
-/// Asks one question after another, and compares each answer.
-pub(super) fn asks_all<R: Net + Abort + AllocGlobal>(
-    rt: &R,
-    client: &mut Client<R>,
-    rows: &[(&str, &str)],
-) -> Result<(), Fail> {
-    for (question, answer) in rows {
-        asks(rt, client, question, answer)?;
+/// Whether a client is answered so over its stream.
+fn is_answered<S: Read + Write>(stream: &mut S, alloc: Global, client: &Client) -> bool {
+    stream.write_all(client.handshake).is_ok()
+        && (client.accepted.is_empty() || accepts(stream, alloc, client.accepted))
+        && hears_all(stream, alloc, client.frames)
+        && stream.write_all(client.last).is_ok()
+}
+
+/// Whether the head of an answer has all these parts.
+fn accepts<S: Read>(stream: &mut S, alloc: Global, parts: &[&str]) -> bool {
+    let Ok(head) = head_of(stream, alloc) else {
+        return false;
+    };
+    match str::from_utf8(head.as_slice()) {
+        Ok(text) => has_all(text, parts),
+        Err(_) => false,
     }
-    Ok(())
 }
 
-/// Asks, and compares the answer.
-pub(super) fn asks<R: Net + Abort + AllocGlobal>(
-    rt: &R,
-    client: &mut Client<R>,
-    question: &str,
-    answer: &str,
-) -> Result<(), Fail> {
-    client.send(Message::text(rt.alloc(), question)?)?;
-    hears(rt, client, answer)
+/// Whether the text has all these parts.
+fn has_all(text: &str, parts: &[&str]) -> bool {
+    for part in parts {
+        if !text.contains(*part) {
+            return false;
+        }
+    }
+    true
 }
 
-/// Reads a message, and compares it with this text.
-pub(super) fn hears<R: Net + Abort>(
-    rt: &R,
-    client: &mut Client<R>,
-    answer: &str,
-) -> Result<(), Fail> {
-    let message = client.read()?;
-    let is_heard = matches!(&message, Message::Text(text) if text.as_str() == answer);
-    assert!(rt; is_heard, "{answer}");
-    Ok(())
+/// The head of an answer, in small letters: what comes up to an empty line.
+fn head_of<S: Read>(stream: &mut S, alloc: Global) -> Result<Vec<u8>, AllocError> {
+    let mut head = Vec::new(alloc);
+    let mut byte = [0u8];
+    for _ in 0..1000 {
+        if head.ends_with(b"\r\n\r\n") || stream.read_exact(&mut byte).is_err() {
+            break;
+        }
+        head.push(byte[0].to_ascii_lowercase())?;
+    }
+    Ok(head)
 }
 
-/// Ends the connection, which the server does too.
-pub(super) fn leaves<R: Net + Abort>(rt: &R, client: &mut Client<R>) -> Result<(), Fail> {
-    client.close(None)?;
-    assert!(rt; matches!(client.read(), Ok(Message::Close(None))));
-    Ok(())
+/// Whether each frame has its answer.
+fn hears_all<S: Read + Write>(stream: &mut S, alloc: Global, frames: &[(Frame, Frame)]) -> bool {
+    for (sent, heard) in frames {
+        if !has_answer(stream, alloc, sent, heard) {
+            return false;
+        }
+    }
+    true
+}
+
+/// Whether the frame that is sent has this answer.
+fn has_answer<S: Read + Write>(
+    stream: &mut S,
+    alloc: Global,
+    sent: &Frame,
+    (first, text): &Frame,
+) -> bool {
+    let Ok(frame) = masked(alloc, sent) else {
+        return false;
+    };
+    stream.write_all(frame.as_slice()).is_ok()
+        && hears(stream, &[*first, length_of(text)])
+        && hears(stream, text.as_bytes())
+}
+
+/// The length of a frame's text.
+fn length_of(text: &str) -> u8 {
+    u8::try_from(text.len()).unwrap_or(0)
+}
+
+/// A client's frame, masked by bytes that are all five: a test's masking key is no secret.
+fn masked(alloc: Global, (first, text): &Frame) -> Result<Vec<u8>, AllocError> {
+    let mut frame = Vec::new(alloc);
+    frame.extend_from_slice(&[*first, 0x80 | length_of(text), 5, 5, 5, 5])?;
+    for byte in text.as_bytes() {
+        frame.push(*byte ^ 5)?;
+    }
+    Ok(frame)
+}
+
+/// Whether these bytes come next.
+fn hears<S: Read>(stream: &mut S, bytes: &[u8]) -> bool {
+    let mut heard = [0u8];
+    for byte in bytes {
+        if stream.read_exact(&mut heard).is_err() || heard != [*byte] {
+            return false;
+        }
+    }
+    true
 }

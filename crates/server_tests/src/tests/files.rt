@@ -1,39 +1,39 @@
-//! The files of a session of three tables.
+//! Files for a test, in a folder that is named for its port: no other test has it.
 
+use std::alloc::{AllocError, Global};
 use std::fs;
 use std::rt::Files;
 use std::test::Fail;
 
-/// A session object without its deals. Each user's token is `abc`.
-pub(super) const SESSION: &str =
-    r#"{"budget":0,"per_set":1,"rounds":3,"tables":3,"users":[{"digest":"ba7816bf8f01cfea414140de5dae2223b00361a396177a9cb410ff61f20015ad","name":"a","roles":["Administrator"]},{"digest":"ba7816bf8f01cfea414140de5dae2223b00361a396177a9cb410ff61f20015ad","name":"d","roles":["Director"]},{"digest":"ba7816bf8f01cfea414140de5dae2223b00361a396177a9cb410ff61f20015ad","name":"d2","roles":["Director"]},{"digest":"ba7816bf8f01cfea414140de5dae2223b00361a396177a9cb410ff61f20015ad","name":"k","roles":["Scorer"]},{"digest":"ba7816bf8f01cfea414140de5dae2223b00361a396177a9cb410ff61f20015ad","name":"s","roles":["Spectator"]},{"digest":"ba7816bf8f01cfea414140de5dae2223b00361a396177a9cb410ff61f20015ad","name":"n1","pair":"NS1","place":"N","roles":["Contestant"]},{"digest":"ba7816bf8f01cfea414140de5dae2223b00361a396177a9cb410ff61f20015ad","name":"n2","pair":"NS2","place":"N","roles":["Contestant"]}]}"#;
-
-/// Three boards, on each of which each player has a whole suit.
-pub(super) const DEALS: &str = r#"[Board "1"]
-[Deal "N:AKQJT98765432... .AKQJT98765432.. ..AKQJT98765432. ...AKQJT98765432"]
-
-[Board "2"]
-[Deal "E:AKQJT98765432... .AKQJT98765432.. ..AKQJT98765432. ...AKQJT98765432"]
-
-[Board "3"]
-[Deal "S:AKQJT98765432... .AKQJT98765432.. ..AKQJT98765432. ...AKQJT98765432"]
-"#;
-
-/// Makes a folder for the files of a test, and gives its path. No other test has this port.
-pub(super) fn folder_of<R: Files + AllocGlobal>(rt: &R, port: u16) -> Result<String, Fail> {
+/// Makes the folder.
+pub(super) fn make_folder<R: Files + AllocGlobal>(rt: &R, port: u16) -> Result<(), Fail> {
     let folder = format!(in rt.alloc(); "/tmp/bridge_server_test_{port}")?;
     fs::create_dir_all(rt, folder.as_str())?;
-    Ok(folder)
+    Ok(())
 }
 
-/// Writes a file into a folder.
+/// Writes a file into it.
 pub(super) fn write_file<R: Files + AllocGlobal>(
     rt: &R,
-    folder: &str,
+    port: u16,
     name: &str,
     text: &str,
 ) -> Result<(), Fail> {
-    let path = format!(in rt.alloc(); "{folder}/{name}")?;
+    let path = format!(in rt.alloc(); "/tmp/bridge_server_test_{port}/{name}")?;
     fs::write(rt, path.as_str(), text)?;
     Ok(())
+}
+
+/// The line of words that serves a session of these two files at the port, which ends so.
+pub(super) fn line_to_serve(
+    alloc: Global,
+    port: u16,
+    session: &str,
+    deals: &str,
+    end: &str,
+) -> Result<String, AllocError> {
+    let folder = format!(in alloc; "/tmp/bridge_server_test_{port}")?;
+    format!(in alloc;
+        "serve --session {folder}/{session} --deals {folder}/{deals} --port {port}{end}"
+    )
 }

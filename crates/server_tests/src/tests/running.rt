@@ -1,31 +1,38 @@
 //! The program, run over streams in memory.
 
+use super::session::SESSION;
+use program::{Fault, run_script};
 use server_program::run_words;
 use std::alloc::{AllocError, Global};
 use std::io::{Read, Write};
 use std::net::Net;
 use std::rt::Files;
 use std::sync::Wait;
-use std::test::Fail;
 use std::time::Clock;
 
-/// How the program ended: its status, what it wrote, and what it said besides.
+/// How the program ended: its status, what it wrote, what it said besides, and how much of its script it left unread.
 #[derive(Drop)]
 pub(super) struct Ended {
     pub(super) status: u8,
-    pub(super) written: String,
-    pub(super) said: String,
-    /// How many bytes of its script it left unread.
+    pub(super) written: Vec<u8>,
+    pub(super) said: Vec<u8>,
     pub(super) unread: usize,
 }
 
 impl Ended {
-    /// Whether it has this status, wrote this, and said something that begins so: nothing, where that is empty.
+    /// Whether it has this status, wrote this, and said this: of what is wrong with its words (2) this is how that begins.
     pub(super) fn is(&self, status: u8, written: &str, said: &str) -> bool {
-        self.status == status
-            && self.written.as_str() == written
-            && self.said.starts_with(said)
-            && self.said.is_empty() == said.is_empty()
+        let is_said = if status == 2 {
+            self.said.starts_with(said.as_bytes())
+        } else {
+            self.said.as_slice() == said.as_bytes()
+        };
+        self.status == status && self.written.as_slice() == written.as_bytes() && is_said
+    }
+
+    /// Whether it left its script alone, which is a session's first line.
+    pub(super) fn read_nothing(&self) -> bool {
+        self.unread == SESSION.len()
     }
 }
 
@@ -34,29 +41,38 @@ pub(super) fn run<R: Files + Net + Clock + Wait + AllocGlobal>(
     rt: &R,
     line: &str,
     script: &str,
-) -> Result<Ended, Fail> {
+) -> Result<Ended, AllocError> {
+    let words = words_of(rt.alloc(), line)?;
     let mut reader = script.as_bytes();
     let mut written = Vec::new(rt.alloc());
-    let (status, said) = run_over(rt, line, &mut reader, &mut written)?;
+    let mut said = Vec::new(rt.alloc());
+    let status = run_over(rt, words.as_slice(), &mut reader, &mut written, &mut said);
     Ok(Ended {
         status,
-        written: String::from_utf8(written)?,
+        written,
         said,
         unread: reader.len(),
     })
 }
 
-/// Runs the program with the words of a line over these streams: its status, and what it says besides.
-pub(super) fn run_over<R: Files + Net + Clock + Wait + AllocGlobal, I: Read, W: Write>(
+/// Runs the program with these words over these streams: its status.
+pub(super) fn run_over<R: Files + Net + Clock + Wait + AllocGlobal, I: Read, W: Write, E: Write>(
     rt: &R,
-    line: &str,
+    words: &[String],
     reader: &mut I,
     writer: &mut W,
-) -> Result<(u8, String), Fail> {
-    let words = words_of(rt.alloc(), line)?;
-    let mut said = Vec::new(rt.alloc());
-    let status = run_words(rt, words.as_slice(), reader, writer, &mut said);
-    Ok((status, String::from_utf8(said)?))
+    errors: &mut E,
+) -> u8 {
+    run_words(rt, words, reader, writer, errors)
+}
+
+/// Runs a script, and says how it ended.
+pub(super) fn run_to_end<I: Read, W: Write>(
+    alloc: Global,
+    reader: &mut I,
+    writer: &mut W,
+) -> Result<(), Fault> {
+    run_script(alloc, reader, writer)
 }
 
 /// The words of a line, as the program is called with them: after its name.

@@ -1,7 +1,9 @@
 //! The statuses of words by which nobody is served.
 
-use super::files::{DEALS, SESSION, folder_of, write_file};
+use super::files::{line_to_serve, make_folder, write_file};
 use super::running::run;
+use super::session::{DEALS, SESSION, SESSION_ALONE, filled};
+use std::alloc::AllocError;
 use std::net::{Ipv4Addr, Net, TcpListener};
 use std::process::Abort;
 use std::rt::Files;
@@ -11,7 +13,7 @@ use std::time::Clock;
 
 // Two files of a folder, the status of a session of them at a port where another listens, and what is said. The folder itself is
 // no file, and there is nothing with the last name.
-const ROWS: [(&str, &str, u8, &str); 9] = [
+const ROWS: &[(&str, &str, u8, &str)] = &[
     ("nothing", "nothing", 3, ""),
     ("session", "nothing", 3, ""),
     ("bad", "nothing", 3, ""),
@@ -23,89 +25,70 @@ const ROWS: [(&str, &str, u8, &str); 9] = [
     ("session", "deals", 3, ""),
 ];
 
+// The files that the rows name, but for a session object that is too long.
+const FILES: &[(&str, &str)] = &[
+    ("session", SESSION_ALONE),
+    ("deals", DEALS),
+    ("bad", "{"),
+    ("none", ""),
+];
+
 // Writes the files that the rows name.
-fn write_files<R: Files + AllocGlobal>(rt: &R, folder: &str) -> Result<(), Fail> {
-    write_file(rt, folder, "session", SESSION)?;
-    write_file(rt, folder, "deals", DEALS)?;
-    write_file(rt, folder, "bad", "{")?;
-    write_file(rt, folder, "none", "")?;
-    write_long_session(rt, folder)
+fn write_files<R: Files + AllocGlobal>(rt: &R, port: u16) -> Result<(), Fail> {
+    make_folder(rt, port)?;
+    for (name, text) in FILES {
+        write_file(rt, port, name, text)?;
+    }
+    let long = filled(rt.alloc(), SESSION_ALONE, 1_048_577)?;
+    write_file(rt, port, "long", long.as_str())
 }
 
-// Writes a session object that is too long.
-fn write_long_session<R: Files + AllocGlobal>(rt: &R, folder: &str) -> Result<(), Fail> {
-    let mut long = String::from_str(rt.alloc(), SESSION)?;
-    for _ in 0..1_048_577 {
-        long.push(' ')?;
+// Whether the words of a row, by which nothing is written or read, end so.
+fn ends<R: Files + Net + Clock + Wait + AllocGlobal>(
+    rt: &R,
+    port: u16,
+    (session, deals, status, said): &(&str, &str, u8, &str),
+) -> Result<bool, AllocError> {
+    let line = line_to_serve(rt.alloc(), port, session, deals, "")?;
+    let ended = run(rt, line.as_str(), SESSION)?;
+    Ok(ended.is(*status, "", said) && ended.read_nothing())
+}
+
+// Stops at a row whose words don't end so.
+fn end_all<R: Files + Net + Clock + Wait + Abort + AllocGlobal>(
+    rt: &R,
+    port: u16,
+) -> Result<(), Fail> {
+    write_files(rt, port)?;
+    for row in ROWS {
+        assert!(rt; ends(rt, port, row)?, "{} {}", row.0, row.1);
     }
-    write_file(rt, folder, "long", long.as_str())
+    Ok(())
 }
 
 #[test]
 fn the_first_fault_ends_it(rt: HostRuntime) -> Result<(), Fail> {
     let listener = TcpListener::bind(&rt, (Ipv4Addr::LOCALHOST, 0))?;
-    let port = listener.local_addr()?.port();
-    let folder = folder_of(&rt, port)?;
-    write_files(&rt, folder.as_str())?;
-    for row in &ROWS {
-        ends(&rt, folder.as_str(), port, row)?;
-    }
-    Ok(())
+    end_all(&rt, listener.local_addr()?.port())
 }
 
-// Runs the program with the words of a row, by which nothing is written or read, and compares the status and what is said.
-fn ends<R: Files + Net + Clock + Wait + Abort + AllocGlobal>(
+// Whether help is given for these words, and nothing is read.
+fn is_helped<R: Files + Net + Clock + Wait + AllocGlobal>(
     rt: &R,
-    folder: &str,
-    port: u16,
-    (session, deals, status, said): &(&str, &str, u8, &str),
-) -> Result<(), Fail> {
-    let line = format!(in rt.alloc();
-        "serve --session {folder}/{session} --deals {folder}/{deals} --port {port}"
-    )?;
-    let ended = run(rt, line.as_str(), SESSION)?;
-    let is_exact = ended.said.as_str() == *said && ended.unread == SESSION.len();
-    assert!(rt; ended.is(*status, "", said) && is_exact, "{line}");
-    Ok(())
+    line: &str,
+) -> Result<bool, AllocError> {
+    let ended = run(rt, line, SESSION)?;
+    let is_told = match str::from_utf8(ended.written.as_slice()) {
+        Ok(text) => text.contains("Usage: bridge_server"),
+        Err(_) => false,
+    };
+    Ok(ended.status == 0 && ended.said.is_empty() && ended.read_nothing() && is_told)
 }
 
 #[test]
-fn words_are_explained(rt: HostRuntime) -> Result<(), Fail> {
-    let bad = [
-        "",
-        "script again",
-        "serve --session s --deals d --port 0",
-        "serve --port 1",
-    ];
-    for line in bad {
-        is_refused(&rt, line)?;
-    }
+fn gives_help(rt: HostRuntime) -> Result<(), Fail> {
     for line in ["--help", "help serve", "serve -h"] {
-        is_helped(&rt, line)?;
+        assert!(rt; is_helped(&rt, line)?, "{line}");
     }
-    Ok(())
-}
-
-// What is wrong with the words is said.
-fn is_refused<R: Files + Net + Clock + Wait + Abort + AllocGlobal>(
-    rt: &R,
-    line: &str,
-) -> Result<(), Fail> {
-    let ended = run(rt, line, SESSION)?;
-    let is_unread = ended.unread == SESSION.len();
-    assert!(rt; ended.is(2, "", "error: ") && is_unread, "{line}");
-    Ok(())
-}
-
-// Help is written.
-fn is_helped<R: Files + Net + Clock + Wait + Abort + AllocGlobal>(
-    rt: &R,
-    line: &str,
-) -> Result<(), Fail> {
-    let ended = run(rt, line, SESSION)?;
-    let is_silent = ended.status == 0 && ended.said.is_empty();
-    let is_unread = ended.unread == SESSION.len();
-    let is_told = ended.written.contains("Usage: bridge_server");
-    assert!(rt; is_silent && is_unread && is_told, "{line}");
     Ok(())
 }

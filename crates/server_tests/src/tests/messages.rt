@@ -1,8 +1,8 @@
 //! What is read of messages, from a script and on a connection.
 
-use super::session::SESSION;
+use super::running::run_to_end;
+use super::session::{SESSION, filled};
 use message_fields::RequestFault;
-use program::run_script;
 use session_queries::Query;
 use std::alloc::{AllocError, Global};
 use std::test::Fail;
@@ -14,15 +14,6 @@ fn fault_of(alloc: Global, message: &[u8], source: Source) -> Option<RequestFaul
         Ok(_) => None,
         Err(fault) => Some(fault),
     }
-}
-
-/// The text with as many blanks after it as make it so long.
-fn filled(alloc: Global, text: &str, length: usize) -> Result<String, AllocError> {
-    let mut filled = String::from_str(alloc, text)?;
-    for _ in text.len()..length {
-        filled.push(' ')?;
-    }
-    Ok(filled)
 }
 
 const MALFORMED: Option<RequestFault> = Some(RequestFault::Malformed);
@@ -77,37 +68,49 @@ const ROWS: &[(&str, Option<RequestFault>, Option<RequestFault>)] = &[
     ("{\"ask\":\"board\",\"board\":\"1\"}", BAD, BAD),
 ];
 
+/// Whether the message has these faults in a script and on a connection.
+fn is_read_so(
+    alloc: Global,
+    (message, in_a_script, on_a_connection): &(&str, Option<RequestFault>, Option<RequestFault>),
+) -> bool {
+    fault_of(alloc, message.as_bytes(), Source::Script) == *in_a_script
+        && fault_of(alloc, message.as_bytes(), Source::Connection) == *on_a_connection
+}
+
 /// A script says in each message whose it is, and greets nobody; on a connection a greeting says it once.
 #[test]
-fn reads_messages_by_where_they_come_from(rt: HostRuntime) -> Result<(), Fail> {
-    for (message, in_a_script, on_a_connection) in ROWS {
-        let faults = (
-            fault_of(rt.alloc(), message.as_bytes(), Source::Script),
-            fault_of(rt.alloc(), message.as_bytes(), Source::Connection),
-        );
-        assert_eq!(rt; faults, (*in_a_script, *on_a_connection), "{message}");
+fn reads_messages_by_where_they_come_from(rt: HostRuntime) {
+    for row in ROWS {
+        assert!(rt; is_read_so(rt.alloc(), row), "{}", row.0);
     }
-    Ok(())
 }
 
-/// Who signs in and by which token, where a message greets and doesn't say whose it is.
-fn greeting_of(request: &Request) -> Option<(&str, &[u8])> {
+/// Whether a message greets, says this name and token, and doesn't say whose it is.
+fn greets(request: &Request, user: &str, said: &str) -> bool {
     match (&request.user, &request.body) {
-        (None, RequestBody::Hello { name, token }) => Some((name.as_str(), token.as_bytes())),
-        _ => None,
+        (None, RequestBody::Hello { name, token }) => {
+            name.as_str() == user && token.as_bytes() == said.as_bytes()
+        }
+        _ => false,
+    }
+}
+
+/// Whether a message on a connection is read as such a greeting.
+fn is_greeting(alloc: Global, message: &[u8], user: &str, said: &str) -> bool {
+    match read_request(alloc, message, Source::Connection) {
+        Ok(request) => greets(&request, user, said),
+        Err(_) => false,
     }
 }
 
 #[test]
-fn gives_what_a_greeting_says(rt: HostRuntime) -> Result<(), Fail> {
+fn gives_what_a_greeting_says(rt: HostRuntime) {
     let greeting = b"{\"hello\":\"n1\",\"token\":\"a\\u00e9\\n\"}";
-    let request = read_request(rt.alloc(), greeting, Source::Connection)?;
-    assert_eq!(rt; greeting_of(&request), Some(("n1", "aé\n".as_bytes())));
-    Ok(())
+    assert!(rt; is_greeting(rt.alloc(), greeting, "n1", "aé\n"));
 }
 
-/// Who asks for which board, and at which version, where a message does so.
-fn query_of(request: &Request) -> Option<(&str, u8, u64)> {
+/// Whether a message says that this user asks for this board at this version.
+fn asks(request: &Request, name: &str, number: u8, version: u64) -> bool {
     match (&request.user, &request.body) {
         (
             Some(user),
@@ -115,17 +118,23 @@ fn query_of(request: &Request) -> Option<(&str, u8, u64)> {
                 query: Query::Board(board),
                 since,
             },
-        ) => Some((user.as_str(), *board, *since)),
-        _ => None,
+        ) => user.as_str() == name && *board == number && *since == version,
+        _ => false,
+    }
+}
+
+/// Whether a message of a script is read as such a query.
+fn is_query(alloc: Global, message: &[u8], name: &str, number: u8, version: u64) -> bool {
+    match read_request(alloc, message, Source::Script) {
+        Ok(request) => asks(&request, name, number, version),
+        Err(_) => false,
     }
 }
 
 #[test]
-fn gives_what_a_query_says(rt: HostRuntime) -> Result<(), Fail> {
+fn gives_what_a_query_says(rt: HostRuntime) {
     let query = b"{\"as\":\"n1\",\"ask\":\"board\",\"board\":2,\"since\":7}";
-    let request = read_request(rt.alloc(), query, Source::Script)?;
-    assert_eq!(rt; query_of(&request), Some(("n1", 2, 7)));
-    Ok(())
+    assert!(rt; is_query(rt.alloc(), query, "n1", 2, 7));
 }
 
 // A message, where it comes from, and its fault where it is filled to 65,536 bytes.
@@ -140,43 +149,60 @@ const FILLED: &[(&str, Source, Option<RequestFault>)] = &[
     ("", Source::Script, MALFORMED),
 ];
 
-/// The fault of a message that is filled to a length, if it has one.
-fn fault_at(
+/// Whether the message has this fault at 65,536 bytes, and is too long with one more.
+fn is_read_filled(
     alloc: Global,
-    message: &str,
-    source: Source,
-    length: usize,
-) -> Result<Option<RequestFault>, AllocError> {
-    let filled = filled(alloc, message, length)?;
-    Ok(fault_of(alloc, filled.as_bytes(), source))
+    (message, source, fault): &(&str, Source, Option<RequestFault>),
+) -> Result<bool, AllocError> {
+    let filled = filled(alloc, message, 65_537)?;
+    let Some(most) = filled.as_bytes().get(..65_536) else {
+        return Ok(false);
+    };
+    Ok(
+        fault_of(alloc, most, *source) == *fault
+            && fault_of(alloc, filled.as_bytes(), *source) == Some(RequestFault::TooLong),
+    )
 }
 
 /// Bytes that are too many are so before anything else is wrong with them.
 #[test]
 fn reads_a_message_of_65536_bytes_and_no_more(rt: HostRuntime) -> Result<(), Fail> {
-    assert_eq!(rt; MOST_MESSAGE_BYTES, 65_536);
-    for (message, source, fault) in FILLED {
-        let faults = (
-            fault_at(rt.alloc(), message, *source, 65_536)?,
-            fault_at(rt.alloc(), message, *source, 65_537)?,
-        );
-        assert_eq!(rt; faults, (*fault, Some(RequestFault::TooLong)), "{message}");
+    for row in FILLED {
+        assert!(rt; is_read_filled(rt.alloc(), row)?, "{}", row.0);
     }
+    assert!(rt; MOST_MESSAGE_BYTES == 65_536);
     Ok(())
 }
 
 /// A message of somebody who has no account.
 const MESSAGE: &str = "{\"as\":\"zz\",\"ask\":\"board\",\"board\":1}";
 
-/// A script of that message: lines that are filled to these lengths, with each end of a line, and one that is as it is.
+/// The lengths to which its lines are filled, with each end of a line.
+const LENGTHS: &[(usize, &str)] = &[
+    (65_536, "\n"),
+    (65_536, "\r\n"),
+    (65_537, "\n"),
+    (65_537, "\r\n"),
+    (65_538, "\n"),
+    (65_538, "\r\n"),
+    (200_000, "\n"),
+    (200_000, "\r\n"),
+];
+
+/// Adds a line of that message.
+fn push_line(script: &mut String, length: usize, end: &str) -> Result<(), AllocError> {
+    script.push_str(MESSAGE)?;
+    for _ in MESSAGE.len()..length {
+        script.push(' ')?;
+    }
+    script.push_str(end)
+}
+
+/// A script of those lines, and of one that is as it is.
 fn script_of_lines(alloc: Global) -> Result<String, AllocError> {
     let mut script = format!(in alloc; "{SESSION}\n")?;
-    for length in [65_536, 65_537, 65_538, 200_000] {
-        let line = filled(alloc, MESSAGE, length)?;
-        for end in ["\n", "\r\n"] {
-            script.push_str(line.as_str())?;
-            script.push_str(end)?;
-        }
+    for (length, end) in LENGTHS {
+        push_line(&mut script, *length, end)?;
     }
     script.push_str(MESSAGE)?;
     Ok(script)
@@ -195,12 +221,17 @@ const ANSWERS: &str =
 {"denied":{"board":0,"rule":1,"table":0,"why":"no such account"},"version":0}
 "#;
 
+/// Whether a script has these answers, and ends where it does.
+fn is_answered(alloc: Global, mut script: &[u8], answers: &str) -> bool {
+    let mut output = Vec::new(alloc);
+    let ended = run_to_end(alloc, &mut script, &mut output);
+    ended.is_ok() && output.as_slice() == answers.as_bytes()
+}
+
 /// What ends a line doesn't count, and the script goes on after a message that is too long.
 #[test]
 fn responds_to_lines_of_any_length(rt: HostRuntime) -> Result<(), Fail> {
     let script = script_of_lines(rt.alloc())?;
-    let mut output = Vec::new(rt.alloc());
-    run_script(rt.alloc(), &mut script.as_bytes(), &mut output)?;
-    assert_eq!(rt; str::from_utf8(output.as_slice())?, ANSWERS);
+    assert!(rt; is_answered(rt.alloc(), script.as_bytes(), ANSWERS));
     Ok(())
 }

@@ -1,6 +1,0 @@
-mod devices;
-mod endings;
-mod messages;
-mod objects;
-mod session;
-mod texts;
