@@ -2,7 +2,7 @@
 //! ends the connection, and on the next one nobody has signed in.
 
 use connections::Connection;
-use message_fields::RequestFault;
+use json_fields::RequestFault;
 use session_keeper::PlainKeeper;
 use session_object::{SessionObject, read_session};
 use std::alloc::Global;

@@ -3,12 +3,14 @@
 ghost use Rattle.std.specs.Prelude.{◌≤◌, IfSome};
 ghost use Rattle.movement.specs.Movement.{boards_of};
 
-use cards::{Card, Deal, Place, Strain};
+use cards::{Card, Deal};
 use double_dummy::{Budget, play_costs, table};
 use movement::Cell;
 use scoring::{Contract, Doubling, Level};
-use session_state::{DdTable, Play, PlayCosts, State};
+use session_commands::{DdTable, Play, PlayCosts};
+use session_state::State;
 use std::alloc::Global;
+use table_terms::{Place, Strain};
 
 /// How many visits a search may make.
 const VISITS: u64 = 100_000_000;

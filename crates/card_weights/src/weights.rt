@@ -1,6 +1,7 @@
 ghost use Rattle.std.specs.Prelude.{◌≤◌};
 
-use cards::{Card, Hand, Position, Strain, Suit, Trick, strength};
+use cards::{Card, Hand, Position, Trick, strength};
+use table_terms::{Strain, Suit};
 
 /// What the weights of a player's cards are read off: the hands round the table from his own, all cards in play, and
 /// the trick under way.

@@ -17,15 +17,16 @@ use Rattle.std.proofs.Math.Nat.{pow-suc, div-div-eq-div-mul, mod-eq_of_lt, mul_c
 use Rattle.std.proofs.Math.Numerals.{add-one}
 use Rattle.std.proofs.Math.Arith.{digits_lt}
 use Rattle.std.proofs.lemmas.Nat.{pow_below}
-use Rattle.cards.specs.declared.suit.Suit.{Suit}
-use Rattle.cards.specs.declared.suit.Suit.TheVariants.{Spades, Hearts, Diamonds, Clubs}
+use Rattle.table_terms.specs.declared.suit.Suit.{Suit}
+use Rattle.table_terms.specs.declared.suit.Suit.TheVariants.{Spades, Hearts, Diamonds, Clubs}
+use Rattle.table_terms.specs.Bits.{any_filter, set_bit, clear_bit}
 use Rattle.cards.specs.declared.rank.Rank.{Rank}
 use Rattle.cards.specs.declared.card.Card.{Card}
-use Rattle.cards.specs.Suit.{suit_number}
+use Rattle.table_terms.specs.Suit.{suit_number}
 use Rattle.cards.specs.Rank.{height}
 use Rattle.cards.specs.Card.{card_cmp, pack, number_in_pack}
 use Rattle.cards.specs.Cards.{Cards, has_bit, cards_of_bits, bits_of_cards, AreDisjoint, are_same}
-use Rattle.cards.specs.CardBits.{each_rank, card_at, card_at-number, same_number, card_cmp_total, tied_is_equal, any_filter, contains-cards_of_bits, digit_weight, bits_of_cards-cards_of_bits}
+use Rattle.cards.specs.CardBits.{each_rank, card_at, card_at-number, same_number, card_cmp_total, tied_is_equal, contains-cards_of_bits, digit_weight, bits_of_cards-cards_of_bits}
 
 -- a number below 52 is that of a card
 number-card_at : (n : ℕ) → n < 52 → number_in_pack (card_at n) ≡ n
@@ -62,13 +63,6 @@ eq_by_number : (a b : Card) → eq_by_cmp card_cmp a b ≡ nat_eq (number_in_pac
 eq_by_number a b = unsigned_tied (number_in_pack a) (number_in_pack b)
 
 -- a bit that is set is there beside the others
-pub set_bit : (w : Width) (word k j : ℕ) → k < bits w → nat_eq (bit_at (bit_or word (1 * 2 ^ k % 2 ^ bits w)) j) 1 ≡ (nat_eq j k || nat_eq (bit_at word j) 1)
-set_bit w word k j within =
-    elim (cases_eq j k) [
-      | inl same ↦ ap (λ x. nat_eq x 1) (ap (bit_at (bit_or word (1 * 2 ^ k % 2 ^ bits w))) same ∙ bit_at_set_same w word k within) ∙ sym (ap (λ b. b || nat_eq (bit_at word j) 1) (eq-eqb j k same))
-      | inr other ↦ ap (λ x. nat_eq x 1) (bit_at_set_other w word k within j other) ∙ sym (ap (λ b. b || nat_eq (bit_at word j) 1) (ne_eqb j k other))
-    ]
-
 pub cards_of_bits-set : (bits : ℕ) (card : Card) → cards_of_bits (bit_or bits (1 * 2 ^ number_in_pack card % 2 ^ 64)) ≡ set.insert (cards_of_bits bits) card
 cards_of_bits-set bits card = same_cards _ _ (λ other.
     contains-cards_of_bits _ other
@@ -77,13 +71,6 @@ cards_of_bits-set bits card = same_cards _ _ (λ other.
     ∙ sym (set.contains-insert card_cmp_total (cards_of_bits bits) card other))
 
 -- a bit that is cleared is gone, and the others stay
-pub clear_bit : (w : Width) (word k j : ℕ) → k < bits w → j < bits w → nat_eq (bit_at (bit_and word (bit_not w (1 * 2 ^ k % 2 ^ bits w))) j) 1 ≡ (not (nat_eq j k) && nat_eq (bit_at word j) 1)
-clear_bit w word k j within also_within =
-    elim (cases_eq j k) [
-      | inl same ↦ ap (λ x. nat_eq x 1) (ap (bit_at (bit_and word (bit_not w (1 * 2 ^ k % 2 ^ bits w)))) same ∙ bit_at_clear_same w word k within) ∙ sym (ap (λ b. not b && nat_eq (bit_at word j) 1) (eq-eqb j k same))
-      | inr other ↦ ap (λ x. nat_eq x 1) (bit_at_clear_other w word k within j also_within other) ∙ sym (ap (λ b. not b && nat_eq (bit_at word j) 1) (ne_eqb j k other))
-    ]
-
 pub cards_of_bits-clear : (bits : ℕ) (card : Card) → cards_of_bits (bit_and bits (bit_not w64 (1 * 2 ^ number_in_pack card % 2 ^ 64))) ≡ set.remove (cards_of_bits bits) card
 cards_of_bits-clear bits card = same_cards _ _ (λ other.
     contains-cards_of_bits _ other

@@ -4,8 +4,8 @@ use Rattle.std.specs.Prelude.{◌&&◌, filter}
 use Rattle.std.specs.FinSet as set
 use Rattle.std.proofs.lemmas.List.Elements.{All-map}
 use Rattle.std.proofs.lemmas.List.Sums.{sum_by-cons}
-use Rattle.cards.specs.declared.suit.Suit.{Suit}
-use Rattle.cards.specs.declared.suit.Suit.TheVariants.{Spades, Hearts, Diamonds, Clubs}
+use Rattle.table_terms.specs.declared.suit.Suit.{Suit}
+use Rattle.table_terms.specs.declared.suit.Suit.TheVariants.{Spades, Hearts, Diamonds, Clubs}
 use Rattle.cards.specs.declared.rank.Rank.{Rank}
 use Rattle.cards.specs.Rank.{rank_letter, ranks_down}
 use Rattle.cards.specs.Cards.{Cards}

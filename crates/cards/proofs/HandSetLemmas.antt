@@ -8,10 +8,10 @@ use Rattle.std.proofs.lemmas.Nat.Bits.{bit_at-lt, bit_at_and, bit_at_not, bit_at
 use Rattle.std.proofs.lemmas.Nat.{pow_below, and_le_l}
 use Rattle.std.proofs.Math.Nat.{mod-eq_of_lt, pow-suc, mul_comm, pow-le-pow_right}
 use Rattle.cards.specs.declared.card.Card.{Card}
-use Rattle.cards.specs.declared.suit.Suit.{Suit}
-use Rattle.cards.specs.declared.suit.Suit.TheVariants.{Spades, Hearts, Diamonds, Clubs}
+use Rattle.table_terms.specs.declared.suit.Suit.{Suit}
+use Rattle.table_terms.specs.declared.suit.Suit.TheVariants.{Spades, Hearts, Diamonds, Clubs}
 use Rattle.cards.specs.Card.{number_in_pack}
-use Rattle.cards.specs.Suit.{suit_number}
+use Rattle.table_terms.specs.Suit.{suit_number}
 use Rattle.cards.specs.Cards.{has_bit, cards_of_bits}
 use Rattle.cards.specs.CardBits.{card_cmp_total, contains-cards_of_bits}
 use Rattle.cards.proofs.CardBitsLemmas.{height_below, number_below, same_cards, card_cmp-IsAntisymmetric}

@@ -3,11 +3,11 @@ use Rattle.std.proofs.Common.{◌≡◌, ℕ, ◌+◌, ◌<◌, Bool, true, fals
 use Rattle.std.specs.Prelude.{filter, encode_utf8}
 use Rattle.std.specs.FinSet as set
 use Rattle.std.proofs.lemmas.List.{take_more}
-use Rattle.cards.specs.declared.suit.Suit.{Suit}
+use Rattle.table_terms.specs.declared.suit.Suit.{Suit}
 use Rattle.cards.specs.declared.rank.Rank.{Rank}
-use Rattle.cards.specs.declared.suit.Suit.TheVariants.{Spades, Hearts, Diamonds, Clubs}
+use Rattle.table_terms.specs.declared.suit.Suit.TheVariants.{Spades, Hearts, Diamonds, Clubs}
 use Rattle.cards.specs.Rank.{rank_letter}
-use Rattle.cards.specs.Suit.{suit_letter}
+use Rattle.table_terms.specs.Suit.{suit_letter}
 use Rattle.cards.specs.Cards.{Cards}
 use Rattle.cards.specs.CardBits.{each_rank}
 use Rattle.cards.specs.HandText.{held_letters}

@@ -6,8 +6,6 @@ pub mod HandSetLemmas
 pub mod HandTextLemmas
 pub mod HandUnionLemmas
 pub mod HandsLemmas
-pub mod Law2Lemmas
-pub mod PairReadingLemmas
 pub mod PartsLemmas
 pub mod PlayLemmas
 pub mod PositionLemmas

@@ -7,16 +7,16 @@ use Rattle.std.specs.Ordering.{eq_by_cmp, is_eq}
 use Rattle.std.specs.Cmp.{tied_itself}
 use Rattle.std.proofs.lemmas.Bool.{cases_eq, cond-true, cond-false, eq-eqb, ne_eqb, and_left, and_parts, and_right, or_left, false_from_ne_true, not-true, true≢false}
 use Rattle.cards.specs.declared.card.Card.{Card}
-use Rattle.cards.specs.declared.suit.Suit.{Suit}
-use Rattle.cards.specs.declared.place.Place.{Place}
-use Rattle.cards.specs.declared.place.Place.TheVariants.{North, East, South, West}
-use Rattle.cards.specs.declared.strain.Strain.{Strain}
+use Rattle.table_terms.specs.declared.suit.Suit.{Suit}
+use Rattle.table_terms.specs.declared.place.Place.{Place}
+use Rattle.table_terms.specs.declared.place.Place.TheVariants.{North, East, South, West}
+use Rattle.table_terms.specs.declared.strain.Strain.{Strain}
 use Rattle.cards.specs.Card.{card_cmp}
 use Rattle.cards.specs.CardBits.{card_cmp_total}
 use Rattle.cards.proofs.CardBitsLemmas.{same_cards, card_cmp-IsAntisymmetric}
 use Rattle.cards.specs.Cards.{Cards}
 use Rattle.cards.specs.Hands.{Hands, hand_of}
-use Rattle.cards.specs.Place.{left_of, place_number}
+use Rattle.table_terms.specs.Place.{left_of, place_number}
 use Rattle.cards.specs.Play.{Position, to_play, turn, is_of, following, legal_of, legal, without, table_after, leader_after, after, cards_left, IsApart, IsOut, IsUnderWay, one_for, played, count_of, IsPosition}
 
 -- a hand that holds none of the suit led may play any card

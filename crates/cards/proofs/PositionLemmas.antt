@@ -6,8 +6,8 @@ use Rattle.std.specs.List.{list_any}
 use Rattle.std.specs.Ordering.{eq_by_cmp}
 use Rattle.std.proofs.lemmas.Bool.{cases_Bool, cases_eq, cond-true, cond-false, or_cases, or_left, or_right, false_from_ne_true, true≢false}
 use Rattle.cards.specs.declared.card.Card.{Card}
-use Rattle.cards.specs.declared.place.Place.{Place}
-use Rattle.cards.specs.declared.place.Place.TheVariants.{North, East, South, West}
+use Rattle.table_terms.specs.declared.place.Place.{Place}
+use Rattle.table_terms.specs.declared.place.Place.TheVariants.{North, East, South, West}
 use Rattle.cards.specs.declared.trick.Trick.{Trick}
 use Rattle.cards.specs.declared.trick.Trick.TheVariants.{Empty, One, Two, Three}
 use Rattle.cards.specs.Card.{card_cmp}
@@ -15,7 +15,7 @@ use Rattle.cards.specs.CardBits.{card_cmp_total, tied_is_equal}
 use Rattle.cards.specs.Cards.{Cards, AreDisjoint}
 use Rattle.cards.specs.Hands.{Hands, hand_of}
 use Rattle.cards.specs.FourHands.{NoTwoShare}
-use Rattle.cards.specs.Place.{place_number}
+use Rattle.table_terms.specs.Place.{place_number}
 use Rattle.cards.specs.Play.{Position, IsApart, IsOut, IsUnderWay, played, count_of, IsPosition}
 use Rattle.cards.specs.Trick.{cards_in}
 use Rattle.cards.proofs.HandsLemmas.{apart_of}

@@ -4,7 +4,7 @@ use Rattle.std.specs.List.{flat_map}
 use Rattle.std.specs.Ordering.{nat_cmp}
 use Rattle.std.specs.declared.cmp.Ordering.{Ordering}
 use Rattle.cards.specs.declared.card.Card.{Card}
-use Rattle.cards.specs.Suit.{suits, suit_number, suit_letter}
+use Rattle.table_terms.specs.Suit.{suits, suit_number, suit_letter}
 use Rattle.cards.specs.Rank.{ranks_up, height, rank_letter}
 
 -- the 52 cards, suit by suit, from the two to the ace

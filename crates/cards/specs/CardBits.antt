@@ -14,8 +14,9 @@ use Rattle.std.proofs.Math.Nat.{pow-suc, mod-eq_of_lt, mul_comm, add_comm}
 use Rattle.std.proofs.Math.Numerals.{add-one}
 use Rattle.std.proofs.Math.Arith.{mod-mul}
 use Rattle.std.proofs.Math.Pow.{pow_pos}
-use Rattle.cards.specs.declared.suit.Suit.{Suit}
-use Rattle.cards.specs.declared.suit.Suit.TheVariants.{Spades, Hearts, Diamonds, Clubs}
+use Rattle.table_terms.specs.declared.suit.Suit.{Suit}
+use Rattle.table_terms.specs.declared.suit.Suit.TheVariants.{Spades, Hearts, Diamonds, Clubs}
+use Rattle.table_terms.specs.Bits.{any_filter}
 use Rattle.cards.specs.declared.rank.Rank.{Rank}
 use Rattle.cards.specs.declared.rank.Rank.TheVariants.{Two, Three, Four, Five, Six, Seven, Eight, Nine, Ten, Jack, Queen, King, Ace}
 use Rattle.cards.specs.declared.card.Card.{Card}
@@ -73,27 +74,6 @@ card_cmp_total = on_total number_in_pack nat_cmp_total
 
 pub tied_is_equal : (a b : Card) → eq_by_cmp card_cmp a b ≡ true → a ≡ b
 tied_is_equal a b e = same_number a b (eqb-true _ _ (sym (unsigned_tied (number_in_pack a) (number_in_pack b)) ∙ e))
-
-never : (d : Bool) → (d && false) ≡ false
-never true = refl
-never false = refl
-
-kept : (a b c d : Bool) → (a ≡ true → b ≡ true) → c ≡ (d && b) → (a || c) ≡ ((a || d) && b)
-kept true b c d h e = sym (h refl)
-kept false b c d h e = e
-
-dropped : (a b c d : Bool) → (a ≡ true → b ≡ false) → c ≡ (d && b) → c ≡ ((a || d) && b)
-dropped true b c d h e = e ∙ ap (λ x. d && x) (h refl) ∙ never d ∙ sym (h refl)
-dropped false b c d h e = e
-
--- a filter keeps what passes
-pub any_filter : {X : Type 0} (e p : X → Bool) (q : X) → ((x : X) → e x ≡ true → p x ≡ p q) → (xs : List X) → list_any e (filter p xs) ≡ (list_any e xs && p q)
-any_filter e p q alike [] = refl
-any_filter e p q alike (x ∷ xs) =
-    elim (p x) as (λ b. p x ≡ b → list_any e (cond b (x ∷ filter p xs) (filter p xs)) ≡ ((e x || list_any e xs) && p q)) [
-      | true ↦ λ passes. kept (e x) (p q) _ _ (λ same. sym (alike x same) ∙ passes) (any_filter e p q alike xs)
-      | false ↦ λ fails. dropped (e x) (p q) _ _ (λ same. sym (alike x same) ∙ fails) (any_filter e p q alike xs)
-    ] refl
 
 -- a card is in the set exactly where its bit is set
 pub contains-cards_of_bits : (bits : ℕ) (card : Card) → set.contains (cards_of_bits bits) card ≡ has_bit bits card

@@ -1,6 +1,6 @@
 -- Four hands on their way to a deal: what the functions behind `Deal::new` and the reading of a deal say to each other.
-use Rattle.cards.specs.declared.place.Place.{Place}
-use Rattle.cards.specs.declared.place.Place.TheVariants.{North, East, South, West}
+use Rattle.table_terms.specs.declared.place.Place.{Place}
+use Rattle.table_terms.specs.declared.place.Place.TheVariants.{North, East, South, West}
 use Rattle.cards.specs.Cards.{Cards, AreDisjoint}
 use Rattle.cards.specs.Hands.{Hands}
 

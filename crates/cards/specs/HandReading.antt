@@ -3,15 +3,15 @@
 use Rattle.std.specs.Prelude.{◌≡◌, ℕ, Bool, nat_eq, List, ◌∷◌, ◌++◌, All, count_by, codes, if◌then◌else◌, Result, IfOk, IfErr, OnErr}
 use Rattle.std.specs.Char.{to_ascii_uppercase}
 use Rattle.std.specs.FinSet as set
-use Rattle.cards.specs.declared.suit.Suit.{Suit}
-use Rattle.cards.specs.declared.suit.Suit.TheVariants.{Spades, Hearts, Diamonds, Clubs}
+use Rattle.table_terms.specs.declared.suit.Suit.{Suit}
+use Rattle.table_terms.specs.declared.suit.Suit.TheVariants.{Spades, Hearts, Diamonds, Clubs}
 use Rattle.cards.specs.declared.rank.Rank.{Rank}
-use Rattle.cards.specs.declared.place.Place.{Place}
+use Rattle.table_terms.specs.declared.place.Place.{Place}
 use Rattle.cards.specs.declared.hand_reading.NotAHand.{NotAHand}
 use Rattle.cards.specs.declared.deal_reading.DealTextError.{DealTextError}
 use Rattle.cards.specs.declared.deal_reading.DealTextError.TheVariants.{NotADealText, NotADeal}
 use Rattle.cards.specs.Rank.{rank_letter}
-use Rattle.cards.specs.Place.{place_letter, left_of, partner_of}
+use Rattle.table_terms.specs.Place.{place_letter, left_of, partner_of}
 use Rattle.cards.specs.Cards.{Cards}
 use Rattle.cards.specs.Hands.{Hands, hand_of, IsDeal}
 

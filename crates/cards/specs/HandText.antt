@@ -1,8 +1,8 @@
 -- How a hand and a deal are written: the tag Deal of PBN 2.1, from North, each suit from the ace down.
 use Rattle.std.specs.Prelude.{ℕ, List, ◌++◌, map, filter, codes}
 use Rattle.std.specs.FinSet as set
-use Rattle.cards.specs.declared.suit.Suit.{Suit}
-use Rattle.cards.specs.declared.suit.Suit.TheVariants.{Spades, Hearts, Diamonds, Clubs}
+use Rattle.table_terms.specs.declared.suit.Suit.{Suit}
+use Rattle.table_terms.specs.declared.suit.Suit.TheVariants.{Spades, Hearts, Diamonds, Clubs}
 use Rattle.cards.specs.declared.rank.Rank.{Rank}
 use Rattle.cards.specs.Rank.{ranks_down, rank_letter}
 use Rattle.cards.specs.Cards.{Cards}

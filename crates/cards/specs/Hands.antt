@@ -3,8 +3,8 @@ use Rattle.std.specs.Prelude.{◌≡◌, ◌≢◌, refl}
 use Rattle.std.specs.Coded.{Coded, code_by, coded×}
 use Rattle.cards.specs.contracts.card.Card as the_card
 use Rattle.std.specs.FinSet as set
-use Rattle.cards.specs.declared.place.Place.{Place}
-use Rattle.cards.specs.declared.place.Place.TheVariants.{North, East, South, West}
+use Rattle.table_terms.specs.declared.place.Place.{Place}
+use Rattle.table_terms.specs.declared.place.Place.TheVariants.{North, East, South, West}
 use Rattle.cards.specs.Cards.{Cards, AreDisjoint}
 
 -- what the four players hold

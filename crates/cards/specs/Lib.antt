@@ -1,5 +1,3 @@
-pub use Rattle.user_names.specs.First
-pub use Rattle.user_names.specs.Name
 pub mod Card
 pub mod CardBits
 pub mod Cards
@@ -7,16 +5,8 @@ pub mod FourHands
 pub mod HandReading
 pub mod HandText
 pub mod Hands
-pub mod Law2
-pub mod Pair
-pub mod PairReading
 pub mod Parts
-pub mod Place
 pub mod Play
 pub mod Position
 pub mod Rank
-pub mod Side
-pub mod Strain
-pub mod Suit
 pub mod Trick
-pub mod Vulnerability

@@ -3,18 +3,18 @@ use Rattle.std.specs.Prelude.{◌≡◌, ◌≢◌, ℕ, ◌+◌, Bool, true, fa
 use Rattle.std.specs.Coded.{Coded, code_by, coded×, coded_list}
 use Rattle.std.specs.FinSet as set
 use Rattle.cards.specs.contracts.card.Card as the_card
-use Rattle.cards.specs.contracts.place.Place as the_place
-use Rattle.cards.specs.contracts.strain.Strain as the_strain
+use Rattle.table_terms.specs.contracts.place.Place as the_place
+use Rattle.table_terms.specs.contracts.strain.Strain as the_strain
 use Rattle.cards.specs.declared.card.Card.{Card}
-use Rattle.cards.specs.declared.suit.Suit.{Suit}
-use Rattle.cards.specs.declared.strain.Strain.{Strain}
-use Rattle.cards.specs.declared.place.Place.{Place}
-use Rattle.cards.specs.declared.side.Side.{Side}
-use Rattle.cards.specs.declared.side.Side.TheVariants.{NorthSouth, EastWest}
-use Rattle.cards.specs.Suit.{suit_number}
+use Rattle.table_terms.specs.declared.suit.Suit.{Suit}
+use Rattle.table_terms.specs.declared.strain.Strain.{Strain}
+use Rattle.table_terms.specs.declared.place.Place.{Place}
+use Rattle.table_terms.specs.declared.side.Side.{Side}
+use Rattle.table_terms.specs.declared.side.Side.TheVariants.{NorthSouth, EastWest}
+use Rattle.table_terms.specs.Suit.{suit_number}
 use Rattle.cards.specs.Rank.{height}
-use Rattle.cards.specs.Place.{left_of, side_of, place_number}
-use Rattle.cards.specs.Strain.{trump_of}
+use Rattle.table_terms.specs.Place.{left_of, side_of, place_number}
+use Rattle.table_terms.specs.Strain.{trump_of}
 use Rattle.cards.specs.Cards.{Cards}
 use Rattle.cards.specs.Hands.{Hands, hands_code, hand_of}
 

@@ -3,9 +3,9 @@ ghost use Rattle.cards.specs.Card.{card_text, number_in_pack};
 ghost use Rattle.cards.specs.declared.card.Card.{Card};
 
 use crate::rank::Rank;
-use crate::suit::Suit;
 use std::fmt;
 use std::str::FromStr;
+use table_terms::Suit;
 use thiserror::Error;
 
 /// One of the 52 cards of the pack (Law 1).

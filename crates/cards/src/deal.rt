@@ -5,9 +5,9 @@ ghost use Rattle.std.specs.FinSet as set;
 ghost use Rattle.cards.specs.HandText.{deal_text};
 
 use crate::hand::Hand;
-use crate::place::Place;
 use std::fmt;
 use std::marker::Model;
+use table_terms::Place;
 use thiserror::Error;
 
 /// The cards as they were dealt: thirteen to each player (Laws 1 and 6).

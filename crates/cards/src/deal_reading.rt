@@ -1,6 +1,6 @@
 ghost use Rattle.std.specs.Prelude.{◌≡◌, ◌≢◌, ◌∷◌, ◌++◌, ℕ, List, codes, IfSome, IfNone, IfOk, OnErr};
-ghost use Rattle.cards.specs.declared.place.Place.{Place};
-ghost use Rattle.cards.specs.Place.{place_letter};
+ghost use Rattle.table_terms.specs.declared.place.Place.{Place};
+ghost use Rattle.table_terms.specs.Place.{place_letter};
 ghost use Rattle.cards.specs.Hands.{Hands, IsDeal};
 ghost use Rattle.cards.specs.FourHands.{clockwise_from};
 ghost use Rattle.cards.specs.HandReading.{IsDealText, ReadsDeal};
@@ -9,8 +9,8 @@ use crate::deal::{Deal, NotADeal};
 use crate::hand::Hand;
 use crate::hand_reading::read_hand;
 use crate::parts::in_four;
-use crate::place::Place;
 use std::str::FromStr;
+use table_terms::Place;
 use thiserror::Error;
 
 /// A text that is no deal's.

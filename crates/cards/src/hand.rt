@@ -8,9 +8,9 @@ mod sets;
 
 use crate::card::Card;
 use crate::holding::Holding;
-use crate::suit::Suit;
 use std::fmt;
 use std::marker::Model;
+use table_terms::Suit;
 
 /// A set of cards, as a player holds it.
 #[derive(Clone, Copy, Debug)]

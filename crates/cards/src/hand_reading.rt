@@ -8,8 +8,8 @@ use crate::card::Card;
 use crate::hand::Hand;
 use crate::parts::in_four;
 use crate::rank::Rank;
-use crate::suit::Suit;
 use std::str::FromStr;
+use table_terms::Suit;
 use thiserror::Error;
 
 /// A text that is no hand's.

@@ -4,8 +4,8 @@ ghost use Rattle.cards.specs.HandText.{holding_text};
 use crate::card::Card;
 use crate::hand::Hand;
 use crate::rank::Rank;
-use crate::suit::Suit;
 use std::fmt;
+use table_terms::Suit;
 
 /// What a hand holds in one suit.
 #[derive(Clone, Copy)]

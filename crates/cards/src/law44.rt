@@ -2,9 +2,7 @@ ghost use Rattle.std.specs.Prelude.{◌≡◌, ◌≤◌};
 ghost use Rattle.cards.specs.Play.{strength, strongest, winner};
 
 use crate::card::Card;
-use crate::place::Place;
-use crate::strain::Strain;
-use crate::suit::Suit;
+use table_terms::{Place, Strain, Suit};
 
 /// How strong a card is in a trick to which this suit was led: a trump from 14, a card of the suit led from 1,
 /// a discard 0 (Law 44E, 44F).

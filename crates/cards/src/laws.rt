@@ -1,28 +1,14 @@
 //! What follows from the definitions alone: each function here has nothing to do, and its clauses are the theorem.
 ghost use Rattle.std.specs.Prelude.{◌≡◌, ◌+◌, ◌<◌, ◌≤◌, ◌↔◌, true, ℕ, List, Result, Ok, IsTrue};
 ghost use Rattle.std.specs.FinSet as set;
-ghost use Rattle.cards.specs.Law2.{IsDealer, IsMarked};
-ghost use Rattle.cards.specs.declared.place.Place.{Place};
-ghost use Rattle.cards.specs.declared.vulnerability.Vulnerability.{Vulnerability};
 ghost use Rattle.cards.specs.declared.hand_reading.NotAHand.{NotAHand};
 ghost use Rattle.cards.specs.declared.deal_reading.DealTextError.{DealTextError};
-ghost use Rattle.cards.specs.declared.pair.Pair.{Pair};
-ghost use Rattle.cards.specs.declared.pair_reading.NotAPair.{NotAPair};
-ghost use Rattle.cards.specs.Pair.{pair_text};
-ghost use Rattle.cards.specs.PairReading.{ReadsPair};
 ghost use Rattle.cards.specs.Cards.{Cards, are_same};
 ghost use Rattle.cards.specs.Play.{Position, legal, after, cards_left, IsPosition};
 ghost use Rattle.cards.specs.declared.card.Card.{Card};
 ghost use Rattle.cards.specs.Hands.{Hands, IsDeal};
 ghost use Rattle.cards.specs.HandText.{hand_text, deal_text};
 ghost use Rattle.cards.specs.HandReading.{IsHandText, IsDealText, ReadsHand, ReadsDeal};
-
-/// Law 2 gives each board one dealer and one marking.
-pub fn one_dealer_and_one_marking()
-    ensures dealer { (board : ℕ) (place other : Place) → IsDealer board place → IsDealer board other → place ≡ other }
-    ensures marking { (board : ℕ) (vulnerability other : Vulnerability) →
-        IsMarked board vulnerability → IsMarked board other → vulnerability ≡ other }
-{}
 
 /// Two hands are found equal exactly where they have the same cards.
 #[tactic(auto, using(crate::proofs::CardBitsLemmas::are_same_decides))]
@@ -62,12 +48,6 @@ pub fn a_written_hand_is_read_back()
 pub fn a_written_deal_is_read_back()
     ensures { (deal : Hands) (read : Result Hands DealTextError) →
         IsDeal deal → ReadsDeal (deal_text deal) read → read ≡ Ok deal }
-{}
-
-/// A pair with a number from 1 to 255 that is written is read back.
-pub fn a_written_pair_is_read_back()
-    ensures { (pair : Pair) (read : Result Pair NotAPair) →
-        1 ≤ pair.number → pair.number ≤ 255 → ReadsPair (pair_text pair) read → read ≡ Ok pair }
 {}
 
 /// While cards are left the player in turn has a legal one, and it leads to a position with one card fewer.

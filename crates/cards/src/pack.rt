@@ -1,11 +1,10 @@
 ghost use Rattle.std.specs.Prelude.{◌≡◌, ◌<◌};
 ghost use Rattle.cards.specs.Card.{number_in_pack};
 ghost use Rattle.cards.specs.Rank.{height};
-ghost use Rattle.cards.specs.Suit.{suit_number};
 
 use crate::card::Card;
 use crate::rank::Rank;
-use crate::suit::Suit;
+use table_terms::Suit;
 
 impl Card {
     /// The card that stands in the pack at this number, from 0 for the two of spades to 51 for the ace of clubs.
@@ -16,29 +15,6 @@ impl Card {
         let suit = Suit::from_number(number / 13);
         let rank = Rank::from_height(number % 13);
         Card { suit, rank }
-    }
-}
-
-impl Suit {
-    /// The suit's number in the order of a written hand, from 0 for spades to 3 for clubs.
-    pub fn number(self) -> u8
-        ensures number { result ≡ suit_number self }
-        ensures below { result < 4 }
-    {
-        self as u8
-    }
-
-    /// The suit at this number, from 0 for spades to 3 for clubs.
-    pub fn from_number(number: u8) -> Suit
-        requires { number < 4 }
-        ensures { suit_number result ≡ number }
-    {
-        match number {
-            0 => Suit::Spades,
-            1 => Suit::Hearts,
-            2 => Suit::Diamonds,
-            _ => Suit::Clubs,
-        }
     }
 }
 

@@ -5,17 +5,15 @@ ghost use Rattle.cards.specs.Cards.{AreDisjoint};
 ghost use Rattle.cards.specs.Hands.{hand_of};
 ghost use Rattle.cards.specs.Play.{start, to_play, legal, after, point, leader_after, played, cards_left, IsPosition};
 ghost use Rattle.cards.specs.Trick.{cards_in};
-ghost use Rattle.cards.specs.declared.place.Place.TheVariants.{North, East, South, West};
+ghost use Rattle.table_terms.specs.declared.place.Place.TheVariants.{North, East, South, West};
 
 use crate::card::Card;
 use crate::deal::{Deal, no_two_share};
 use crate::hand::Hand;
 use crate::law44::winner;
-use crate::place::Place;
-use crate::side::Side;
-use crate::strain::Strain;
 use crate::trick::Trick;
 use std::marker::Model;
+use table_terms::{Place, Side, Strain};
 use thiserror::Error;
 
 /// What the players hold and what lies on the table at a moment of the play.

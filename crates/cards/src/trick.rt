@@ -5,8 +5,7 @@ ghost use Rattle.std.specs.FinSet as set;
 
 use crate::card::Card;
 use crate::hand::Hand;
-use crate::place::Place;
-use crate::suit::Suit;
+use table_terms::{Place, Suit};
 
 /// A trick under way: the cards on the table, in the order in which they were played.
 #[derive(Clone, Copy, Debug, PartialEq, Eq)]

@@ -1,9 +1,9 @@
 -- A form makes nothing where its last member isn't as it should be.
 use Rattle.std.proofs.Common.{◌≡◌, Bool, true, false, cond, Option, Some, None, Err, ap}
 use Rattle.json_fields.specs.Form.{applied}
-use Rattle.message_fields.specs.Reading.{wanted}
-use Rattle.message_fields.specs.declared.request_fault.RequestFault.{RequestFault}
-use Rattle.message_fields.specs.declared.request_fault.RequestFault.TheVariants.{BadField}
+use Rattle.json_fields.specs.Reading.{wanted}
+use Rattle.json_fields.specs.declared.request_fault.RequestFault.{RequestFault}
+use Rattle.json_fields.specs.declared.request_fault.RequestFault.TheVariants.{BadField}
 
 is_bad : {A : Type 0} (o : Option A) (fault : RequestFault) → wanted o ≡ Err fault → fault ≡ BadField
 is_bad None fault h = cc

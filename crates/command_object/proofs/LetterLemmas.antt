@@ -1,9 +1,9 @@
 -- A letter names the suit or the rank that is written so.
 use Rattle.std.proofs.Common.{◌≡◌, ◌≢◌, ℕ, List, [], ◌∷◌, ◌==◌, true, Option, Some, None, refl, ap, ◌∙◌, arith}
-use Rattle.cards.specs.declared.suit.Suit.{Suit}
+use Rattle.table_terms.specs.declared.suit.Suit.{Suit}
 use Rattle.cards.specs.declared.rank.Rank.{Rank}
 use Rattle.cards.specs.declared.card.Card.{Card}
-use Rattle.cards.specs.Suit.{suits, suit_letter}
+use Rattle.table_terms.specs.Suit.{suits, suit_letter}
 use Rattle.cards.specs.Rank.{ranks_up, rank_letter}
 use Rattle.cards.specs.Card.{card_text}
 use Rattle.json_fields.proofs.LetterLemmas.{found_passes}

@@ -1,10 +1,10 @@
 -- What is read by each form of the table of commands is what it is.
 use Rattle.std.proofs.Common.{◌≡◌, ℕ, List, [], ◌∷◌, false, not, ◌||◌, codes, Option, Some, None, option_and_then, refl, ap, ◌∙◌}
 use Rattle.serde_json.specs.Data.{Data, Items, no_items, item}
-use Rattle.session_state.specs.declared.command.Command.{Command}
+use Rattle.session_commands.specs.declared.command.Command.{Command}
 use Rattle.json_fields.specs.Form.{HasFormOf, AreEach}
 use Rattle.json_fields.specs.Field.{text, text_at}
-use Rattle.message_fields.specs.Field.{table, board}
+use Rattle.json_fields.specs.Message.{table, board}
 use Rattle.user_fields.specs.User.{user_name, pair, place, digest, role_named}
 use Rattle.command_object.specs.Command.{commands, north_south, east_west, reason, role_called, role, senior, junior, command_called, command_of, is_other_word, is_unknown, has_unknown, IsCommand}
 use Rattle.command_object.specs.Result.{outcome}

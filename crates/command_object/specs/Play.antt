@@ -3,11 +3,11 @@ use Rattle.std.specs.Prelude.{◌≡◌, ℕ, ◌≤◌, List, [], ◌∷◌, le
 use Rattle.std.specs.List.{find}
 use Rattle.serde_json.specs.Data.{Data, Items}
 use Rattle.serde_json.specs.Find.{as_str, as_array}
-use Rattle.cards.specs.declared.suit.Suit.{Suit}
+use Rattle.table_terms.specs.declared.suit.Suit.{Suit}
 use Rattle.cards.specs.declared.rank.Rank.{Rank}
 use Rattle.cards.specs.declared.card.Card.{Card}
 use Rattle.cards.specs.Card.{card_text}
-use Rattle.cards.specs.Suit.{suits, suit_letter}
+use Rattle.table_terms.specs.Suit.{suits, suit_letter}
 use Rattle.cards.specs.Rank.{ranks_up, rank_letter}
 use Rattle.json_fields.specs.Form.{Member, item_count, each, AreEach}
 

@@ -3,7 +3,7 @@
 ghost use Rattle.std.specs.Prelude.{◌≡◌, Some, codes, IfOk, IfErr};
 ghost use Rattle.serde_json.specs.Find.{get};
 ghost use Rattle.serde_json.specs.View.{view, items_view};
-ghost use Rattle.message_fields.specs.Reading.{wanted, Fails, Gives};
+ghost use Rattle.json_fields.specs.Reading.{wanted, Fails, Gives};
 ghost use Rattle.json_fields.specs.Form.{is_word_of};
 ghost use Rattle.user_fields.specs.User.{user_name};
 ghost use Rattle.command_object.specs.Command.{commands, role_called, is_unknown, has_unknown, command_called, command_of, commands_in};
@@ -11,15 +11,14 @@ ghost use Rattle.command_object.specs.Command.{commands, role_called, is_unknown
 use crate::commands::Commands;
 use crate::play::play_of;
 use crate::result::result_of;
-use cards::Name;
-use json_fields::{has_only, name_at, text_at};
-use message_fields::{RequestFault, is_one_of, small_at};
-use rbac::Role;
+use json_fields::{RequestFault, has_only, is_one_of, name_at, small_at, text_at};
+use session_roles::Role;
 use scoring::Outcome;
 use serde_json::Value;
-use session_state::Command;
+use session_commands::Command;
 use std::alloc::Global;
 use user_fields::{digest_of, pair_of, place_of, role_named};
+use user_names::Name;
 
 // Whether a command is called so.
 fn is_command_word(word: &str) -> bool

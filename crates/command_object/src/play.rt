@@ -3,13 +3,13 @@
 ghost use Rattle.std.specs.Prelude.{◌≡◌, Some, IfOk, IfErr};
 ghost use Rattle.serde_json.specs.Find.{get};
 ghost use Rattle.serde_json.specs.View.{view, items_view};
-ghost use Rattle.message_fields.specs.Reading.{wanted, Fails, Gives};
+ghost use Rattle.json_fields.specs.Reading.{wanted, Fails, Gives};
 ghost use Rattle.command_object.specs.Play.{card_named, card_of, cards_in, cards_by, play};
 
 use cards::Card;
-use message_fields::RequestFault;
+use json_fields::RequestFault;
 use serde_json::Value;
-use session_state::Play;
+use session_commands::Play;
 use std::alloc::Global;
 
 fn card_named(text: &str) -> Option<Card>

@@ -3,15 +3,14 @@
 ghost use Rattle.std.specs.Prelude.{◌≡◌, [], Some};
 ghost use Rattle.serde_json.specs.Find.{get};
 ghost use Rattle.serde_json.specs.View.{view};
-ghost use Rattle.message_fields.specs.Reading.{wanted};
+ghost use Rattle.json_fields.specs.Reading.{wanted};
 ghost use Rattle.json_fields.specs.Form.{formed};
 ghost use Rattle.command_object.specs.Result.{declarer, trumps, doubled, level, tricks, played, text_or_played, outcome};
 
-use cards::{Place, Strain};
-use json_fields::{doubling_numbered, has_only, place_named, strain_named, text_at};
-use message_fields::{RequestFault, small_at};
+use json_fields::{RequestFault, doubling_numbered, has_only, place_named, small_at, strain_named, text_at};
 use scoring::{Contract, Doubling, Level, Outcome, Tricks};
 use serde_json::Value;
+use table_terms::{Place, Strain};
 
 fn declarer_of(value: &Value) -> Result<Place, RequestFault>
     ensures { result ≡ wanted (declarer.value (get declarer.name (view value.now))) }

@@ -5,11 +5,11 @@ use Rattle.serde_json.specs.Data.{Data, object, member, no_members, string}
 use Rattle.serde_json.specs.Written.{compact_text}
 use Rattle.sha2.specs.Sha256.{sha256}
 use Rattle.rbac.specs.Authorization.{HasPermission}
-use Rattle.rbac.specs.declared.operation.Operation.TheVariants.{Audit}
+use Rattle.session_roles.specs.declared.operation.Operation.TheVariants.{Audit}
 use Rattle.session_state.specs.SessionState.{SessionState}
 use Rattle.session_state.specs.Readers.{digest_of}
-use Rattle.session_state.specs.declared.command.Command.{Command}
-use Rattle.session_state.specs.declared.entry.Entry.{Entry}
+use Rattle.session_commands.specs.declared.command.Command.{Command}
+use Rattle.session_commands.specs.declared.entry.Entry.{Entry}
 use Rattle.session_book.specs.Audit.{audit_rows}
 use Rattle.session_book.specs.declared.audit.AuditError.{AuditError}
 use Rattle.session_book.specs.declared.audit.AuditError.TheVariants as error
@@ -20,7 +20,7 @@ use Rattle.published_view.specs.Reply.{reply_of}
 use Rattle.reply_texts.specs.ReplyText.{reply_text}
 use Rattle.session_keeper.specs.declared.receipt.BatchReceipt.{BatchReceipt}
 use Rattle.session_keeper.specs.Keeping.{IsReceiptOf}
-use Rattle.message_fields.specs.declared.request_fault.RequestFault.{RequestFault}
+use Rattle.json_fields.specs.declared.request_fault.RequestFault.{RequestFault}
 use Rattle.wire.specs.AuditText.{audit_text, audit_refusal_text}
 use Rattle.wire.specs.ReceiptText.{receipt_text, fault_text, connection_fault_text}
 use Rattle.wire.specs.Request.{meaning}

@@ -10,17 +10,17 @@ ghost use Rattle.connections.specs.Growing.{AddsNothing, AddsBatch};
 ghost use Rattle.connections.specs.Linked.{HasGoneOn, StaysOn};
 ghost use Rattle.connections.specs.Serving.{batch_text, IsKnown, IsAuditText, IsBatchText, IsRowsText, ServedTo, query_text};
 
-use cards::Name;
 use command_object::Commands;
 use reply_texts::reply_text;
 use session_book::AuditError;
+use session_commands::Digest as TokenDigest;
 use session_keeper::{AuditReceipt, BatchReceipt, Keeper, QueryFault};
 use session_queries::{Query, Reply};
-use session_state::Digest as TokenDigest;
 use sha2::{Digest, Sha256};
 use std::alloc::{AllocError, Global};
 use std::marker::Model;
 use std::sync::Wait;
+use user_names::Name;
 use wire::{AuditRange, ConnectionFault, audit_refusal_text, audit_text, receipt_text};
 
 /// A connection: messages are answered for the user who has signed in on it.

@@ -4,9 +4,9 @@ ghost use Rattle.std.specs.Prelude.{◌≡◌, IfOk, string_bytes};
 ghost use Rattle.serde_json.specs.View.{view};
 ghost use Rattle.connections.specs.Serving.{hello_data, hello_text};
 
-use cards::Name;
 use serde_json::{Value, json};
 use std::alloc::{AllocError, Global};
+use user_names::Name;
 
 /// What the user is told who has signed in.
 #[tactic(auto, unfolding(crate::specs::Serving::hello_text))]

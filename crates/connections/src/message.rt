@@ -10,11 +10,11 @@ ghost use Rattle.connections.specs.Serving.{Greets, IsToldOf, Serves, ServesBody
 
 use crate::connection::Connection;
 use crate::greeting::hello_text;
-use cards::Name;
-use message_fields::RequestFault;
+use json_fields::RequestFault;
 use session_keeper::Keeper;
 use std::alloc::{AllocError, Global};
 use std::sync::Wait;
+use user_names::Name;
 use wire::{
     ConnectionFault, RequestBody, Source, Token, connection_fault_text, fault_text, read_request,
 };

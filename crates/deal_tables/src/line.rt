@@ -1,5 +1,6 @@
-use cards::{Card, Hand, Place, Strain};
+use cards::{Card, Hand};
 use std::alloc::Global;
+use table_terms::{Place, Strain};
 
 /// Four hands, a strain, a player, and cards, as `N:AQ... .32.. 2...2 K3... N S SQ,ST` has them, with a dash for no cards.
 #[derive(Drop)]

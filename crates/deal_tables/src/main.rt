@@ -4,12 +4,13 @@
 
 mod line;
 
-use cards::{Deal, Place, Position, Strain};
+use cards::{Deal, Position};
 use double_dummy::{Budget, CostsError, DdTable, costs, solve, table};
 use line::{Line, read_line};
 use scoring::{Contract, Doubling, Level};
 use std::io::{BufRead, BufReader};
 use std::{env, io};
+use table_terms::{Place, Strain};
 
 // More visits than any line takes.
 const VISITS: u64 = 1_000_000_000_000;

@@ -10,7 +10,7 @@ use Rattle.movement.specs.Row.{Seats, Plays}
 use Rattle.movement.specs.Schedule.{is_scheduled}
 use Rattle.movement.proofs.CellLemmas.{cell_in_range}
 use Rattle.movement.proofs.ScheduleTests.{cell-scheduled}
-use Rattle.rbac.specs.declared.role.Role.TheVariants.{Director}
+use Rattle.session_roles.specs.declared.role.Role.TheVariants.{Director}
 use Rattle.disclosure_rules.specs.declared.fact.Fact.{Fact}
 use Rattle.disclosure_rules.specs.declared.public.Public.{Public}
 use Rattle.disclosure_rules.specs.declared.rule.Rule.{Rule}

@@ -6,7 +6,7 @@ use Rattle.std.specs.Option.{option_map, unwrap_or}
 use Rattle.std.proofs.lemmas.Bool.{cases_Bool, false≢true, false_from_ne_true, and_left}
 use Rattle.std.proofs.lemmas.List.FromFn.{get_or-range_with_len, length-range_with_len}
 use Rattle.std.proofs.lemmas.List.Folds.{list_any-from_Any}
-use Rattle.cards.specs.declared.pair.Pair.{Pair}
+use Rattle.table_terms.specs.declared.pair.Pair.{Pair}
 use Rattle.movement.specs.declared.cell.Cell.{Cell}
 use Rattle.movement.specs.Movement.{Section, Row, IsSection, rows, HasCell, IsCell}
 use Rattle.movement.specs.Row.{Seats, Plays}

@@ -3,9 +3,9 @@ ghost use Rattle.denials.specs.Evidence.{table_of_pair, own_table, is_awaited, a
 ghost use Rattle.denials.specs.Evidence.{table_named, board_named, denial_by, denial_of};
 
 use crate::denial::Denial;
-use cards::Pair;
 use disclosure_rules::{Fact, Public, Rule, Seat, Viewer, decide};
 use movement::Movement;
+use table_terms::Pair;
 
 /// Why the fact is denied to the user, if it is.
 #[tactic(auto, unfolding(crate::specs::Evidence::denial_of))]

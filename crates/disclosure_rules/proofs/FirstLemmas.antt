@@ -4,7 +4,7 @@ use Rattle.std.specs.Prelude.{Option, Some, None, cond, if◌then◌else◌}
 use Rattle.std.specs.Option.{unwrap_or}
 use Rattle.std.specs.List.{find}
 use Rattle.std.proofs.lemmas.Bool.{cases_Bool}
-use Rattle.rbac.specs.declared.role.Role.TheVariants.{Director}
+use Rattle.session_roles.specs.declared.role.Role.TheVariants.{Director}
 use Rattle.disclosure_rules.specs.declared.fact.Fact.{Fact}
 use Rattle.disclosure_rules.specs.declared.fact.Fact.TheVariants.{Hands}
 use Rattle.disclosure_rules.specs.declared.fact.Fact.TheVariants as the_fact

@@ -5,9 +5,9 @@
 use Rattle.std.specs.Prelude.{ℕ, Bool, false, not, ◌&&◌, if◌then◌else◌, Option, Some, None, is_none, List, [], ◌∷◌}
 use Rattle.std.specs.List.{find}
 use Rattle.movement.specs.declared.cell.Cell.{Cell}
-use Rattle.rbac.specs.declared.role.Role.{Role}
-use Rattle.rbac.specs.declared.role.Role.TheVariants.{Member, Spectator, Contestant, Director, Administrator}
-use Rattle.rbac.specs.Role.{has}
+use Rattle.session_roles.specs.declared.role.Role.{Role}
+use Rattle.session_roles.specs.declared.role.Role.TheVariants.{Member, Spectator, Contestant, Director, Administrator}
+use Rattle.session_roles.specs.Role.{has}
 use Rattle.disclosure_rules.specs.declared.fact.Fact.{Fact}
 use Rattle.disclosure_rules.specs.declared.public.Public.{Public}
 use Rattle.disclosure_rules.specs.declared.rule.Rule.{Rule}

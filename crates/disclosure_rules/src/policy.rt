@@ -1,5 +1,5 @@
 ghost use Rattle.std.specs.Prelude.{◌≡◌, ◌&&◌, ◌||◌, not};
-ghost use Rattle.rbac.specs.declared.role.Role.TheVariants.{Spectator, Director, Administrator};
+ghost use Rattle.session_roles.specs.declared.role.Role.TheVariants.{Spectator, Director, Administrator};
 ghost use Rattle.disclosure_rules.specs.Fact.{is_accounts, is_analysed, is_played, is_reason};
 ghost use Rattle.disclosure_rules.specs.LiveCells.{is_live};
 ghost use Rattle.disclosure_rules.specs.Numbers.{has_number};
@@ -13,7 +13,7 @@ use crate::rule::Rule;
 use crate::seating::{has_still_to_play, is_seated_at, plays_board};
 use crate::viewer::Viewer;
 use movement::Cell;
-use rbac::Role;
+use session_roles::Role;
 
 /// The first rule that forbids the fact to the user, if one does.
 pub fn decide(public: &Public, viewer: &Viewer, fact: Fact) -> Option<Rule>

@@ -2,7 +2,7 @@ ghost use Rattle.std.specs.Prelude.{◌≡◌};
 ghost use Rattle.disclosure_rules.specs.Policy.{is_authorized};
 
 use crate::seat::Seat;
-use rbac::{Role, RoleSet};
+use session_roles::{Role, RoleSet};
 
 /// A user, as the policy sees one.
 #[derive(Clone, Copy, Debug, PartialEq, Eq)]

@@ -8,12 +8,13 @@ ghost use Rattle.double_dummy.specs.declared.error.CostsError.TheVariants.{NotAP
 ghost use Rattle.double_dummy_laws.specs.DoubleDummy.{double_dummy, cost_list, first_illegal};
 
 use crate::error::CostsError;
-use cards::{Card, Deal, Place, Position, Side, Strain};
+use cards::{Card, Deal, Position};
 use double_dummy_search::{Budget, BudgetSpent, value};
 use position_patterns::{DealPatterns, Holders, Memory};
 use scoring::Contract;
 use solver_results::Costs;
 use std::alloc::Global;
+use table_terms::{Place, Side, Strain};
 
 /// What each card of a play costs the side that plays it: the tricks that the side takes less, when all play their best
 /// before and after it.

@@ -2,8 +2,8 @@
 use Rattle.std.proofs.Common.{◌≡◌, ◌≢◌, ◌+◌, ◌-◌, ◌<◌, ◌≤◌, true, false, sym, ap, ◌∙◌, inl, inr, arith, suc}
 use Rattle.std.proofs.lemmas.Bool.{cases_Bool, true≢false, false_from_ne_true, cond-true, cond-false}
 use Rattle.cards.specs.declared.card.Card.{Card}
-use Rattle.cards.specs.declared.place.Place.{Place}
-use Rattle.cards.specs.declared.place.Place.TheVariants.{North, East, South, West}
+use Rattle.table_terms.specs.declared.place.Place.{Place}
+use Rattle.table_terms.specs.declared.place.Place.TheVariants.{North, East, South, West}
 use Rattle.cards.specs.Card.{card_cmp}
 use Rattle.cards.specs.Cards.{Cards}
 use Rattle.cards.specs.CardBits.{card_cmp_total}

@@ -2,8 +2,8 @@
 use Rattle.std.proofs.Common.{◌≡◌, ℕ, ◌<◌, ◌≤◌, ◌-◌, true, suc, map, sym, ap, ◌∙◌, subst, arith}
 use Rattle.std.specs.FinSet as set
 use Rattle.cards.specs.declared.card.Card.{Card}
-use Rattle.cards.specs.declared.side.Side.TheVariants.{NorthSouth, EastWest}
-use Rattle.cards.specs.Place.{side_of}
+use Rattle.table_terms.specs.declared.side.Side.TheVariants.{NorthSouth, EastWest}
+use Rattle.table_terms.specs.Place.{side_of}
 use Rattle.cards.specs.Play.{Position, IsPosition, to_play, legal, after, cards_left}
 use Rattle.double_dummy_laws.specs.DoubleDummy.{best, tricks, double_dummy, worth}
 use Rattle.double_dummy_laws.proofs.BestLemmas.{same_best, north_south_bound, east_west_bound}

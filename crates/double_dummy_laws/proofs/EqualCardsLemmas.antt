@@ -3,11 +3,11 @@ use Rattle.std.proofs.Common.{◌≡◌, ◌≢◌, ℕ, ◌<◌, true, List, []
 use Rattle.std.specs.Prelude.{◌||◌}
 use Rattle.std.proofs.lemmas.Bool.{cases_eq, eq-eqb, ne_eqb, or_cases, or_left, or_right, cond-true, cond-false}
 use Rattle.cards.specs.declared.card.Card.{Card}
-use Rattle.cards.specs.declared.place.Place.{Place}
+use Rattle.table_terms.specs.declared.place.Place.{Place}
 use Rattle.cards.specs.Card.{number_in_pack}
 use Rattle.cards.specs.CardBits.{same_number}
 use Rattle.cards.specs.Rank.{height}
-use Rattle.cards.specs.Place.{left_of}
+use Rattle.table_terms.specs.Place.{left_of}
 use Rattle.cards.specs.Hands.{Hands, hand_of}
 use Rattle.std.specs.FinSet as set
 use Rattle.std.specs.Prelude.{nat_eq, if◌then◌else◌}

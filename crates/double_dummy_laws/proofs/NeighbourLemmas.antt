@@ -4,7 +4,7 @@ use Rattle.std.specs.Prelude.{◌↔◌, All}
 use Rattle.std.proofs.lemmas.Bool.{cases_order}
 use Rattle.cards.specs.declared.card.Card.{Card}
 use Rattle.cards.specs.CardBits.{same_number}
-use Rattle.cards.specs.Suit.{suit_number}
+use Rattle.table_terms.specs.Suit.{suit_number}
 use Rattle.cards.specs.Rank.{height}
 use Rattle.cards.specs.Hands.{hand_of}
 use Rattle.std.proofs.lemmas.List.Elements.{All-nil, All-cons}

@@ -2,10 +2,10 @@
 use Rattle.std.proofs.Common.{◌≡◌, ℕ, ◌+◌, true, List, [], ◌∷◌, map, refl, sym, ap, ◌∙◌, inl, inr, zero, suc}
 use Rattle.std.specs.Prelude.{nat_eq, ◌||◌}
 use Rattle.cards.specs.declared.card.Card.{Card}
-use Rattle.cards.specs.declared.place.Place.{Place}
-use Rattle.cards.specs.declared.strain.Strain.{Strain}
-use Rattle.cards.specs.Suit.{suit_number}
-use Rattle.cards.specs.Place.{left_of, side_of}
+use Rattle.table_terms.specs.declared.place.Place.{Place}
+use Rattle.table_terms.specs.declared.strain.Strain.{Strain}
+use Rattle.table_terms.specs.Suit.{suit_number}
+use Rattle.table_terms.specs.Place.{left_of, side_of}
 use Rattle.cards.specs.Hands.{Hands, hand_of}
 use Rattle.std.specs.FinSet as set
 use Rattle.cards.specs.Play.{Position, after, is_of, leader_after, legal, legal_of, point, point_of, table_after, to_play, trick_for, turn, without}

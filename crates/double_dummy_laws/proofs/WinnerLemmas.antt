@@ -3,17 +3,17 @@ use Rattle.std.proofs.Common.{◌≡◌, ◌≢◌, ℕ, ◌+◌, ◌<◌, Bool,
 use Rattle.std.specs.Prelude.{nat_eq, nat_le, ◌&&◌, ◌||◌, Option, Some, None}
 use Rattle.std.proofs.lemmas.Bool.{cases_lt, cases_order, eq-eqb, and_from, and_left, and_right, le-leb, lt-leb, eqb-true, true≢false, cond-true, cond-false}
 use Rattle.cards.specs.declared.card.Card.{Card}
-use Rattle.cards.specs.declared.suit.Suit.{Suit}
-use Rattle.cards.specs.declared.suit.Suit.TheVariants.{Spades, Hearts, Diamonds, Clubs}
+use Rattle.table_terms.specs.declared.suit.Suit.{Suit}
+use Rattle.table_terms.specs.declared.suit.Suit.TheVariants.{Spades, Hearts, Diamonds, Clubs}
 use Rattle.cards.specs.declared.rank.Rank.{Rank}
-use Rattle.cards.specs.declared.place.Place.{Place}
-use Rattle.cards.specs.declared.place.Place.TheVariants.{North, East, South, West}
-use Rattle.cards.specs.declared.strain.Strain.{Strain}
+use Rattle.table_terms.specs.declared.place.Place.{Place}
+use Rattle.table_terms.specs.declared.place.Place.TheVariants.{North, East, South, West}
+use Rattle.table_terms.specs.declared.strain.Strain.{Strain}
 use Rattle.cards.specs.CardBits.{each_rank, same_number}
-use Rattle.cards.specs.Suit.{suit_number}
+use Rattle.table_terms.specs.Suit.{suit_number}
 use Rattle.cards.specs.Rank.{height}
-use Rattle.cards.specs.Place.{left_of}
-use Rattle.cards.specs.Strain.{trump_of}
+use Rattle.table_terms.specs.Place.{left_of}
+use Rattle.table_terms.specs.Strain.{trump_of}
 use Rattle.cards.specs.Play.{is_of, is_trump, strength, strength_by, strongest, winner}
 use Rattle.double_dummy_laws.specs.Renaming.{IsPlayed, IsRenaming, Ownership}
 use Rattle.double_dummy_laws.specs.Known.{IsAbove, IsSettled, IsTrickKnown}

@@ -2,11 +2,11 @@
 use Rattle.std.specs.Prelude.{ℕ, ◌+◌, ◌-◌, zero, suc, max, min, List, [], ◌∷◌, map, Option, Some, None, if◌then◌else◌}
 use Rattle.std.specs.FinSet as set
 use Rattle.cards.specs.declared.card.Card.{Card}
-use Rattle.cards.specs.declared.place.Place.{Place}
-use Rattle.cards.specs.declared.side.Side.{Side}
-use Rattle.cards.specs.declared.side.Side.TheVariants.{NorthSouth, EastWest}
-use Rattle.cards.specs.declared.strain.Strain.{Strain}
-use Rattle.cards.specs.Place.{side_of}
+use Rattle.table_terms.specs.declared.place.Place.{Place}
+use Rattle.table_terms.specs.declared.side.Side.{Side}
+use Rattle.table_terms.specs.declared.side.Side.TheVariants.{NorthSouth, EastWest}
+use Rattle.table_terms.specs.declared.strain.Strain.{Strain}
+use Rattle.table_terms.specs.Place.{side_of}
 use Rattle.cards.specs.Hands.{Hands}
 use Rattle.cards.specs.Play.{Position, start, to_play, legal, after, point, cards_left}
 

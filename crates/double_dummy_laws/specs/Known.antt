@@ -1,7 +1,7 @@
 -- Which cards of a trick decided who won it, and which cards of a player do the same.
 use Rattle.std.specs.Prelude.{ℕ, ◌≡◌, ◌≢◌, ◌<◌, ◌↔◌, true, ◌||◌, List, [], ◌∷◌}
 use Rattle.cards.specs.declared.card.Card.{Card}
-use Rattle.cards.specs.declared.strain.Strain.{Strain}
+use Rattle.table_terms.specs.declared.strain.Strain.{Strain}
 use Rattle.cards.specs.Rank.{height}
 use Rattle.cards.specs.Play.{strength_in}
 use Rattle.double_dummy_laws.specs.Renaming.{Ownership}

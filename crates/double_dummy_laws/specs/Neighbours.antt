@@ -4,7 +4,7 @@ use Rattle.std.specs.List.{list_any}
 use Rattle.std.specs.Ordering.{eq_by_cmp}
 use Rattle.std.specs.FinSet as set
 use Rattle.cards.specs.declared.card.Card.{Card}
-use Rattle.cards.specs.declared.place.Place.{Place}
+use Rattle.table_terms.specs.declared.place.Place.{Place}
 use Rattle.cards.specs.Card.{card_cmp}
 use Rattle.cards.specs.Hands.{hand_of}
 use Rattle.cards.specs.Rank.{height}

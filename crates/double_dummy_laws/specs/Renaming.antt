@@ -2,9 +2,9 @@
 use Rattle.std.specs.Prelude.{◌≡◌, ◌≢◌, ◌<◌, Bool, true, ◌||◌, List, [], ◌∷◌, map}
 use Rattle.std.specs.FinSet as set
 use Rattle.cards.specs.declared.card.Card.{Card}
-use Rattle.cards.specs.declared.place.Place.{Place}
+use Rattle.table_terms.specs.declared.place.Place.{Place}
 use Rattle.cards.specs.Rank.{height}
-use Rattle.cards.specs.Place.{left_of}
+use Rattle.table_terms.specs.Place.{left_of}
 use Rattle.cards.specs.Cards.{Cards}
 use Rattle.cards.specs.Hands.{Hands, hand_of}
 use Rattle.cards.specs.Play.{Position}

@@ -2,12 +2,12 @@
 ghost use Rattle.std.specs.Prelude.{◌≡◌, ◌<◌, ◌≤◌, ℕ, ◌+◌, Bool, true, [], ◌∷◌, List, All, map};
 ghost use Rattle.std.specs.FinSet as set;
 ghost use Rattle.cards.specs.declared.card.Card.{Card};
-ghost use Rattle.cards.specs.declared.place.Place.{Place};
-ghost use Rattle.cards.specs.declared.side.Side.TheVariants.{NorthSouth, EastWest};
-ghost use Rattle.cards.specs.declared.suit.Suit.{Suit};
+ghost use Rattle.table_terms.specs.declared.place.Place.{Place};
+ghost use Rattle.table_terms.specs.declared.side.Side.TheVariants.{NorthSouth, EastWest};
+ghost use Rattle.table_terms.specs.declared.suit.Suit.{Suit};
 ghost use Rattle.cards.specs.Cards.{Cards};
 ghost use Rattle.cards.specs.Hands.{Hands, hand_of};
-ghost use Rattle.cards.specs.Place.{side_of};
+ghost use Rattle.table_terms.specs.Place.{side_of};
 ghost use Rattle.cards.specs.Play.{Position, IsPosition, IsApart, legal, to_play, cards_left};
 ghost use Rattle.double_dummy_laws.specs.DoubleDummy.{best, tricks, double_dummy, worth};
 ghost use Rattle.double_dummy_laws.specs.Found.{IsFound};

@@ -3,7 +3,7 @@ use Rattle.std.proofs.Common.{◌≡◌, ℕ, ◌+◌, ◌-◌, Bool, true, map,
 use Rattle.std.specs.Prelude.{nat_le}
 use Rattle.std.proofs.lemmas.Bool.{cases_lt, le-leb, lt-leb}
 use Rattle.cards.specs.declared.card.Card.{Card}
-use Rattle.cards.specs.Place.{side_of}
+use Rattle.table_terms.specs.Place.{side_of}
 use Rattle.cards.specs.Hands.{Hands, hand_of}
 use Rattle.std.specs.FinSet as set
 use Rattle.cards.specs.Play.{Position, after, legal, legal_of, point, to_play, without}

@@ -7,7 +7,7 @@ use Rattle.cards.specs.Card.{card_cmp, number_in_pack}
 use Rattle.cards.specs.Cards.{Cards}
 use Rattle.cards.proofs.CardBitsLemmas.{height_below}
 use Rattle.cards.specs.CardBits.{same_number}
-use Rattle.cards.specs.Suit.{suit_number}
+use Rattle.table_terms.specs.Suit.{suit_number}
 use Rattle.cards.specs.Rank.{height}
 use Rattle.cards.specs.Hands.{hand_of}
 use Rattle.std.specs.FinSet as set

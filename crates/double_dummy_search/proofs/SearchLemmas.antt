@@ -6,12 +6,12 @@ use Rattle.std.specs.Ordering.{eq_by_cmp}
 use mathlib.Core.Bool.{beq}
 use Rattle.std.proofs.lemmas.Bool.{cases_Bool, or_cases, or_left, or_right, lt-leb, true≢false}
 use Rattle.cards.specs.declared.card.Card.{Card}
-use Rattle.cards.specs.declared.strain.Strain.{Strain}
+use Rattle.table_terms.specs.declared.strain.Strain.{Strain}
 use Rattle.cards.specs.Card.{card_cmp}
 use Rattle.cards.specs.Cards.{Cards}
 use Rattle.cards.specs.CardBits.{card_cmp_total, tied_is_equal}
 use Rattle.cards.proofs.CardBitsLemmas.{same_cards}
-use Rattle.cards.specs.Place.{side_of}
+use Rattle.table_terms.specs.Place.{side_of}
 use Rattle.cards.specs.Hands.{hand_of}
 use Rattle.std.specs.FinSet as set
 use Rattle.cards.specs.Play.{Position, after, cards_left, legal, legal_of, point, to_play}

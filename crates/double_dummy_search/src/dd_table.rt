@@ -7,10 +7,11 @@ ghost use Rattle.solver_results.specs.DdTable.{IsTricksIn};
 use crate::asking::value;
 use crate::budget::{Budget, BudgetSpent};
 use crate::error::SolveError;
-use cards::{Deal, Place, Position, Side, Strain};
+use cards::{Deal, Position};
 use position_patterns::{DealPatterns, Holders, Memory};
 use solver_results::{DdTable, DeclarerTricks};
 use std::alloc::Global;
+use table_terms::{Place, Side, Strain};
 
 /// The deal's double-dummy table.
 pub fn table(alloc: Global, deal: Deal, budget: &mut Budget) -> Result<DdTable, SolveError>

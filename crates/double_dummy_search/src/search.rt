@@ -1,4 +1,4 @@
-ghost use Rattle.cards.specs.Place.{side_of};
+ghost use Rattle.table_terms.specs.Place.{side_of};
 ghost use Rattle.cards.specs.Play.{to_play};
 ghost use Rattle.double_dummy_laws.specs.Found.{wanted};
 ghost use Rattle.cards.specs.Play.{cards_left};
@@ -12,8 +12,9 @@ ghost use Rattle.cards.specs.declared.card.Card.{Card};
 use crate::budget::{Budget, BudgetSpent};
 use crate::order::best;
 use crate::{run, trick};
-use cards::{Hand, Position, Side, Trick};
+use cards::{Hand, Position, Trick};
 use position_patterns::{DealPatterns, Finding, Holders, Memory};
+use table_terms::Side;
 
 /// The known cards with those that decided, and the whole run of a card of them.
 fn learnt(known: Hand, decisive: Hand, run: Hand) -> Hand

@@ -3,9 +3,10 @@ ghost use Rattle.double_dummy_laws.specs.Known.{IsKnown, IsAbove, IsSettled, IsT
 ghost use Rattle.double_dummy_laws.specs.Renaming.{Ownership, knowing};
 ghost use Rattle.std.specs.Prelude.{◌≡◌, ◌≤◌, ◌↔◌, IsTrue};
 ghost use Rattle.cards.specs.declared.card.Card.{Card};
-ghost use Rattle.cards.specs.Strain.{trump_of};
+ghost use Rattle.table_terms.specs.Strain.{trump_of};
 
-use cards::{Card, Hand, Position, Strain, Trick, strength};
+use cards::{Card, Hand, Position, Trick, strength};
+use table_terms::Strain;
 
 /// The winning card of the trick that this card completes, where another card of its suit fell.
 pub fn decisive(position: &Position, card: Card) -> Hand

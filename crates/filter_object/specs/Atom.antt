@@ -4,13 +4,13 @@ use Rattle.std.specs.List.{find}
 use Rattle.std.specs.Str.{bytes_eq}
 use Rattle.serde_json.specs.Data.{Data}
 use Rattle.serde_json.specs.Find.{get, as_bool, as_i64, as_number, as_str}
-use Rattle.cards.specs.declared.place.Place.{Place}
-use Rattle.cards.specs.declared.strain.Strain.{Strain}
-use Rattle.cards.specs.declared.vulnerability.Vulnerability.{Vulnerability}
-use Rattle.cards.specs.declared.vulnerability.Vulnerability.TheVariants.{Neither, NorthSouth, EastWest, Both}
-use Rattle.cards.specs.Place.{place_letter}
-use Rattle.cards.specs.Strain.{strain_letter}
-use Rattle.cards.specs.Vulnerability.{vulnerability_text}
+use Rattle.table_terms.specs.declared.place.Place.{Place}
+use Rattle.table_terms.specs.declared.strain.Strain.{Strain}
+use Rattle.table_terms.specs.declared.vulnerability.Vulnerability.{Vulnerability}
+use Rattle.table_terms.specs.declared.vulnerability.Vulnerability.TheVariants.{Neither, NorthSouth, EastWest, Both}
+use Rattle.table_terms.specs.Place.{place_letter}
+use Rattle.table_terms.specs.Strain.{strain_letter}
+use Rattle.table_terms.specs.Vulnerability.{vulnerability_text}
 use Rattle.json_fields.specs.Doubling.{doubling_numbered}
 use Rattle.json_fields.specs.Field.{limited, named, small}
 use Rattle.json_fields.specs.Form.{Form, Member, applied, form, ◌with◌, formed, has_only}

@@ -9,7 +9,7 @@ ghost use Rattle.json_fields.specs.Form.{formed};
 ghost use Rattle.json_fields.specs.Letter.{place_named, strain_named};
 ghost use Rattle.filter_object.specs.Atom.{marking_named, most, least, bounds, score, score_bounds, declarer, trumps, double_dummy, atom_called};
 
-use cards::{Place, Strain, Vulnerability};
+use table_terms::{Place, Strain, Vulnerability};
 use json_fields::{
     doubling_numbered, has_only, place_named, small_number_at, strain_named, text_at,
 };

@@ -1,4 +1,6 @@
 pub mod FormLemmas
 pub mod LetterLemmas
 pub mod ListLemmas
+pub mod MemberLemmas
+pub mod ReadingLemmas
 pub mod TableLemmas

@@ -1,12 +1,12 @@
 -- Texts of one letter: a place, a strain.
 use Rattle.std.specs.Prelude.{ℕ, List, [], ◌∷◌, ◌==◌, Option, None}
 use Rattle.std.specs.List.{find}
-use Rattle.cards.specs.declared.place.Place.{Place}
-use Rattle.cards.specs.declared.place.Place.TheVariants.{North, East, South, West}
-use Rattle.cards.specs.declared.strain.Strain.{Strain}
-use Rattle.cards.specs.declared.strain.Strain.TheVariants as strain
-use Rattle.cards.specs.Place.{place_letter}
-use Rattle.cards.specs.Strain.{strain_letter}
+use Rattle.table_terms.specs.declared.place.Place.{Place}
+use Rattle.table_terms.specs.declared.place.Place.TheVariants.{North, East, South, West}
+use Rattle.table_terms.specs.declared.strain.Strain.{Strain}
+use Rattle.table_terms.specs.declared.strain.Strain.TheVariants as strain
+use Rattle.table_terms.specs.Place.{place_letter}
+use Rattle.table_terms.specs.Strain.{strain_letter}
 
 -- the place whose letter the text is
 abbrev pub place_named : List ℕ → Option Place

@@ -8,8 +8,8 @@ ghost use Rattle.serde_json.specs.View.{view, members_view};
 ghost use Rattle.json_fields.specs.Form.{names_are, has_only};
 ghost use Rattle.json_fields.specs.Field.{text_at, number, small, at_most, called};
 
-use cards::Name;
 use serde_json::{Map, Value};
+use user_names::Name;
 
 /// Whether the value is an object and each of its members is listed.
 pub fn has_only(value: &Value, listed: &[&str]) -> bool

@@ -3,7 +3,7 @@
 ghost use Rattle.std.specs.Prelude.{◌≡◌};
 ghost use Rattle.json_fields.specs.Letter.{place_named, strain_named};
 
-use cards::{Place, Strain};
+use table_terms::{Place, Strain};
 
 /// The place whose letter the text is.
 pub fn place_named(text: &str) -> Option<Place>

@@ -1,7 +1,7 @@
 -- What stands in the rows of a section by table and round, and by cell.
 use Rattle.std.proofs.Common.{◌≡◌, ℕ, ◌+◌, ◌-◌, ◌*◌, ◌%◌, ◌<◌, ◌≤◌, refl, Any, arith}
 use Rattle.std.proofs.Math.Nat.{add-sub_cancel}
-use Rattle.cards.specs.declared.side.Side.TheVariants.{EastWest}
+use Rattle.table_terms.specs.declared.side.Side.TheVariants.{EastWest}
 use Rattle.movement.specs.declared.cell.Cell.{Cell}
 use Rattle.movement.specs.Movement.{Section, Row, IsSection, IsOfSet, HasCell, IsCell, boards_of, row_of, rows, table_of, set_on}
 use Rattle.movement.specs.Row.{IsAt, IsCellInRange, board_of_set}

@@ -1,7 +1,7 @@
 -- No two rows of a section agree where the movement keeps them apart.
 use Rattle.std.proofs.Common.{◌≡◌, ℕ, sym, ap, ◌∙◌, inl, inr, Contains, arith}
-use Rattle.cards.specs.declared.pair.Pair.{Pair}
-use Rattle.cards.specs.declared.side.Side.TheVariants.{NorthSouth, EastWest}
+use Rattle.table_terms.specs.declared.pair.Pair.{Pair}
+use Rattle.table_terms.specs.declared.side.Side.TheVariants.{NorthSouth, EastWest}
 use Rattle.movement.specs.declared.cell.Cell.{Cell}
 use Rattle.movement.specs.Movement.{Section, Row, IsSection, HasCell, rows, table_of, set_on}
 use Rattle.movement.specs.Row.{Plays, Seats}

@@ -2,7 +2,7 @@
 use Rattle.std.proofs.Common.{◌≡◌, ℕ, ◌+◌, ◌<◌, ◌≤◌, List, refl, map, get_or, ap, sym, Contains, Any, All, arith}
 use Rattle.std.specs.List.{range_with_len}
 use Rattle.std.proofs.lemmas.List.Elements.{Contains-get_or}
-use Rattle.cards.specs.declared.side.Side.TheVariants.{NorthSouth, EastWest}
+use Rattle.table_terms.specs.declared.side.Side.TheVariants.{NorthSouth, EastWest}
 use Rattle.movement.specs.Movement.{Section, Row, IsSection, row_of, rows, table_of, set_on}
 use Rattle.movement.specs.Row.{IsInRange}
 use Rattle.movement.proofs.ContainsLemmas.{Contains-range, range-contains, Contains-map_range, map_range-contains, Contains-flat_map, flat_map-contains}

@@ -1,7 +1,7 @@
 -- What a row of the movement says of a table, a pair and a board, and in which range its numbers are.
 use Rattle.std.specs.Prelude.{◌≡◌, ℕ, ◌+◌, ◌-◌, ◌*◌, ◌≤◌, ◌⊎◌}
-use Rattle.cards.specs.declared.pair.Pair.{Pair}
-use Rattle.cards.specs.declared.side.Side.TheVariants.{NorthSouth, EastWest}
+use Rattle.table_terms.specs.declared.pair.Pair.{Pair}
+use Rattle.table_terms.specs.declared.side.Side.TheVariants.{NorthSouth, EastWest}
 use Rattle.movement.specs.Movement.{Section, Row, IsOfSet, boards_of}
 use Rattle.movement.specs.declared.cell.Cell.{Cell}
 

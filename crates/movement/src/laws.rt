@@ -1,7 +1,7 @@
 //! What holds of every movement: who and what is in range, and that no pair meets a set or an opponent again.
 
 ghost use Rattle.std.specs.Prelude.{◌≡◌, ℕ, Contains};
-ghost use Rattle.cards.specs.declared.pair.Pair.{Pair};
+ghost use Rattle.table_terms.specs.declared.pair.Pair.{Pair};
 ghost use Rattle.movement.specs.Movement.{Section, Row, IsSection, rows, HasCell, IsCell};
 ghost use Rattle.movement.specs.Row.{Plays, Seats, IsInRange, IsCellInRange};
 ghost use Rattle.movement.specs.declared.cell.Cell.{Cell};

@@ -1,16 +1,16 @@
 ghost use Rattle.std.specs.Prelude.{◌≡◌, ℕ, ◌+◌, ◌-◌, ◌*◌, ◌<◌, ◌≤◌, Any, All, IfOk, OnOk, IfErr, IfSome, IfNone, IsBitSet, IsTrue, ◌↔◌};
 ghost use Rattle.movement.specs.Movement.{Section, IsSection, IsOfSet, HasCell, IsCell, boards_of, rows};
 ghost use Rattle.movement.specs.Row.{IsAt, Seats, Plays, board_of_set, IsCellInRange};
-ghost use Rattle.cards.specs.First.{IsFirst};
+ghost use Rattle.user_names.specs.First.{IsFirst};
 ghost use Rattle.movement.specs.Refusal.{Refuses, number_of};
-ghost use Rattle.cards.specs.declared.side.Side.TheVariants.{EastWest};
+ghost use Rattle.table_terms.specs.declared.side.Side.TheVariants.{EastWest};
 ghost use Rattle.movement.specs.declared.movement_error.MovementError.{MovementError};
 
 use crate::cell::Cell;
 use crate::mitchell;
 use crate::movement_error::MovementError;
-use cards::{Pair, Side};
 use std::marker::Model;
+use table_terms::{Pair, Side};
 
 /// Who plays what, where and when in one section of a plain Mitchell movement.
 #[derive(Clone, Copy, Debug, PartialEq, Eq)]

@@ -1,8 +1,8 @@
 -- How a board is written.
 use Rattle.std.specs.Prelude.{ℕ, List, [], ◌∷◌, ◌++◌, codes}
 use Rattle.std.specs.Fmt.{decimal}
-use Rattle.cards.specs.Place.{place_letter}
-use Rattle.cards.specs.Vulnerability.{vulnerability_text}
+use Rattle.table_terms.specs.Place.{place_letter}
+use Rattle.table_terms.specs.Vulnerability.{vulnerability_text}
 use Rattle.cards.specs.HandText.{deal_text}
 use Rattle.pbn_records.specs.declared.board.Board.{Board}
 

@@ -4,12 +4,12 @@ use Rattle.std.specs.Prelude.{All, codes, Option, Some, None, IfSome, IfNone}
 use Rattle.std.specs.Str.{IsAscii}
 use Rattle.std.specs.Char.{to_ascii_uppercase}
 use Rattle.std.proofs.lemmas.List.Elements.{All-append}
-use Rattle.cards.specs.declared.place.Place.{Place}
+use Rattle.table_terms.specs.declared.place.Place.{Place}
 use Rattle.cards.specs.declared.rank.Rank.{Rank}
-use Rattle.cards.specs.declared.suit.Suit.{Suit}
+use Rattle.table_terms.specs.declared.suit.Suit.{Suit}
 use Rattle.cards.specs.Rank.{rank_letter}
 use Rattle.cards.specs.CardBits.{each_rank}
-use Rattle.cards.specs.Place.{left_of, partner_of}
+use Rattle.table_terms.specs.Place.{left_of, partner_of}
 use Rattle.cards.specs.Cards.{Cards}
 use Rattle.cards.specs.Hands.{Hands, hand_of, IsDeal}
 use Rattle.cards.specs.HandReading.{Names, IsHoldingText, IsHandText}

@@ -5,14 +5,14 @@ use Rattle.std.specs.List.{list_all}
 use Rattle.std.specs.Char.{to_ascii_uppercase, to_ascii_lowercase}
 use Rattle.std.proofs.lemmas.Bool.{cases_Bool, eqb-true}
 use Rattle.std.proofs.lemmas.List.Folds.{list_all-append}
-use Rattle.cards.specs.declared.place.Place.{Place}
-use Rattle.cards.specs.declared.place.Place.TheVariants.{North, East, South, West}
-use Rattle.cards.specs.declared.vulnerability.Vulnerability.{Vulnerability}
-use Rattle.cards.specs.declared.vulnerability.Vulnerability.TheVariants.{Neither, NorthSouth, EastWest, Both}
+use Rattle.table_terms.specs.declared.place.Place.{Place}
+use Rattle.table_terms.specs.declared.place.Place.TheVariants.{North, East, South, West}
+use Rattle.table_terms.specs.declared.vulnerability.Vulnerability.{Vulnerability}
+use Rattle.table_terms.specs.declared.vulnerability.Vulnerability.TheVariants.{Neither, NorthSouth, EastWest, Both}
 use Rattle.cards.specs.declared.rank.Rank.{Rank}
 use Rattle.cards.specs.Rank.{rank_letter}
 use Rattle.cards.specs.CardBits.{each_rank}
-use Rattle.cards.specs.Place.{place_letter}
+use Rattle.table_terms.specs.Place.{place_letter}
 use Rattle.cards.specs.Hands.{Hands}
 use Rattle.cards.specs.HandReading.{Names, IsHandText}
 use Rattle.pbn_records.specs.Values.{read_value}

@@ -3,11 +3,11 @@ use Rattle.std.proofs.Common.{◌≡◌, ℕ, suc, ◌+◌, ◌-◌, ◌<◌, �
 use Rattle.std.specs.Prelude.{Option, Some, None, slice_get, codes, bytes_eq, if◌then◌else◌}
 use Rattle.std.specs.Char.{to_ascii_lowercase}
 use Rattle.std.proofs.lemmas.Bool.{cases_Bool}
-use Rattle.cards.specs.declared.place.Place.{Place}
-use Rattle.cards.specs.declared.vulnerability.Vulnerability.{Vulnerability}
-use Rattle.cards.specs.declared.vulnerability.Vulnerability.TheVariants.{Neither, NorthSouth, EastWest, Both}
+use Rattle.table_terms.specs.declared.place.Place.{Place}
+use Rattle.table_terms.specs.declared.vulnerability.Vulnerability.{Vulnerability}
+use Rattle.table_terms.specs.declared.vulnerability.Vulnerability.TheVariants.{Neither, NorthSouth, EastWest, Both}
 use Rattle.cards.specs.Hands.{Hands, IsDeal}
-use Rattle.cards.proofs.Law2Lemmas.{one_dealer, one_marking}
+use Rattle.table_terms.proofs.Law2Lemmas.{one_dealer, one_marking}
 use Rattle.pbn_pieces.proofs.CutLemmas.{some_same, cut_once}
 use Rattle.pbn_records.specs.declared.board.Board.{Board}
 use Rattle.pbn_records.specs.declared.used.Used.TheVariants as used

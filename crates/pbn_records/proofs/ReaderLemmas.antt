@@ -1,8 +1,8 @@
 -- A game's board and its marks, by its tags as they are written.
 use Rattle.std.proofs.Common.{◌≡◌, ℕ, Bool, false, List, sym, ap, subst, ◌∙◌}
 use Rattle.std.specs.Prelude.{Option, Some, None, IfNone, not, if◌then◌else◌}
-use Rattle.cards.specs.declared.place.Place.{Place}
-use Rattle.cards.specs.declared.vulnerability.Vulnerability.{Vulnerability}
+use Rattle.table_terms.specs.declared.place.Place.{Place}
+use Rattle.table_terms.specs.declared.vulnerability.Vulnerability.{Vulnerability}
 use Rattle.pbn_records.specs.declared.used.Used.TheVariants as used
 use Rattle.pbn_records.specs.declared.tag_at.TagAt.{TagAt}
 use Rattle.pbn_records.specs.Tags.{Valued}

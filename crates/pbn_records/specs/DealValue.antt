@@ -2,9 +2,9 @@
 -- from there.
 use Rattle.std.specs.Prelude.{◌≡◌, ◌==◌, ℕ, List, [], ◌∷◌, ◌++◌, if◌then◌else◌, All, count_by, codes, nat_eq, ◌⊎◌, Option, Some, None}
 use Rattle.std.specs.Char.{to_ascii_uppercase}
-use Rattle.cards.specs.declared.place.Place.{Place}
+use Rattle.table_terms.specs.declared.place.Place.{Place}
 use Rattle.cards.specs.declared.rank.Rank.{Rank}
-use Rattle.cards.specs.Place.{place_letter, left_of, partner_of}
+use Rattle.table_terms.specs.Place.{place_letter, left_of, partner_of}
 use Rattle.cards.specs.Hands.{Hands, hand_of, IsDeal}
 use Rattle.cards.specs.HandReading.{Names, IsHandText}
 

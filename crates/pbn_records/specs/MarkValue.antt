@@ -1,11 +1,11 @@
 -- The values of the tags Dealer and Vulnerable (PBN 2.1, in this project's profile).
 use Rattle.std.specs.Prelude.{◌≡◌, ℕ, Bool, true, false, ◌||◌, List, [], ◌∷◌, map, codes, bytes_eq, ◌⊎◌, Option, Some, None}
 use Rattle.std.specs.Char.{to_ascii_lowercase, to_ascii_uppercase}
-use Rattle.cards.specs.declared.place.Place.{Place}
-use Rattle.cards.specs.declared.vulnerability.Vulnerability.{Vulnerability}
-use Rattle.cards.specs.declared.vulnerability.Vulnerability.TheVariants.{Neither, NorthSouth, EastWest, Both}
-use Rattle.cards.specs.Place.{place_letter}
-use Rattle.cards.specs.Law2.{IsDealer, IsMarked}
+use Rattle.table_terms.specs.declared.place.Place.{Place}
+use Rattle.table_terms.specs.declared.vulnerability.Vulnerability.{Vulnerability}
+use Rattle.table_terms.specs.declared.vulnerability.Vulnerability.TheVariants.{Neither, NorthSouth, EastWest, Both}
+use Rattle.table_terms.specs.Place.{place_letter}
+use Rattle.table_terms.specs.Law2.{IsDealer, IsMarked}
 use Rattle.pbn_records.specs.Tags.{Valued}
 
 -- a value that says nothing: none, or `?`

@@ -1,4 +1,5 @@
-use cards::{Deal, Place, Vulnerability};
+use cards::Deal;
+use table_terms::{Place, Vulnerability};
 
 /// A board: its deal and its marks.
 #[derive(Clone, Copy)]

@@ -4,9 +4,10 @@ ghost use Rattle.pbn_records.specs.declared.board.Board.{Board};
 ghost use Rattle.pbn_records.specs.InOrder.{HasEach};
 
 use crate::board::Board;
-use cards::{Deal, Place, Vulnerability};
+use cards::Deal;
 use indexmap::IndexMap;
 use std::marker::Model;
+use table_terms::{Place, Vulnerability};
 
 /// A deal, a dealer and a vulnerability for each board from 1.
 #[derive(Drop)]

@@ -1,5 +1,5 @@
 ghost use Rattle.std.specs.Prelude.{◌≡◌, ◌≢◌, ◌↔◌, ◌⊎◌, ℕ, List, [], ◌∷◌, ◌++◌, All, count_by, nat_eq, codes, length, None, IsTrue, IfSome, IfNone, IfOk, IfErr, OnOk};
-ghost use Rattle.cards.specs.declared.place.Place.{Place};
+ghost use Rattle.table_terms.specs.declared.place.Place.{Place};
 ghost use Rattle.cards.specs.Cards.{Cards};
 ghost use Rattle.cards.specs.Hands.{Hands, IsDeal};
 ghost use Rattle.cards.specs.FourHands.{clockwise_from};
@@ -10,8 +10,9 @@ ghost use Rattle.pbn_records.specs.Faults.{DealFault};
 use crate::fault::Fault;
 use crate::parts::{DealParts, deal_parts};
 use crate::tag_at::TagAt;
-use cards::{Deal, Hand, NotADeal, Place, Rank};
+use cards::{Deal, Hand, NotADeal, Rank};
 use std::str;
+use table_terms::Place;
 
 /// The deal of a tag's value.
 pub(crate) fn read_deal(tag: &TagAt<'_>) -> Result<Deal, Fault>

@@ -1,11 +1,11 @@
 ghost use Rattle.std.specs.Prelude.{◌≡◌, IfSome, IfNone};
-ghost use Rattle.cards.specs.declared.place.Place.{Place};
-ghost use Rattle.cards.specs.declared.vulnerability.Vulnerability.{Vulnerability};
+ghost use Rattle.table_terms.specs.declared.place.Place.{Place};
+ghost use Rattle.table_terms.specs.declared.vulnerability.Vulnerability.{Vulnerability};
 ghost use Rattle.pbn_records.specs.MarkValue as marks;
 ghost use Rattle.pbn_records.specs.MarkValue.{IsDealerValue, IsVulnerableValue};
 ghost use Rattle.pbn_records.specs.Values as values;
 
-use cards::{Place, Vulnerability};
+use table_terms::{Place, Vulnerability};
 
 /// Whether a value says nothing.
 pub(crate) fn is_open(value: &[u8]) -> bool

@@ -1,12 +1,12 @@
 ghost use Rattle.std.specs.Prelude.{◌≡◌, ◌≢◌, ◌++◌, ℕ, List, [], ◌∷◌, All, IfSome, IfNone};
 ghost use Rattle.std.specs.Char as char_words;
-ghost use Rattle.cards.specs.declared.place.Place.{Place};
-ghost use Rattle.cards.specs.Place.{place_letter};
+ghost use Rattle.table_terms.specs.declared.place.Place.{Place};
+ghost use Rattle.table_terms.specs.Place.{place_letter};
 ghost use Rattle.pbn_records.specs.DealValue.{parts, four_of, HasParts};
 ghost use Rattle.pbn_records.specs.FourParts.{kept_parts};
 
 use crate::tag_at::TagAt;
-use cards::Place;
+use table_terms::Place;
 
 /// What stands between the spaces of a value, in four parts.
 #[derive(Clone, Copy)]

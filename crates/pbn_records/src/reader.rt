@@ -1,5 +1,5 @@
 ghost use Rattle.std.specs.Prelude.{◌≡◌, ◌≤◌, ◌↔◌, ℕ, true, false, IsTrue, Option, Some, None, IfSome, IfNone};
-ghost use Rattle.cards.specs.declared.place.Place.{Place};
+ghost use Rattle.table_terms.specs.declared.place.Place.{Place};
 ghost use Rattle.pbn_records.specs.declared.fault.Fault.{Fault};
 ghost use Rattle.pbn_records.specs.declared.fault.Fault.TheVariants.{BadMark, DealConflict};
 ghost use Rattle.pbn_records.specs.Values.{Values, read_value};
@@ -18,7 +18,8 @@ use crate::mark_value::{dealer, is_inherited_form, is_open, vulnerability};
 use crate::number::number_within;
 use crate::tag_at::TagAt;
 use crate::used::Used;
-use cards::{Deal, Place, Vulnerability, dealer_of, vulnerability_of};
+use cards::Deal;
+use table_terms::{Place, Vulnerability, dealer_of, vulnerability_of};
 
 /// The board of a game, unless the game is ignored.
 pub(crate) fn board_of(values: &UsedTags<'_>, boards: u8) -> Option<u8>

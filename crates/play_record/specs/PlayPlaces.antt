@@ -2,7 +2,7 @@
 use Rattle.std.specs.Prelude.{◌≡◌, ◌-◌, ◌≤◌, List, ◌++◌, length, take, drop, replicate}
 use Rattle.std.proofs.Common.{sym, ap, subst, ◌∙◌, take-append-drop, length-take-le}
 use Rattle.cards.specs.declared.card.Card.{Card}
-use Rattle.cards.specs.declared.suit.Suit.TheVariants.{Spades}
+use Rattle.table_terms.specs.declared.suit.Suit.TheVariants.{Spades}
 use Rattle.cards.specs.declared.rank.Rank.TheVariants.{Two}
 use Rattle.play_record.specs.declared.play.Play.TheInside.{Inside}
 

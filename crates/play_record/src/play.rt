@@ -2,8 +2,9 @@ ghost use Rattle.std.specs.Prelude.{◌≡◌, ◌<◌, ◌≤◌, [], length, s
 ghost use Rattle.std.specs.List.{list_any};
 ghost use Rattle.play_record.specs.Play.{same_card, has_repeat};
 
-use cards::{Card, Rank, Suit};
+use cards::{Card, Rank};
 use std::marker::Model;
+use table_terms::Suit;
 
 /// The cards of a board as they were played, in their order: at most 52, which lie in the value itself.
 #[derive(Clone, Copy, Debug)]

@@ -4,18 +4,18 @@ use Rattle.std.proofs.Math.Nat.{pow-suc, mul_comm}
 use Rattle.std.proofs.lemmas.Nat.{one_shl, and_mask}
 use Rattle.std.proofs.Math.Pow.{pow_mono}
 use Rattle.cards.specs.declared.card.Card.{Card}
-use Rattle.cards.specs.declared.suit.Suit.{Suit}
+use Rattle.table_terms.specs.declared.suit.Suit.{Suit}
 use Rattle.cards.specs.declared.rank.Rank.{Rank}
 use Rattle.cards.specs.declared.rank.Rank.TheVariants.{Two, Three, Four, Five, Six, Seven, Eight, Nine, Ten, Jack, Queen, King, Ace}
-use Rattle.cards.specs.declared.place.Place.{Place}
-use Rattle.cards.specs.declared.place.Place.TheVariants.{North, East, South, West}
+use Rattle.table_terms.specs.declared.place.Place.{Place}
+use Rattle.table_terms.specs.declared.place.Place.TheVariants.{North, East, South, West}
 use Rattle.cards.specs.Hands.{Hands}
 use Rattle.cards.specs.Cards.{Cards}
 use Rattle.std.proofs.lemmas.Bool.{true≢false}
 use Rattle.cards.specs.CardBits.{each_rank}
 use Rattle.cards.specs.Rank.{height, ranks_down}
 use Rattle.std.specs.FinSet as set
-use Rattle.cards.specs.Place.{place_number}
+use Rattle.table_terms.specs.Place.{place_number}
 use Rattle.position_patterns.proofs.DigitLemmas.{digit_below}
 use Rattle.position_patterns.proofs.SetLemmas.{inserted, still_inserted}
 use Rattle.position_patterns.specs.Tops.{IsReach, digits, lengths_number, place_weight}

@@ -3,7 +3,7 @@ use Rattle.std.specs.Prelude.{◌≡◌, ◌&&◌, true}
 use Rattle.cards.specs.Cards.{Cards}
 use Rattle.cards.specs.Hands.{Hands, hand_of}
 use Rattle.cards.specs.declared.card.Card.{Card}
-use Rattle.cards.specs.declared.place.Place.{Place}
+use Rattle.table_terms.specs.declared.place.Place.{Place}
 use Rattle.std.specs.FinSet as set
 use Rattle.position_patterns.specs.declared.deal_patterns.Remainder.{Remainder}
 use Rattle.cards.specs.Play.{IsApart, is_of}

@@ -2,16 +2,16 @@
 use Rattle.std.specs.Prelude.{◌≡◌, ℕ, ◌+◌, ◌%◌, ◌^◌, ◌≤◌, true, length, List, [], ◌∷◌, ◌*◌}
 use Rattle.cards.specs.Cards.{Cards}
 use Rattle.cards.specs.declared.card.Card.{Card}
-use Rattle.cards.specs.declared.suit.Suit.{Suit}
-use Rattle.cards.specs.declared.suit.Suit.TheVariants.{Spades, Hearts, Diamonds, Clubs}
-use Rattle.cards.specs.declared.place.Place.{Place}
-use Rattle.cards.specs.declared.place.Place.TheVariants.{North, East, South, West}
+use Rattle.table_terms.specs.declared.suit.Suit.{Suit}
+use Rattle.table_terms.specs.declared.suit.Suit.TheVariants.{Spades, Hearts, Diamonds, Clubs}
+use Rattle.table_terms.specs.declared.place.Place.{Place}
+use Rattle.table_terms.specs.declared.place.Place.TheVariants.{North, East, South, West}
 use Rattle.std.specs.FinSet as set
 use Rattle.position_patterns.specs.declared.pattern.SuitTops.{SuitTops}
 use Rattle.position_patterns.specs.declared.pattern.SuitPattern.{SuitPattern}
 use Rattle.position_patterns.specs.declared.pattern.Pattern.{Pattern}
 use Rattle.position_patterns.specs.declared.pattern.Entry.{Entry}
-use Rattle.cards.specs.Place.{place_number}
+use Rattle.table_terms.specs.Place.{place_number}
 use Rattle.cards.specs.Play.{Position, cards_left}
 use Rattle.double_dummy_laws.specs.Found.{IsFound}
 use Rattle.double_dummy_laws.specs.Pattern.{Held, IsTop, holding}

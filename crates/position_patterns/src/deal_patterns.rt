@@ -4,13 +4,14 @@ ghost use Rattle.position_patterns.specs.Tops.{IsPatternOf, pattern_of};
 ghost use Rattle.double_dummy_laws.specs.Pattern.{holding};
 ghost use Rattle.std.specs.Prelude.{◌≡◌, ◌<◌, All, IfOk, IsTrue, length};
 ghost use Rattle.std.specs.FinSet as set;
-ghost use Rattle.cards.specs.declared.suit.Suit.{Suit};
+ghost use Rattle.table_terms.specs.declared.suit.Suit.{Suit};
 ghost use Rattle.std.proofs.Props.{props};
 
 use crate::holders::Holders;
 use crate::pattern::{Pattern, SuitPattern};
-use cards::{Card, Hand, Rank, Suit};
+use cards::{Card, Hand, Rank};
 use std::alloc::{AllocError, Global};
+use table_terms::Suit;
 
 /// The cards that are left of a suit, and their pattern.
 #[derive(Clone, Copy)]

@@ -5,8 +5,9 @@ ghost use Rattle.cards.specs.Play.{IsApart, is_of};
 ghost use Rattle.position_patterns.specs.Remainder.{IsAmong, IsPartOf, all_held};
 ghost use Rattle.double_dummy_laws.specs.Pattern.{holder_of};
 
-use cards::{Card, Deal, Hand, Place, Position, Suit};
+use cards::{Card, Deal, Hand, Position};
 use std::marker::Model;
+use table_terms::{Place, Suit};
 
 /// What the four players hold.
 #[derive(Clone, Copy, Debug)]

@@ -1,5 +1,5 @@
 ghost use Rattle.cards.specs.Play.{IsApart};
-ghost use Rattle.cards.specs.declared.suit.Suit.{Suit};
+ghost use Rattle.table_terms.specs.declared.suit.Suit.{Suit};
 ghost use Rattle.double_dummy_laws.specs.Found.{IsFound};
 ghost use Rattle.double_dummy_laws.specs.Pattern.{holding};
 ghost use Rattle.position_patterns.specs.Tops.{IsPatternOf, IsTruePattern, pattern_of};
@@ -10,8 +10,9 @@ use crate::finding::Finding;
 use crate::holders::Holders;
 use crate::pattern::{Entry, Pattern};
 use crate::sketch::{Block, Slot};
-use cards::{Place, Position, Strain};
+use cards::Position;
 use std::alloc::{AllocError, Global};
+use table_terms::{Place, Strain};
 
 // What ends a chain.
 const NONE: u32 = u32::MAX;

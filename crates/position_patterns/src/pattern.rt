@@ -1,4 +1,4 @@
-ghost use Rattle.cards.specs.Place.{place_number};
+ghost use Rattle.table_terms.specs.Place.{place_number};
 ghost use Rattle.cards.specs.Play.{IsApart, cards_left};
 ghost use Rattle.position_patterns.specs.Tops.{HasTopCards, HasTops, IsPatternOf, IsReach, IsTruePattern, Matches, pattern_of, place_weight, tops_of};
 ghost use Rattle.double_dummy_laws.specs.Found.{IsFound};
@@ -6,11 +6,12 @@ ghost use Rattle.double_dummy_laws.specs.Pattern.{IsTop, holder_of, holding};
 ghost use Rattle.std.specs.Prelude.{◌≡◌, ◌<◌, ◌≤◌, ◌+◌, ◌-◌, ◌*◌, ◌%◌, ◌^◌, [], true, false, length, IsTrue, bit_and};
 ghost use Rattle.std.specs.FinSet as set;
 ghost use Rattle.cards.specs.declared.card.Card.{Card};
-ghost use Rattle.cards.specs.declared.suit.Suit.{Suit};
+ghost use Rattle.table_terms.specs.declared.suit.Suit.{Suit};
 
 use crate::finding::Finding;
 use crate::holders::Holders;
-use cards::{Card, Hand, Place, Position, Rank, Strain, Suit};
+use cards::{Card, Hand, Position, Rank};
+use table_terms::{Place, Strain, Suit};
 
 /// A suit's cards that are left: who holds each, the top card's holder in the lowest digit to base 4, and how many
 /// cards each player has, to base 16.

@@ -2,13 +2,13 @@
 use Rattle.std.proofs.Common.{◌≡◌, ℕ, Bool, true, false, List, [], ◌∷◌, ◌++◌, length, refl, sym, ap, subst, ◌∙◌}
 use Rattle.std.specs.Prelude.{Some, Ok, if◌then◌else◌}
 use Rattle.rbac.specs.Authorization.{HasPermission, IsValid, has_permission}
-use Rattle.rbac.specs.declared.operation.Operation.TheVariants.{Audit}
+use Rattle.session_roles.specs.declared.operation.Operation.TheVariants.{Audit}
 use Rattle.rbac.proofs.LawLemmas.{permission_exact}
 use Rattle.session_book.specs.Audit.{audit_rows}
 use Rattle.session_book.specs.Journal.{replay}
 use Rattle.session_book.specs.declared.audit.AuditRow.{AuditRow}
 use Rattle.session_state.specs.SessionState.{SessionState}
-use Rattle.session_state.specs.declared.entry.Entry.{Entry}
+use Rattle.session_commands.specs.declared.entry.Entry.{Entry}
 use Rattle.wire.specs.AuditText.{audit_text, audit_refusal_text}
 use Rattle.wire.specs.Request.{meaning}
 use Rattle.wire.specs.declared.audit_range.AuditRange.{AuditRange}

@@ -2,21 +2,21 @@
 use Rattle.std.proofs.Common.{◌≡◌, ℕ, Bool, true, false, List, [], ◌∷◌, ◌++◌, map, take, drop, length, refl, sym, ap, subst, ◌∙◌}
 use Rattle.std.specs.Prelude.{Option, Some, None, Result, Ok, Err, IfOk, IfErr, is_some, if◌then◌else◌}
 use Rattle.session_book.specs.declared.answer.Answer.TheVariants.{Refused}
-use Rattle.session_state.specs.declared.command.Command.{Command}
-use Rattle.session_state.specs.declared.entry.Entry.{Entry}
-use Rattle.session_state.specs.declared.refusal.Refusal.TheVariants as refusal
+use Rattle.session_commands.specs.declared.command.Command.{Command}
+use Rattle.session_commands.specs.declared.entry.Entry.{Entry}
+use Rattle.session_commands.specs.declared.refusal.Refusal.TheVariants as refusal
 use Rattle.session_book.specs.Journal.{replay}
 use Rattle.session_book.specs.Run.{Progress, run, Runs, first_number, last_number}
 use Rattle.session_state.specs.SessionState.{SessionState}
 use Rattle.session_queries.specs.declared.query.Query.{Query}
-use Rattle.message_fields.specs.declared.request_fault.RequestFault.{RequestFault}
-use Rattle.message_fields.specs.declared.request_fault.RequestFault.TheVariants.{TooLong, Malformed, UnknownRequest, BadField, OutOfMemory}
+use Rattle.json_fields.specs.declared.request_fault.RequestFault.{RequestFault}
+use Rattle.json_fields.specs.declared.request_fault.RequestFault.TheVariants.{TooLong, Malformed, UnknownRequest, BadField, OutOfMemory}
 use Rattle.wire.specs.declared.request.Request.{Request}
 use Rattle.wire.specs.declared.request.RequestBody.TheVariants as body
 use Rattle.wire.specs.declared.source.Source.TheVariants.{Script}
 use Rattle.wire.specs.declared.connection_fault.ConnectionFault.TheVariants.{NotSignedIn}
 use Rattle.wire.specs.Request.{a_query, a_batch, meaning}
-use Rattle.message_fields.specs.Reading.{Fails}
+use Rattle.json_fields.specs.Reading.{Fails}
 use Rattle.wire.specs.ReceiptText.{receipt_text, fault_text, connection_fault_text}
 use Rattle.published_view.specs.Reply.{reply_of}
 use Rattle.reply_texts.specs.ReplyText.{reply_text}

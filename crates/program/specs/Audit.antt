@@ -1,11 +1,11 @@
 -- What responds to a message that asks for an audit.
 use Rattle.std.specs.Prelude.{ℕ, List, if◌then◌else◌, length}
 use Rattle.rbac.specs.Authorization.{has_permission}
-use Rattle.rbac.specs.declared.operation.Operation.TheVariants.{Audit}
+use Rattle.session_roles.specs.declared.operation.Operation.TheVariants.{Audit}
 use Rattle.session_book.specs.Audit.{audit_rows}
 use Rattle.session_book.specs.Journal.{replay}
 use Rattle.session_state.specs.SessionState.{SessionState}
-use Rattle.session_state.specs.declared.entry.Entry.{Entry}
+use Rattle.session_commands.specs.declared.entry.Entry.{Entry}
 use Rattle.wire.specs.AuditText.{audit_text, audit_refusal_text}
 use Rattle.wire.specs.declared.audit_range.AuditRange.{AuditRange}
 

@@ -7,7 +7,7 @@ use Rattle.script_lines.specs.declared.reading.ReadFault.{ReadFault}
 use Rattle.script_lines.specs.declared.reading.ReadFault.TheVariants as read
 use Rattle.script_lines.specs.Lines.{pieces_of, ended_lines, lines_of, first_of}
 use Rattle.session_book.specs.Journal.{Ledger}
-use Rattle.message_fields.specs.declared.request_fault.RequestFault.{RequestFault}
+use Rattle.json_fields.specs.declared.request_fault.RequestFault.{RequestFault}
 use Rattle.wire.specs.ReceiptText.{fault_text}
 use Rattle.program.specs.declared.fault.Fault.{Fault}
 use Rattle.program.specs.declared.fault.Fault.TheVariants.{Input, OutOfMemory}

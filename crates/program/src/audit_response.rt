@@ -9,11 +9,11 @@ ghost use Rattle.program.specs.Standing.{line_of};
 ghost use Rattle.program.specs.Writes.{Responds};
 
 use crate::response::with_line_feed;
-use cards::Name;
-use message_fields::RequestFault;
+use json_fields::RequestFault;
 use session_book::AuditError;
 use session_keeper::PlainKeeper;
 use std::alloc::{AllocError, Global};
+use user_names::Name;
 use wire::{AuditRange, audit_refusal_text, audit_text};
 
 /// The line that responds to a message that asks for an audit. The session stays as it is.

@@ -1,4 +1,4 @@
-use rbac::SeparationSet;
+use session_roles::SeparationSet;
 use session_object::SessionFault;
 use session_opening::OpeningRefusal;
 use thiserror::Error;

@@ -3,7 +3,7 @@
 ghost use Rattle.std.specs.Prelude.{◌≡◌, ◌++◌, ◌∷◌, [], ◌≤◌, ℕ, List, None, Some, Ok, IfOk, IfErr, OnOk, OnErr, length, string_bytes};
 ghost use Rattle.std.specs.Io.KnownBytes.{Appends};
 ghost use Rattle.script_lines.specs.Writing.{WritesPart};
-ghost use Rattle.message_fields.specs.declared.request_fault.RequestFault.TheVariants.{OutOfMemory};
+ghost use Rattle.json_fields.specs.declared.request_fault.RequestFault.TheVariants.{OutOfMemory};
 ghost use Rattle.wire.specs.declared.connection_fault.ConnectionFault.TheVariants.{NotSignedIn};
 ghost use Rattle.wire.specs.declared.source.Source.TheVariants.{Script};
 ghost use Rattle.session_book.specs.Run.{most_commands};
@@ -13,15 +13,15 @@ ghost use Rattle.program.specs.Standing.{line_of};
 ghost use Rattle.program.specs.Writes.{Responds};
 
 use crate::audit_response::response_to_audit;
-use cards::Name;
 use command_object::Commands;
-use message_fields::RequestFault;
+use json_fields::RequestFault;
 use reply_texts::reply_text;
 use script_lines::{WriteFault, write_text};
 use session_keeper::PlainKeeper;
 use session_queries::Query;
 use std::alloc::Global;
 use std::io::Write;
+use user_names::Name;
 use wire::{
     ConnectionFault, Request, RequestBody, Source, connection_fault_text, fault_line, read_request,
     receipt_text,

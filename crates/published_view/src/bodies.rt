@@ -22,8 +22,9 @@ use rbac::{Account, Inheritance};
 use session_queries::{
     Body, Items, Query, analysis_of, costs_of, play_of, push_found, reason_of, shown_results,
 };
-use session_state::room::with_room;
-use session_state::{CellState, Seated, State};
+use session_commands::CellState;
+use session_commands::room::with_room;
+use session_state::{Seated, State};
 use standings::{Earning, add_earnings, ranking_of, traveller_rows};
 use std::alloc::{AllocError, Global};
 

@@ -3,12 +3,12 @@ use Rattle.std.specs.Prelude.{ℕ, ℤ, Bool, true, false, not, nat_le, ◌==◌
 use Rattle.std.specs.Bool.{beq}
 use Rattle.std.specs.List.{list_any}
 use Rattle.std.specs.Str.{bytes_eq}
-use Rattle.cards.specs.declared.place.Place.{Place}
-use Rattle.cards.specs.declared.strain.Strain.{Strain}
-use Rattle.cards.specs.declared.vulnerability.Vulnerability.{Vulnerability}
-use Rattle.cards.specs.Place.{place_letter}
-use Rattle.cards.specs.Strain.{strain_letter}
-use Rattle.cards.specs.Vulnerability.{vulnerability_text}
+use Rattle.table_terms.specs.declared.place.Place.{Place}
+use Rattle.table_terms.specs.declared.strain.Strain.{Strain}
+use Rattle.table_terms.specs.declared.vulnerability.Vulnerability.{Vulnerability}
+use Rattle.table_terms.specs.Place.{place_letter}
+use Rattle.table_terms.specs.Strain.{strain_letter}
+use Rattle.table_terms.specs.Vulnerability.{vulnerability_text}
 use Rattle.scoring.specs.declared.contract.Contract.{Contract}
 use Rattle.scoring.specs.declared.outcome.Outcome.{Outcome}
 use Rattle.scoring.specs.declared.outcome.Outcome.TheVariants.{PassedOut, Played}

@@ -1,9 +1,9 @@
 -- A double-dummy table: a number of tricks for each declarer in each strain.
 use Rattle.std.specs.Prelude.{ℕ}
-use Rattle.cards.specs.declared.place.Place.{Place}
-use Rattle.cards.specs.declared.place.Place.TheVariants.{North, East, South, West}
-use Rattle.cards.specs.declared.strain.Strain.{Strain}
-use Rattle.cards.specs.declared.strain.Strain.TheVariants.{Spades, Hearts, Diamonds, Clubs, NoTrump}
+use Rattle.table_terms.specs.declared.place.Place.{Place}
+use Rattle.table_terms.specs.declared.place.Place.TheVariants.{North, East, South, West}
+use Rattle.table_terms.specs.declared.strain.Strain.{Strain}
+use Rattle.table_terms.specs.declared.strain.Strain.TheVariants.{Spades, Hearts, Diamonds, Clubs, NoTrump}
 use Rattle.query_filter.specs.declared.trick_table.StrainTricks.{StrainTricks}
 use Rattle.query_filter.specs.declared.trick_table.TrickTable.{TrickTable}
 

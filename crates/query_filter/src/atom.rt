@@ -1,6 +1,6 @@
 use crate::bounds::{Bounds, ScoreBounds};
-use cards::{Place, Strain, Vulnerability};
 use scoring::Doubling;
+use table_terms::{Place, Strain, Vulnerability};
 
 /// What a filter asks of a board, on one fact. An atom on results looks for a shown result of its own.
 #[derive(Clone, Copy)]

@@ -1,6 +1,6 @@
 use crate::outcomes::Outcomes;
 use crate::trick_table::TrickTable;
-use cards::{Place, Vulnerability};
+use table_terms::{Place, Vulnerability};
 
 /// What a filter is given of a board: its marks and what is shown of it. A cell that was ruled has no outcome, and a
 /// board whose analysis isn't shown or is still pending has no tricks.

@@ -13,8 +13,8 @@ use crate::board_facts::BoardFacts;
 use crate::bounds::{Bounds, ScoreBounds};
 use crate::condition::Condition;
 use crate::trick_table::TrickTable;
-use cards::{Place, Strain};
 use scoring::{Contract, Doubling, Outcome, ns_score};
+use table_terms::{Place, Strain};
 
 #[cycle(holds)]
 pub(crate) fn holds(condition: &Condition, facts: &BoardFacts) -> bool

@@ -1,8 +1,8 @@
 //! What holds of every filter.
 
 ghost use Rattle.std.specs.Prelude.{◌≡◌, ◌<◌, [], ◌∷◌, true, false, not, None, Any, ℕ, ℤ, ◌<ℤ◌};
-ghost use Rattle.cards.specs.declared.place.Place.{Place};
-ghost use Rattle.cards.specs.declared.strain.Strain.{Strain};
+ghost use Rattle.table_terms.specs.declared.place.Place.{Place};
+ghost use Rattle.table_terms.specs.declared.strain.Strain.{Strain};
 ghost use Rattle.query_filter.specs.declared.atom.Atom.{Atom};
 ghost use Rattle.query_filter.specs.declared.atom.Atom.TheVariants.{DoubleDummy};
 ghost use Rattle.query_filter.specs.declared.board_facts.BoardFacts.{BoardFacts};

@@ -1,7 +1,7 @@
 ghost use Rattle.std.specs.Prelude.{◌≡◌};
 ghost use Rattle.query_filter.specs.TrickTable.{strain_tricks, tricks_of};
 
-use cards::{Place, Strain};
+use table_terms::{Place, Strain};
 
 /// The double-dummy tricks of the four declarers in one strain.
 #[derive(Clone, Copy)]

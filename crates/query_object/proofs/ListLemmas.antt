@@ -4,9 +4,9 @@ use Rattle.query_filter.specs.Formula.{Formula}
 use Rattle.session_queries.specs.declared.query.Query.{Query}
 use Rattle.session_queries.specs.declared.query.Query.TheVariants as query
 use Rattle.json_fields.specs.Form.{applied}
-use Rattle.message_fields.specs.Reading.{wanted, Gives}
-use Rattle.message_fields.specs.declared.request_fault.RequestFault.{RequestFault}
-use Rattle.message_fields.specs.declared.request_fault.RequestFault.TheVariants.{TooLong, Malformed, UnknownRequest, BadField, OutOfMemory}
+use Rattle.json_fields.specs.Reading.{wanted, Gives}
+use Rattle.json_fields.specs.declared.request_fault.RequestFault.{RequestFault}
+use Rattle.json_fields.specs.declared.request_fault.RequestFault.TheVariants.{TooLong, Malformed, UnknownRequest, BadField, OutOfMemory}
 use Rattle.query_object.specs.Query.{IsFiltered}
 
 -- the list that is made of its members, where no other stands beside them

@@ -1,5 +1,5 @@
 -- What is read by each form of the table of queries is what it is.
-use Rattle.message_fields.specs.Field.{table, board}
+use Rattle.json_fields.specs.Message.{table, board}
 use Rattle.query_object.specs.List.{filter, from, limit}
 use Rattle.query_object.specs.Query.{queries}
 use Rattle.json_fields.proofs.FormLemmas.{form_agrees, with_agrees, numbered_agrees}

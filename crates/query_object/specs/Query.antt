@@ -5,7 +5,7 @@ use Rattle.movement.specs.declared.cell.Cell.{Cell}
 use Rattle.session_queries.specs.declared.query.Query.{Query}
 use Rattle.session_queries.specs.declared.query.Query.TheVariants as query
 use Rattle.json_fields.specs.Form.{Form, form, ◌with◌, by_word}
-use Rattle.message_fields.specs.Field.{table, board}
+use Rattle.json_fields.specs.Message.{table, board}
 use Rattle.query_object.specs.List.{filter, from, limit}
 
 -- the cell of a table and a board

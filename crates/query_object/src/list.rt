@@ -3,14 +3,13 @@
 ghost use Rattle.std.specs.Prelude.{◌≡◌, codes, Err, IsSome, IsSomeAnd};
 ghost use Rattle.serde_json.specs.Find.{get};
 ghost use Rattle.serde_json.specs.View.{view};
-ghost use Rattle.message_fields.specs.Reading.{wanted, Gives};
-ghost use Rattle.message_fields.specs.declared.request_fault.RequestFault.TheVariants.{OutOfMemory};
+ghost use Rattle.json_fields.specs.Reading.{wanted, Gives};
+ghost use Rattle.json_fields.specs.declared.request_fault.RequestFault.TheVariants.{OutOfMemory};
 ghost use Rattle.query_object.specs.List.{filter, from, limit};
 ghost use Rattle.query_object.specs.Query.{query_called, IsFiltered};
 
 use filter_object::{FilterFault, read_filter};
-use json_fields::has_only;
-use message_fields::{RequestFault, small_at};
+use json_fields::{RequestFault, has_only, small_at};
 use query_filter::Filter;
 use serde_json::Value;
 use session_queries::Query;

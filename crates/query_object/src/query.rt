@@ -3,13 +3,12 @@
 ghost use Rattle.std.specs.Prelude.{◌≡◌, codes, Err, IsSomeAnd};
 ghost use Rattle.serde_json.specs.View.{view};
 ghost use Rattle.json_fields.specs.Form.{is_word_of};
-ghost use Rattle.message_fields.specs.Reading.{wanted, Gives};
-ghost use Rattle.message_fields.specs.declared.request_fault.RequestFault.TheVariants.{OutOfMemory};
+ghost use Rattle.json_fields.specs.Reading.{wanted, Gives};
+ghost use Rattle.json_fields.specs.declared.request_fault.RequestFault.TheVariants.{OutOfMemory};
 ghost use Rattle.query_object.specs.Query.{queries, query_called, IsFiltered};
 
 use crate::list::list_query;
-use json_fields::has_only;
-use message_fields::{RequestFault, is_one_of, small_at};
+use json_fields::{RequestFault, has_only, is_one_of, small_at};
 use movement::Cell;
 use serde_json::Value;
 use session_queries::Query;

@@ -6,21 +6,21 @@ use Rattle.std.specs.Bool.{Decides}
 use Rattle.std.proofs.lemmas.Bool.{and_parts, and_from}
 use Rattle.std.proofs.lemmas.Bool.Decides.{Decides-at, Decides-like, Decides-and}
 use Rattle.std.proofs.lemmas.List.Folds.{Any-from_list_any, list_any_at}
-use Rattle.rbac.specs.declared.role.Role.{Role}
-use Rattle.rbac.specs.declared.role.Role.TheVariants.{Member}
+use Rattle.session_roles.specs.declared.role.Role.{Role}
+use Rattle.session_roles.specs.declared.role.Role.TheVariants.{Member}
 use Rattle.rbac.specs.declared.inheritance.Inheritance.{Inheritance}
 use Rattle.rbac.specs.declared.account.Account.{Account}
-use Rattle.rbac.specs.declared.separation_set.SeparationSet.{SeparationSet}
-use Rattle.rbac.specs.Role.{roles, role_number, roles_that, has}
+use Rattle.session_roles.specs.declared.separation_set.SeparationSet.{SeparationSet}
+use Rattle.session_roles.specs.Role.{roles, role_number, roles_that, has}
 use Rattle.rbac.specs.Inheritance.{reaches}
 use Rattle.rbac.specs.Hierarchy.{IsClosure, reached_from, is_broken_in}
-use Rattle.rbac.specs.Separation.{apart, has_both}
-use Rattle.rbac.specs.Role.{without_role}
+use Rattle.session_roles.specs.Separation.{apart, has_both}
+use Rattle.session_roles.specs.Role.{without_role}
 use Rattle.rbac.specs.RoleData.{RoleData, deassign_user}
-use Rattle.rbac.specs.Operation.{holds, are_allowed}
-use Rattle.rbac.specs.declared.operation.Operation.{Operation}
+use Rattle.session_roles.specs.Operation.{holds, are_allowed}
+use Rattle.session_roles.specs.declared.operation.Operation.{Operation}
 use Rattle.rbac.specs.Authorization.{HasPermission, IsReached, AreAuthorized, IsBroken, reached, authorized_roles}
-use Rattle.rbac.proofs.RoleLemmas.{has_roles_that, listed_roles_that}
+use Rattle.session_roles.proofs.RoleLemmas.{has_roles_that, listed_roles_that}
 use Rattle.rbac.proofs.HierarchyLemmas.{at_number, number_below}
 use Rattle.rbac.proofs.InheritanceLemmas.{decides_reaches}
 use Rattle.rbac.proofs.ListLemmas.{decides_any}

@@ -5,13 +5,13 @@ use Rattle.std.specs.List.{list_any}
 use Rattle.std.proofs.lemmas.List.Folds.{list_any_more}
 use Rattle.std.proofs.lemmas.List.Elements.{filter_more}
 use Rattle.std.proofs.lemmas.List.{append-nil}
-use Rattle.rbac.specs.declared.role.Role.{Role}
-use Rattle.rbac.specs.declared.role.Role.TheVariants.{Member}
+use Rattle.session_roles.specs.declared.role.Role.{Role}
+use Rattle.session_roles.specs.declared.role.Role.TheVariants.{Member}
 use Rattle.rbac.specs.declared.inheritance.Inheritance.{Inheritance}
-use Rattle.rbac.specs.Role.{roles, role_number, roles_that, same_role, has, with_role, union_of}
+use Rattle.session_roles.specs.Role.{roles, role_number, roles_that, same_role, has, with_role, union_of}
 use Rattle.rbac.specs.Inheritance.{same_inheritance, without_pair, reaches}
 use Rattle.rbac.specs.Hierarchy.{below, reach, IsClosure, HasOneMore}
-use Rattle.rbac.proofs.RoleLemmas.{each_role, has_roles_that, same_roles_that}
+use Rattle.session_roles.proofs.RoleLemmas.{each_role, has_roles_that, same_roles_that}
 use Rattle.rbac.proofs.InheritanceLemmas.{reaches_push}
 
 or_false : (b : Bool) → (b || false) ≡ b

@@ -4,10 +4,10 @@ use Rattle.std.specs.Prelude.{◌||◌, ◌&&◌, not, ◌⊎◌, Contains}
 use Rattle.std.specs.Bool.{Decides}
 use Rattle.std.proofs.lemmas.Bool.Decides.{same_from_decides, Decides-like, Decides-or, Decides-and}
 use Rattle.std.proofs.lemmas.List.Elements.{Contains-append_left, Contains-append_right, Contains-append_cases, Contains-push, Contains-push_cases, All-contains_itself, All-filter, All-contains}
-use Rattle.rbac.specs.declared.role.Role.{Role}
+use Rattle.session_roles.specs.declared.role.Role.{Role}
 use Rattle.rbac.specs.declared.inheritance.Inheritance.{Inheritance}
 use Rattle.rbac.specs.Inheritance.{pair_of, Chain, Reaches, IsAcyclic, same_inheritance, without_pair, reaches}
-use Rattle.rbac.proofs.RoleLemmas.{same_role_decides}
+use Rattle.session_roles.proofs.RoleLemmas.{same_role_decides}
 
 -- a chain and one that leads on from it are a chain
 joined_chain : (pairs : List Inheritance) (n m : ℕ) (senior middle junior : Role) → Chain pairs n senior middle → Chain pairs m middle junior → Reaches pairs senior junior

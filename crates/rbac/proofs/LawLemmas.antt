@@ -5,26 +5,26 @@ use Rattle.std.specs.Option.{option_map_or}
 use Rattle.std.specs.Bool.{Decides}
 use Rattle.rbac.specs.declared.change.Change.{Change}
 use Rattle.rbac.specs.declared.change.Change.TheVariants.{Deassign, DeleteInheritance}
-use Rattle.rbac.specs.Operation.{are_allowed}
+use Rattle.session_roles.specs.Operation.{are_allowed}
 use Rattle.std.specs.List.{Any}
 use Rattle.std.proofs.lemmas.Bool.{both_ways, false≢true, or_right, false_from_ne_true, not_from_false}
 use Rattle.std.proofs.lemmas.Bool.Decides.{same_from_decides}
 use Rattle.std.proofs.lemmas.List.Elements.{All-nil}
 use Rattle.std.proofs.lemmas.List.Folds.{map_fixed}
-use Rattle.rbac.specs.declared.role.Role.{Role}
-use Rattle.rbac.specs.declared.role.Role.TheVariants.{Contestant, Director}
+use Rattle.session_roles.specs.declared.role.Role.{Role}
+use Rattle.session_roles.specs.declared.role.Role.TheVariants.{Contestant, Director}
 use Rattle.rbac.specs.declared.inheritance.Inheritance.{Inheritance}
-use Rattle.rbac.specs.declared.operation.Operation.{Operation}
+use Rattle.session_roles.specs.declared.operation.Operation.{Operation}
 use Rattle.rbac.specs.declared.account.Account.{Account}
-use Rattle.rbac.specs.declared.separation_set.SeparationSet.{SeparationSet}
-use Rattle.rbac.specs.declared.separation_set.SeparationSet.TheVariants.{S1, S2, S3}
-use Rattle.rbac.specs.Role.{has, IsListed, with_role, without_role, same_role}
+use Rattle.session_roles.specs.declared.separation_set.SeparationSet.{SeparationSet}
+use Rattle.session_roles.specs.declared.separation_set.SeparationSet.TheVariants.{S1, S2, S3}
+use Rattle.session_roles.specs.Role.{has, IsListed, with_role, without_role, same_role}
 use Rattle.rbac.specs.Inheritance.{Reaches, pair_of, same_inheritance}
-use Rattle.rbac.specs.Separation.{apart}
+use Rattle.session_roles.specs.Separation.{apart}
 use Rattle.rbac.specs.Account.{HasAccount, IsAssigned, same_name}
 use Rattle.rbac.specs.RoleData.{RoleData, assign_user, deassign_user, delete_inheritance, after}
 use Rattle.rbac.specs.Authorization.{IsReached, IsAuthorized, AreAuthorized, HasPermission, RoleHasPermission, KeepsSeparation, KeepsAssignedApart, IsValid, authorized_roles, has_permission}
-use Rattle.rbac.proofs.RoleLemmas.{same_sets, has_with_role, without_role_absent}
+use Rattle.session_roles.proofs.RoleLemmas.{same_sets, has_with_role, without_role_absent}
 use Rattle.rbac.proofs.InheritanceLemmas.{reaches_on}
 use Rattle.rbac.proofs.ListLemmas.{filter_all}
 use Rattle.rbac.proofs.PairLemmas.{same_pair_decides}

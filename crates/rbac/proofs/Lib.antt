@@ -7,7 +7,4 @@ pub mod ListLemmas
 pub mod PairLemmas
 pub mod RefusalLemmas
 pub mod ReviewLemmas
-pub mod RoleBitsLemmas
-pub mod RoleLemmas
-pub mod SeparationLemmas
 pub mod ValidityLemmas

@@ -9,12 +9,12 @@ use Rattle.std.proofs.lemmas.List.{length_push}
 use Rattle.std.proofs.lemmas.List.Elements.{All-from_recursion, All-contains}
 use Rattle.std.proofs.lemmas.Map.Keys.{IsDistinct-push}
 use Rattle.std.proofs.lemmas.Map.Made.{length-le_from_is_member, IsDistinct-from_count}
-use Rattle.rbac.specs.declared.role.Role.{Role}
-use Rattle.rbac.specs.declared.role.Role.TheVariants.{Member, Spectator, Contestant, Scorer, Director, Administrator}
+use Rattle.session_roles.specs.declared.role.Role.{Role}
+use Rattle.session_roles.specs.declared.role.Role.TheVariants.{Member, Spectator, Contestant, Scorer, Director, Administrator}
 use Rattle.rbac.specs.declared.inheritance.Inheritance.{Inheritance}
-use Rattle.rbac.specs.Role.{roles}
+use Rattle.session_roles.specs.Role.{roles}
 use Rattle.rbac.specs.Inheritance.{most_pairs, pair_of, Chain, IsAcyclic, opening_pairs, same_inheritance}
-use Rattle.rbac.proofs.RoleLemmas.{each_role, same_role_decides}
+use Rattle.session_roles.proofs.RoleLemmas.{each_role, same_role_decides}
 use Rattle.rbac.proofs.ListLemmas.{equivalence}
 
 pub same_pair_decides : (a b : Inheritance) → Decides (same_inheritance a b) (a ≡ b)

@@ -6,10 +6,10 @@ use Rattle.std.specs.Bool.{Decides}
 use Rattle.std.proofs.lemmas.Bool.Decides.{Decides-at}
 use Rattle.std.specs.List.{Any, HoldsAt, list_any}
 use Rattle.std.proofs.lemmas.Bool.{both_ways, and_parts, false≢true}
-use Rattle.rbac.specs.declared.role.Role.{Role}
+use Rattle.session_roles.specs.declared.role.Role.{Role}
 use Rattle.rbac.specs.declared.inheritance.Inheritance.{Inheritance}
 use Rattle.rbac.specs.declared.account.Account.{Account}
-use Rattle.rbac.specs.declared.separation_set.SeparationSet.{SeparationSet}
+use Rattle.session_roles.specs.declared.separation_set.SeparationSet.{SeparationSet}
 use Rattle.rbac.specs.declared.add_user_error.AddUserError.TheVariants.{BadName, UserExists, TooManyUsers}
 use Rattle.rbac.specs.declared.assign_error.AssignError.{AssignError}
 use Rattle.rbac.specs.declared.assign_error.AssignError.TheVariants.{NoSuchUser, AlreadyAssigned, Separation}
@@ -19,22 +19,22 @@ use Rattle.rbac.specs.declared.add_inheritance_error.AddInheritanceError.{AddInh
 use Rattle.rbac.specs.declared.add_inheritance_error.AddInheritanceError.TheVariants as inheritance
 use Rattle.rbac.specs.declared.delete_inheritance_error.DeleteInheritanceError.{DeleteInheritanceError}
 use Rattle.rbac.specs.declared.delete_inheritance_error.DeleteInheritanceError.TheVariants.{NotThere}
-use Rattle.rbac.specs.Role.{has, same_role, with_role, without_role}
+use Rattle.session_roles.specs.Role.{has, same_role, with_role, without_role}
 use Rattle.rbac.specs.Inheritance.{Reaches, pair_of, same_inheritance}
 use Rattle.rbac.specs.Hierarchy.{IsClosure, reach, reached_from, is_broken_in}
-use Rattle.rbac.specs.Separation.{separation_sets, set_number, has_both}
+use Rattle.session_roles.specs.Separation.{separation_sets, set_number, has_both}
 use Rattle.rbac.specs.Account.{is_user_name, HasAccount, IsAssigned, with_change}
 use Rattle.rbac.specs.RoleData.{RoleData, assign_user, deassign_user, add_inheritance}
 use Rattle.rbac.specs.Authorization.{IsReached, IsBroken, IsValid, reached}
 use Rattle.user_names.specs.First.{IsFirst}
 use Rattle.rbac.specs.Refusals.{add_user_place, RefusesUser, assign_place, RefusesAssignment, deassign_place, RefusesDeassignment, inheritance_place, RefusesInheritance, RefusesDeletion}
-use Rattle.rbac.proofs.RoleLemmas.{listed_roles_that, has_roles_that}
+use Rattle.session_roles.proofs.RoleLemmas.{listed_roles_that, has_roles_that}
 use Rattle.rbac.proofs.AccountLemmas.{FoundAt, AreApart, change_is_write, has_account, of_the_one, by_the_one, any_here, same_default}
 use Rattle.rbac.proofs.AuthorizationLemmas.{ReachesBoth, closure_reached, decides_both, decides_broken}
 use Rattle.rbac.proofs.InheritanceLemmas.{decides_reaches}
 use Rattle.rbac.proofs.ListLemmas.{decides_contains}
 use Rattle.rbac.proofs.PairLemmas.{same_pair_decides, same_pair_equivalence}
-use Rattle.rbac.proofs.SeparationLemmas.{first_found, none_found}
+use Rattle.session_roles.proofs.SeparationLemmas.{first_found, none_found}
 use Rattle.rbac.proofs.ValidityLemmas.{breaks_itself, valid_change}
 
 -- the account that is read at a place is the one there

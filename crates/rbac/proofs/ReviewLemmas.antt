@@ -6,14 +6,14 @@ use Rattle.std.specs.List.{list_any}
 use Rattle.std.proofs.lemmas.Bool.{false_from_ne_true}
 use Rattle.std.proofs.lemmas.Bool.Decides.{Decides-like, same_from_decides}
 use Rattle.std.proofs.lemmas.List.{same_lists}
-use Rattle.rbac.specs.declared.role.Role.{Role}
+use Rattle.session_roles.specs.declared.role.Role.{Role}
 use Rattle.rbac.specs.declared.inheritance.Inheritance.{Inheritance}
 use Rattle.rbac.specs.declared.account.Account.{Account}
-use Rattle.rbac.specs.declared.separation_set.SeparationSet.{SeparationSet}
-use Rattle.rbac.specs.Role.{has, with_role, without_role}
+use Rattle.session_roles.specs.declared.separation_set.SeparationSet.{SeparationSet}
+use Rattle.session_roles.specs.Role.{has, with_role, without_role}
 use Rattle.rbac.specs.Inheritance.{same_inheritance}
 use Rattle.rbac.specs.Hierarchy.{IsClosure, reached_from, is_broken_in}
-use Rattle.rbac.specs.Separation.{separation_sets, has_both}
+use Rattle.session_roles.specs.Separation.{separation_sets, has_both}
 use Rattle.rbac.specs.Account.{same_name, with_change}
 use Rattle.rbac.specs.RoleData.{RoleData, assign_user, deassign_user}
 use Rattle.rbac.specs.Authorization.{IsBroken, IsValid, reached}

@@ -7,13 +7,13 @@ use Rattle.std.proofs.lemmas.List.{length_push}
 use Rattle.std.proofs.lemmas.List.Elements.{All-nil, All-push, All-map}
 use Rattle.std.proofs.lemmas.List.Quantifiers.{all_pairs_push}
 use Rattle.std.proofs.lemmas.Map.Keys.{IsDistinct-push}
-use Rattle.rbac.specs.declared.role.Role.{Role}
+use Rattle.session_roles.specs.declared.role.Role.{Role}
 use Rattle.rbac.specs.declared.inheritance.Inheritance.{Inheritance}
 use Rattle.rbac.specs.declared.account.Account.{Account}
-use Rattle.rbac.specs.declared.separation_set.SeparationSet.{SeparationSet}
-use Rattle.rbac.specs.Role.{roles_that, IsListed}
+use Rattle.session_roles.specs.declared.separation_set.SeparationSet.{SeparationSet}
+use Rattle.session_roles.specs.Role.{roles_that, IsListed}
 use Rattle.rbac.specs.Inheritance.{Reaches, pair_of, same_inheritance, without_pair}
-use Rattle.rbac.specs.Separation.{apart}
+use Rattle.session_roles.specs.Separation.{apart}
 use Rattle.rbac.specs.Account.{most_users, is_user_name, same_name, new_account, with_change}
 use Rattle.rbac.specs.RoleData.{RoleData, opening_data, add_user, add_inheritance, delete_inheritance}
 use Rattle.rbac.specs.Authorization.{IsReached, IsBroken, IsValid}

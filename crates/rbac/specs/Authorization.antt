@@ -2,14 +2,14 @@
 use Rattle.std.specs.Prelude.{◌≡◌, ℕ, Bool, true, false, ◌&&◌, List, ◌≤◌, ◌≢◌, ◌↔◌, length, Option, option_map, All}
 use Rattle.std.specs.Option.{option_map_or}
 use Rattle.std.specs.List.{Any, AllPairs, IsDistinct, list_any}
-use Rattle.rbac.specs.declared.role.Role.{Role}
+use Rattle.session_roles.specs.declared.role.Role.{Role}
 use Rattle.rbac.specs.declared.inheritance.Inheritance.{Inheritance}
-use Rattle.rbac.specs.declared.operation.Operation.{Operation}
-use Rattle.rbac.specs.declared.separation_set.SeparationSet.{SeparationSet}
-use Rattle.rbac.specs.Role.{roles, roles_that, has, IsListed}
+use Rattle.session_roles.specs.declared.operation.Operation.{Operation}
+use Rattle.session_roles.specs.declared.separation_set.SeparationSet.{SeparationSet}
+use Rattle.session_roles.specs.Role.{roles, roles_that, has, IsListed}
 use Rattle.rbac.specs.Inheritance.{Reaches, IsAcyclic, reaches, same_inheritance}
-use Rattle.rbac.specs.Operation.{holds, are_allowed}
-use Rattle.rbac.specs.Separation.{apart}
+use Rattle.session_roles.specs.Operation.{holds, are_allowed}
+use Rattle.session_roles.specs.Separation.{apart}
 use Rattle.rbac.specs.Account.{most_users, is_user_name, assigned_roles}
 use Rattle.rbac.specs.RoleData.{RoleData}
 

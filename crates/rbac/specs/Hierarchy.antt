@@ -1,12 +1,12 @@
 -- What each role reaches, kept as a table: for each role the roles that it reaches.
 use Rattle.std.specs.Prelude.{◌≡◌, Bool, ◌&&◌, List, [], slice_index_or, if◌then◌else◌}
 use Rattle.std.specs.List.{list_any}
-use Rattle.rbac.specs.declared.role.Role.{Role}
+use Rattle.session_roles.specs.declared.role.Role.{Role}
 use Rattle.rbac.specs.declared.inheritance.Inheritance.{Inheritance}
 use Rattle.rbac.specs.declared.account.Account.{Account}
-use Rattle.rbac.specs.declared.separation_set.SeparationSet.{SeparationSet}
-use Rattle.rbac.specs.Separation.{has_both}
-use Rattle.rbac.specs.Role.{roles, role_number, roles_that, has, union_of}
+use Rattle.session_roles.specs.declared.separation_set.SeparationSet.{SeparationSet}
+use Rattle.session_roles.specs.Separation.{has_both}
+use Rattle.session_roles.specs.Role.{roles, role_number, roles_that, has, union_of}
 use Rattle.rbac.specs.Inheritance.{reaches}
 
 -- the roles that the table has for a role

@@ -3,10 +3,6 @@ pub mod Authorization
 pub mod Hierarchy
 pub mod Inheritance
 pub mod Kept
-pub mod Operation
 pub mod Refusals
 pub mod Review
-pub mod Role
-pub mod RoleBits
 pub mod RoleData
-pub mod Separation

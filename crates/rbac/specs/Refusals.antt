@@ -1,6 +1,6 @@
 -- Why a change is refused: the causes of each function in their order, of which the first that holds is answered (`IsFirst`).
 use Rattle.std.specs.Prelude.{◌≡◌, ℕ, ◌+◌, false, List, length, Contains}
-use Rattle.rbac.specs.declared.role.Role.{Role}
+use Rattle.session_roles.specs.declared.role.Role.{Role}
 use Rattle.rbac.specs.declared.add_user_error.AddUserError.{AddUserError}
 use Rattle.rbac.specs.declared.add_user_error.AddUserError.TheVariants.{BadName, UserExists, TooManyUsers}
 use Rattle.rbac.specs.declared.assign_error.AssignError.{AssignError}
@@ -12,7 +12,7 @@ use Rattle.rbac.specs.declared.add_inheritance_error.AddInheritanceError.TheVari
 use Rattle.rbac.specs.declared.delete_inheritance_error.DeleteInheritanceError.{DeleteInheritanceError}
 use Rattle.rbac.specs.declared.delete_inheritance_error.DeleteInheritanceError.TheVariants.{NotThere}
 use Rattle.rbac.specs.Inheritance.{Reaches, pair_of}
-use Rattle.rbac.specs.Separation.{set_number}
+use Rattle.session_roles.specs.Separation.{set_number}
 use Rattle.rbac.specs.Account.{most_users, is_user_name, HasAccount, IsAssigned}
 use Rattle.rbac.specs.RoleData.{RoleData, assign_user, add_inheritance}
 use Rattle.rbac.specs.Authorization.{IsBroken}

@@ -1,13 +1,13 @@
 -- What is asked of users, their roles and the role hierarchy, as tests (the review functions of INCITS 359-2012).
 use Rattle.std.specs.Prelude.{ℕ, Bool, ◌&&◌, List, Option, find, if◌then◌else◌}
 use Rattle.std.specs.List.{list_any}
-use Rattle.rbac.specs.declared.role.Role.{Role}
+use Rattle.session_roles.specs.declared.role.Role.{Role}
 use Rattle.rbac.specs.declared.account.Account.{Account}
-use Rattle.rbac.specs.declared.separation_set.SeparationSet.{SeparationSet}
-use Rattle.rbac.specs.Role.{has, without_role}
+use Rattle.session_roles.specs.declared.separation_set.SeparationSet.{SeparationSet}
+use Rattle.session_roles.specs.Role.{has, without_role}
 use Rattle.rbac.specs.Account.{same_name}
 use Rattle.rbac.specs.Inheritance.{pair_of, same_inheritance}
-use Rattle.rbac.specs.Separation.{separation_sets, has_both}
+use Rattle.session_roles.specs.Separation.{separation_sets, has_both}
 use Rattle.rbac.specs.RoleData.{RoleData}
 use Rattle.rbac.specs.Authorization.{reached}
 

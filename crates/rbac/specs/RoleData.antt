@@ -1,11 +1,11 @@
 -- What is kept of users and roles as plain data, and how each function of INCITS 359-2012 changes it.
 use Rattle.std.specs.Prelude.{ℕ, List, [], ◌∷◌, ◌++◌}
-use Rattle.rbac.specs.declared.role.Role.{Role}
+use Rattle.session_roles.specs.declared.role.Role.{Role}
 use Rattle.rbac.specs.declared.inheritance.Inheritance.{Inheritance}
 use Rattle.rbac.specs.declared.account.Account.{Account}
 use Rattle.rbac.specs.declared.change.Change.{Change}
 use Rattle.rbac.specs.declared.change.Change.TheVariants.{Deassign, DeleteInheritance}
-use Rattle.rbac.specs.Role.{with_role, without_role}
+use Rattle.session_roles.specs.Role.{with_role, without_role}
 use Rattle.rbac.specs.Inheritance.{pair_of, opening_pairs, without_pair}
 use Rattle.rbac.specs.Account.{new_account, with_change}
 

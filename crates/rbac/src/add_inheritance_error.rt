@@ -1,4 +1,4 @@
-use crate::separation_set::SeparationSet;
+use session_roles::SeparationSet;
 use thiserror::Error;
 
 /// Why an inheritance pair is not added.

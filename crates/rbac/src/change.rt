@@ -1,4 +1,4 @@
-use crate::role::Role;
+use session_roles::Role;
 
 /// A change that takes authorization away, as `Roles::authorized_if` looks ahead to it.
 #[derive(Clone, Copy)]

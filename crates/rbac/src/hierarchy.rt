@@ -3,8 +3,7 @@ ghost use Rattle.rbac.specs.Inheritance.{opening_pairs, without_pair};
 ghost use Rattle.rbac.specs.Hierarchy.{below, HasOneMore, IsClosure, reached_from};
 
 use crate::inheritance::Inheritance;
-use crate::role::Role;
-use crate::role_set::RoleSet;
+use session_roles::{Role, RoleSet};
 
 /// For each role the roles that it reaches down the inheritance pairs, itself among them.
 #[derive(Clone, Copy)]

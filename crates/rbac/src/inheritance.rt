@@ -1,6 +1,6 @@
 ghost use Rattle.std.specs.Prelude.{◌≡◌, vec_capacity};
 
-use crate::role::Role;
+use session_roles::Role;
 
 /// A pair of the role hierarchy (INCITS 359-2012): the senior role inherits what the junior one may do.
 #[derive(Clone, Copy, Debug, PartialEq, Eq)]

@@ -1,11 +1,11 @@
 //! Laws of roles and authorization: functions with nothing to do, whose clauses are the laws.
 ghost use Rattle.std.specs.Prelude.{◌≡◌, List, ℕ, MatchOption, Contains};
-ghost use Rattle.rbac.specs.declared.role.Role.{Role};
+ghost use Rattle.session_roles.specs.declared.role.Role.{Role};
 ghost use Rattle.rbac.specs.declared.inheritance.Inheritance.{Inheritance};
-ghost use Rattle.rbac.specs.declared.operation.Operation.{Operation};
-ghost use Rattle.rbac.specs.declared.separation_set.SeparationSet.{SeparationSet};
+ghost use Rattle.session_roles.specs.declared.operation.Operation.{Operation};
+ghost use Rattle.session_roles.specs.declared.separation_set.SeparationSet.{SeparationSet};
 ghost use Rattle.rbac.specs.Inheritance.{Reaches, pair_of};
-ghost use Rattle.rbac.specs.Separation.{apart};
+ghost use Rattle.session_roles.specs.Separation.{apart};
 ghost use Rattle.rbac.specs.Account.{HasAccount, IsAssigned};
 ghost use Rattle.rbac.specs.RoleData.{RoleData, assign_user, deassign_user, delete_inheritance};
 ghost use Rattle.rbac.specs.Authorization.{IsAuthorized, AreAuthorized, HasPermission, RoleHasPermission, KeepsSeparation, KeepsAssignedApart, IsValid, authorized_roles, has_permission};

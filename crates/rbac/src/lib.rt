@@ -1,5 +1,5 @@
-//! The users of a session and their roles: the core, the role hierarchy and the static separation of duty of ANSI
-//! INCITS 359-2012.
+//! The users of a session and the roles that are assigned to them: the core, the role hierarchy and the static
+//! separation of duty of ANSI INCITS 359-2012.
 #![tactic(auto)]
 
 mod account;
@@ -13,12 +13,7 @@ mod hierarchy;
 mod inheritance;
 pub mod laws;
 mod lookup;
-mod operation;
-mod permission;
-mod role;
-mod role_set;
 mod roles;
-mod separation_set;
 
 pub use account::Account;
 pub use add_inheritance_error::AddInheritanceError;
@@ -29,8 +24,4 @@ pub use deassign_error::DeassignError;
 pub use delete_inheritance_error::DeleteInheritanceError;
 pub use inheritance::Inheritance;
 pub use lookup::is_user_name;
-pub use operation::Operation;
-pub use role::Role;
-pub use role_set::RoleSet;
 pub use roles::Roles;
-pub use separation_set::SeparationSet;

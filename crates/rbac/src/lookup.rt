@@ -1,17 +1,15 @@
 //! Finding among the accounts.
 ghost use Rattle.std.specs.Prelude.{◌≡◌, ◌≢◌, ◌<◌, length, All, find, IfSome, IfNone};
 ghost use Rattle.std.specs.List.{HoldsAt, list_all, list_any};
-ghost use Rattle.rbac.specs.Separation.{separation_sets};
-ghost use Rattle.rbac.specs.Role.{has};
+ghost use Rattle.session_roles.specs.Separation.{separation_sets};
+ghost use Rattle.session_roles.specs.Role.{has};
 ghost use Rattle.rbac.specs.Account.{is_user_name, is_name_byte};
 ghost use Rattle.rbac.specs.Hierarchy.{is_broken_in, reached_from};
 ghost use Rattle.rbac.specs.Review.{assigned_without};
 
 use crate::account::Account;
 use crate::hierarchy::Hierarchy;
-use crate::role::Role;
-use crate::role_set::RoleSet;
-use crate::separation_set::SeparationSet;
+use session_roles::{Role, RoleSet, SeparationSet};
 use user_names::Name;
 
 /// Whether a byte is a letter, a digit, `-` or `_`.

@@ -5,11 +5,11 @@ use Rattle.std.specs.List.{range_with_len}
 use Rattle.serde_json.specs.Data.{Data}
 use Rattle.serde_json.specs.Find.{of_integer, is_float}
 use Rattle.serde_json.specs.Written.{has_float}
-use Rattle.cards.specs.declared.pair.Pair.{Pair}
+use Rattle.table_terms.specs.declared.pair.Pair.{Pair}
 use Rattle.movement.specs.Movement.{boards_of}
 use Rattle.disclosure_rules.specs.declared.public.Public.{Public}
 use Rattle.rbac.specs.declared.account.Account.{Account}
-use Rattle.rbac.specs.Role.{roles_that, has}
+use Rattle.session_roles.specs.Role.{roles_that, has}
 use Rattle.scoring.specs.declared.outcome.Outcome.{Outcome}
 use Rattle.scoring.specs.declared.outcome.Outcome.TheVariants as outcome
 use Rattle.session_queries.specs.declared.body.Body.{Body}

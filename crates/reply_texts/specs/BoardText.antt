@@ -3,11 +3,11 @@ use Rattle.std.specs.Prelude.{ℕ, List, [], ◌∷◌, Option, codes}
 use Rattle.serde_json.specs.Data.{Data, string, object, member, no_members}
 use Rattle.cards.specs.Hands.{Hands}
 use Rattle.cards.specs.HandText.{deal_text}
-use Rattle.cards.specs.Place.{place_letter}
-use Rattle.cards.specs.declared.place.Place.{Place}
-use Rattle.cards.specs.declared.place.Place.TheVariants.{North, East, South, West}
-use Rattle.cards.specs.declared.strain.Strain.TheVariants.{Spades, Hearts, Diamonds, Clubs, NoTrump}
-use Rattle.cards.specs.Vulnerability.{vulnerability_text}
+use Rattle.table_terms.specs.Place.{place_letter}
+use Rattle.table_terms.specs.declared.place.Place.{Place}
+use Rattle.table_terms.specs.declared.place.Place.TheVariants.{North, East, South, West}
+use Rattle.table_terms.specs.declared.strain.Strain.TheVariants.{Spades, Hearts, Diamonds, Clubs, NoTrump}
+use Rattle.table_terms.specs.Vulnerability.{vulnerability_text}
 use Rattle.disclosure_rules.specs.declared.marks.Marks.{Marks}
 use Rattle.query_filter.specs.declared.trick_table.TrickTable.{TrickTable}
 use Rattle.query_filter.specs.TrickTable.{tricks_of}

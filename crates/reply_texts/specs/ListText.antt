@@ -2,11 +2,11 @@
 use Rattle.std.specs.Prelude.{ℕ, Bool, List, [], ◌∷◌, codes}
 use Rattle.serde_json.specs.Data.{Data, boolean, string, array, object, member, no_members}
 use Rattle.serde_json.specs.View.{items_of}
-use Rattle.cards.specs.Pair.{pair_text}
+use Rattle.table_terms.specs.Pair.{pair_text}
 use Rattle.rbac.specs.declared.account.Account.{Account}
 use Rattle.rbac.specs.declared.inheritance.Inheritance.{Inheritance}
-use Rattle.rbac.specs.declared.role.Role.{Role}
-use Rattle.rbac.specs.Role.{role_name, roles_that, has}
+use Rattle.session_roles.specs.declared.role.Role.{Role}
+use Rattle.session_roles.specs.Role.{role_name, roles_that, has}
 use Rattle.scoring.specs.declared.standing.Standing.{Standing}
 use Rattle.reply_texts.specs.DataOf.{number_data, list_data}
 

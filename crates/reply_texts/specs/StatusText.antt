@@ -3,9 +3,9 @@ use Rattle.std.specs.Prelude.{ℕ, List, [], ◌∷◌, ◌++◌, take, codes}
 use Rattle.std.specs.List.{range_with_len}
 use Rattle.serde_json.specs.Data.{Data, string, array, object, member, no_members}
 use Rattle.serde_json.specs.View.{items_of}
-use Rattle.cards.specs.Pair.{pair_text}
-use Rattle.cards.specs.Place.{place_letter}
-use Rattle.cards.specs.Vulnerability.{vulnerability_text}
+use Rattle.table_terms.specs.Pair.{pair_text}
+use Rattle.table_terms.specs.Place.{place_letter}
+use Rattle.table_terms.specs.Vulnerability.{vulnerability_text}
 use Rattle.movement.specs.Movement.{boards_of}
 use Rattle.disclosure_rules.specs.declared.marks.Marks.{Marks}
 use Rattle.disclosure_rules.specs.declared.phase.Phase.{Phase}

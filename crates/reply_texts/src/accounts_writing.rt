@@ -1,13 +1,14 @@
 //! What is written of the accounts and the role hierarchy.
 
 ghost use Rattle.std.specs.Prelude.{◌≡◌, IfOk};
-ghost use Rattle.rbac.specs.Role.{roles_that, has};
+ghost use Rattle.session_roles.specs.Role.{roles_that, has};
 ghost use Rattle.serde_json.specs.View.{view};
 ghost use Rattle.reply_texts.specs.DataOf.{list_data};
 ghost use Rattle.reply_texts.specs.ListText.{role_data, account_data, inheritance_data, accounts_data};
 
 use crate::to_json::{ToJson, list_value};
-use rbac::{Account, Inheritance, Role, RoleSet};
+use rbac::{Account, Inheritance};
+use session_roles::{Role, RoleSet};
 use serde_json::{Value, json};
 use std::alloc::{AllocError, Global};
 
@@ -53,7 +54,7 @@ fn roles_value(alloc: Global, assigned: RoleSet) -> Result<Value, AllocError>
 }
 
 // The roles of a set, in their order.
-#[tactic(auto, unfolding(rbac::specs::Role::roles_that))]
+#[tactic(auto, unfolding(session_roles::specs::Role::roles_that))]
 fn roles_in(alloc: Global, assigned: RoleSet) -> Result<Vec<Role>, AllocError>
     ensures { IfOk result (λ roles. roles.items ≡ roles_that (has assigned)) }
 {

@@ -5,11 +5,12 @@ ghost use Rattle.serde_json.specs.View.{view};
 ghost use Rattle.reply_texts.specs.BoardText.{board_data, declarer_data, tricks_data, analysis_data};
 ghost use Rattle.reply_texts.specs.DataOf.{option_data};
 
-use cards::{Deal, Place, Strain};
+use cards::Deal;
 use disclosure_rules::Marks;
 use query_filter::TrickTable;
 use serde_json::{Value, json};
 use std::alloc::{AllocError, Global};
+use table_terms::{Place, Strain};
 
 pub(crate) fn board_value(
     alloc: Global,

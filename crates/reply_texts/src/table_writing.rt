@@ -9,8 +9,8 @@ use crate::to_json::{ToJson, list_value};
 use cards::Card;
 use movement::Cell;
 use serde_json::{Value, json};
+use session_commands::Play;
 use session_queries::CardCosts;
-use session_state::Play;
 use std::alloc::{AllocError, Global};
 
 pub(crate) fn play_value(

@@ -1,8 +1,8 @@
 -- What a contract that is made can score.
 use Rattle.std.proofs.Common.{ℕ, ◌+◌, ◌-◌, ◌*◌, ◌≤◌, Bool, true, false, arith}
 use Rattle.std.proofs.lemmas.Bool.Decides.{nat_tests}
-use Rattle.cards.specs.declared.strain.Strain.{Strain}
-use Rattle.cards.specs.declared.strain.Strain.TheVariants.{Spades, Hearts, Diamonds, Clubs, NoTrump}
+use Rattle.table_terms.specs.declared.strain.Strain.{Strain}
+use Rattle.table_terms.specs.declared.strain.Strain.TheVariants.{Spades, Hearts, Diamonds, Clubs, NoTrump}
 use Rattle.scoring.specs.declared.contract.Contract.{Contract}
 use Rattle.scoring.specs.declared.doubling.Doubling.{Doubling}
 use Rattle.scoring.specs.declared.doubling.Doubling.TheVariants.{Undoubled, Doubled, Redoubled}

@@ -4,12 +4,12 @@ use Rattle.std.specs.Prelude.{if◌then◌else◌, ◌==◌}
 use Rattle.std.specs.Bool.{Decides}
 use Rattle.std.proofs.lemmas.Bool.Decides.{Decides-eqb}
 use Rattle.std.specs.Cmp.Lexicographic.{pointwise_decides}
-use Rattle.cards.specs.declared.place.Place.{Place}
-use Rattle.cards.specs.declared.place.Place.TheVariants.{North, East, South, West}
-use Rattle.cards.specs.declared.strain.Strain.{Strain}
-use Rattle.cards.specs.declared.strain.Strain.TheVariants.{Spades, Hearts, Diamonds, Clubs, NoTrump}
-use Rattle.cards.specs.Place.{place_letter}
-use Rattle.cards.specs.Strain.{strain_letter}
+use Rattle.table_terms.specs.declared.place.Place.{Place}
+use Rattle.table_terms.specs.declared.place.Place.TheVariants.{North, East, South, West}
+use Rattle.table_terms.specs.declared.strain.Strain.{Strain}
+use Rattle.table_terms.specs.declared.strain.Strain.TheVariants.{Spades, Hearts, Diamonds, Clubs, NoTrump}
+use Rattle.table_terms.specs.Place.{place_letter}
+use Rattle.table_terms.specs.Strain.{strain_letter}
 use Rattle.scoring.specs.declared.doubling.Doubling.{Doubling}
 use Rattle.scoring.specs.declared.doubling.Doubling.TheVariants.{Undoubled, Doubled, Redoubled}
 use Rattle.scoring.specs.declared.outcome.Outcome.{Outcome}

@@ -7,8 +7,8 @@ use Rattle.std.specs.declared.cmp.Ordering.{Ordering}
 use Rattle.std.specs.declared.cmp.Ordering.TheVariants.{Less, Equal, Greater}
 use Rattle.std.specs.Ordering.{MatchOrdering, ordering_then, nat_cmp}
 use Rattle.std.specs.Cmp.{ranked}
-use Rattle.cards.specs.declared.side.Side.{Side}
-use Rattle.cards.specs.declared.side.Side.TheVariants.{NorthSouth, EastWest}
+use Rattle.table_terms.specs.declared.side.Side.{Side}
+use Rattle.table_terms.specs.declared.side.Side.TheVariants.{NorthSouth, EastWest}
 use Rattle.scoring.specs.declared.standing.Standing.{Standing}
 use Rattle.scoring.specs.Ranking.{Key, ByPercentage, BySide, ByNumber, ByTops, ByEarned, place_of, HasHigherPercentage, place_of_side, IsBefore, IsTied, RanksBefore}
 

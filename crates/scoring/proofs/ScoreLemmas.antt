@@ -2,13 +2,13 @@
 use Rattle.std.proofs.Common.{◌≡◌, ℕ, zero, suc, ◌+◌, ◌-◌, ◌*◌, ◌<◌, ◌≤◌, Bool, true, false, ℤ, pos, neg_ℤ, ◌<ℤ◌, ◌↔◌, inl, inr, refl, arith}
 use Rattle.std.proofs.lemmas.Bool.{le-leb, lt-leb, cases_lt}
 use Rattle.std.proofs.lemmas.Int.{ints}
-use Rattle.cards.specs.declared.strain.Strain.{Strain}
-use Rattle.cards.specs.declared.strain.Strain.TheVariants.{Spades, Hearts, Diamonds, Clubs, NoTrump}
-use Rattle.cards.specs.declared.side.Side.{Side}
-use Rattle.cards.specs.declared.side.Side.TheVariants.{NorthSouth, EastWest}
-use Rattle.cards.specs.declared.vulnerability.Vulnerability.{Vulnerability}
-use Rattle.cards.specs.Place.{side_of}
-use Rattle.cards.specs.Vulnerability.{is_vulnerable}
+use Rattle.table_terms.specs.declared.strain.Strain.{Strain}
+use Rattle.table_terms.specs.declared.strain.Strain.TheVariants.{Spades, Hearts, Diamonds, Clubs, NoTrump}
+use Rattle.table_terms.specs.declared.side.Side.{Side}
+use Rattle.table_terms.specs.declared.side.Side.TheVariants.{NorthSouth, EastWest}
+use Rattle.table_terms.specs.declared.vulnerability.Vulnerability.{Vulnerability}
+use Rattle.table_terms.specs.Place.{side_of}
+use Rattle.table_terms.specs.Vulnerability.{is_vulnerable}
 use Rattle.scoring.specs.declared.outcome.Outcome.{Outcome}
 use Rattle.scoring.specs.declared.outcome.Outcome.TheVariants.{PassedOut, Played}
 use Rattle.scoring.specs.declared.contract.Contract.{Contract}

@@ -1,8 +1,8 @@
 -- How a board ended at a table, compared.
 use Rattle.std.specs.Prelude.{ℕ, Bool, nat_eq, List, [], ◌∷◌}
 use Rattle.std.specs.Cmp.Lexicographic.{pointwise}
-use Rattle.cards.specs.Place.{place_letter}
-use Rattle.cards.specs.Strain.{strain_letter}
+use Rattle.table_terms.specs.Place.{place_letter}
+use Rattle.table_terms.specs.Strain.{strain_letter}
 use Rattle.scoring.specs.declared.outcome.Outcome.{Outcome}
 use Rattle.scoring.specs.declared.outcome.Outcome.TheVariants.{PassedOut, Played}
 use Rattle.scoring.specs.Doubling.{times_doubled}

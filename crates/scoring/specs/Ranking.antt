@@ -1,8 +1,8 @@
 -- own: the order in which the pairs of a session rank. The first key that tells two standings apart decides; the keys in
 -- their order are percentage, side, number, tops, earned.
 use Rattle.std.specs.Prelude.{◌≡◌, ℕ, ◌*◌, ◌<◌, ◌⊎◌}
-use Rattle.cards.specs.declared.side.Side.{Side}
-use Rattle.cards.specs.declared.side.Side.TheVariants.{NorthSouth, EastWest}
+use Rattle.table_terms.specs.declared.side.Side.{Side}
+use Rattle.table_terms.specs.declared.side.Side.TheVariants.{NorthSouth, EastWest}
 use Rattle.scoring.specs.declared.standing.Standing.{Standing}
 
 -- the keys, in their order

@@ -1,6 +1,6 @@
 use crate::doubling::Doubling;
 use crate::level::Level;
-use cards::{Place, Strain};
+use table_terms::{Place, Strain};
 
 /// The undertaking of declarer's side to win, at a strain, so many odd tricks (Law 22).
 #[derive(Clone, Copy, Debug, PartialEq, Eq)]

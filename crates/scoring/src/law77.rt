@@ -5,7 +5,7 @@ use crate::contract::Contract;
 use crate::doubling::Doubling;
 use crate::outcome::Outcome;
 use crate::tricks::Tricks;
-use cards::{Side, Strain, Vulnerability};
+use table_terms::{Side, Strain, Vulnerability};
 
 /// What a contract scores for declarer's side, in points (Law 77); below 0, the opponents score. `vulnerable` is whether
 /// declarer's side is.

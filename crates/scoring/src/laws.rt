@@ -1,6 +1,6 @@
 //! What the laws come to: each function here has nothing to do, and its clauses are the theorem.
 ghost use Rattle.std.specs.Prelude.{◌≡◌, ℕ, ◌+◌, ◌-◌, ◌*◌, ◌<◌, ◌≤◌, ◌⊎◌, ◌↔◌, Bool, true, false, ℤ, pos, neg_ℤ, ◌<ℤ◌, ◌≤ℤ◌, List, length, map, sum, slice_index, slice_index_or, EachIndex, IsTrue};
-ghost use Rattle.cards.specs.declared.vulnerability.Vulnerability.{Vulnerability};
+ghost use Rattle.table_terms.specs.declared.vulnerability.Vulnerability.{Vulnerability};
 ghost use Rattle.scoring.specs.declared.contract.Contract.{Contract};
 ghost use Rattle.scoring.specs.declared.doubling.Doubling.TheVariants.{Undoubled, Doubled, Redoubled};
 ghost use Rattle.scoring.specs.declared.outcome.Outcome.{Outcome};

@@ -4,8 +4,8 @@ ghost use Rattle.scoring.specs.Ranking.Key.{ByPercentage};
 ghost use Rattle.scoring.specs.Ranking.{RanksBefore, IsBefore, IsTied, place_of_side};
 
 use crate::standing::Standing;
-use cards::Side;
 use std::cmp::Ordering;
+use table_terms::Side;
 
 /// Which of two standings ranks first, `Less` if `a` does: the one that has earned the greater part of its tops, whoever
 /// has no tops last; then North-South, the smaller number, the smaller tops, the smaller earned.

@@ -1,4 +1,4 @@
-use cards::Pair;
+use table_terms::Pair;
 
 /// What a pair has earned in a session, and what it could have earned.
 #[derive(Clone, Copy, Debug, PartialEq, Eq)]

@@ -1,13 +1,13 @@
 //! A session's connections, one after another.
 
 ghost use Rattle.std.specs.Prelude.{◌≡◌, None, MatchOption};
-ghost use Rattle.message_fields.specs.declared.request_fault.RequestFault.TheVariants.{Malformed, OutOfMemory};
+ghost use Rattle.json_fields.specs.declared.request_fault.RequestFault.TheVariants.{Malformed, OutOfMemory};
 ghost use Rattle.wire.specs.ReceiptText.{fault_text};
 ghost use Rattle.connections.specs.Linked.{StaysOn};
 ghost use Rattle.connections.specs.Serving.{Serves};
 
 use connections::Connection;
-use message_fields::RequestFault;
+use json_fields::RequestFault;
 use session_keeper::Keeper;
 use std::alloc::{AllocError, Global};
 use std::sync::Wait;

@@ -8,8 +8,8 @@ use Rattle.movement.specs.declared.cell.Cell.{Cell}
 use Rattle.movement.specs.Movement.{IsCell, rows}
 use Rattle.movement.specs.Row.{Plays}
 use Rattle.movement.specs.Schedule.{plays}
-use Rattle.rbac.specs.declared.role.Role.{Role}
-use Rattle.rbac.specs.declared.role.Role.TheVariants.{Member, Spectator, Contestant, Director}
+use Rattle.session_roles.specs.declared.role.Role.{Role}
+use Rattle.session_roles.specs.declared.role.Role.TheVariants.{Member, Spectator, Contestant, Director}
 use Rattle.disclosure_rules.specs.declared.fact.Fact.TheVariants.{Hands}
 use Rattle.disclosure_rules.specs.declared.public.Public.{Public}
 use Rattle.disclosure_rules.specs.declared.rule.Rule.{Rule}

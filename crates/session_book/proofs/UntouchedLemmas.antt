@@ -7,7 +7,7 @@ use Rattle.std.specs.Option.{option_or}
 use Rattle.std.proofs.lemmas.Bool.{eq-eqb, eqb-true, false≢true, false_from_ne_true, cases_Bool, and_parts, and_from, or_right, not_from_false}
 use Rattle.std.proofs.lemmas.List.{get_or-set_other}
 use Rattle.std.proofs.lemmas.List.Folds.{find-append}
-use Rattle.cards.specs.CardBits.{any_filter}
+use Rattle.table_terms.specs.Bits.{any_filter}
 use Rattle.movement.specs.declared.cell.Cell.{Cell}
 use Rattle.movement.specs.Schedule.{is_scheduled}
 use Rattle.movement.proofs.CellLemmas.{cell_in_range}
@@ -15,14 +15,14 @@ use Rattle.movement.proofs.ScheduleTests.{scheduled-cell}
 use Rattle.rbac.specs.Account.{same_name, assigned_roles, new_account, with_change}
 use Rattle.rbac.specs.Authorization.{reached}
 use Rattle.rbac.specs.Inheritance.{pair_of, without_pair}
-use Rattle.rbac.specs.Role.{has, with_role, without_role}
+use Rattle.session_roles.specs.Role.{has, with_role, without_role}
 use Rattle.rbac.specs.declared.account.Account.{Account}
 use Rattle.rbac.specs.declared.inheritance.Inheritance.{Inheritance}
-use Rattle.rbac.specs.declared.role.Role.{Role}
+use Rattle.session_roles.specs.declared.role.Role.{Role}
 use Rattle.rbac.proofs.AccountLemmas.{same_name_decides, changed, changed_other, name_kept, with_roles}
 use Rattle.rbac.proofs.AuthorizationLemmas.{decides_is_reached}
 use Rattle.rbac.proofs.InheritanceLemmas.{reaches_without}
-use Rattle.rbac.proofs.RoleLemmas.{has_without_role}
+use Rattle.session_roles.proofs.RoleLemmas.{has_without_role}
 use Rattle.disclosure_rules.specs.LiveCells.{is_live, tables_at, with_live, without_live}
 use Rattle.disclosure_rules.specs.Numbers.{has_number, with_number, without_number}
 use Rattle.disclosure_rules.specs.Policy.{is_authorized}
@@ -30,21 +30,21 @@ use Rattle.disclosure_rules.specs.Seating.{some_that}
 use Rattle.disclosure_rules.specs.declared.seat.Seat as the_seat
 use Rattle.disclosure_rules.proofs.NumbersLemmas.{has_number-numbers_that}
 use Rattle.session_state.specs.Apply.{apply, effect, confirmed, with_result}
-use Rattle.session_state.specs.Command.{cell_of}
+use Rattle.session_commands.specs.Command.{cell_of}
 use Rattle.session_state.specs.Refusal.{hindrance_of}
 use Rattle.session_state.specs.Seats.{without_seat}
 use Rattle.session_state.specs.SessionState.{SessionState, cell_at}
-use Rattle.session_state.specs.declared.cell_state.CellState.{CellState}
-use Rattle.session_state.specs.declared.cell_state.CellState.TheVariants.{Empty, Entered, Confirmed, Ruled}
-use Rattle.session_state.specs.declared.command.Command.{Command}
-use Rattle.session_state.specs.declared.command.Command.TheVariants.{Enter, Confirm, Correct, Void, Hold, Release}
-use Rattle.session_state.specs.declared.command.Command.TheVariants as command
-use Rattle.session_state.specs.declared.command.Command.TheVariants.{Seat, Unseat, NextRound, Close, Finalise}
-use Rattle.session_state.specs.declared.command.Command.TheVariants.{AddUser, Assign, Deassign, AddInheritance}
-use Rattle.session_state.specs.declared.command.Command.TheVariants.{DeleteInheritance, Solved, Analysed}
-use Rattle.session_state.specs.declared.entry.Entry.{Entry}
-use Rattle.session_state.specs.declared.refusal.Refusal.{Refusal}
-use Rattle.session_state.specs.declared.refusal.Refusal.TheVariants.{NoSuchCell}
+use Rattle.session_commands.specs.declared.cell_state.CellState.{CellState}
+use Rattle.session_commands.specs.declared.cell_state.CellState.TheVariants.{Empty, Entered, Confirmed, Ruled}
+use Rattle.session_commands.specs.declared.command.Command.{Command}
+use Rattle.session_commands.specs.declared.command.Command.TheVariants.{Enter, Confirm, Correct, Void, Hold, Release}
+use Rattle.session_commands.specs.declared.command.Command.TheVariants as command
+use Rattle.session_commands.specs.declared.command.Command.TheVariants.{Seat, Unseat, NextRound, Close, Finalise}
+use Rattle.session_commands.specs.declared.command.Command.TheVariants.{AddUser, Assign, Deassign, AddInheritance}
+use Rattle.session_commands.specs.declared.command.Command.TheVariants.{DeleteInheritance, Solved, Analysed}
+use Rattle.session_commands.specs.declared.entry.Entry.{Entry}
+use Rattle.session_commands.specs.declared.refusal.Refusal.{Refusal}
+use Rattle.session_commands.specs.declared.refusal.Refusal.TheVariants.{NoSuchCell}
 use Rattle.session_state.specs.declared.seated.Seated.{Seated}
 use Rattle.session_book.specs.Touched.{touched_by, is_touched}
 use Rattle.session_book.proofs.SightLemmas.{ShowsNoMore}

@@ -8,13 +8,13 @@ ghost use Rattle.session_book.specs.declared.touched.Touched.TheVariants.{Board,
 ghost use Rattle.session_book.specs.ExposureTable.{is_noted, user_at, IsAsked, IsNoted, one_board, first_boards, first_users};
 
 use crate::touched::Touched;
-use cards::Name;
 use disclosure_rules::Fact;
 use rbac::Roles;
+use session_commands::room::filled;
 use session_state::State;
-use session_state::room::filled;
 use std::alloc::{AllocError, Global};
 use std::marker::Model;
+use user_names::Name;
 
 /// Who was shown something of which board: clauses see, for the account at each place, the list of the boards, ascending.
 #[derive(Drop)]

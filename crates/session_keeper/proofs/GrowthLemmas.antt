@@ -5,10 +5,10 @@ use Rattle.std.specs.List.{fold}
 use Rattle.std.proofs.Math.Seq.{take-append_seam, take-suc}
 use Rattle.std.proofs.lemmas.List.{length-append}
 use Rattle.std.proofs.lemmas.Option.{slice_get_within, get_or_from_slice_get}
-use Rattle.session_state.specs.declared.actor.Actor.TheVariants.{User}
-use Rattle.session_state.specs.declared.command.Command.{Command}
-use Rattle.session_state.specs.declared.entry.Entry.{Entry}
-use Rattle.session_state.specs.declared.refusal.Refusal.{Refusal}
+use Rattle.session_commands.specs.declared.actor.Actor.TheVariants.{User}
+use Rattle.session_commands.specs.declared.command.Command.{Command}
+use Rattle.session_commands.specs.declared.entry.Entry.{Entry}
+use Rattle.session_commands.specs.declared.refusal.Refusal.{Refusal}
 use Rattle.session_state.specs.SessionState.{SessionState}
 use Rattle.session_book.specs.Journal.{Ledger, state_of, entry_of, refusal_after}
 use Rattle.session_book.specs.Run.{Progress, answered, step, run, Runs}

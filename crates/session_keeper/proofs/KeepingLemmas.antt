@@ -2,8 +2,8 @@
 use Rattle.std.proofs.Common.{◌≡◌, ℕ, Bool, List, [], ◌∷◌, ◌++◌, refl, sym, ap, ◌∙◌, append_assoc}
 use mathlib.Core.List.{IsPrefix}
 use Rattle.session_state.specs.SessionState.{SessionState}
-use Rattle.session_state.specs.declared.command.Command.{Command}
-use Rattle.session_state.specs.declared.entry.Entry.{Entry}
+use Rattle.session_commands.specs.declared.command.Command.{Command}
+use Rattle.session_commands.specs.declared.entry.Entry.{Entry}
 use Rattle.session_book.specs.Run.{Progress, Runs}
 use Rattle.session_keeper.specs.Keeping.{GoesOn}
 use Rattle.session_keeper.proofs.GrowthLemmas.{runs_extend}

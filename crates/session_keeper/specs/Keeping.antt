@@ -2,10 +2,10 @@
 use Rattle.std.specs.Prelude.{◌≡◌, ◌↔◌, ℕ, Bool, List, length, IfOk, IfErr, OnOk}
 use mathlib.Core.List.{IsPrefix}
 use Rattle.rbac.specs.Authorization.{HasPermission}
-use Rattle.rbac.specs.declared.operation.Operation.TheVariants.{Audit}
+use Rattle.session_roles.specs.declared.operation.Operation.TheVariants.{Audit}
 use Rattle.session_state.specs.SessionState.{SessionState}
-use Rattle.session_state.specs.declared.command.Command.{Command}
-use Rattle.session_state.specs.declared.entry.Entry.{Entry}
+use Rattle.session_commands.specs.declared.command.Command.{Command}
+use Rattle.session_commands.specs.declared.entry.Entry.{Entry}
 use Rattle.session_book.specs.Audit.{audit_rows}
 use Rattle.session_book.specs.declared.audit.AuditError.TheVariants.{NotPermitted}
 use Rattle.session_book.specs.Journal.{replay}

@@ -1,7 +1,7 @@
 ghost use Rattle.std.specs.Prelude.{◌≡◌, ◌+◌, ◌<◌, ◌≤◌, ◌⊎◌, ◌↔◌, Bool, [], None, Some, length, IfOk, IfErr, OnOk, OnErr};
 ghost use Rattle.movement.specs.Movement.{boards_of};
 ghost use Rattle.rbac.specs.Authorization.{HasPermission};
-ghost use Rattle.rbac.specs.declared.operation.Operation.TheVariants.{Audit};
+ghost use Rattle.session_roles.specs.declared.operation.Operation.TheVariants.{Audit};
 ghost use Rattle.session_book.specs.Audit.{audit_rows};
 ghost use Rattle.session_book.specs.declared.audit.AuditError.TheVariants.{NotPermitted};
 ghost use Rattle.session_book.specs.Journal.{IsAccepted, state_of};
@@ -16,14 +16,15 @@ ghost use Rattle.session_state.specs.SessionState.{viewer_of};
 ghost use Rattle.published_view.specs.Reply.{before_answer, reply_of};
 ghost use Rattle.session_keeper.specs.Keeper.{IsBehind};
 
-use cards::Name;
 use published_view::View;
 use session_book::{AuditError, AuditRows, Book, Submission};
+use session_commands::{Command, Digest};
 use session_opening::{Config, OpeningRefusal};
 use session_queries::{Query, Reply};
-use session_state::{Command, Digest, State};
+use session_state::State;
 use std::alloc::{AllocError, Global};
 use std::marker::Model;
+use user_names::Name;
 
 /// One book and one view of it: each batch is absorbed before the next message is answered.
 #[derive(Drop)]

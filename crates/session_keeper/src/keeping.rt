@@ -8,12 +8,12 @@ ghost use Rattle.published_view.specs.Reply.{reply_of};
 ghost use Rattle.session_state.specs.Readers.{digest_of};
 
 use crate::receipt::{AuditReceipt, BatchReceipt};
-use cards::Name;
+use session_commands::{Command, Digest};
 use session_queries::{Query, Reply};
-use session_state::{Command, Digest};
 use std::alloc::{AllocError, Global};
 use std::sync::Wait;
 use thiserror::Error;
+use user_names::Name;
 
 /// Why a query has no reply.
 #[derive(Clone, Copy, Debug, PartialEq, Eq, Error)]
@@ -35,7 +35,7 @@ pub struct NoEntry;
 pub trait Keeper: Drop {
     ghost use Rattle.std.specs.Prelude.{List};
     ghost use Rattle.session_state.specs.SessionState.{SessionState};
-    ghost use Rattle.session_state.specs.declared.entry.Entry.{Entry};
+    ghost use Rattle.session_commands.specs.declared.entry.Entry.{Entry};
 
     ghost opening: { Self → SessionState };
 

@@ -5,11 +5,11 @@ ghost use Rattle.std.specs.Prelude.{◌≡◌};
 use crate::keeper::PlainKeeper;
 use crate::keeping::{Keeper, NoEntry, QueryFault};
 use crate::receipt::{AuditReceipt, BatchReceipt};
-use cards::Name;
+use session_commands::{Command, Digest};
 use session_queries::{Query, Reply};
-use session_state::{Command, Digest};
 use std::alloc::{AllocError, Global};
 use std::sync::Wait;
+use user_names::Name;
 
 impl Keeper for PlainKeeper {
     ghost opening = { λ k. k.opening };

@@ -5,7 +5,7 @@ use Rattle.std.proofs.lemmas.Option.{same_Some}
 use Rattle.serde_json.specs.Data.{Data}
 use Rattle.serde_json.specs.Read.{read}
 use Rattle.serde_json.specs.Find.{as_object}
-use Rattle.cards.specs.First.{IsFirst}
+use Rattle.user_names.specs.First.{IsFirst}
 use Rattle.movement.specs.Movement.{Section, boards_of}
 use Rattle.movement.specs.Refusal.{Refuses, number_of}
 use Rattle.movement.specs.declared.movement_error.MovementError.{MovementError}

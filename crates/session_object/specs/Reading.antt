@@ -2,14 +2,14 @@
 -- is too long, it is no JSON object, a member is wrong; then those of the movement, and then those of the boards' text.
 use Rattle.std.specs.Prelude.{◌≡◌, ◌≢◌, ℕ, ◌<◌, ◌≤◌, List, length, Option, Some, None, Result, Ok, Err}
 use Rattle.serde_json.specs.Data.{Data}
-use Rattle.cards.specs.First.{IsFirst}
+use Rattle.user_names.specs.First.{IsFirst}
 use Rattle.movement.specs.Movement.{Section, boards_of}
 use Rattle.movement.specs.Refusal.{Refuses, number_of}
 use Rattle.movement.specs.declared.movement_error.MovementError.{MovementError}
 use Rattle.pbn_records.specs.Reads as pbn
 use Rattle.pbn_records.specs.declared.deals_error.DealsError.{DealsError}
 use Rattle.pbn_records.specs.declared.deals_error.DealsError.TheVariants as deals
-use Rattle.message_fields.specs.Object.{IsObject}
+use Rattle.json_fields.specs.Object.{IsObject}
 use Rattle.session_object.specs.declared.object.SessionObject.{SessionObject}
 use Rattle.session_object.specs.declared.parts.Parts.{Parts}
 use Rattle.session_object.specs.declared.session_fault.SessionFault.{SessionFault}

@@ -9,15 +9,15 @@ ghost use Rattle.session_object.specs.Session.{seated, unseated, user_of, users}
 ghost use Rattle.session_object.specs.Reading.{Gives, Fails};
 
 use crate::session_fault::SessionFault;
-use cards::Name;
 use disclosure_rules::Seat;
 use json_fields::{has_only, name_at};
-use rbac::Role;
+use session_roles::Role;
 use serde_json::Value;
+use session_commands::Digest;
 use session_opening::{NewUser, NewUsers, RoleList};
-use session_state::Digest;
 use std::alloc::Global;
 use user_fields::{digest_of, pair_of, place_of, role_of};
+use user_names::Name;
 
 fn roles_in(alloc: Global, list: &[Value]) -> Result<Vec<Role>, SessionFault>
     ensures roles { IfOk result (λ roles. each role_of (items_view list.now) ≡ Some roles.items) }

@@ -9,21 +9,21 @@ use Rattle.std.proofs.lemmas.List.Folds.{list_any_more, list_any_at, list_any-ap
 use Rattle.rbac.specs.Account.{same_name, HasAccount, IsAssigned, with_change}
 use Rattle.rbac.specs.Authorization.{IsReached, IsBroken, KeepsSeparation, reached}
 use Rattle.rbac.specs.Refusals.{RefusesUser, RefusesAssignment}
-use Rattle.rbac.specs.Role.{roles_that, same_role, has, with_role}
+use Rattle.session_roles.specs.Role.{roles_that, same_role, has, with_role}
 use Rattle.rbac.specs.RoleData.{RoleData, add_user, assign_user}
-use Rattle.rbac.specs.Separation.{apart, has_both}
+use Rattle.session_roles.specs.Separation.{apart, has_both}
 use Rattle.rbac.specs.declared.account.Account.{Account}
 use Rattle.rbac.specs.declared.add_user_error.AddUserError.{AddUserError}
 use Rattle.rbac.specs.declared.add_user_error.AddUserError.TheVariants.{BadName, UserExists, TooManyUsers}
 use Rattle.rbac.specs.declared.assign_error.AssignError.{AssignError}
 use Rattle.rbac.specs.declared.assign_error.AssignError.TheVariants.{NoSuchUser, AlreadyAssigned, Separation}
 use Rattle.rbac.specs.declared.inheritance.Inheritance.{Inheritance}
-use Rattle.rbac.specs.declared.role.Role.{Role}
+use Rattle.session_roles.specs.declared.role.Role.{Role}
 use Rattle.rbac.proofs.AccountLemmas.{same_name_decides}
 use Rattle.rbac.proofs.AuthorizationLemmas.{ReachesBoth, decides_both}
 use Rattle.rbac.proofs.ListLemmas.{Any-push_cases, decides_any}
-use Rattle.rbac.proofs.RoleLemmas.{has_roles_that, same_roles_that, same_role_equiv}
-use Rattle.rbac.proofs.SeparationLemmas.{none_found}
+use Rattle.session_roles.proofs.RoleLemmas.{has_roles_that, same_roles_that, same_role_equiv}
+use Rattle.session_roles.proofs.SeparationLemmas.{none_found}
 use Rattle.session_opening.specs.declared.new_user.NewUser.{NewUser}
 use Rattle.session_opening.specs.NewUser.{set_of, repeats}
 use Rattle.session_opening.specs.Joining.{MayJoin, with_user}

@@ -4,9 +4,9 @@ use Rattle.std.specs.Prelude.{not}
 use Rattle.std.specs.Bool.{then_some}
 use Rattle.std.proofs.lemmas.List.{map_more, take_all}
 use Rattle.rbac.specs.Authorization.{IsAuthorized, IsReached, KeepsSeparation, reached}
-use Rattle.rbac.specs.Role.{has}
+use Rattle.session_roles.specs.Role.{has}
 use Rattle.rbac.specs.RoleData.{RoleData}
-use Rattle.rbac.specs.declared.role.Role.TheVariants.{Administrator}
+use Rattle.session_roles.specs.declared.role.Role.TheVariants.{Administrator}
 use Rattle.rbac.proofs.AuthorizationLemmas.{decides_is_reached}
 use Rattle.rbac.proofs.ListLemmas.{decides_any}
 use Rattle.rbac.proofs.ValidityLemmas.{valid_opening}

@@ -10,12 +10,12 @@ use Rattle.movement.specs.Movement.{Section}
 use Rattle.rbac.specs.Account.{most_users, is_user_name, same_name}
 use Rattle.rbac.specs.Authorization.{reached}
 use Rattle.rbac.specs.Inheritance.{opening_pairs}
-use Rattle.rbac.specs.Role.{has}
-use Rattle.rbac.specs.declared.role.Role.TheVariants.{Administrator}
+use Rattle.session_roles.specs.Role.{has}
+use Rattle.session_roles.specs.declared.role.Role.TheVariants.{Administrator}
 use Rattle.disclosure_rules.specs.declared.seat.Seat.{Seat}
 use Rattle.session_state.specs.declared.seated.Seated.{Seated}
-use Rattle.rbac.specs.Separation.{separation_sets, has_both}
-use Rattle.rbac.specs.declared.separation_set.SeparationSet.{SeparationSet}
+use Rattle.session_roles.specs.Separation.{separation_sets, has_both}
+use Rattle.session_roles.specs.declared.separation_set.SeparationSet.{SeparationSet}
 use Rattle.session_opening.specs.declared.config.Config.{Config}
 use Rattle.session_opening.specs.declared.new_user.NewUser.{NewUser}
 use Rattle.session_opening.specs.declared.opening_refusal.OpeningRefusal.{OpeningRefusal}

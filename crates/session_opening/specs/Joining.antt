@@ -3,7 +3,7 @@ use Rattle.std.specs.Prelude.{◌≡◌, ◌<◌, ℕ, false, true, None, List, 
 use Rattle.rbac.specs.Account.{most_users, is_user_name}
 use Rattle.rbac.specs.Authorization.{reached}
 use Rattle.rbac.specs.RoleData.{RoleData}
-use Rattle.rbac.specs.Separation.{separation_sets, has_both}
+use Rattle.session_roles.specs.Separation.{separation_sets, has_both}
 use Rattle.session_opening.specs.declared.new_user.NewUser.{NewUser}
 use Rattle.session_state.specs.Accounts.{has_account}
 use Rattle.session_opening.specs.NewUser.{set_of, repeats, account_of}

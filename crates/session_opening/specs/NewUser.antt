@@ -3,9 +3,9 @@ use Rattle.std.specs.Prelude.{Bool, false, ◌||◌, List, [], ◌∷◌, Option
 use Rattle.std.specs.Option.{option_map}
 use Rattle.rbac.specs.Authorization.{reached}
 use Rattle.rbac.specs.Inheritance.{opening_pairs}
-use Rattle.rbac.specs.Role.{roles_that, has}
+use Rattle.session_roles.specs.Role.{roles_that, has}
 use Rattle.rbac.specs.declared.account.Account.{Account}
-use Rattle.rbac.specs.declared.role.Role.{Role}
+use Rattle.session_roles.specs.declared.role.Role.{Role}
 use Rattle.session_opening.specs.declared.new_user.NewUser.{NewUser}
 use Rattle.session_state.specs.declared.seated.Seated.{Seated}
 

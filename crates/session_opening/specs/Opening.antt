@@ -1,8 +1,8 @@
 -- The state in which a session opens, of what it opens with.
 use Rattle.std.specs.Prelude.{◌-◌, None, List, [], ◌++◌, map, take, length, replicate}
 use Rattle.std.specs.List.{filter_map}
-use Rattle.cards.specs.declared.place.Place.TheVariants.{North}
-use Rattle.cards.specs.declared.vulnerability.Vulnerability.TheVariants.{Neither}
+use Rattle.table_terms.specs.declared.place.Place.TheVariants.{North}
+use Rattle.table_terms.specs.declared.vulnerability.Vulnerability.TheVariants.{Neither}
 use Rattle.pbn_records.specs.declared.board.Board.{Board}
 use Rattle.movement.specs.Movement.{boards_of, most_boards}
 use Rattle.rbac.specs.Inheritance.{opening_pairs}
@@ -10,7 +10,7 @@ use Rattle.rbac.specs.RoleData.{RoleData}
 use Rattle.disclosure_rules.specs.declared.marks.Marks.{Marks}
 use Rattle.disclosure_rules.specs.declared.phase.Phase.TheVariants.{Running}
 use Rattle.disclosure_rules.specs.declared.public.Public.{Public}
-use Rattle.session_state.specs.declared.cell_state.CellState.TheVariants.{Empty}
+use Rattle.session_commands.specs.declared.cell_state.CellState.TheVariants.{Empty}
 use Rattle.session_opening.specs.declared.config.Config.{Config}
 use Rattle.session_opening.specs.declared.new_user.NewUser.{NewUser}
 use Rattle.session_state.specs.declared.seated.Seated.{Seated}

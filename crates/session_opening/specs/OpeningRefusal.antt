@@ -7,9 +7,9 @@ use Rattle.std.specs.Bool.{then_some}
 use Rattle.std.specs.Option.{option_map}
 use Rattle.movement.specs.Movement.{Section}
 use Rattle.rbac.specs.Account.{most_users, is_user_name}
-use Rattle.rbac.specs.Role.{has}
-use Rattle.rbac.specs.Separation.{separation_sets, has_both}
-use Rattle.rbac.specs.declared.role.Role.TheVariants.{Contestant}
+use Rattle.session_roles.specs.Role.{has}
+use Rattle.session_roles.specs.Separation.{separation_sets, has_both}
+use Rattle.session_roles.specs.declared.role.Role.TheVariants.{Contestant}
 use Rattle.disclosure_rules.specs.declared.seat.Seat.{Seat}
 use Rattle.session_opening.specs.declared.config.Config.{Config}
 use Rattle.session_opening.specs.declared.new_user.NewUser.{NewUser}

@@ -1,7 +1,7 @@
 //! Laws of the opening: functions with nothing to do, whose clauses are the laws.
 ghost use Rattle.std.specs.Prelude.{◌≡◌, ℕ, List, None};
 ghost use Rattle.rbac.specs.Authorization.{IsAuthorized, KeepsSeparation};
-ghost use Rattle.rbac.specs.declared.role.Role.TheVariants.{Administrator};
+ghost use Rattle.session_roles.specs.declared.role.Role.TheVariants.{Administrator};
 ghost use Rattle.session_opening.specs.Opening.{opening_of};
 ghost use Rattle.session_opening.specs.OpeningRefusal.{opening_refusal};
 ghost use Rattle.session_opening.specs.declared.config.Config.{Config};

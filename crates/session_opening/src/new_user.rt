@@ -1,7 +1,7 @@
 use crate::role_list::RoleList;
-use cards::Name;
 use disclosure_rules::Seat;
-use session_state::Digest;
+use session_commands::Digest;
+use user_names::Name;
 
 /// A user with whom a session opens.
 #[derive(Drop)]

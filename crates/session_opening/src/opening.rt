@@ -13,12 +13,15 @@ use crate::config::Config;
 use crate::new_user::NewUser;
 use crate::opening_acceptance::opening_refusal;
 use crate::opening_refusal::OpeningRefusal;
-use cards::{Deal, Place, Vulnerability};
+use cards::Deal;
 use disclosure_rules::{Boards, LiveCells, Marks, Phase, Public};
-use rbac::{Role, Roles};
-use session_state::room::push_within;
-use session_state::{Digest, Seated, State};
+use rbac::Roles;
+use session_roles::Role;
+use session_commands::Digest;
+use session_commands::room::push_within;
+use session_state::{Seated, State};
 use std::alloc::{AllocError, Global};
+use table_terms::{Place, Vulnerability};
 
 /// What stands in the place of a board that isn't played.
 const NO_MARKS: Marks = Marks {

@@ -3,9 +3,9 @@
 ghost use Rattle.std.specs.Prelude.{◌≡◌, [], ◌∷◌, Some, find, option_map};
 ghost use Rattle.std.specs.List.{list_any};
 ghost use Rattle.rbac.specs.Account.{same_name};
-ghost use Rattle.rbac.specs.Role.{has};
-ghost use Rattle.rbac.specs.Separation.{separation_sets, has_both};
-ghost use Rattle.rbac.specs.declared.role.Role.TheVariants.{Administrator};
+ghost use Rattle.session_roles.specs.Role.{has};
+ghost use Rattle.session_roles.specs.Separation.{separation_sets, has_both};
+ghost use Rattle.session_roles.specs.declared.role.Role.TheVariants.{Administrator};
 ghost use Rattle.session_opening.specs.NewUser.{set_of, repeats, authorized_at_opening};
 ghost use Rattle.session_opening.specs.Opening.{opening_seats};
 ghost use Rattle.session_opening.specs.OpeningRefusal.{account_causes, seat_causes, user_causes, users_causes, opening_refusal};
@@ -16,11 +16,13 @@ ghost use Rattle.session_state.specs.Seats.{is_pair, is_of_side, same_seat, is_t
 use crate::config::Config;
 use crate::new_user::NewUser;
 use crate::opening_refusal::OpeningRefusal;
-use cards::{Name, Pair, Place};
 use disclosure_rules::Seat;
 use movement::Movement;
-use rbac::{Role, RoleSet, Roles, SeparationSet, is_user_name};
+use rbac::{Roles, is_user_name};
+use session_roles::{Role, RoleSet, SeparationSet};
 use session_state::first_of;
+use table_terms::{Pair, Place};
+use user_names::Name;
 
 /// The first cause not to open a session, if one is met.
 pub fn opening_refusal(config: &Config) -> Option<OpeningRefusal>

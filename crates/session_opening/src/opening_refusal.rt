@@ -1,4 +1,4 @@
-use rbac::SeparationSet;
+use session_roles::SeparationSet;
 use std::fmt;
 use thiserror::Error;
 

@@ -1,6 +1,6 @@
 ghost use Rattle.std.specs.Prelude.{◌≡◌};
 
-use rbac::Role;
+use session_roles::Role;
 use std::marker::Model;
 
 /// The roles that a new user is to have, as they were written: in their order, and some perhaps twice.
@@ -11,7 +11,7 @@ pub struct RoleList {
 
 impl Model for RoleList {
     ghost use Rattle.std.specs.Prelude.{List};
-    ghost use Rattle.rbac.specs.declared.role.Role.{Role};
+    ghost use Rattle.session_roles.specs.declared.role.Role.{Role};
 
     ghost Value = { List Role };
 

@@ -2,9 +2,9 @@
 use Rattle.std.specs.Prelude.{ℕ, ◌-◌, if◌then◌else◌, Option, Some, None, option_map, List, [], slice_get}
 use Rattle.cards.specs.Hands.{Hands}
 use Rattle.cards.specs.declared.card.Card.{Card}
-use Rattle.cards.specs.declared.place.Place.TheVariants.{North, East, South, West}
-use Rattle.cards.specs.declared.strain.Strain.{Strain}
-use Rattle.cards.specs.declared.strain.Strain.TheVariants.{Spades, Hearts, Diamonds, Clubs, NoTrump}
+use Rattle.table_terms.specs.declared.place.Place.TheVariants.{North, East, South, West}
+use Rattle.table_terms.specs.declared.strain.Strain.{Strain}
+use Rattle.table_terms.specs.declared.strain.Strain.TheVariants.{Spades, Hearts, Diamonds, Clubs, NoTrump}
 use Rattle.double_dummy_laws.specs.DoubleDummy.{declarer_tricks}
 use Rattle.movement.specs.declared.cell.Cell.{Cell}
 use Rattle.rbac.specs.declared.account.Account.{Account}
@@ -17,8 +17,8 @@ use Rattle.query_filter.specs.declared.trick_table.TrickTable.{TrickTable}
 use Rattle.solver_results.specs.PlayAnswer.{PlayedDeal, answer_of}
 use Rattle.solver_results.specs.declared.play_answer.PlayAnswer.{PlayAnswer}
 use Rattle.solver_results.specs.declared.play_answer.PlayAnswer.TheVariants as answer
-use Rattle.session_state.specs.declared.cell_state.CellState.{CellState}
-use Rattle.session_state.specs.declared.cell_state.CellState.TheVariants.{Empty, Entered, Confirmed, Ruled}
+use Rattle.session_commands.specs.declared.cell_state.CellState.{CellState}
+use Rattle.session_commands.specs.declared.cell_state.CellState.TheVariants.{Empty, Entered, Confirmed, Ruled}
 use Rattle.session_state.specs.declared.seated.Seated.{Seated}
 use Rattle.play_record.specs.Play.{has_card}
 use Rattle.session_state.specs.Readers.{seats_in_order}

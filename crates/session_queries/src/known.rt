@@ -3,11 +3,12 @@ ghost use Rattle.movement.specs.Movement.{most_boards};
 ghost use Rattle.session_queries.specs.Content.{analysis_of, costs_of, costs_of_play, found_of, play_of, reason_of, result_of, strain_of_deal, tricks_of_deal};
 
 use crate::card_costs::CardCosts;
-use cards::{Place, Strain};
 use query_filter::{StrainTricks, TrickTable};
-use session_state::{CellState, DdTable, Play, PlayCosts, State};
+use session_commands::{CellState, DdTable, Play, PlayCosts};
+use session_state::State;
 use solver_results::PlayAnswer;
 use standings::CellResult;
+use table_terms::{Place, Strain};
 
 /// The result of what is known of a cell, if there is one.
 pub fn result_of(known: &CellState) -> Option<CellResult>

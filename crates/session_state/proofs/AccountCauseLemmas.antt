@@ -4,8 +4,8 @@ use Rattle.std.specs.Prelude.{Option, Some, None, option_map, nat_le, not}
 use Rattle.std.specs.Bool.{Decides, then_some}
 use Rattle.std.proofs.lemmas.Bool.{both_ways, false≢true, cases_lt, le-leb}
 use Rattle.std.proofs.lemmas.Bool.Decides.{Decides-and}
-use Rattle.rbac.specs.declared.role.Role.{Role}
-use Rattle.rbac.specs.declared.separation_set.SeparationSet.{SeparationSet}
+use Rattle.session_roles.specs.declared.role.Role.{Role}
+use Rattle.session_roles.specs.declared.separation_set.SeparationSet.{SeparationSet}
 use Rattle.rbac.specs.declared.add_user_error.AddUserError.{AddUserError}
 use Rattle.rbac.specs.declared.add_user_error.AddUserError.TheVariants as add_user_error
 use Rattle.rbac.specs.declared.assign_error.AssignError.{AssignError}
@@ -20,18 +20,18 @@ use Rattle.rbac.specs.Account.{most_users, is_user_name, HasAccount, IsAssigned,
 use Rattle.rbac.specs.Inheritance.{reaches, pair_of}
 use Rattle.rbac.specs.Refusals.{RefusesUser, RefusesAssignment, RefusesDeassignment, RefusesInheritance, RefusesDeletion}
 use Rattle.rbac.specs.Review.{is_broken}
-use Rattle.rbac.specs.Role.{has}
+use Rattle.session_roles.specs.Role.{has}
 use Rattle.rbac.specs.RoleData.{RoleData, assign_user, deassign_user, add_inheritance, delete_inheritance}
 use Rattle.rbac.proofs.AccountLemmas.{same_name_decides}
 use Rattle.rbac.proofs.InheritanceLemmas.{decides_reaches}
 use Rattle.rbac.proofs.ListLemmas.{decides_any}
 use Rattle.rbac.proofs.RefusalLemmas.{decides_there}
 use Rattle.rbac.proofs.ReviewLemmas.{decides_is_broken, either_way}
-use Rattle.rbac.proofs.SeparationLemmas.{none_found}
-use Rattle.session_state.specs.declared.command.Command.TheVariants.{AddUser, Assign, Deassign, AddInheritance, DeleteInheritance}
-use Rattle.session_state.specs.declared.digest.Digest.{Digest}
-use Rattle.session_state.specs.declared.refusal.Refusal.{Refusal}
-use Rattle.session_state.specs.declared.refusal.Refusal.TheVariants.{BadName, UserExists, TooManyUsers, AlreadyAssigned, Separation, NotAssigned, Cycle, AlreadyThere, NotThere}
+use Rattle.session_roles.proofs.SeparationLemmas.{none_found}
+use Rattle.session_commands.specs.declared.command.Command.TheVariants.{AddUser, Assign, Deassign, AddInheritance, DeleteInheritance}
+use Rattle.session_commands.specs.declared.digest.Digest.{Digest}
+use Rattle.session_commands.specs.declared.refusal.Refusal.{Refusal}
+use Rattle.session_commands.specs.declared.refusal.Refusal.TheVariants.{BadName, UserExists, TooManyUsers, AlreadyAssigned, Separation, NotAssigned, Cycle, AlreadyThere, NotThere}
 use Rattle.session_state.specs.Accounts.{has_account, is_assigned, first_broken, has_pair}
 use Rattle.session_state.specs.Refusal.{first_of, hindrance_of, needed_causes}
 use Rattle.session_state.specs.SessionState.{SessionState}

@@ -7,10 +7,10 @@ use Rattle.movement.specs.declared.cell.Cell.{Cell}
 use Rattle.disclosure_rules.specs.LiveCells.{tables_at, is_live, with_live, without_live}
 use Rattle.disclosure_rules.specs.Numbers.{has_number, numbers_that}
 use Rattle.disclosure_rules.proofs.NumbersLemmas.{has_number-numbers_that}
-use Rattle.session_state.specs.declared.cell_state.CellState.{CellState}
-use Rattle.session_state.specs.declared.cell_state.CellState.TheVariants.{Empty, Entered, Confirmed, Ruled}
+use Rattle.session_commands.specs.declared.cell_state.CellState.{CellState}
+use Rattle.session_commands.specs.declared.cell_state.CellState.TheVariants.{Empty, Entered, Confirmed, Ruled}
 use Rattle.solver_results.specs.PlayAnswer.{PlayedDeal}
-use Rattle.session_state.specs.CellState.{has_result, with_costs}
+use Rattle.session_commands.specs.CellState.{has_result, with_costs}
 use Rattle.session_state.specs.SessionState.{most_cells, place_of, IsPlaced, AreLive}
 
 -- nothing is live where nothing is known

@@ -2,12 +2,12 @@
 use Rattle.std.proofs.Common.{◌≡◌, ℕ, Bool, true, false, List, [], ◌∷◌, ◌++◌, refl}
 use Rattle.std.specs.Prelude.{Option, None, not}
 use Rattle.std.specs.Bool.{then_some}
-use Rattle.cards.specs.declared.pair.Pair.{Pair}
-use Rattle.cards.specs.declared.place.Place.{Place}
-use Rattle.rbac.specs.declared.role.Role.TheVariants.{Contestant}
-use Rattle.session_state.specs.declared.command.Command.TheVariants as command
-use Rattle.session_state.specs.declared.refusal.Refusal.{Refusal}
-use Rattle.session_state.specs.declared.refusal.Refusal.TheVariants.{NoSuchPair, WrongDirection, NotContestant, AlreadySeated, SeatTaken}
+use Rattle.table_terms.specs.declared.pair.Pair.{Pair}
+use Rattle.table_terms.specs.declared.place.Place.{Place}
+use Rattle.session_roles.specs.declared.role.Role.TheVariants.{Contestant}
+use Rattle.session_commands.specs.declared.command.Command.TheVariants as command
+use Rattle.session_commands.specs.declared.refusal.Refusal.{Refusal}
+use Rattle.session_commands.specs.declared.refusal.Refusal.TheVariants.{NoSuchPair, WrongDirection, NotContestant, AlreadySeated, SeatTaken}
 use Rattle.session_state.specs.Accounts.{has_account, is_authorized_for}
 use Rattle.session_state.specs.Refusal.{hindrance_of}
 use Rattle.session_state.specs.Seats.{is_pair, is_of_side, has_seat, is_taken, AreSeated}

@@ -11,7 +11,7 @@ use Rattle.std.proofs.lemmas.Map.Keys.{IsDistinct-push}
 use Rattle.std.proofs.lemmas.Map.Made.{length-le_from_is_member}
 use Rattle.rbac.specs.Account.{same_name, new_account, with_change}
 use Rattle.rbac.specs.RoleData.{RoleData, add_user}
-use Rattle.rbac.specs.declared.role.Role.{Role}
+use Rattle.session_roles.specs.declared.role.Role.{Role}
 use Rattle.rbac.specs.declared.account.Account.{Account}
 use Rattle.rbac.proofs.AccountLemmas.{same_name_decides, changed, name_kept}
 use Rattle.rbac.proofs.ListLemmas.{distinct_filter}

@@ -3,8 +3,8 @@ use Rattle.std.specs.Prelude.{ℕ, Bool, not, List}
 use Rattle.std.specs.List.{list_any}
 use Rattle.rbac.specs.Authorization.{authorized_roles}
 use Rattle.rbac.specs.RoleData.{RoleData}
-use Rattle.rbac.specs.declared.role.Role.{Role}
-use Rattle.rbac.specs.declared.role.Role.TheVariants.{Contestant, Administrator}
+use Rattle.session_roles.specs.declared.role.Role.{Role}
+use Rattle.session_roles.specs.declared.role.Role.TheVariants.{Contestant, Administrator}
 use Rattle.disclosure_rules.specs.Policy.{is_authorized}
 use Rattle.session_state.specs.declared.seated.Seated.{Seated}
 -- whether there is a user of a name, a role is assigned, a separation set is broken, an inheritance pair is there

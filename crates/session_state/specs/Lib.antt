@@ -1,7 +1,5 @@
 pub mod Accounts
 pub mod Apply
-pub mod CellState
-pub mod Command
 pub mod KeptState
 pub mod OwnNumbers
 pub mod Parts

@@ -15,35 +15,36 @@ use Rattle.rbac.specs.Account.{most_users, is_user_name}
 use Rattle.rbac.specs.Authorization.{HasPermission, has_permission}
 use Rattle.rbac.specs.Inheritance.{reaches}
 use Rattle.rbac.specs.RoleData.{RoleData, assign_user, deassign_user, add_inheritance, delete_inheritance}
-use Rattle.rbac.specs.declared.role.Role.TheVariants.{Contestant}
+use Rattle.session_roles.specs.declared.role.Role.TheVariants.{Contestant}
 use Rattle.scoring.specs.declared.outcome.Outcome.{Outcome}
 use Rattle.scoring.specs.declared.outcome.Outcome.TheVariants.{PassedOut, Played}
 use Rattle.disclosure_rules.specs.Numbers.{has_number}
 use Rattle.disclosure_rules.specs.Seating.{some_that, is_complete}
 use Rattle.disclosure_rules.specs.declared.public.Public.{Public}
-use Rattle.session_state.specs.declared.command.Command.{Command}
-use Rattle.session_state.specs.declared.command.Command.TheVariants.{Enter, Confirm, Correct, Rule, Void, Hold, Release}
-use Rattle.session_state.specs.declared.command.Command.TheVariants.{Seat, Unseat, NextRound, Close, Finalise}
-use Rattle.session_state.specs.declared.command.Command.TheVariants.{AddUser, Assign, Deassign, AddInheritance}
-use Rattle.session_state.specs.declared.command.Command.TheVariants.{DeleteInheritance, Solved, Analysed}
-use Rattle.session_state.specs.declared.refusal.Refusal.{Refusal}
-use Rattle.session_state.specs.declared.refusal.Refusal.TheVariants.{NotPermitted, NoSuchUser, NoSuchCell, NoSuchBoard}
-use Rattle.session_state.specs.declared.refusal.Refusal.TheVariants.{WrongPhase, RoundNotStarted, BadResult, AlreadyLive}
-use Rattle.session_state.specs.declared.refusal.Refusal.TheVariants.{NothingEntered, Mismatch, Spoiled, NotLive, BadRuling}
-use Rattle.session_state.specs.declared.refusal.Refusal.TheVariants.{AlreadyHeld, NotHeld, NoSuchPair, WrongDirection}
-use Rattle.session_state.specs.declared.refusal.Refusal.TheVariants.{NotContestant, AlreadySeated, SeatTaken, NotSeated}
-use Rattle.session_state.specs.declared.refusal.Refusal.TheVariants.{NoMoreRounds, NotAllLive, BadName, UserExists}
-use Rattle.session_state.specs.declared.refusal.Refusal.TheVariants.{TooManyUsers, AlreadyAssigned, Separation}
-use Rattle.session_state.specs.declared.refusal.Refusal.TheVariants.{NotAssigned, StillSeated, LastAdministrator, Cycle}
-use Rattle.session_state.specs.declared.refusal.Refusal.TheVariants.{AlreadyThere, NotThere, StrangeDeal, AlreadySolved, StrangePlay}
-use Rattle.session_state.specs.declared.refusal.Refusal.TheVariants.{JournalFull, OutOfMemory}
+use Rattle.session_commands.specs.declared.command.Command.{Command}
+use Rattle.session_commands.specs.declared.command.Command.TheVariants.{Enter, Confirm, Correct, Rule, Void, Hold, Release}
+use Rattle.session_commands.specs.declared.command.Command.TheVariants.{Seat, Unseat, NextRound, Close, Finalise}
+use Rattle.session_commands.specs.declared.command.Command.TheVariants.{AddUser, Assign, Deassign, AddInheritance}
+use Rattle.session_commands.specs.declared.command.Command.TheVariants.{DeleteInheritance, Solved, Analysed}
+use Rattle.session_commands.specs.declared.refusal.Refusal.{Refusal}
+use Rattle.session_commands.specs.declared.refusal.Refusal.TheVariants.{NotPermitted, NoSuchUser, NoSuchCell, NoSuchBoard}
+use Rattle.session_commands.specs.declared.refusal.Refusal.TheVariants.{WrongPhase, RoundNotStarted, BadResult, AlreadyLive}
+use Rattle.session_commands.specs.declared.refusal.Refusal.TheVariants.{NothingEntered, Mismatch, NotLive, BadRuling}
+use Rattle.session_commands.specs.declared.refusal.Refusal.TheVariants.{AlreadyHeld, NotHeld, NoSuchPair, WrongDirection}
+use Rattle.session_commands.specs.declared.refusal.Refusal.TheVariants.{NotContestant, AlreadySeated, SeatTaken, NotSeated}
+use Rattle.session_commands.specs.declared.refusal.Refusal.TheVariants.{NoMoreRounds, NotAllLive, BadName, UserExists}
+use Rattle.session_commands.specs.declared.refusal.Refusal.TheVariants.{TooManyUsers, AlreadyAssigned, Separation}
+use Rattle.session_commands.specs.declared.refusal.Refusal.TheVariants.{NotAssigned, StillSeated, LastAdministrator, Cycle}
+use Rattle.session_commands.specs.declared.refusal.Refusal.TheVariants.{AlreadyThere, NotThere, StrangeDeal, AlreadySolved, StrangePlay}
+use Rattle.session_commands.specs.declared.refusal.Refusal.TheVariants.{JournalFull}
 use Rattle.session_state.specs.Accounts.{has_account, is_assigned, is_authorized_for, has_administrator, seats_a_stranger}
 use Rattle.session_state.specs.Accounts.{first_broken, has_pair}
-use Rattle.session_state.specs.CellState.{has_result, is_empty, is_entered_otherwise, is_played_as, is_counted}
-use Rattle.session_state.specs.Command.{operation_of, is_solvers, phases_of, user_of, cell_of, board_of}
-use Rattle.session_state.specs.Command.{is_told_by_table, is_among}
-use Rattle.session_state.specs.declared.actor.Actor.{Actor}
-use Rattle.session_state.specs.declared.actor.Actor.TheVariants.{User, Solver}
+use Rattle.session_commands.specs.CellState.{has_result, is_empty, is_entered_otherwise, is_played_as, is_counted}
+use Rattle.session_commands.specs.Command.{operation_of, is_solvers, phases_of, user_of, cell_of, board_of}
+use Rattle.session_commands.specs.Command.{is_among}
+use Rattle.session_commands.specs.Refusal.{spoiled}
+use Rattle.session_commands.specs.declared.actor.Actor.{Actor}
+use Rattle.session_commands.specs.declared.actor.Actor.TheVariants.{User, Solver}
 use Rattle.play_record.specs.Play.{has_card, has_repeat}
 use Rattle.session_state.specs.Seats.{is_pair, is_of_side, has_seat, is_taken}
 use Rattle.session_state.specs.SessionState.{SessionState, cell_at, table_at, is_dealt}
@@ -169,11 +170,6 @@ hindrances state command =
     ∷ then_some (is_early state command) RoundNotStarted
     ∷ own_causes state command
 
--- whether a result is spoiled by who sits at its cell: by the first user there who was shown something of the board, if
--- there is one; this is no hindrance, since what users were shown is not in the state
-abbrev pub spoiled : Command → Option (List ℕ) → Option Refusal
-spoiled command spoiler = if is_told_by_table command then option_map Spoiled spoiler else None
-
 -- whether who gives a command may: a user who has the permission for its operation, or the solver for one of its own. No
 -- role holds a permission for what is the solver's, so no user tells the numbers
 abbrev pub is_permitted : RoleData → Actor → Command → Bool
@@ -200,8 +196,3 @@ hindrance_of state command = first_of (hindrances state command)
 -- is the first user who sits at the command's cell and was shown something of its board, if there is one
 unfoldable pub refusal_of : SessionState → Option (List ℕ) → Actor → Command → ℕ → Option Refusal
 refusal_of state spoiler actor command entries = first_of (causes state spoiler actor command entries)
-
--- whether the refusal is that memory was refused, which no state is a cause of
-abbrev pub is_out_of_memory : Refusal → Bool
-is_out_of_memory OutOfMemory = true
-is_out_of_memory _ = false

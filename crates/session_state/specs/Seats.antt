@@ -1,9 +1,9 @@
 -- What a command asks of seats.
 use Rattle.std.specs.Prelude.{◌≡◌, ℕ, Bool, true, ◌&&◌, not, nat_le, nat_eq, List, filter}
 use Rattle.std.specs.List.{list_any, IsDistinct}
-use Rattle.cards.specs.declared.pair.Pair.{Pair}
-use Rattle.cards.specs.declared.place.Place.{Place}
-use Rattle.cards.specs.Place.{side_of, place_number}
+use Rattle.table_terms.specs.declared.pair.Pair.{Pair}
+use Rattle.table_terms.specs.declared.place.Place.{Place}
+use Rattle.table_terms.specs.Place.{side_of, place_number}
 use Rattle.movement.specs.Movement.{Section}
 use Rattle.movement.specs.Schedule.{same_side, same_pair}
 use Rattle.rbac.specs.Account.{same_name}

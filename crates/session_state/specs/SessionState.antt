@@ -6,7 +6,7 @@ use Rattle.std.specs.Cmp.Lexicographic.{pointwise}
 use Rattle.std.specs.Coded.{Coded, code_by, coded×, coded_list, coded_option}
 use Rattle.cards.specs.Cards.{are_same}
 use Rattle.cards.specs.Hands.{Hands, hands_code}
-use Rattle.rbac.specs.declared.role.Role.{Role}
+use Rattle.session_roles.specs.declared.role.Role.{Role}
 use Rattle.rbac.specs.Authorization.{authorized_roles}
 use Rattle.rbac.specs.RoleData.{RoleData}
 use Rattle.rbac.specs.contracts.roles.Roles as the_roles
@@ -18,14 +18,14 @@ use Rattle.disclosure_rules.specs.LiveCells.{is_live}
 use Rattle.disclosure_rules.specs.Seating.{some_that}
 use Rattle.disclosure_rules.specs.declared.seat.Seat.{Seat}
 use Rattle.disclosure_rules.specs.declared.viewer.Viewer.{Viewer}
-use Rattle.session_state.specs.declared.digest.Digest.{Digest}
-use Rattle.session_state.specs.contracts.digest.Digest as the_digest
+use Rattle.session_commands.specs.declared.digest.Digest.{Digest}
+use Rattle.session_commands.specs.contracts.digest.Digest as the_digest
 use Rattle.session_state.specs.declared.seated.Seated.{Seated}
 use Rattle.session_state.specs.contracts.seated.Seated as the_seated
-use Rattle.session_state.specs.declared.cell_state.CellState.{CellState}
-use Rattle.session_state.specs.declared.cell_state.CellState.TheVariants.{Empty}
-use Rattle.session_state.specs.contracts.cell_state.CellState as the_cell_state
-use Rattle.session_state.specs.CellState.{has_result}
+use Rattle.session_commands.specs.declared.cell_state.CellState.{CellState}
+use Rattle.session_commands.specs.declared.cell_state.CellState.TheVariants.{Empty}
+use Rattle.session_commands.specs.contracts.cell_state.CellState as the_cell_state
+use Rattle.session_commands.specs.CellState.{has_result}
 
 -- the users with their roles and the role hierarchy, the digest of each user's token in the order of the accounts,
 -- where users sit, what every member may see, what is known of each cell, and of board 1, 2, .. the hands, and the

@@ -1,5 +1,5 @@
-use cards::Name;
 use disclosure_rules::Seat;
+use user_names::Name;
 
 /// A user, and where the user sits.
 #[derive(Clone, Copy, Debug)]

@@ -2,7 +2,7 @@
 //! threads of their own. Each deal is printed with its twenty numbers, in the order of the lines.
 #![tactic(auto)]
 
-use cards::{Deal, Place, Strain};
+use cards::Deal;
 use crossbeam_channel::{Receiver, Sender, unbounded};
 use double_dummy::DdTable;
 use solver_pool::{Done, Found, Job, OpenGate, Pool, Work, run_worker};
@@ -10,6 +10,7 @@ use std::alloc::Global;
 use std::io::{BufRead, BufReader};
 use std::sync::Wait;
 use std::{env, io, thread};
+use table_terms::{Place, Strain};
 
 // More visits than any deal takes.
 const VISITS: u64 = 1_000_000_000_000;

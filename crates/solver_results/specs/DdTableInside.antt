@@ -1,7 +1,7 @@
 -- What is stored of a double-dummy table: the deal and its twenty numbers.
 use Rattle.std.specs.Prelude.{◌≡◌}
 use Rattle.std.proofs.Common.{sym}
-use Rattle.cards.specs.declared.strain.Strain.TheVariants.{Spades, Hearts, Diamonds, Clubs, NoTrump}
+use Rattle.table_terms.specs.declared.strain.Strain.TheVariants.{Spades, Hearts, Diamonds, Clubs, NoTrump}
 use Rattle.cards.specs.Hands.{Hands}
 use Rattle.solver_results.specs.DdTable.{tricks_in}
 use Rattle.solver_results.specs.declared.dd_table.DdTable.TheInside.{Inside}

@@ -1,10 +1,11 @@
 ghost use Rattle.std.specs.Prelude.{◌≡◌};
-ghost use Rattle.cards.specs.declared.strain.Strain.TheVariants.{Spades, Hearts, Diamonds, Clubs, NoTrump};
+ghost use Rattle.table_terms.specs.declared.strain.Strain.TheVariants.{Spades, Hearts, Diamonds, Clubs, NoTrump};
 ghost use Rattle.double_dummy_laws.specs.DoubleDummy.{declarer_tricks};
 ghost use Rattle.solver_results.specs.DdTable.{IsTricksIn, tricks_of};
 
-use cards::{Deal, Place, Strain};
+use cards::Deal;
 use std::marker::Model;
+use table_terms::{Place, Strain};
 
 /// The tricks that each player takes as declarer in one strain.
 #[derive(Clone, Copy, Debug, PartialEq, Eq)]

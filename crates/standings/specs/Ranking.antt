@@ -2,10 +2,10 @@
 -- shown. All is in hundredths of a scoring unit (Law 78A), so that an adjusted score (Law 12C2) earns whole numbers.
 use Rattle.std.specs.Prelude.{ℕ, ◌-◌, ◌*◌, ℤ, if◌then◌else◌, List, [], ◌∷◌, ◌++◌, map, length}
 use Rattle.std.specs.List.{range_with_len, sum_by}
-use Rattle.cards.specs.declared.pair.Pair.{Pair}
-use Rattle.cards.specs.declared.side.Side.{Side}
-use Rattle.cards.specs.declared.side.Side.TheVariants.{NorthSouth, EastWest}
-use Rattle.cards.specs.declared.vulnerability.Vulnerability.{Vulnerability}
+use Rattle.table_terms.specs.declared.pair.Pair.{Pair}
+use Rattle.table_terms.specs.declared.side.Side.{Side}
+use Rattle.table_terms.specs.declared.side.Side.TheVariants.{NorthSouth, EastWest}
+use Rattle.table_terms.specs.declared.vulnerability.Vulnerability.{Vulnerability}
 use Rattle.movement.specs.Movement.{Section}
 use Rattle.movement.specs.Schedule.{same_pair}
 use Rattle.scoring.specs.Law77.{ns_score_of}

@@ -2,9 +2,9 @@
 -- the others by Law 78A. An adjusted score (Law 12C2) has percentages in their place.
 use Rattle.std.specs.Prelude.{ℤ, Option, Some, None, List, map}
 use Rattle.std.specs.List.{find, filter_map}
-use Rattle.cards.specs.declared.pair.Pair.{Pair}
-use Rattle.cards.specs.declared.side.Side.TheVariants.{NorthSouth, EastWest}
-use Rattle.cards.specs.declared.vulnerability.Vulnerability.{Vulnerability}
+use Rattle.table_terms.specs.declared.pair.Pair.{Pair}
+use Rattle.table_terms.specs.declared.side.Side.TheVariants.{NorthSouth, EastWest}
+use Rattle.table_terms.specs.declared.vulnerability.Vulnerability.{Vulnerability}
 use Rattle.movement.specs.declared.cell.Cell.{Cell}
 use Rattle.movement.specs.Movement.{Section, Row, rows}
 use Rattle.movement.specs.Schedule.{stands_in}

@@ -1,4 +1,4 @@
-use cards::Pair;
+use table_terms::Pair;
 
 /// What a result earns for its two pairs, in hundredths of a scoring unit (Law 78A), and what either could have earned.
 #[derive(Clone, Copy)]

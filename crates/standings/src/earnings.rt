@@ -7,10 +7,10 @@ use crate::earning::Earning;
 use crate::table_result::TableResult;
 use crate::traveller::{east_west_at, north_south_at, scores_of};
 use crate::units::units_of_score;
-use cards::Vulnerability;
 use movement::Movement;
 use scoring::ns_score;
 use std::alloc::{AllocError, Global};
+use table_terms::Vulnerability;
 
 /// Adds what the results of a board earn.
 #[tactic(auto, unfolding(crate::specs::Ranking::earnings_of))]

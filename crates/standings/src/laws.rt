@@ -2,7 +2,7 @@
 ghost use Rattle.std.specs.Prelude.{◌≡◌, ℕ, ◌+◌, ◌<◌, ◌↔◌, ℤ, pos, List, length, map, slice_index_or, Contains, IsTrue};
 ghost use Rattle.std.specs.List.{AllPairs};
 ghost use Rattle.std.specs.List.Sorted.{IsPermutation};
-ghost use Rattle.cards.specs.declared.vulnerability.Vulnerability.{Vulnerability};
+ghost use Rattle.table_terms.specs.declared.vulnerability.Vulnerability.{Vulnerability};
 ghost use Rattle.movement.specs.Movement.{Section};
 ghost use Rattle.scoring.specs.declared.outcome.Outcome.{Outcome};
 ghost use Rattle.scoring.specs.declared.standing.Standing.{Standing};

@@ -1,14 +1,14 @@
 ghost use Rattle.std.specs.Prelude.{◌≡◌, ◌≤◌, ◌++◌, List, map, length, IfOk, OnOk};
 ghost use Rattle.std.specs.List.{range_with_len, insert};
-ghost use Rattle.cards.specs.declared.pair.Pair.{Pair};
+ghost use Rattle.table_terms.specs.declared.pair.Pair.{Pair};
 ghost use Rattle.standings.specs.Ranking.{earned_by, top_for, standing_of, pair_on, placed, ranked, ranking_of};
 
 use crate::earning::Earning;
-use cards::{Pair, Side};
 use movement::Movement;
 use scoring::{Standing, rank_order};
 use std::alloc::{AllocError, Global};
 use std::cmp::Ordering;
+use table_terms::{Pair, Side};
 
 /// The pairs of a movement in the order in which they rank, by what all results earn.
 pub fn ranking_of(

@@ -9,10 +9,10 @@ use crate::row_result::RowResult;
 use crate::table_result::TableResult;
 use crate::traveller_row::TravellerRow;
 use crate::units::units_of_score;
-use cards::{Pair, Side, Vulnerability};
 use movement::{Cell, Movement};
 use scoring::{Outcome, ns_score};
 use std::alloc::{AllocError, Global};
+use table_terms::{Pair, Side, Vulnerability};
 
 /// The rows of a traveller: a row for each result, in their order.
 #[tactic(auto, unfolding(crate::specs::Traveller::traveller_rows))]

@@ -1,5 +1,5 @@
 use crate::row_result::RowResult;
-use cards::Pair;
+use table_terms::Pair;
 
 /// A row of a board's traveller: what happened at one table.
 #[derive(Clone, Copy)]

@@ -11,15 +11,15 @@ use Rattle.hex.specs.declared.error.FromHexError.{FromHexError}
 use Rattle.hex.specs.Hex.{decode_sized}
 use Rattle.serde_json.specs.Data.{Data}
 use Rattle.serde_json.specs.Find.{as_str}
-use Rattle.cards.specs.declared.pair.Pair.{Pair}
-use Rattle.cards.specs.declared.side.Side.{Side}
-use Rattle.cards.specs.declared.side.Side.TheVariants.{NorthSouth, EastWest}
-use Rattle.cards.specs.Pair.{pair_text}
-use Rattle.cards.specs.PairReading.{IsPairText}
-use Rattle.rbac.specs.declared.role.Role.{Role}
-use Rattle.rbac.specs.declared.role.Role.TheVariants.{Member, Spectator, Contestant, Scorer, Director, Administrator}
-use Rattle.rbac.specs.Role.{roles, role_name}
-use Rattle.session_state.specs.declared.digest.Digest.{Digest}
+use Rattle.table_terms.specs.declared.pair.Pair.{Pair}
+use Rattle.table_terms.specs.declared.side.Side.{Side}
+use Rattle.table_terms.specs.declared.side.Side.TheVariants.{NorthSouth, EastWest}
+use Rattle.table_terms.specs.Pair.{pair_text}
+use Rattle.table_terms.specs.PairReading.{IsPairText}
+use Rattle.session_roles.specs.declared.role.Role.{Role}
+use Rattle.session_roles.specs.declared.role.Role.TheVariants.{Member, Spectator, Contestant, Scorer, Director, Administrator}
+use Rattle.session_roles.specs.Role.{roles, role_name}
+use Rattle.session_commands.specs.declared.digest.Digest.{Digest}
 use Rattle.json_fields.specs.Field.{text, number, called}
 use Rattle.user_fields.specs.User.{stood_for, digest_named, digest, role_named, role_of, IsRole, user_roles, pairs_of, pair_named, pair, place}
 use Rattle.json_fields.proofs.LetterLemmas.{place_found, place_reads, find_nothing, found_passes}

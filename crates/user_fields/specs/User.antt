@@ -6,15 +6,15 @@ use Rattle.hex.specs.declared.error.FromHexError.{FromHexError}
 use Rattle.hex.specs.Hex.{decode_sized}
 use Rattle.serde_json.specs.Data.{Data}
 use Rattle.serde_json.specs.Find.{as_str}
-use Rattle.cards.specs.declared.pair.Pair.{Pair}
-use Rattle.cards.specs.declared.place.Place.{Place}
-use Rattle.cards.specs.declared.side.Side.{Side}
-use Rattle.cards.specs.declared.side.Side.TheVariants.{NorthSouth, EastWest}
-use Rattle.cards.specs.Pair.{pair_text}
-use Rattle.cards.specs.Place.{place_letter}
-use Rattle.rbac.specs.declared.role.Role.{Role}
-use Rattle.rbac.specs.Role.{roles, role_name}
-use Rattle.session_state.specs.declared.digest.Digest.{Digest}
+use Rattle.table_terms.specs.declared.pair.Pair.{Pair}
+use Rattle.table_terms.specs.declared.place.Place.{Place}
+use Rattle.table_terms.specs.declared.side.Side.{Side}
+use Rattle.table_terms.specs.declared.side.Side.TheVariants.{NorthSouth, EastWest}
+use Rattle.table_terms.specs.Pair.{pair_text}
+use Rattle.table_terms.specs.Place.{place_letter}
+use Rattle.session_roles.specs.declared.role.Role.{Role}
+use Rattle.session_roles.specs.Role.{roles, role_name}
+use Rattle.session_commands.specs.declared.digest.Digest.{Digest}
 use Rattle.json_fields.specs.Form.{Member}
 use Rattle.json_fields.specs.Field.{text, called, named, listed}
 use Rattle.json_fields.specs.Letter.{place_named}

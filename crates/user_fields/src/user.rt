@@ -5,12 +5,12 @@ ghost use Rattle.serde_json.specs.Find.{get};
 ghost use Rattle.serde_json.specs.View.{view};
 ghost use Rattle.user_fields.specs.User.{digest_named, digest, role_named, role_of, pair_named, pair, place};
 
-use cards::{Pair, Place};
 use hex::FromHex;
 use json_fields::{place_named, text_at};
-use rbac::Role;
+use session_roles::Role;
 use serde_json::Value;
-use session_state::Digest;
+use session_commands::Digest;
+use table_terms::{Pair, Place};
 
 fn digest_named(digits: &str) -> Option<Digest>
     ensures { result ≡ digest_named digits.now }

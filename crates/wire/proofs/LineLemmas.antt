@@ -6,7 +6,7 @@ use Rattle.std.proofs.lemmas.Str.{utf8_valid_len-IsUtf8}
 use Rattle.serde_json.specs.Data.{Data}
 use Rattle.serde_json.specs.Read.{read}
 use Rattle.serde_json.specs.Find.{as_object}
-use Rattle.session_state.specs.declared.command.Command.{Command}
+use Rattle.session_commands.specs.declared.command.Command.{Command}
 use Rattle.session_queries.specs.declared.query.Query.{Query}
 use Rattle.json_fields.proofs.FormLemmas.{is_most, most_is}
 use Rattle.wire.specs.declared.audit_range.AuditRange.{AuditRange}
@@ -15,12 +15,12 @@ use Rattle.wire.specs.declared.request.RequestBody.{RequestBody}
 use Rattle.wire.specs.declared.request.RequestBody.TheVariants as body
 use Rattle.wire.specs.declared.source.Source.{Source}
 use Rattle.wire.specs.declared.source.Source.TheVariants.{Script, Connection}
-use Rattle.message_fields.specs.declared.request_fault.RequestFault.{RequestFault}
-use Rattle.message_fields.specs.declared.request_fault.RequestFault.TheVariants.{TooLong, Malformed, UnknownRequest, BadField, OutOfMemory}
-use Rattle.message_fields.specs.Reading.{Gives}
+use Rattle.json_fields.specs.declared.request_fault.RequestFault.{RequestFault}
+use Rattle.json_fields.specs.declared.request_fault.RequestFault.TheVariants.{TooLong, Malformed, UnknownRequest, BadField, OutOfMemory}
+use Rattle.json_fields.specs.Reading.{Gives}
 use Rattle.wire.specs.Audit.{an_audit}
 use Rattle.wire.specs.Request.{most_message_bytes, a_query, a_batch, request_of, object_of, text_meaning, bytes_meaning, meaning, HasFew, IsSaid}
-use Rattle.message_fields.specs.Object.{IsObject}
+use Rattle.json_fields.specs.Object.{IsObject}
 use Rattle.wire.specs.Grammar.{IsMessage, IsUnknownRequest, IsQuery, IsBatch, IsAudit, IsGreeting, IsNoRequest}
 use Rattle.wire.proofs.RequestLemmas.{query_object, batch_object, audit_object, greeting_object, few_in_request, user_in_script, no_user_on_connection, object_fault, unknown_object}
 

@@ -2,9 +2,9 @@
 use Rattle.std.proofs.Common.{◌≡◌, ℕ, List, Option, Some, None, Ok, Err, refl, sym, ap, subst, ◌∙◌}
 use Rattle.session_queries.specs.declared.query.Query.{Query}
 use Rattle.json_fields.specs.Form.{applied}
-use Rattle.message_fields.specs.Reading.{wanted, Gives}
-use Rattle.message_fields.specs.declared.request_fault.RequestFault.{RequestFault}
-use Rattle.message_fields.specs.declared.request_fault.RequestFault.TheVariants.{TooLong, Malformed, UnknownRequest, BadField, OutOfMemory}
+use Rattle.json_fields.specs.Reading.{wanted, Gives}
+use Rattle.json_fields.specs.declared.request_fault.RequestFault.{RequestFault}
+use Rattle.json_fields.specs.declared.request_fault.RequestFault.TheVariants.{TooLong, Malformed, UnknownRequest, BadField, OutOfMemory}
 use Rattle.wire.specs.declared.request.Request.{Request}
 use Rattle.wire.specs.Request.{a_query}
 

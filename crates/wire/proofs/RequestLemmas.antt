@@ -3,20 +3,20 @@ use Rattle.std.proofs.Common.{◌≡◌, ◌≢◌, ◌⊎◌, ◌↔◌, ℕ, �
 use Rattle.std.specs.Prelude.{count_by}
 use Rattle.serde_json.specs.Data.{Data, Items}
 use Rattle.serde_json.specs.Find.{get, as_str, as_array}
-use Rattle.session_state.specs.declared.command.Command.{Command}
+use Rattle.session_commands.specs.declared.command.Command.{Command}
 use Rattle.session_queries.specs.declared.query.Query.{Query}
 use Rattle.wire.specs.declared.request.Request.{Request}
 use Rattle.wire.specs.declared.request.RequestBody.{RequestBody}
 use Rattle.wire.specs.declared.request.RequestBody.TheVariants as body
 use Rattle.wire.specs.declared.source.Source.{Source}
 use Rattle.wire.specs.declared.source.Source.TheVariants.{Script, Connection}
-use Rattle.message_fields.specs.declared.request_fault.RequestFault.{RequestFault}
-use Rattle.message_fields.specs.declared.request_fault.RequestFault.TheVariants.{TooLong, Malformed, UnknownRequest, BadField, OutOfMemory}
-use Rattle.message_fields.specs.Reading.{wanted}
+use Rattle.json_fields.specs.declared.request_fault.RequestFault.{RequestFault}
+use Rattle.json_fields.specs.declared.request_fault.RequestFault.TheVariants.{TooLong, Malformed, UnknownRequest, BadField, OutOfMemory}
+use Rattle.json_fields.specs.Reading.{wanted}
 use Rattle.wire.specs.declared.audit_range.AuditRange.{AuditRange}
 use Rattle.json_fields.specs.Form.{applied, has_only, words, formed, HasForm, HasFormOf, item_count, AreEach}
 use Rattle.json_fields.specs.Field.{text}
-use Rattle.message_fields.specs.Field.{since}
+use Rattle.json_fields.specs.Message.{since}
 use Rattle.command_object.specs.Command.{command_of, has_unknown, commands_in, IsCommand}
 use Rattle.query_object.specs.Query.{queries, asking, query_called}
 use Rattle.wire.specs.Audit.{audit_range, auditing, an_audit, audit_of}
@@ -27,7 +27,7 @@ use Rattle.wire.specs.Grammar.{IsOf, IsUnknownRequest, IsQuery, IsBatch, IsAudit
 use Rattle.wire.proofs.AuditLemmas.{audits, audited}
 use Rattle.wire.proofs.SourceLemmas.{said_agrees, said_in_script, unsaid_on_connection}
 use Rattle.json_fields.proofs.FormLemmas.{AgreesForm, form_agrees, with_agrees, called_agrees, written_agrees, formed_read, formed_reads, kept, is_most, most_is, each_read, each_reads, each_count}
-use Rattle.message_fields.proofs.MemberLemmas.{since_agrees}
+use Rattle.json_fields.proofs.MemberLemmas.{since_agrees}
 use Rattle.json_fields.proofs.TableLemmas.{is_among, is_word, none_among, among_none, by_word_read, by_word_reads}
 use Rattle.command_object.proofs.TableLemmas.{command_read, command_reads, all_known}
 use Rattle.query_object.proofs.TableLemmas.{queries_agree}

@@ -2,8 +2,8 @@
 use Rattle.std.proofs.Common.{◌≡◌, List, ℕ, Option, Some, None, option_map, IsSome, refl, sym, ap, ◌∙◌}
 use Rattle.serde_json.specs.Data.{Data}
 use Rattle.json_fields.proofs.FormLemmas.{Agrees}
-use Rattle.message_fields.specs.Field.{user}
-use Rattle.message_fields.proofs.MemberLemmas.{user_agrees}
+use Rattle.json_fields.specs.Message.{user}
+use Rattle.json_fields.proofs.MemberLemmas.{user_agrees}
 use Rattle.wire.specs.Source.{said_in, IsSaidIn, said_user}
 use Rattle.wire.specs.declared.source.Source.{Source}
 use Rattle.wire.specs.declared.source.Source.TheVariants.{Script, Connection}

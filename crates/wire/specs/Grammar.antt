@@ -2,15 +2,15 @@
 use Rattle.std.specs.Prelude.{◌≡◌, ◌≢◌, ◌⊎◌, ℕ, ◌≤◌, List, [], ◌∷◌, length, count_by, All, true, is_some, IsSome, codes, Option, Some, None, option_and_then}
 use Rattle.serde_json.specs.Data.{Data, Items}
 use Rattle.serde_json.specs.Find.{get, as_array}
-use Rattle.session_state.specs.declared.command.Command.{Command}
+use Rattle.session_commands.specs.declared.command.Command.{Command}
 use Rattle.session_queries.specs.declared.query.Query.{Query}
 use Rattle.wire.specs.declared.audit_range.AuditRange.{AuditRange}
 use Rattle.wire.specs.declared.source.Source.{Source}
 use Rattle.wire.specs.declared.source.Source.TheVariants.{Script, Connection}
 use Rattle.json_fields.specs.Form.{has_only, words, HasForm, HasFormOf, AreEach}
 use Rattle.json_fields.specs.Field.{text_at}
-use Rattle.message_fields.specs.Field.{since}
-use Rattle.message_fields.specs.Object.{IsObject}
+use Rattle.json_fields.specs.Message.{since}
+use Rattle.json_fields.specs.Object.{IsObject}
 use Rattle.command_object.specs.Command.{has_unknown, IsCommand}
 use Rattle.query_object.specs.Query.{queries, asking}
 use Rattle.wire.specs.Request.{most_message_bytes, doing}

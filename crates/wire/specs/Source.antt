@@ -3,7 +3,7 @@
 use Rattle.std.specs.Prelude.{◌≡◌, ℕ, List, Option, Some, None, option_map}
 use Rattle.serde_json.specs.Data.{Data}
 use Rattle.json_fields.specs.Form.{Member}
-use Rattle.message_fields.specs.Field.{user}
+use Rattle.json_fields.specs.Message.{user}
 use Rattle.wire.specs.declared.source.Source.{Source}
 use Rattle.wire.specs.declared.source.Source.TheVariants.{Script, Connection}
 

@@ -5,13 +5,12 @@ ghost use Rattle.serde_json.specs.Find.{get};
 ghost use Rattle.serde_json.specs.View.{view};
 ghost use Rattle.wire.specs.Audit.{most_rows, counted, audit_range, audit_of};
 ghost use Rattle.json_fields.specs.Form.{formed};
-ghost use Rattle.message_fields.specs.Reading.{wanted};
+ghost use Rattle.json_fields.specs.Reading.{wanted};
 
 use crate::audit_range::AuditRange;
 use crate::request::{Request, RequestBody};
 use crate::source::{Source, said_user};
-use json_fields::{has_only, whole_at};
-use message_fields::RequestFault;
+use json_fields::{RequestFault, has_only, whole_at};
 use serde_json::Value;
 
 /// How many rows an audit has at most.

@@ -4,7 +4,7 @@ ghost use Rattle.std.specs.Prelude.{◌≡◌, ◌++◌, ◌∷◌, []};
 ghost use Rattle.wire.specs.ReceiptText.{fault_text, connection_fault_text};
 
 use crate::connection_fault::ConnectionFault;
-use message_fields::RequestFault;
+use json_fields::RequestFault;
 
 /// The text that says why no request was read.
 #[tactic(auto, unfolding(crate::specs::ReceiptText::fault_text, serde_json::proofs::OnLiterals::serde_json_on_literals))]

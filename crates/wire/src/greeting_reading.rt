@@ -4,16 +4,15 @@ ghost use Rattle.std.specs.Prelude.{◌≡◌, []};
 ghost use Rattle.serde_json.specs.Find.{get};
 ghost use Rattle.serde_json.specs.View.{view};
 ghost use Rattle.json_fields.specs.Form.{formed};
-ghost use Rattle.message_fields.specs.Reading.{wanted, Gives};
+ghost use Rattle.json_fields.specs.Reading.{wanted, Gives};
 ghost use Rattle.wire.specs.Greeting.{greeter, token, greeting};
 
 use crate::request::{Request, RequestBody};
 use crate::token::Token;
-use cards::Name;
-use json_fields::{has_only, name_at, text_at};
-use message_fields::RequestFault;
+use json_fields::{RequestFault, has_only, name_at, text_at};
 use serde_json::Value;
 use std::alloc::Global;
+use user_names::Name;
 
 fn greeter_of(value: &Value) -> Result<Name, RequestFault>
     ensures { result ≡ wanted (greeter.value (get greeter.name (view value.now))) }

@@ -2,15 +2,15 @@
 
 ghost use Rattle.std.specs.Prelude.{◌≡◌, ◌↔◌, ◌+◌, ◌<◌, ◌≤◌, ℕ, List, Option, None, Ok, Err, length, take};
 ghost use Rattle.serde_json.specs.Data.{Data};
-ghost use Rattle.message_fields.specs.declared.request_fault.RequestFault.TheVariants.{TooLong, Malformed, UnknownRequest, BadField};
+ghost use Rattle.json_fields.specs.declared.request_fault.RequestFault.TheVariants.{TooLong, Malformed, UnknownRequest, BadField};
 ghost use Rattle.session_queries.specs.declared.query.Query.{Query};
 ghost use Rattle.wire.specs.declared.audit_range.AuditRange.{AuditRange};
 ghost use Rattle.wire.specs.declared.request.Request.{Request};
 ghost use Rattle.wire.specs.declared.request.RequestBody.TheVariants as body;
 ghost use Rattle.wire.specs.declared.source.Source.{Source};
 ghost use Rattle.wire.specs.declared.source.Source.TheVariants.{Script, Connection};
-ghost use Rattle.session_state.specs.declared.command.Command.{Command};
-ghost use Rattle.message_fields.specs.Object.{IsObject};
+ghost use Rattle.session_commands.specs.declared.command.Command.{Command};
+ghost use Rattle.json_fields.specs.Object.{IsObject};
 ghost use Rattle.wire.specs.Grammar.{IsMessage, IsUnknownRequest, IsQuery, IsBatch, IsAudit, IsGreeting, IsNoRequest};
 ghost use Rattle.wire.specs.Request.{most_message_bytes, meaning, IsSaid};
 

@@ -3,7 +3,7 @@
 ghost use Rattle.std.specs.Prelude.{◌≡◌, IfOk};
 ghost use Rattle.serde_json.specs.Find.{as_str, as_array};
 ghost use Rattle.serde_json.specs.View.{view, items_view};
-ghost use Rattle.message_fields.specs.Reading.{wanted, Gives};
+ghost use Rattle.json_fields.specs.Reading.{wanted, Gives};
 ghost use Rattle.wire.specs.Request.{query_of, query_by, batch_of, batch_by, greeting_by, request_of, text_meaning, bytes_meaning, meaning, HasFew};
 
 use crate::audit_reading::audit_of;
@@ -11,8 +11,7 @@ use crate::greeting_reading::greeting_of;
 use crate::request::{Request, RequestBody};
 use crate::source::{Source, said_user};
 use command_object::{commands_in, has_unknown};
-use json_fields::has_only;
-use message_fields::{RequestFault, since_of};
+use json_fields::{RequestFault, has_only, since_of};
 use query_object::{is_query_word, query_called};
 use serde_json::Value;
 use session_book::Book;

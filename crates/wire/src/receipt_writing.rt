@@ -7,7 +7,7 @@ ghost use Rattle.wire.specs.ReceiptText.{refusal_name, about, refusal_text, answ
 
 use serde_json::{Value, json};
 use session_book::{Answer, Submission};
-use session_state::Refusal;
+use session_commands::Refusal;
 use std::alloc::{AllocError, Global};
 
 /// The text of the receipt for a batch after which the journal has this version.

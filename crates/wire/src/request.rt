@@ -1,8 +1,8 @@
 use crate::audit_range::AuditRange;
 use crate::token::Token;
-use cards::Name;
 use command_object::Commands;
 use session_queries::Query;
+use user_names::Name;
 
 /// What a message asks for or wants done, and for whom.
 #[derive(Drop)]

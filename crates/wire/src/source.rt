@@ -3,13 +3,12 @@
 ghost use Rattle.std.specs.Prelude.{◌≡◌};
 ghost use Rattle.serde_json.specs.Find.{get};
 ghost use Rattle.serde_json.specs.View.{view};
-ghost use Rattle.message_fields.specs.Reading.{wanted};
+ghost use Rattle.json_fields.specs.Reading.{wanted};
 ghost use Rattle.wire.specs.Source.{said_user};
 
-use cards::Name;
-use json_fields::name_at;
-use message_fields::RequestFault;
+use json_fields::{RequestFault, name_at};
 use serde_json::Value;
+use user_names::Name;
 
 /// Where a message comes from.
 #[derive(Clone, Copy, Debug, PartialEq, Eq)]

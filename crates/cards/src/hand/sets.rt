@@ -7,7 +7,7 @@ ghost use Rattle.cards.specs.declared.card.Card.{Card};
 
 use crate::card::Card;
 use crate::hand::Hand;
-use crate::suit::Suit;
+use table_terms::Suit;
 
 /// What the play of the cards asks of a hand as a set.
 impl Hand {

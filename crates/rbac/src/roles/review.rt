@@ -9,9 +9,8 @@ use crate::change::Change;
 use crate::hierarchy::Hierarchy;
 use crate::inheritance::Inheritance;
 use crate::lookup::{first_broken, has_user_for, has_user_for_without, place_of};
-use crate::role::Role;
 use crate::roles::Roles;
-use crate::separation_set::SeparationSet;
+use session_roles::{Role, SeparationSet};
 
 impl Roles {
     /// How many users there are.

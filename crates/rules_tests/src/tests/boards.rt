@@ -1,6 +1,6 @@
 //! The markings of boards, as Law 2 prints them, and the opponents of Law 4.
 
-use cards::{Place, Side, Vulnerability, dealer_of, vulnerability_of};
+use table_terms::{Place, Side, Vulnerability, dealer_of, vulnerability_of};
 
 /// The dealer and the marking of boards 1 to 16.
 static PRINTED: [(Place, Vulnerability); 16] = [

@@ -1,9 +1,10 @@
 //! What is printed of each fault.
 
 use super::is_printed;
-use cards::{DealTextError, NotAHand, NotAPair};
+use cards::{DealTextError, NotAHand};
 use script_lines::{ReadFault, WriteFault};
 use std::alloc::Global;
+use table_terms::NotAPair;
 
 fn are_named(alloc: Global) -> bool {
     is_printed(alloc, &NotAHand, "not a hand")

@@ -1,7 +1,8 @@
 //! The play of the cards (Laws 1, 41 and 44): tricks worked by hand.
 
-use cards::{Card, Deal, Hand, NotAPosition, Place, Position, Strain};
+use cards::{Card, Deal, Hand, NotAPosition, Position};
 use std::alloc::Global;
+use table_terms::{Place, Strain};
 
 fn hand(text: &str) -> Option<Hand> {
     text.parse().ok()

@@ -1,9 +1,9 @@
 //! What scores earn in matchpoints (Law 78A), and how pairs rank.
 
-use cards::{Pair, Side};
 use scoring::{Standing, matchpoints, rank_order};
 use std::alloc::Global;
 use std::cmp::Ordering;
+use table_terms::{Pair, Side};
 
 /// Scores, and the units that they earn. Of the last three boards two tables have each score, and beat all that stand before
 /// them.

@@ -1,10 +1,12 @@
 //! Texts of cards, hands, deals, pairs and names, and of what isn't one.
 
 use super::is_printed;
-use cards::{Card, Deal, DealTextError, Hand, Name, NameTooLong, Pair};
+use cards::{Card, Deal, DealTextError, Hand};
 use std::alloc::Global;
 use std::fmt::Display;
 use std::str::FromStr;
+use table_terms::Pair;
+use user_names::{Name, NameTooLong};
 
 /// Whether a text is read, and printed so.
 fn reads<T: FromStr + Display + Copy>(alloc: Global, text: &str, written: &str) -> bool

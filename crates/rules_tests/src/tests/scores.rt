@@ -1,8 +1,8 @@
 //! What contracts score, against another scorer, and for which side.
 
 use super::figures::{Figures, MAJOR, MINOR, NO_TRUMP};
-use cards::{Place, Strain, Vulnerability};
 use scoring::{Contract, Doubling, Level, Outcome, Tricks, ns_score, score};
+use table_terms::{Place, Strain, Vulnerability};
 
 fn figures_of(strain: Strain) -> &'static Figures {
     match strain {

@@ -2,7 +2,7 @@
 
 use super::running::run_to_end;
 use super::session::{SESSION, filled};
-use message_fields::RequestFault;
+use json_fields::RequestFault;
 use session_queries::Query;
 use std::alloc::{AllocError, Global};
 use std::test::Fail;

@@ -1,6 +1,6 @@
 //! The texts of faults.
 
-use message_fields::RequestFault;
+use json_fields::RequestFault;
 use program::Fault;
 use std::alloc::{AllocError, Global};
 use std::fmt::Display;

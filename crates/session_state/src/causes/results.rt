@@ -2,14 +2,14 @@
 ghost use Rattle.std.specs.Prelude.{◌≡◌, ℕ};
 ghost use Rattle.session_state.specs.Refusal.{first_of, is_bad_result, is_bad_ruling, own_causes};
 ghost use Rattle.session_state.specs.SessionState.{SessionState, IsPlaced};
-ghost use Rattle.session_state.specs.declared.command.Command.TheVariants.{Enter, Confirm, Correct, Rule, Void};
+ghost use Rattle.session_commands.specs.declared.command.Command.TheVariants.{Enter, Confirm, Correct, Rule, Void};
 
 use crate::causes::first_of;
-use crate::refusal::Refusal;
 use crate::state::State;
 use movement::Cell;
 use play_record::Play;
 use scoring::Outcome;
+use session_commands::Refusal;
 
 pub fn enter_cause(state: &State, cell: Cell, outcome: Outcome, play: &Play) -> Option<Refusal>
     requires { IsPlaced cell }

@@ -2,15 +2,16 @@
 ghost use Rattle.std.specs.Prelude.{◌≡◌};
 ghost use Rattle.session_state.specs.Refusal.{first_of, own_causes};
 ghost use Rattle.session_state.specs.Seats.{is_pair, is_of_side, is_taken};
-ghost use Rattle.session_state.specs.declared.command.Command.TheVariants as command;
+ghost use Rattle.session_commands.specs.declared.command.Command.TheVariants as command;
 
 use crate::causes::first_of;
-use crate::refusal::Refusal;
 use crate::state::State;
-use cards::{Name, Pair, Place, Side};
 use disclosure_rules::Seat;
 use movement::Movement;
-use rbac::Role;
+use session_roles::Role;
+use session_commands::Refusal;
+use table_terms::{Pair, Place, Side};
+use user_names::Name;
 
 pub fn seat_cause(state: &State, name: Name, seat: Seat) -> Option<Refusal>
     ensures { result ≡ first_of (own_causes state.now (command.Seat name seat.pair seat.place)) }

@@ -3,12 +3,13 @@ ghost use Rattle.std.specs.Prelude.{◌≡◌, length, option_map, slice_get};
 ghost use Rattle.disclosure_rules.specs.Numbers.{has_number};
 ghost use Rattle.session_state.specs.Readers.{digest_among, digest_of, seated_of};
 
-use crate::digest::Digest;
 use crate::seated::Seated;
 use crate::state::State;
-use cards::Name;
 use disclosure_rules::Phase;
-use rbac::{Account, Role};
+use rbac::Account;
+use session_roles::Role;
+use session_commands::Digest;
+use user_names::Name;
 
 impl State {
     /// The present round, from 1.

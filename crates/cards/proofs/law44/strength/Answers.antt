@@ -2,13 +2,13 @@ use Rattle.std.proofs.Common.{◌≡◌, ◌+◌, nat_eq, Option, Some, None, re
 use denote.Enum.Bare.{sameb}
 use denote.Enum.Declared.{tag_of}
 use Rattle.std.specs.Option.{option_eq}
-use Rattle.cards.specs.declared.suit.Suit.{Suit}
-use Rattle.cards.specs.declared.suit.Suit.TheVariants.{Spades, Hearts, Diamonds, Clubs}
+use Rattle.table_terms.specs.declared.suit.Suit.{Suit}
+use Rattle.table_terms.specs.declared.suit.Suit.TheVariants.{Spades, Hearts, Diamonds, Clubs}
 use Rattle.cards.specs.declared.rank.Rank.{Rank}
 use Rattle.cards.specs.declared.card.Card.{Card}
-use Rattle.cards.specs.contracts.suit.Suit as the_suit
+use Rattle.table_terms.specs.contracts.suit.Suit as the_suit
 use Rattle.cards.specs.contracts.rank.Rank as the_rank
-use Rattle.cards.specs.Suit.{suit_number}
+use Rattle.table_terms.specs.Suit.{suit_number}
 use Rattle.cards.specs.Rank.{height}
 use Rattle.cards.specs.CardBits.{each_rank}
 use Rattle.cards.specs.Play.{is_of, is_trump, strength_by}

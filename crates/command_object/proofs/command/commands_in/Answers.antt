@@ -1,6 +1,6 @@
 use Rattle.std.proofs.Common.{add-one, arith}
 use Rattle.json_fields.proofs.ListLemmas.{each_kept}
-use Rattle.message_fields.proofs.ReadingLemmas.{is_there}
+use Rattle.json_fields.proofs.ReadingLemmas.{is_there}
 use Rattle.command_object.specs.Command.{command_of}
 use Rattle.command_object.proofs.command.commands_in.Goals as goal
 

@@ -1,6 +1,6 @@
 use Rattle.std.proofs.Common.{add-one, sym, ◌∙◌, arith}
 use Rattle.json_fields.proofs.ListLemmas.{each_kept}
-use Rattle.message_fields.proofs.ReadingLemmas.{is_there}
+use Rattle.json_fields.proofs.ReadingLemmas.{is_there}
 use Rattle.command_object.specs.Play.{card_of}
 use Rattle.command_object.proofs.play.cards_in.Goals as goal
 

@@ -1,6 +1,6 @@
 use Rattle.std.proofs.Common.{◌≡◌, ◌+◌, ◌≤◌, ◌++◌, ◌∷◌, [], ◌∙◌, ap, sym, subst, arith, suc, length, drop, get_or, length-append}
 use Rattle.cards.specs.declared.card.Card.{Card}
-use Rattle.cards.specs.declared.suit.Suit.TheVariants.{Spades}
+use Rattle.table_terms.specs.declared.suit.Suit.TheVariants.{Spades}
 use Rattle.cards.specs.declared.rank.Rank.TheVariants.{Two}
 use Rattle.cards.specs.Play.{cards_left}
 use Rattle.position_patterns.proofs.RemainderLemmas.{left_without}

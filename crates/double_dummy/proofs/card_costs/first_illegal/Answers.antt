@@ -1,6 +1,6 @@
 use Rattle.std.proofs.Common.{◌≡◌, ◌+◌, ◌∙◌, ap, sym, arith, suc, Some}
 use Rattle.cards.specs.declared.card.Card.{Card}
-use Rattle.cards.specs.declared.suit.Suit.TheVariants.{Spades}
+use Rattle.table_terms.specs.declared.suit.Suit.TheVariants.{Spades}
 use Rattle.cards.specs.declared.rank.Rank.TheVariants.{Two}
 use Rattle.double_dummy.proofs.PlayedLemmas.{past_card, at_card}
 use Rattle.double_dummy.proofs.card_costs.first_illegal.Goals as goal

@@ -8,8 +8,8 @@ use Rattle.cards.specs.Cards.{Cards}
 use Rattle.cards.specs.CardBits.{card_cmp_total}
 use Rattle.cards.specs.Hands.{Hands, hand_of}
 use Rattle.cards.specs.declared.card.Card.{Card}
-use Rattle.cards.specs.declared.place.Place.{Place}
-use Rattle.cards.specs.declared.place.Place.TheVariants.{North, East, South, West}
+use Rattle.table_terms.specs.declared.place.Place.{Place}
+use Rattle.table_terms.specs.declared.place.Place.TheVariants.{North, East, South, West}
 use Rattle.std.specs.FinSet as set
 use Rattle.double_dummy_search.proofs.run.others.Goals as goal
 use Rattle.cards.specs.Play.{Position, to_play, turn}

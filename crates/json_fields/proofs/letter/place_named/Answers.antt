@@ -1,6 +1,6 @@
 use Rattle.std.proofs.Common.{◌≡◌, ap, subst, ◌∙◌, length, get_or, arith, IfSome, IfNone, ◌≢◌}
-use Rattle.cards.specs.declared.place.Place.{Place}
-use Rattle.cards.specs.Place.{place_letter}
+use Rattle.table_terms.specs.declared.place.Place.{Place}
+use Rattle.table_terms.specs.Place.{place_letter}
 use Rattle.json_fields.proofs.LetterLemmas.{place_of_letter}
 use Rattle.json_fields.proofs.letter.place_named.Goals as goal
 

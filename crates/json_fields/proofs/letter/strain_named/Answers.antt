@@ -1,6 +1,6 @@
 use Rattle.std.proofs.Common.{◌≡◌, ap, subst, ◌∙◌, length, get_or, arith, IfSome, IfNone, ◌≢◌}
-use Rattle.cards.specs.declared.strain.Strain.{Strain}
-use Rattle.cards.specs.Strain.{strain_letter}
+use Rattle.table_terms.specs.declared.strain.Strain.{Strain}
+use Rattle.table_terms.specs.Strain.{strain_letter}
 use Rattle.json_fields.proofs.LetterLemmas.{strain_of_letter}
 use Rattle.json_fields.proofs.letter.strain_named.Goals as goal
 

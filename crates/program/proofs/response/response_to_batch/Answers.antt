@@ -1,7 +1,7 @@
 use Rattle.std.proofs.Common.{◌≡◌, ◌++◌, ◌∷◌, [], rules, sym, ap, subst, string_bytes}
 use Rattle.session_book.specs.Journal.{Ledger}
 use Rattle.session_book.specs.Run.{Progress}
-use Rattle.message_fields.specs.declared.request_fault.RequestFault.TheVariants.{OutOfMemory}
+use Rattle.json_fields.specs.declared.request_fault.RequestFault.TheVariants.{OutOfMemory}
 use Rattle.wire.specs.ReceiptText.{fault_text}
 use Rattle.program.specs.Writes.{Responds}
 use Rattle.program.proofs.ResponseLemmas.{responds_no_memory, responds_receipt, responds_no_receipt, responds_by_line}

@@ -2,7 +2,7 @@ use Rattle.std.proofs.Common.{rules, ◌≡◌, suc, ◌++◌, ◌∷◌, [], So
 use Rattle.std.specs.Prelude.{slice_get}
 use Rattle.std.specs.Option.{option_map}
 use Rattle.rbac.specs.declared.inheritance.Inheritance.{Inheritance}
-use Rattle.rbac.specs.declared.role.Role.{Role}
+use Rattle.session_roles.specs.declared.role.Role.{Role}
 use Rattle.published_view.proofs.ListLemmas.{pair_more, pairs_end}
 use Rattle.published_view.proofs.bodies.pairs_of.Goals as goal
 

@@ -1,6 +1,6 @@
 use Rattle.std.proofs.Common.{◌≡◌, Err, sym, ap, ◌∙◌}
 use Rattle.std.proofs.lemmas.Result.{err_from_is_err_and}
-use Rattle.message_fields.specs.declared.request_fault.RequestFault.TheVariants.{OutOfMemory}
+use Rattle.json_fields.specs.declared.request_fault.RequestFault.TheVariants.{OutOfMemory}
 use Rattle.query_object.proofs.ListLemmas.{list_made, list_without_limit, list_without_filter, list_filtered}
 use Rattle.query_object.proofs.list.list_query.Goals as goal
 

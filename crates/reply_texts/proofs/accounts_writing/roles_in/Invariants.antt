@@ -1,6 +1,6 @@
 use Rattle.std.proofs.Common.{◌≡◌, take}
 use Rattle.std.specs.Prelude.{filter}
-use Rattle.rbac.specs.Role.{has, roles}
+use Rattle.session_roles.specs.Role.{has, roles}
 use Rattle.reply_texts.proofs.accounts_writing.roles_in.Given as goal
 
 -- the roles so far are those in the set

@@ -1,7 +1,7 @@
 //! What a worker finds.
 
 use super::{SUITS, gives, results_of, table_work, take_unsolved};
-use cards::{Card, Deal, Place, Position, Strain};
+use cards::{Card, Deal, Position};
 use crossbeam_channel::{Receiver, Sender, unbounded};
 use double_dummy::{Budget, DdTable, PlayAnswer, SolveError, solve};
 use movement::Cell;
@@ -10,6 +10,7 @@ use scoring::{Contract, Doubling, Level};
 use solver_pool::{Done, Found, Job, Pool, Work, solve_job};
 use std::alloc::Global;
 use std::sync::Wait;
+use table_terms::{Place, Strain};
 
 /// One no trump by North.
 fn one_no_trump() -> Option<Contract> {

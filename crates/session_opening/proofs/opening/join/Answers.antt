@@ -2,7 +2,7 @@ use Rattle.std.proofs.Common.{◌<◌, length, get_or, sym, ap, ◌∙◌, subst
 use Rattle.rbac.specs.Authorization.{KeepsSeparation}
 use Rattle.rbac.specs.Refusals.{RefusesUser, RefusesAssignment}
 use Rattle.rbac.specs.RoleData.{add_user, assign_user}
-use Rattle.rbac.specs.declared.role.Role.TheVariants.{Member}
+use Rattle.session_roles.specs.declared.role.Role.TheVariants.{Member}
 use Rattle.session_opening.proofs.JoiningLemmas.{user_joins, user_added, role_joins, role_added, apart_so_far}
 use Rattle.session_opening.proofs.opening.join.Goals as goal
 

@@ -1,7 +1,7 @@
 use Rattle.std.proofs.Common.{get_or, sym, ap, ◌∙◌}
 use Rattle.std.proofs.lemmas.List.{take_all}
-use Rattle.rbac.specs.Role.{with_role}
-use Rattle.rbac.specs.declared.role.Role.TheVariants.{Member}
+use Rattle.session_roles.specs.Role.{with_role}
+use Rattle.session_roles.specs.declared.role.Role.TheVariants.{Member}
 use Rattle.session_opening.specs.NewUser.{set_of}
 use Rattle.session_opening.proofs.JoiningLemmas.{set_of_none, set_of_more}
 use Rattle.session_opening.proofs.opening_acceptance.set_of.Goals as goal

@@ -1,6 +1,6 @@
 use Rattle.std.proofs.Common.{◌≡◌, ◌+◌, ◌-◌, ◌++◌, List, map}
 use Rattle.std.specs.List.{range_with_len}
-use Rattle.cards.specs.declared.pair.Pair.{Pair}
+use Rattle.table_terms.specs.declared.pair.Pair.{Pair}
 use Rattle.standings.specs.Ranking.{standing_of, pair_on, ranked}
 use Rattle.standings.proofs.ranking.place_side.Given as goal
 

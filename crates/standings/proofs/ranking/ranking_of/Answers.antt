@@ -1,6 +1,6 @@
 use Rattle.std.proofs.Common.{◌∙◌, ◌++◌, [], map, append-nil}
 use Rattle.std.specs.List.{range_with_len}
-use Rattle.cards.specs.declared.side.Side.TheVariants.{NorthSouth, EastWest}
+use Rattle.table_terms.specs.declared.side.Side.TheVariants.{NorthSouth, EastWest}
 use Rattle.standings.specs.Ranking.{pair_on, ranked, standing_of}
 use Rattle.standings.proofs.RankingLemmas.{none_ranked}
 use Rattle.standings.proofs.ranking.ranking_of.Goals as goal

@@ -1,5 +1,5 @@
 use Rattle.std.proofs.Common.{◌≡◌, ◌+◌, ◌*◌, ◌∙◌, ℕ, sym, subst, arith, ap}
-use Rattle.cards.specs.declared.suit.Suit.{Suit}
+use Rattle.table_terms.specs.declared.suit.Suit.{Suit}
 use Rattle.cards.specs.Hands.{Hands}
 use Rattle.position_patterns.proofs.holders.Holders.suit_pattern.Goals as goal
 use Rattle.position_patterns.proofs.holders.Holders.suit_pattern.Goals.{in-Some, in_default}

@@ -1,6 +1,6 @@
 use Rattle.std.proofs.Common.{◌≡◌, [], ℕ, ◌<◌, get_or}
-use Rattle.rbac.specs.declared.role.Role.TheVariants.{Member}
-use Rattle.rbac.specs.Role.{roles, with_role}
+use Rattle.session_roles.specs.declared.role.Role.TheVariants.{Member}
+use Rattle.session_roles.specs.Role.{roles, with_role}
 use Rattle.rbac.proofs.hierarchy.Hierarchy.new.Given as goal
 
 abbrev pub invariant-loop-place : goal.invariant-loop-place

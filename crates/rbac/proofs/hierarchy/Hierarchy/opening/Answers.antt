@@ -1,7 +1,7 @@
 use Rattle.std.proofs.Common.{◌≡◌, take, get_or, sym, subst, arith}
 use Rattle.std.proofs.lemmas.List.{take_more}
 use Rattle.rbac.specs.Hierarchy.{IsClosure}
-use Rattle.rbac.specs.declared.role.Role.TheVariants.{Member}
+use Rattle.session_roles.specs.declared.role.Role.TheVariants.{Member}
 use Rattle.rbac.specs.Inheritance.{opening_pairs, pair_of}
 use Rattle.rbac.proofs.HierarchyLemmas.{closure_push}
 use Rattle.rbac.proofs.hierarchy.Hierarchy.opening.Goals as goal

@@ -1,5 +1,5 @@
 use Rattle.std.proofs.Common.{sym, ◌∙◌, arith}
-use Rattle.rbac.specs.Role.{union_of}
+use Rattle.session_roles.specs.Role.{union_of}
 use Rattle.rbac.proofs.HierarchyLemmas.{reached_none, reached_more, reached_same}
 use Rattle.rbac.proofs.hierarchy.Hierarchy.reached_from.Goals as goal
 use Rattle.rbac.proofs.hierarchy.Hierarchy.reached_from.Goals.{then-has, else-has}

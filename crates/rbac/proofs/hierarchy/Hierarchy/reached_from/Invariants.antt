@@ -1,7 +1,7 @@
 use Rattle.std.proofs.Common.{◌≡◌, take}
 use Rattle.std.specs.Prelude.{◌&&◌}
 use Rattle.std.specs.List.{list_any}
-use Rattle.rbac.specs.Role.{roles, roles_that, has}
+use Rattle.session_roles.specs.Role.{roles, roles_that, has}
 use Rattle.rbac.specs.Hierarchy.{reach}
 use Rattle.rbac.proofs.hierarchy.Hierarchy.reached_from.Given as goal
 

@@ -1,10 +1,10 @@
 use Rattle.std.proofs.Common.{List, sym, ap, subst, ◌∙◌, arith}
 use Rattle.std.specs.Prelude.{Contains}
 use Rattle.std.proofs.lemmas.Bool.{both_ways}
-use Rattle.rbac.specs.declared.role.Role.{Role}
+use Rattle.session_roles.specs.declared.role.Role.{Role}
 use Rattle.rbac.specs.declared.inheritance.Inheritance.{Inheritance}
 use Rattle.rbac.specs.Kept.{data_of}
-use Rattle.rbac.specs.Role.{has}
+use Rattle.session_roles.specs.Role.{has}
 use Rattle.rbac.specs.Inheritance.{Reaches, pair_of}
 use Rattle.rbac.specs.RoleData.{RoleData}
 use Rattle.rbac.specs.Authorization.{IsValid}

@@ -1,7 +1,7 @@
 use Rattle.std.proofs.Common.{List, sym, ap, subst, ◌∙◌}
 use Rattle.rbac.specs.declared.account.Account.{Account}
 use Rattle.rbac.specs.Kept.{data_of}
-use Rattle.rbac.specs.Role.{with_role}
+use Rattle.session_roles.specs.Role.{with_role}
 use Rattle.rbac.specs.RoleData.{RoleData, assign_user}
 use Rattle.rbac.specs.Authorization.{IsValid}
 use Rattle.rbac.proofs.AccountLemmas.{found_at}

@@ -3,7 +3,7 @@ use Rattle.std.proofs.lemmas.Bool.{false≢true}
 use Rattle.rbac.specs.Kept.{data_of}
 use Rattle.rbac.specs.RoleData.{RoleData, deassign_user}
 use Rattle.rbac.specs.declared.account.Account.{Account}
-use Rattle.rbac.specs.Role.{without_role}
+use Rattle.session_roles.specs.Role.{without_role}
 use Rattle.rbac.specs.Authorization.{authorized_roles, reached}
 use Rattle.rbac.proofs.AccountLemmas.{found_at, same_name_decides}
 use Rattle.rbac.proofs.AuthorizationLemmas.{by_table, none_deassigned, own_deassigned, other_deassigned, closure_reached}

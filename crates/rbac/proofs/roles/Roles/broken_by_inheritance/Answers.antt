@@ -6,7 +6,7 @@ use Rattle.rbac.specs.Inheritance.{pair_of}
 use Rattle.rbac.specs.Kept.{data_of}
 use Rattle.rbac.specs.Review.{first_broken}
 use Rattle.rbac.specs.RoleData.{RoleData, add_inheritance}
-use Rattle.rbac.specs.Separation.{separation_sets}
+use Rattle.session_roles.specs.Separation.{separation_sets}
 use Rattle.rbac.proofs.HierarchyLemmas.{closure_push}
 use Rattle.rbac.proofs.ReviewLemmas.{broken_by_table}
 use Rattle.rbac.proofs.roles.Roles.broken_by_inheritance.Goals as goal

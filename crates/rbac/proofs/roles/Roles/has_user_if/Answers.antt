@@ -5,7 +5,7 @@ use Rattle.rbac.specs.Hierarchy.{reached_from}
 use Rattle.rbac.specs.Inheritance.{pair_of, without_pair}
 use Rattle.rbac.specs.Kept.{data_of}
 use Rattle.rbac.specs.Review.{assigned_without, has_user_for}
-use Rattle.rbac.specs.Role.{has}
+use Rattle.session_roles.specs.Role.{has}
 use Rattle.rbac.specs.RoleData.{RoleData, deassign_user, delete_inheritance, after}
 use Rattle.rbac.proofs.ReviewLemmas.{user_by_table, user_without}
 use Rattle.rbac.proofs.roles.Roles.has_user_if.Goals as goal

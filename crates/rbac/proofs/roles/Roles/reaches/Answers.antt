@@ -1,7 +1,7 @@
 use Rattle.std.proofs.Common.{List, ap, ◌∙◌}
-use Rattle.rbac.specs.declared.role.Role.{Role}
+use Rattle.session_roles.specs.declared.role.Role.{Role}
 use Rattle.rbac.specs.Inheritance.{reaches}
-use Rattle.rbac.specs.Role.{has}
+use Rattle.session_roles.specs.Role.{has}
 use Rattle.rbac.specs.RoleData.{RoleData}
 use Rattle.rbac.proofs.roles.Roles.reaches.Goals as goal
 

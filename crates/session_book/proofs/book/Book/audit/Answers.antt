@@ -1,6 +1,6 @@
 use Rattle.std.proofs.Common.{subst}
 use Rattle.rbac.specs.Authorization.{HasPermission}
-use Rattle.rbac.specs.declared.operation.Operation.TheVariants.{Audit}
+use Rattle.session_roles.specs.declared.operation.Operation.TheVariants.{Audit}
 use Rattle.session_state.specs.SessionState.{SessionState}
 use Rattle.session_book.proofs.book.Book.audit.Goals as goal
 

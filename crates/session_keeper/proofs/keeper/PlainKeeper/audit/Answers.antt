@@ -1,7 +1,7 @@
 use Rattle.std.proofs.Common.{◌≡◌, ◌↔◌, subst}
 use Rattle.std.specs.Prelude.{IfErr}
 use Rattle.rbac.specs.Authorization.{HasPermission}
-use Rattle.rbac.specs.declared.operation.Operation.TheVariants.{Audit}
+use Rattle.session_roles.specs.declared.operation.Operation.TheVariants.{Audit}
 use Rattle.session_book.specs.declared.audit.AuditError.TheVariants.{NotPermitted}
 use Rattle.session_book.specs.Journal.{Ledger, state_of}
 use Rattle.session_keeper.proofs.keeper.PlainKeeper.audit.Goals as goal

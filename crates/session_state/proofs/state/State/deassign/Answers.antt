@@ -1,12 +1,12 @@
 use Rattle.std.proofs.Common.{◌≡◌, None, length, sym, ap, subst, ◌∙◌, arith}
-use Rattle.rbac.specs.Role.{without_role}
+use Rattle.session_roles.specs.Role.{without_role}
 use Rattle.rbac.specs.RoleData.{RoleData, deassign_user}
 use Rattle.rbac.specs.Refusals.{RefusesDeassignment}
 use Rattle.session_state.specs.Apply.{effect}
 use Rattle.session_state.specs.Refusal.{hindrance_of}
 use Rattle.session_state.specs.Seats.{AreSeated}
 use Rattle.session_state.specs.contracts.state.State.{the_view}
-use Rattle.session_state.specs.declared.command.Command.TheVariants.{Deassign}
+use Rattle.session_commands.specs.declared.command.Command.TheVariants.{Deassign}
 use Rattle.rbac.proofs.AccountLemmas.{length_changed}
 use Rattle.session_state.proofs.AccountCauseLemmas.{role_is_deassigned}
 use Rattle.session_state.proofs.SeatLemmas.{seated_changed}

@@ -1,3 +1,0 @@
-pub mod Reading
-pub mod Field
-pub mod Object

@@ -1,0 +1,3 @@
+pub mod CellState
+pub mod Command
+pub mod Refusal

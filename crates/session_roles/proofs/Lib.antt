@@ -1,0 +1,3 @@
+pub mod RoleBitsLemmas
+pub mod RoleLemmas
+pub mod SeparationLemmas

@@ -1,0 +1,4 @@
+pub mod Operation
+pub mod Role
+pub mod RoleBits
+pub mod Separation

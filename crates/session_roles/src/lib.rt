@@ -1,0 +1,13 @@
+//! The roles of a session (ANSI INCITS 359-2012): sets of them, what each may do, and which of them nobody has together.
+#![tactic(auto)]
+
+mod operation;
+mod permission;
+mod role;
+mod role_set;
+mod separation_set;
+
+pub use operation::Operation;
+pub use role::Role;
+pub use role_set::RoleSet;
+pub use separation_set::SeparationSet;

@@ -1,0 +1,69 @@
+ghost use Rattle.std.specs.Prelude.{◌≡◌, ◌<◌};
+ghost use Rattle.std.specs.List.{list_any};
+ghost use Rattle.session_roles.specs.Role.{has, roles};
+ghost use Rattle.session_roles.specs.Operation.{operation_number, are_allowed};
+
+use crate::role::Role;
+use crate::role_set::RoleSet;
+
+/// What a user may do with a session (an operation of INCITS 359-2012).
+#[derive(Clone, Copy)]
+pub enum Operation {
+    Enter,
+    Confirm,
+    Correct,
+    Rule,
+    Void,
+    Hold,
+    Release,
+    Seat,
+    Unseat,
+    NextRound,
+    Close,
+    Finalise,
+    Audit,
+    AddUser,
+    Assign,
+    Deassign,
+    AddInheritance,
+    DeleteInheritance,
+}
+
+impl Operation {
+    /// The operation's place in their order, from 0.
+    pub fn number(self) -> u8
+        ensures number { result ≡ operation_number self }
+        ensures below { result < 18 }
+    {
+        self as u8
+    }
+
+    /// Whether one of the roles holds the operation.
+    pub fn is_held_by(self, roles: RoleSet) -> bool
+        ensures { result ≡ are_allowed roles self }
+    {
+        Role::ALL
+            .iter()
+            .any(|role| roles.has(*role) && role.holds(self))
+    }
+}
+
+impl PartialEq for Operation {
+    ghost use Rattle.std.specs.Cmp.{on_per, partial_equiv_from_equiv, nat_eq_equiv};
+    ghost use Rattle.session_roles.specs.Operation.{operation_number, same_operation};
+
+    ghost eq = { same_operation };
+
+    ghost laws = { on_per operation_number (partial_equiv_from_equiv nat_eq_equiv) };
+
+    fn eq(&self, other: &Operation) -> bool {
+        self.number() == other.number()
+    }
+}
+
+impl Eq for Operation {
+    ghost use Rattle.std.specs.Cmp.{on_equiv, nat_eq_equiv};
+    ghost use Rattle.session_roles.specs.Operation.{operation_number};
+
+    ghost laws = { on_equiv operation_number nat_eq_equiv };
+}

@@ -1,0 +1,45 @@
+ghost use Rattle.std.specs.Prelude.{◌≡◌};
+ghost use Rattle.session_roles.specs.Operation.{operations_of, holds};
+
+use crate::operation::Operation;
+use crate::role::Role;
+
+impl Role {
+    /// The operations that the role itself holds (the permission assignment of INCITS 359-2012).
+    pub fn operations(self) -> &'static [Operation]
+        ensures { result.now ≡ operations_of self }
+    {
+        match self {
+            Role::Member | Role::Spectator | Role::Contestant => &[],
+            Role::Scorer => &[Operation::Enter, Operation::Confirm],
+            Role::Director => &[
+                Operation::Correct,
+                Operation::Rule,
+                Operation::Void,
+                Operation::Hold,
+                Operation::Release,
+                Operation::Seat,
+                Operation::Unseat,
+                Operation::NextRound,
+                Operation::Close,
+                Operation::Finalise,
+                Operation::Audit,
+            ],
+            Role::Administrator => &[
+                Operation::AddUser,
+                Operation::Assign,
+                Operation::Deassign,
+                Operation::AddInheritance,
+                Operation::DeleteInheritance,
+                Operation::Audit,
+            ],
+        }
+    }
+
+    /// Whether the role itself holds the operation.
+    pub fn holds(self, operation: Operation) -> bool
+        ensures { result ≡ holds self operation }
+    {
+        self.operations().contains(&operation)
+    }
+}

@@ -1,0 +1,3 @@
+pub mod Law2Lemmas
+pub mod PairBackLemmas
+pub mod PairReadingLemmas

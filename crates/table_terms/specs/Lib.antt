@@ -1,0 +1,9 @@
+pub mod Bits
+pub mod Law2
+pub mod Pair
+pub mod PairReading
+pub mod Place
+pub mod Side
+pub mod Strain
+pub mod Suit
+pub mod Vulnerability

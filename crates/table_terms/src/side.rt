@@ -1,0 +1,41 @@
+ghost use Rattle.std.specs.Prelude.{◌≡◌, Some};
+ghost use Rattle.table_terms.specs.Side.{other_side, side_text};
+
+use std::fmt;
+
+/// Two partners at a table (Law 4): North and South, or East and West.
+#[derive(Clone, Copy, Debug, PartialEq, Eq)]
+pub enum Side {
+    NorthSouth,
+    EastWest,
+}
+
+impl Side {
+    /// The opponents.
+    pub fn other(self) -> Side
+        ensures { result ≡ other_side self }
+    {
+        match self {
+            Side::NorthSouth => Side::EastWest,
+            Side::EastWest => Side::NorthSouth,
+        }
+    }
+
+    /// `NS` or `EW`.
+    pub fn text(self) -> &'static str
+        ensures { result.now ≡ side_text self }
+    {
+        match self {
+            Side::NorthSouth => "NS",
+            Side::EastWest => "EW",
+        }
+    }
+}
+
+impl fmt::Display for Side {
+    ghost output = { λ side. Some (side_text side) };
+
+    fn fmt<W: fmt::Write>(&self, f: &mut fmt::Formatter<W>) -> fmt::Result {
+        f.write_str(self.text())
+    }
+}
