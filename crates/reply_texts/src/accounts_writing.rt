@@ -6,10 +6,12 @@ ghost use Rattle.serde_json.specs.View.{view};
 ghost use Rattle.reply_texts.specs.DataOf.{list_data};
 ghost use Rattle.reply_texts.specs.ListText.{role_data, account_data, inheritance_data, accounts_data};
 
+use crate::array_writing::ArrayWriter;
+use crate::object_writing::ObjectWriter;
 use crate::to_json::{ToJson, list_value};
 use rbac::{Account, Inheritance};
+use serde_json::Value;
 use session_roles::{Role, RoleSet};
-use serde_json::{Value, json};
 use std::alloc::{AllocError, Global};
 
 pub(crate) fn accounts_value(
@@ -19,14 +21,17 @@ pub(crate) fn accounts_value(
 ) -> Result<Value, AllocError>
     ensures { IfOk result (λ value. view value ≡ accounts_data users.now pairs.now) }
 {
-    json!(in alloc; {"inherits": list_value(alloc, pairs)?, "users": list_value(alloc, users)?})
+    ObjectWriter::new(alloc)
+        .member("inherits", list_value(alloc, pairs))
+        .member("users", list_value(alloc, users))
+        .object()
 }
 
 impl ToJson for Inheritance {
     ghost json = { inheritance_data };
 
     fn to_json(&self, alloc: Global) -> Result<Value, AllocError> {
-        json!(in alloc; [self.senior.name(), self.junior.name()])
+        list_value(alloc, &[self.senior, self.junior])
     }
 }
 
@@ -34,7 +39,10 @@ impl ToJson for Account {
     ghost json = { account_data };
 
     fn to_json(&self, alloc: Global) -> Result<Value, AllocError> {
-        json!(in alloc; [self.name.as_str(), roles_value(alloc, self.assigned)?])
+        ArrayWriter::new(alloc)
+            .item(Value::try_from_str(alloc, self.name.as_str()))
+            .item(roles_value(alloc, self.assigned))
+            .array()
     }
 }
 

@@ -5,10 +5,12 @@ ghost use Rattle.serde_json.specs.View.{view};
 ghost use Rattle.reply_texts.specs.BoardText.{board_data, declarer_data, tricks_data, analysis_data};
 ghost use Rattle.reply_texts.specs.DataOf.{option_data};
 
+use crate::object_writing::{ObjectWriter, string_value};
+use crate::to_json::list_value;
 use cards::Deal;
 use disclosure_rules::Marks;
 use query_filter::TrickTable;
-use serde_json::{Value, json};
+use serde_json::Value;
 use std::alloc::{AllocError, Global};
 use table_terms::{Place, Strain};
 
@@ -20,12 +22,12 @@ pub(crate) fn board_value(
 ) -> Result<Value, AllocError>
     ensures { IfOk result (λ value. view value ≡ board_data number deal.now marks) }
 {
-    json!(in alloc; {
-        "deal": deal.to_string(alloc)?,
-        "dealer": marks.dealer.to_string(alloc)?,
-        "number": number,
-        "vul": marks.vulnerability.to_string(alloc)?
-    })
+    ObjectWriter::new(alloc)
+        .member("deal", string_value(deal.to_string(alloc)))
+        .member("dealer", string_value(marks.dealer.to_string(alloc)))
+        .number("number", number)
+        .member("vul", string_value(marks.vulnerability.to_string(alloc)))
+        .object()
 }
 
 pub(crate) fn analysis_value(
@@ -35,7 +37,10 @@ pub(crate) fn analysis_value(
 ) -> Result<Value, AllocError>
     ensures { IfOk result (λ value. view value ≡ analysis_data number tricks.now) }
 {
-    json!(in alloc; {"board": number, "tricks": found_tricks(alloc, tricks)?})
+    ObjectWriter::new(alloc)
+        .number("board", number)
+        .member("tricks", found_tricks(alloc, tricks))
+        .object()
 }
 
 fn found_tricks(alloc: Global, tricks: &Option<TrickTable>) -> Result<Value, AllocError>
@@ -50,22 +55,23 @@ fn found_tricks(alloc: Global, tricks: &Option<TrickTable>) -> Result<Value, All
 fn tricks_value(alloc: Global, tricks: &TrickTable) -> Result<Value, AllocError>
     ensures { IfOk result (λ value. view value ≡ tricks_data tricks.now) }
 {
-    json!(in alloc; {
-        "E": declarer_value(alloc, tricks, Place::East)?,
-        "N": declarer_value(alloc, tricks, Place::North)?,
-        "S": declarer_value(alloc, tricks, Place::South)?,
-        "W": declarer_value(alloc, tricks, Place::West)?
-    })
+    ObjectWriter::new(alloc)
+        .member("E", declarer_value(alloc, tricks, Place::East))
+        .member("N", declarer_value(alloc, tricks, Place::North))
+        .member("S", declarer_value(alloc, tricks, Place::South))
+        .member("W", declarer_value(alloc, tricks, Place::West))
+        .object()
 }
 
 fn declarer_value(alloc: Global, tricks: &TrickTable, declarer: Place) -> Result<Value, AllocError>
     ensures { IfOk result (λ value. view value ≡ declarer_data tricks.now declarer) }
 {
-    json!(in alloc; [
+    let numbers = [
         tricks.tricks(Strain::Spades, declarer),
         tricks.tricks(Strain::Hearts, declarer),
         tricks.tricks(Strain::Diamonds, declarer),
         tricks.tricks(Strain::Clubs, declarer),
-        tricks.tricks(Strain::NoTrump, declarer)
-    ])
+        tricks.tricks(Strain::NoTrump, declarer),
+    ];
+    list_value(alloc, &numbers)
 }

@@ -2,8 +2,10 @@
 #![tactic(auto)]
 
 mod accounts_writing;
+mod array_writing;
 mod board_writing;
 mod list_writing;
+mod object_writing;
 mod reply_writing;
 mod status_writing;
 mod table_writing;

@@ -9,12 +9,13 @@ ghost use Rattle.reply_texts.specs.ReplyText.{denial_data, body_word, body_data,
 use crate::accounts_writing::accounts_value;
 use crate::board_writing::{analysis_value, board_value};
 use crate::list_writing::boards_value;
+use crate::object_writing::ObjectWriter;
 use crate::status_writing::status_value;
 use crate::table_writing::{costs_value, play_value, reason_value};
 use crate::to_json::list_value;
 use crate::traveller_writing::traveller_value;
 use denials::{Denial, explain};
-use serde_json::{Value, json};
+use serde_json::Value;
 use session_queries::{Body, Reply};
 use std::alloc::{AllocError, Global};
 
@@ -38,7 +39,10 @@ fn with_version(alloc: Global, word: &str, body: Value, version: usize) -> Resul
     ensures { IfOk result (λ value. view value
         ≡ object (put (codes "version") (number_data version) (member word.now (view body) no_members))) }
 {
-    json!(in alloc; {(word): body, "version": version})
+    ObjectWriter::new(alloc)
+        .member(word, Ok(body))
+        .member("version", Ok(Value::from(version)))
+        .object()
 }
 
 // The word for the kind of a reply.
@@ -91,10 +95,10 @@ fn body_value(alloc: Global, body: &Body) -> Result<Value, AllocError>
 fn denial_value(alloc: Global, denial: Denial) -> Result<Value, AllocError>
     ensures { IfOk result (λ value. view value ≡ denial_data denial) }
 {
-    json!(in alloc; {
-        "board": denial.board,
-        "rule": denial.rule.number(),
-        "table": denial.table,
-        "why": explain(denial)
-    })
+    ObjectWriter::new(alloc)
+        .number("board", denial.board)
+        .number("rule", denial.rule.number())
+        .number("table", denial.table)
+        .member("why", Value::try_from_str(alloc, explain(denial)))
+        .object()
 }

@@ -6,10 +6,12 @@ ghost use Rattle.reply_texts.specs.DataOf.{number_data, list_data};
 ghost use Rattle.reply_texts.specs.StatusText.{phase_name, held_boards, live_tables, tables_data, live_data, mark_data};
 ghost use Rattle.reply_texts.specs.StatusText.{marks_data, seat_data, status_data};
 
+use crate::array_writing::ArrayWriter;
+use crate::object_writing::{ObjectWriter, string_value};
 use crate::to_json::{ToJson, list_value};
 use disclosure_rules::{Marks, Phase, Public};
 use movement::Cell;
-use serde_json::{Value, json};
+use serde_json::Value;
 use session_state::Seated;
 use std::alloc::{AllocError, Global};
 
@@ -20,17 +22,20 @@ pub(crate) fn status_value(
 ) -> Result<Value, AllocError>
     ensures { IfOk result (λ value. view value ≡ status_data public.now seats.now) }
 {
-    json!(in alloc; {
-        "held": held_value(alloc, public)?,
-        "live": live_value(alloc, public)?,
-        "marks": marks_value(alloc, public)?,
-        "per_set": public.movement.per_set(),
-        "phase": phase_name(public.phase),
-        "round": public.round,
-        "rounds": public.movement.rounds(),
-        "seats": list_value(alloc, seats)?,
-        "tables": public.movement.tables()
-    })
+    ObjectWriter::new(alloc)
+        .member("held", held_value(alloc, public))
+        .member("live", live_value(alloc, public))
+        .member("marks", marks_value(alloc, public))
+        .number("per_set", public.movement.per_set())
+        .member(
+            "phase",
+            Value::try_from_str(alloc, phase_name(public.phase)),
+        )
+        .number("round", public.round)
+        .number("rounds", public.movement.rounds())
+        .member("seats", list_value(alloc, seats))
+        .number("tables", public.movement.tables())
+        .object()
 }
 
 fn held_value(alloc: Global, public: &Public) -> Result<Value, AllocError>
@@ -109,11 +114,11 @@ impl ToJson for Seated {
     ghost json = { seat_data };
 
     fn to_json(&self, alloc: Global) -> Result<Value, AllocError> {
-        json!(in alloc; [
-            self.name.as_str(),
-            self.seat.pair.to_string(alloc)?,
-            self.seat.place.to_string(alloc)?
-        ])
+        ArrayWriter::new(alloc)
+            .item(Value::try_from_str(alloc, self.name.as_str()))
+            .item(string_value(self.seat.pair.to_string(alloc)))
+            .item(string_value(self.seat.place.to_string(alloc)))
+            .array()
     }
 }
 

@@ -2,13 +2,15 @@
 
 ghost use Rattle.std.specs.Prelude.{◌≡◌, IfOk};
 ghost use Rattle.serde_json.specs.View.{view};
-ghost use Rattle.reply_texts.specs.DataOf.{list_data, option_data};
+ghost use Rattle.reply_texts.specs.DataOf.{number_data, list_data, option_data};
 ghost use Rattle.reply_texts.specs.TableText.{card_data, play_data, card_costs_data, costs_data, reason_data};
+ghost use Rattle.session_queries.specs.declared.card_costs.CardCosts.TheVariants.{NotAPlay};
 
+use crate::object_writing::ObjectWriter;
 use crate::to_json::{ToJson, list_value};
 use cards::Card;
 use movement::Cell;
-use serde_json::{Value, json};
+use serde_json::Value;
 use session_commands::Play;
 use session_queries::CardCosts;
 use std::alloc::{AllocError, Global};
@@ -20,11 +22,11 @@ pub(crate) fn play_value(
 ) -> Result<Value, AllocError>
     ensures { IfOk result (λ value. view value ≡ play_data cell cards.now) }
 {
-    json!(in alloc; {
-        "board": cell.board,
-        "cards": cards_value(alloc, cards)?,
-        "table": cell.table
-    })
+    ObjectWriter::new(alloc)
+        .number("board", cell.board)
+        .member("cards", cards_value(alloc, cards))
+        .number("table", cell.table)
+        .object()
 }
 
 fn cards_value(alloc: Global, cards: &Option<Play>) -> Result<Value, AllocError>
@@ -52,11 +54,11 @@ pub(crate) fn costs_value(
 ) -> Result<Value, AllocError>
     ensures { IfOk result (λ value. view value ≡ costs_data cell costs.now) }
 {
-    json!(in alloc; {
-        "board": cell.board,
-        "costs": found_costs(alloc, costs)?,
-        "table": cell.table
-    })
+    ObjectWriter::new(alloc)
+        .number("board", cell.board)
+        .member("costs", found_costs(alloc, costs))
+        .number("table", cell.table)
+        .object()
 }
 
 fn found_costs(alloc: Global, costs: &Option<CardCosts>) -> Result<Value, AllocError>
@@ -64,15 +66,36 @@ fn found_costs(alloc: Global, costs: &Option<CardCosts>) -> Result<Value, AllocE
 {
     match costs {
         Some(CardCosts::Pending) => Value::try_from_str(alloc, "pending"),
-        Some(CardCosts::NoCards) => json!(in alloc; []),
+        Some(CardCosts::NoCards) => Ok(Value::Array(Vec::new(alloc))),
         Some(CardCosts::Each(costs)) => list_value(alloc, costs.as_slice()),
-        Some(CardCosts::NotAPlay(number)) => json!(in alloc; {"not_a_play": *number}),
+        Some(CardCosts::NotAPlay(number)) => not_a_play(alloc, *number),
         None => Ok(Value::Null),
     }
+}
+
+fn not_a_play(alloc: Global, number: usize) -> Result<Value, AllocError>
+    ensures { IfOk result (λ value. view value ≡ card_costs_data (NotAPlay number)) }
+{
+    ObjectWriter::new(alloc)
+        .member("not_a_play", Ok(Value::from(number)))
+        .object()
 }
 
 pub(crate) fn reason_value(alloc: Global, cell: Cell, code: Option<u8>) -> Result<Value, AllocError>
     ensures { IfOk result (λ value. view value ≡ reason_data cell code) }
 {
-    json!(in alloc; {"board": cell.board, "code": code, "table": cell.table})
+    ObjectWriter::new(alloc)
+        .number("board", cell.board)
+        .member("code", Ok(code_value(code)))
+        .number("table", cell.table)
+        .object()
+}
+
+fn code_value(code: Option<u8>) -> Value
+    ensures { view result ≡ option_data number_data code }
+{
+    match code {
+        Some(code) => Value::from(code),
+        None => Value::Null,
+    }
 }

@@ -3,11 +3,13 @@
 ghost use Rattle.std.specs.Prelude.{◌≡◌, IfOk};
 ghost use Rattle.serde_json.specs.View.{view};
 ghost use Rattle.reply_texts.specs.TravellerText.{outcome_data, result_data, row_data, traveller_data};
+ghost use Rattle.scoring.specs.declared.outcome.Outcome.TheVariants as outcome;
 ghost use Rattle.standings.specs.declared.row_result.RowResult.TheVariants.{Played, Ruled};
 
+use crate::object_writing::{ObjectWriter, string_value};
 use crate::to_json::{ToJson, list_value};
-use scoring::Outcome;
-use serde_json::{Value, json};
+use scoring::{Contract, Outcome, Tricks};
+use serde_json::Value;
 use standings::{RowResult, TravellerRow};
 use std::alloc::{AllocError, Global};
 
@@ -19,7 +21,10 @@ pub(crate) fn traveller_value(
 ) -> Result<Value, AllocError>
     ensures { IfOk result (λ value. view value ≡ traveller_data number rows.now) }
 {
-    json!(in alloc; {"board": number, "rows": list_value(alloc, rows)?})
+    ObjectWriter::new(alloc)
+        .number("board", number)
+        .member("rows", list_value(alloc, rows))
+        .object()
 }
 
 impl ToJson for TravellerRow {
@@ -50,14 +55,14 @@ fn played_value(
     ensures { IfOk result (λ value. view value
         ≡ result_data row.now.table row.now.north_south row.now.east_west (Played outcome score points)) }
 {
-    json!(in alloc; {
-        "ew": row.east_west.to_string(alloc)?,
-        "ns": row.north_south.to_string(alloc)?,
-        "points": points,
-        "result": outcome_value(alloc, outcome)?,
-        "score": score,
-        "table": row.table
-    })
+    ObjectWriter::new(alloc)
+        .member("ew", string_value(row.east_west.to_string(alloc)))
+        .member("ns", string_value(row.north_south.to_string(alloc)))
+        .member("points", Ok(Value::from(points)))
+        .member("result", outcome_value(alloc, outcome))
+        .member("score", Ok(Value::from(score)))
+        .number("table", row.table)
+        .object()
 }
 
 fn ruled_value(
@@ -69,12 +74,13 @@ fn ruled_value(
     ensures { IfOk result (λ value. view value ≡ result_data row.now.table row.now.north_south row.now.east_west
         (Ruled north_south_percentage east_west_percentage)) }
 {
-    json!(in alloc; {
-        "ew": row.east_west.to_string(alloc)?,
-        "ns": row.north_south.to_string(alloc)?,
-        "ruling": [north_south_percentage, east_west_percentage],
-        "table": row.table
-    })
+    let ruling = [north_south_percentage, east_west_percentage];
+    ObjectWriter::new(alloc)
+        .member("ew", string_value(row.east_west.to_string(alloc)))
+        .member("ns", string_value(row.north_south.to_string(alloc)))
+        .member("ruling", list_value(alloc, &ruling))
+        .number("table", row.table)
+        .object()
 }
 
 fn outcome_value(alloc: Global, outcome: Outcome) -> Result<Value, AllocError>
@@ -82,12 +88,18 @@ fn outcome_value(alloc: Global, outcome: Outcome) -> Result<Value, AllocError>
 {
     match outcome {
         Outcome::PassedOut => Value::try_from_str(alloc, "pass"),
-        Outcome::Played { contract, tricks } => json!(in alloc; {
-            "by": contract.declarer.to_string(alloc)?,
-            "doubled": contract.doubling.number(),
-            "level": contract.level.number(),
-            "strain": contract.strain.to_string(alloc)?,
-            "tricks": tricks.number()
-        }),
+        Outcome::Played { contract, tricks } => contract_value(alloc, contract, tricks),
     }
+}
+
+fn contract_value(alloc: Global, contract: Contract, tricks: Tricks) -> Result<Value, AllocError>
+    ensures { IfOk result (λ value. view value ≡ outcome_data (outcome.Played contract tricks)) }
+{
+    ObjectWriter::new(alloc)
+        .member("by", string_value(contract.declarer.to_string(alloc)))
+        .number("doubled", contract.doubling.number())
+        .number("level", contract.level.number())
+        .member("strain", string_value(contract.strain.to_string(alloc)))
+        .number("tricks", tricks.number())
+        .object()
 }

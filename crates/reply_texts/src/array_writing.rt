@@ -1,0 +1,63 @@
+//! Arrays of unlike values as they are written, item by item.
+
+ghost use Rattle.std.specs.Prelude.{◌≡◌, ◌∷◌, ◌++◌, [], List, IfOk, map};
+ghost use Rattle.serde_json.specs.Data.{Data, array};
+ghost use Rattle.serde_json.specs.View.{view, items_of};
+
+use serde_json::Value;
+use std::alloc::{AllocError, Global};
+
+/// The items of an array so far, unless memory for one of them was refused.
+#[derive(Drop)]
+pub(crate) struct ArrayWriter {
+    pub(crate) written: Result<Vec<Value>, AllocError>,
+}
+
+impl ArrayWriter {
+    pub(crate) fn new(alloc: Global) -> ArrayWriter
+        ensures { IfOk result.written (λ list. map view list.items ≡ []) }
+    {
+        ArrayWriter {
+            written: Ok(Vec::new(alloc)),
+        }
+    }
+
+    /// Adds an item.
+    pub(crate) fn item(self, value: Result<Value, AllocError>) -> ArrayWriter
+        ensures { (items : List Data) (written : Data) →
+            IfOk self.written (λ list. map view list.items ≡ items) →
+            IfOk value (λ v. view v ≡ written) →
+            IfOk result.written (λ list. map view list.items ≡ items ++ written ∷ []) }
+    {
+        ArrayWriter {
+            written: with_item(self.written, value),
+        }
+    }
+
+    /// The array.
+    pub(crate) fn array(self) -> Result<Value, AllocError>
+        ensures { (items : List Data) →
+            IfOk self.written (λ list. map view list.items ≡ items) →
+            IfOk result (λ value. view value ≡ array (items_of items)) }
+    {
+        match self.written {
+            Ok(list) => Ok(Value::Array(list)),
+            Err(refused) => Err(refused),
+        }
+    }
+}
+
+fn with_item(
+    before: Result<Vec<Value>, AllocError>,
+    value: Result<Value, AllocError>,
+) -> Result<Vec<Value>, AllocError>
+    ensures { (items : List Data) (written : Data) →
+        IfOk before (λ list. map view list.items ≡ items) →
+        IfOk value (λ v. view v ≡ written) →
+        IfOk result (λ list. map view list.items ≡ items ++ written ∷ []) }
+{
+    let value = value?;
+    let mut list = before?;
+    list.push(value)?;
+    Ok(list)
+}
