@@ -4,7 +4,7 @@ ghost use Rattle.std.specs.Prelude.{◌≡◌, ◌∷◌, ◌++◌, [], List, If
 ghost use Rattle.serde_json.specs.Data.{Data, array};
 ghost use Rattle.serde_json.specs.View.{view, items_of};
 
-use serde_json::Value;
+use serde_json::{Value, push};
 use std::alloc::{AllocError, Global};
 
 /// The items of an array so far, unless memory for one of them was refused.
@@ -41,7 +41,7 @@ impl ArrayWriter {
             IfOk result (λ value. view value ≡ array (items_of items)) }
     {
         match self.written {
-            Ok(list) => Ok(Value::Array(list)),
+            Ok(list) => Ok(array_value(list)),
             Err(refused) => Err(refused),
         }
     }
@@ -58,6 +58,13 @@ fn with_item(
 {
     let value = value?;
     let mut list = before?;
-    list.push(value)?;
+    push(&mut list, value)?;
     Ok(list)
+}
+
+/// The array of these items.
+pub(crate) fn array_value(list: Vec<Value>) -> Value
+    ensures { view result ≡ array (items_of (map view list.items)) }
+{
+    Value::Array(list)
 }

@@ -6,12 +6,12 @@ ghost use Rattle.reply_texts.specs.DataOf.{number_data, list_data};
 ghost use Rattle.reply_texts.specs.StatusText.{phase_name, held_boards, live_tables, tables_data, live_data, mark_data};
 ghost use Rattle.reply_texts.specs.StatusText.{marks_data, seat_data, status_data};
 
-use crate::array_writing::ArrayWriter;
+use crate::array_writing::{ArrayWriter, array_value};
 use crate::object_writing::{ObjectWriter, string_value};
 use crate::to_json::{ToJson, list_value};
 use disclosure_rules::{Marks, Phase, Public};
 use movement::Cell;
-use serde_json::Value;
+use serde_json::{Value, push};
 use session_state::Seated;
 use std::alloc::{AllocError, Global};
 
@@ -66,9 +66,9 @@ fn live_value(alloc: Global, public: &Public) -> Result<Value, AllocError>
     let mut values = Vec::new(alloc);
     for before in 0..public.movement.boards() {
         let value = tables_value(alloc, public, before + 1)?;
-        values.push(value)?;
+        push(&mut values, value)?;
     }
-    Ok(Value::Array(values))
+    Ok(array_value(values))
 }
 
 fn tables_value(alloc: Global, public: &Public, board: u8) -> Result<Value, AllocError>

@@ -5,7 +5,8 @@ ghost use Rattle.serde_json.specs.Data.{Data};
 ghost use Rattle.serde_json.specs.View.{view};
 ghost use Rattle.reply_texts.specs.DataOf.{number_data, list_data};
 
-use serde_json::Value;
+use crate::array_writing::array_value;
+use serde_json::{Value, push};
 use std::alloc::{AllocError, Global};
 
 /// What a list in a reply holds.
@@ -31,7 +32,7 @@ pub(crate) fn list_value<T: ToJson>(alloc: Global, items: &[T]) -> Result<Value,
     let mut values = Vec::with_capacity(alloc, items.len())?;
     for item in items {
         let value = item.to_json(alloc)?;
-        values.push(value)?;
+        push(&mut values, value)?;
     }
-    Ok(Value::Array(values))
+    Ok(array_value(values))
 }
