@@ -6,9 +6,8 @@ ghost use Rattle.serde_json.specs.View.{view};
 ghost use Rattle.reply_texts.specs.DataOf.{list_data};
 ghost use Rattle.reply_texts.specs.ListText.{role_data, account_data, inheritance_data, accounts_data};
 
-use crate::array_writing::ArrayWriter;
-use crate::object_writing::ObjectWriter;
 use crate::to_json::{ToJson, list_value};
+use json_writing::{ArrayWriter, ObjectWriter};
 use rbac::{Account, Inheritance};
 use serde_json::Value;
 use session_roles::{Role, RoleSet};

@@ -5,10 +5,10 @@ ghost use Rattle.serde_json.specs.View.{view};
 ghost use Rattle.reply_texts.specs.BoardText.{board_data, declarer_data, tricks_data, analysis_data};
 ghost use Rattle.reply_texts.specs.DataOf.{option_data};
 
-use crate::object_writing::{ObjectWriter, string_value};
 use crate::to_json::list_value;
 use cards::Deal;
 use disclosure_rules::Marks;
+use json_writing::{ObjectWriter, string_value};
 use query_filter::TrickTable;
 use serde_json::Value;
 use std::alloc::{AllocError, Global};

@@ -2,10 +2,8 @@
 #![tactic(auto)]
 
 mod accounts_writing;
-mod array_writing;
 mod board_writing;
 mod list_writing;
-mod object_writing;
 mod reply_writing;
 mod status_writing;
 mod table_writing;

@@ -4,9 +4,8 @@ ghost use Rattle.std.specs.Prelude.{◌≡◌, IfOk};
 ghost use Rattle.serde_json.specs.View.{view};
 ghost use Rattle.reply_texts.specs.ListText.{boards_data, standing_data};
 
-use crate::array_writing::ArrayWriter;
-use crate::object_writing::{ObjectWriter, string_value};
 use crate::to_json::{ToJson, list_value};
+use json_writing::{ArrayWriter, ObjectWriter, string_value};
 use scoring::Standing;
 use serde_json::Value;
 use std::alloc::{AllocError, Global};

@@ -9,12 +9,12 @@ ghost use Rattle.reply_texts.specs.ReplyText.{denial_data, body_word, body_data,
 use crate::accounts_writing::accounts_value;
 use crate::board_writing::{analysis_value, board_value};
 use crate::list_writing::boards_value;
-use crate::object_writing::ObjectWriter;
 use crate::status_writing::status_value;
 use crate::table_writing::{costs_value, play_value, reason_value};
 use crate::to_json::list_value;
 use crate::traveller_writing::traveller_value;
 use denials::{Denial, explain};
+use json_writing::ObjectWriter;
 use serde_json::Value;
 use session_queries::{Body, Reply};
 use std::alloc::{AllocError, Global};

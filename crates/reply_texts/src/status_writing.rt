@@ -6,10 +6,9 @@ ghost use Rattle.reply_texts.specs.DataOf.{number_data, list_data};
 ghost use Rattle.reply_texts.specs.StatusText.{phase_name, held_boards, live_tables, tables_data, live_data, mark_data};
 ghost use Rattle.reply_texts.specs.StatusText.{marks_data, seat_data, status_data};
 
-use crate::array_writing::{ArrayWriter, array_value};
-use crate::object_writing::{ObjectWriter, string_value};
 use crate::to_json::{ToJson, list_value};
 use disclosure_rules::{Marks, Phase, Public};
+use json_writing::{ArrayWriter, ObjectWriter, array_value, string_value};
 use movement::Cell;
 use serde_json::{Value, push};
 use session_state::Seated;

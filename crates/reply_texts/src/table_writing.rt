@@ -6,9 +6,9 @@ ghost use Rattle.reply_texts.specs.DataOf.{number_data, list_data, option_data};
 ghost use Rattle.reply_texts.specs.TableText.{card_data, play_data, card_costs_data, costs_data, reason_data};
 ghost use Rattle.session_queries.specs.declared.card_costs.CardCosts.TheVariants.{NotAPlay};
 
-use crate::object_writing::ObjectWriter;
 use crate::to_json::{ToJson, list_value};
 use cards::Card;
+use json_writing::ObjectWriter;
 use movement::Cell;
 use serde_json::Value;
 use session_commands::Play;

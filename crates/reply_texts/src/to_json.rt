@@ -5,7 +5,7 @@ ghost use Rattle.serde_json.specs.Data.{Data};
 ghost use Rattle.serde_json.specs.View.{view};
 ghost use Rattle.reply_texts.specs.DataOf.{number_data, list_data};
 
-use crate::array_writing::array_value;
+use json_writing::array_value;
 use serde_json::{Value, push};
 use std::alloc::{AllocError, Global};
 

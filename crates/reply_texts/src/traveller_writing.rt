@@ -6,8 +6,8 @@ ghost use Rattle.reply_texts.specs.TravellerText.{outcome_data, result_data, row
 ghost use Rattle.scoring.specs.declared.outcome.Outcome.TheVariants as outcome;
 ghost use Rattle.standings.specs.declared.row_result.RowResult.TheVariants.{Played, Ruled};
 
-use crate::object_writing::{ObjectWriter, string_value};
 use crate::to_json::{ToJson, list_value};
+use json_writing::{ObjectWriter, string_value};
 use scoring::{Contract, Outcome, Tricks};
 use serde_json::Value;
 use standings::{RowResult, TravellerRow};

@@ -38,11 +38,21 @@ fn with_boards<'t>(alloc: Global, value: &'t Value) -> Result<Parts<'t>, Session
     ) {
         return Err(SessionFault::BadField);
     }
-    let budget = limited_at(value, "budget", MOST_VISITS).ok_or(SessionFault::BadField)?;
-    let pbn = text_at(value, "pbn").ok_or(SessionFault::BadField)?;
-    let per_set = small_number_at(value, "per_set").ok_or(SessionFault::BadField)?;
-    let rounds = small_number_at(value, "rounds").ok_or(SessionFault::BadField)?;
-    let tables = small_number_at(value, "tables").ok_or(SessionFault::BadField)?;
+    let Some(budget) = limited_at(value, "budget", MOST_VISITS) else {
+        return Err(SessionFault::BadField);
+    };
+    let Some(pbn) = text_at(value, "pbn") else {
+        return Err(SessionFault::BadField);
+    };
+    let Some(per_set) = small_number_at(value, "per_set") else {
+        return Err(SessionFault::BadField);
+    };
+    let Some(rounds) = small_number_at(value, "rounds") else {
+        return Err(SessionFault::BadField);
+    };
+    let Some(tables) = small_number_at(value, "tables") else {
+        return Err(SessionFault::BadField);
+    };
     let users = users_of(alloc, value)?;
     Ok(Parts {
         budget,
@@ -62,10 +72,18 @@ fn beside_boards<'t>(alloc: Global, value: &Value, pbn: &'t [u8]) -> Result<Part
     if !has_only(value, &["budget", "per_set", "rounds", "tables", "users"]) {
         return Err(SessionFault::BadField);
     }
-    let budget = limited_at(value, "budget", MOST_VISITS).ok_or(SessionFault::BadField)?;
-    let per_set = small_number_at(value, "per_set").ok_or(SessionFault::BadField)?;
-    let rounds = small_number_at(value, "rounds").ok_or(SessionFault::BadField)?;
-    let tables = small_number_at(value, "tables").ok_or(SessionFault::BadField)?;
+    let Some(budget) = limited_at(value, "budget", MOST_VISITS) else {
+        return Err(SessionFault::BadField);
+    };
+    let Some(per_set) = small_number_at(value, "per_set") else {
+        return Err(SessionFault::BadField);
+    };
+    let Some(rounds) = small_number_at(value, "rounds") else {
+        return Err(SessionFault::BadField);
+    };
+    let Some(tables) = small_number_at(value, "tables") else {
+        return Err(SessionFault::BadField);
+    };
     let users = users_of(alloc, value)?;
     Ok(Parts {
         budget,

@@ -4,37 +4,47 @@ ghost use Rattle.session_object.specs.declared.session_fault.SessionFault.TheVar
 use movement::MovementError;
 use pbn_records::DealsError;
 use std::alloc::AllocFailed;
+use std::fmt;
 use thiserror::Error;
 
 /// Why no session is read from a text. The first that applies is given.
-#[derive(Clone, Copy, Debug, PartialEq, Eq, Error)]
+#[derive(Clone, Copy, Debug, Error)]
 pub enum SessionFault {
     /// The text has more than 1,048,576 bytes.
-    #[error("TooLong")]
     TooLong,
     /// The text is no JSON object.
-    #[error("Malformed")]
     Malformed,
     /// A member is missing, isn't listed, or hasn't the type or the range that it should.
-    #[error("BadField")]
     BadField,
     /// No movement can be made of the numbers.
-    #[error("{}", name_of(.0))]
     Movement(MovementError),
     /// No boards are read from the PBN text.
-    #[error("{0}")]
     Deals(DealsError),
     /// Memory was refused.
-    #[error("OutOfMemory")]
     OutOfMemory,
 }
 
-// How a fault of a movement is called.
-fn name_of(error: &MovementError) -> &'static str {
-    match error {
-        MovementError::BadTables => "BadTables",
-        MovementError::BadRounds => "BadRounds",
-        MovementError::BadSets => "BadSets",
+/// As it is called here, and a fault of the boards as that is called.
+impl fmt::Display for SessionFault {
+    fn fmt<W: fmt::Write>(&self, f: &mut fmt::Formatter<W>) -> fmt::Result {
+        match self {
+            SessionFault::Deals(error) => write!(f, "{error}"),
+            _ => f.write_str(name_of(self)),
+        }
+    }
+}
+
+// How a fault is called that isn't of the boards.
+fn name_of(fault: &SessionFault) -> &'static str {
+    match fault {
+        SessionFault::TooLong => "TooLong",
+        SessionFault::Malformed => "Malformed",
+        SessionFault::BadField => "BadField",
+        SessionFault::Movement(MovementError::BadTables) => "BadTables",
+        SessionFault::Movement(MovementError::BadRounds) => "BadRounds",
+        SessionFault::Movement(MovementError::BadSets) => "BadSets",
+        SessionFault::Deals(_) => "Deals",
+        SessionFault::OutOfMemory => "OutOfMemory",
     }
 }
 

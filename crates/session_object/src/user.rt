@@ -25,7 +25,9 @@ fn roles_in(alloc: Global, list: &[Value]) -> Result<Vec<Role>, SessionFault>
 {
     let mut roles = Vec::new(alloc);
     for value in list {
-        let role = role_of(value).ok_or(SessionFault::BadField)?;
+        let Some(role) = role_of(value) else {
+        return Err(SessionFault::BadField);
+    };
         roles.push(role)?;
     }
     Ok(roles)
@@ -49,8 +51,12 @@ fn unseated_user(alloc: Global, value: &Value) -> Result<NewUser, SessionFault>
     if !has_only(value, &["digest", "name", "roles"]) {
         return Err(SessionFault::BadField);
     }
-    let digest = digest_of(value).ok_or(SessionFault::BadField)?;
-    let name = name_at(value, "name").ok_or(SessionFault::BadField)?;
+    let Some(digest) = digest_of(value) else {
+        return Err(SessionFault::BadField);
+    };
+    let Some(name) = name_at(value, "name") else {
+        return Err(SessionFault::BadField);
+    };
     let roles = roles_of(alloc, value)?;
     Ok(NewUser {
         name,
@@ -66,10 +72,18 @@ fn seated_user(alloc: Global, value: &Value) -> Result<NewUser, SessionFault>
     if !has_only(value, &["digest", "name", "pair", "place", "roles"]) {
         return Err(SessionFault::BadField);
     }
-    let digest = digest_of(value).ok_or(SessionFault::BadField)?;
-    let name = name_at(value, "name").ok_or(SessionFault::BadField)?;
-    let pair = pair_of(value).ok_or(SessionFault::BadField)?;
-    let place = place_of(value).ok_or(SessionFault::BadField)?;
+    let Some(digest) = digest_of(value) else {
+        return Err(SessionFault::BadField);
+    };
+    let Some(name) = name_at(value, "name") else {
+        return Err(SessionFault::BadField);
+    };
+    let Some(pair) = pair_of(value) else {
+        return Err(SessionFault::BadField);
+    };
+    let Some(place) = place_of(value) else {
+        return Err(SessionFault::BadField);
+    };
     let roles = roles_of(alloc, value)?;
     Ok(NewUser {
         name,

@@ -1,5 +1,5 @@
 /// Which rows of the audit are asked for.
-#[derive(Clone, Copy, Debug)]
+#[derive(Clone, Copy)]
 pub struct AuditRange {
     /// The number of the first one, from 1.
     pub from: u64,

@@ -5,7 +5,8 @@ ghost use Rattle.serde_json.specs.Data.{array};
 ghost use Rattle.serde_json.specs.View.{view, items_of};
 ghost use Rattle.wire.specs.AuditText.{actor_data, command_word, target, row_data, audit_data, audit_text, refusal_data, audit_refusal_text};
 
-use serde_json::{Value, json};
+use json_writing::{ArrayWriter, ObjectWriter, array_value, string_value};
+use serde_json::{Value, push};
 use session_book::{AuditRow, AuditRows};
 use session_commands::{Actor, Command};
 use std::alloc::{AllocError, Global};
@@ -29,13 +30,18 @@ pub fn audit_refusal_text(alloc: Global) -> Result<String, AllocError>
 fn refusal_value(alloc: Global) -> Result<Value, AllocError>
     ensures { IfOk result (λ value. view value ≡ refusal_data) }
 {
-    json!(in alloc; {"error": "NotPermitted"})
+    ObjectWriter::new(alloc)
+        .member("error", Value::try_from_str(alloc, "NotPermitted"))
+        .object()
 }
 
 fn audit_value(alloc: Global, rows: &AuditRows, version: usize) -> Result<Value, AllocError>
     ensures { IfOk result (λ value. view value ≡ audit_data rows.now version) }
 {
-    json!(in alloc; {"audit": rows_value(alloc, rows.as_slice())?, "version": version})
+    ObjectWriter::new(alloc)
+        .member("audit", rows_value(alloc, rows.as_slice()))
+        .member("version", Ok(Value::from(version)))
+        .object()
 }
 
 fn rows_value(alloc: Global, rows: &[AuditRow]) -> Result<Value, AllocError>
@@ -44,20 +50,20 @@ fn rows_value(alloc: Global, rows: &[AuditRow]) -> Result<Value, AllocError>
     let mut values = Vec::with_capacity(alloc, rows.len())?;
     for row in rows {
         let value = row_value(alloc, row)?;
-        values.push(value)?;
+        push(&mut values, value)?;
     }
-    Ok(Value::Array(values))
+    Ok(array_value(values))
 }
 
 fn row_value(alloc: Global, row: &AuditRow) -> Result<Value, AllocError>
     ensures { IfOk result (λ value. view value ≡ row_data row.now) }
 {
-    json!(in alloc; [
-        row.number,
-        actor_value(alloc, row.entry.actor)?,
-        command_word(&row.entry.command),
-        target_text(alloc, &row.entry.command)?
-    ])
+    ArrayWriter::new(alloc)
+        .item(Ok(Value::from(row.number)))
+        .item(actor_value(alloc, row.entry.actor))
+        .item(Value::try_from_str(alloc, command_word(&row.entry.command)))
+        .item(string_value(target_text(alloc, &row.entry.command)))
+        .array()
 }
 
 // Who gave a command.

@@ -1,7 +1,7 @@
 use thiserror::Error;
 
 /// Why a connection gives no other answer to a message that was read.
-#[derive(Clone, Copy, Debug, PartialEq, Eq, Error)]
+#[derive(Clone, Copy, Debug, Error)]
 pub enum ConnectionFault {
     /// No user has signed in.
     #[error("NotSignedIn")]

@@ -5,7 +5,8 @@ ghost use Rattle.serde_json.specs.Data.{array, string};
 ghost use Rattle.serde_json.specs.View.{view};
 ghost use Rattle.wire.specs.ReceiptText.{refusal_name, about, refusal_text, answer_data, answers_data, receipt_data, receipt_text};
 
-use serde_json::{Value, json};
+use json_writing::{ObjectWriter, array_value, string_value};
+use serde_json::{Value, push};
 use session_book::{Answer, Submission};
 use session_commands::Refusal;
 use std::alloc::{AllocError, Global};
@@ -31,12 +32,12 @@ fn receipt_value(
     ensures { IfOk result (λ value. view value
         ≡ receipt_data submission.now.answers.items submission.now.first submission.now.last version) }
 {
-    json!(in alloc; {
-        "answers": answers_value(alloc, submission.answers.as_slice())?,
-        "first": submission.first,
-        "last": submission.last,
-        "version": version
-    })
+    ObjectWriter::new(alloc)
+        .member("answers", answers_value(alloc, submission.answers.as_slice()))
+        .member("first", Ok(Value::from(submission.first)))
+        .member("last", Ok(Value::from(submission.last)))
+        .member("version", Ok(Value::from(version)))
+        .object()
 }
 
 fn answers_value(alloc: Global, answers: &[Answer]) -> Result<Value, AllocError>
@@ -45,9 +46,9 @@ fn answers_value(alloc: Global, answers: &[Answer]) -> Result<Value, AllocError>
     let mut values = Vec::with_capacity(alloc, answers.len())?;
     for answer in answers {
         let value = answer_value(alloc, answer)?;
-        values.push(value)?;
+        push(&mut values, value)?;
     }
-    Ok(Value::Array(values))
+    Ok(array_value(values))
 }
 
 fn answer_value(alloc: Global, answer: &Answer) -> Result<Value, AllocError>
@@ -73,8 +74,7 @@ fn refusal_value(alloc: Global, refusal: &Refusal) -> Result<Value, AllocError>
 fn about(alloc: Global, name: &str, subject: &str) -> Result<Value, AllocError>
     ensures { IfOk result (λ value. view value ≡ string (about name.now subject.now)) }
 {
-    let text = format!(in alloc; "{name}({subject})")?;
-    Ok(Value::String(text))
+    string_value(format!(in alloc; "{name}({subject})"))
 }
 
 fn refusal_name(refusal: &Refusal) -> &'static str

@@ -11,7 +11,7 @@ use serde_json::Value;
 use user_names::Name;
 
 /// Where a message comes from.
-#[derive(Clone, Copy, Debug, PartialEq, Eq)]
+#[derive(Clone, Copy)]
 pub enum Source {
     /// A script, each message of which says whose it is.
     Script,

@@ -1,21 +1,20 @@
-//! Arrays of unlike values as they are written, item by item.
-
 ghost use Rattle.std.specs.Prelude.{◌≡◌, ◌∷◌, ◌++◌, [], List, IfOk, map};
 ghost use Rattle.serde_json.specs.Data.{Data, array};
 ghost use Rattle.serde_json.specs.View.{view, items_of};
+ghost use Rattle.json_writing.specs.Written.{HasItems};
 
 use serde_json::{Value, push};
 use std::alloc::{AllocError, Global};
 
 /// The items of an array so far, unless memory for one of them was refused.
 #[derive(Drop)]
-pub(crate) struct ArrayWriter {
-    pub(crate) written: Result<Vec<Value>, AllocError>,
+pub struct ArrayWriter {
+    written: Result<Vec<Value>, AllocError>,
 }
 
 impl ArrayWriter {
-    pub(crate) fn new(alloc: Global) -> ArrayWriter
-        ensures { IfOk result.written (λ list. map view list.items ≡ []) }
+    pub fn new(alloc: Global) -> ArrayWriter
+        ensures { HasItems result [] }
     {
         ArrayWriter {
             written: Ok(Vec::new(alloc)),
@@ -23,11 +22,11 @@ impl ArrayWriter {
     }
 
     /// Adds an item.
-    pub(crate) fn item(self, value: Result<Value, AllocError>) -> ArrayWriter
+    pub fn item(self, value: Result<Value, AllocError>) -> ArrayWriter
         ensures { (items : List Data) (written : Data) →
-            IfOk self.written (λ list. map view list.items ≡ items) →
+            HasItems self items →
             IfOk value (λ v. view v ≡ written) →
-            IfOk result.written (λ list. map view list.items ≡ items ++ written ∷ []) }
+            HasItems result (items ++ written ∷ []) }
     {
         ArrayWriter {
             written: with_item(self.written, value),
@@ -35,9 +34,9 @@ impl ArrayWriter {
     }
 
     /// The array.
-    pub(crate) fn array(self) -> Result<Value, AllocError>
+    pub fn array(self) -> Result<Value, AllocError>
         ensures { (items : List Data) →
-            IfOk self.written (λ list. map view list.items ≡ items) →
+            HasItems self items →
             IfOk result (λ value. view value ≡ array (items_of items)) }
     {
         match self.written {
@@ -63,7 +62,7 @@ fn with_item(
 }
 
 /// The array of these items.
-pub(crate) fn array_value(list: Vec<Value>) -> Value
+pub fn array_value(list: Vec<Value>) -> Value
     ensures { view result ≡ array (items_of (map view list.items)) }
 {
     Value::Array(list)
