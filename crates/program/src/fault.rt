@@ -1,26 +1,43 @@
-use session_roles::SeparationSet;
 use session_object::SessionFault;
 use session_opening::OpeningRefusal;
+use session_roles::SeparationSet;
+use std::fmt;
 use thiserror::Error;
 
 /// Why a script's run ended before the script did.
-#[derive(Clone, Copy, Debug, PartialEq, Eq, Error)]
+#[derive(Clone, Copy, Debug, Error)]
 pub enum Fault {
     /// The first line is no session object.
-    #[error("{0}")]
     Session(SessionFault),
     /// The session of the first line isn't opened.
-    #[error("{}", name_of(.0))]
     Opening(OpeningRefusal),
     /// The input can't be read, or is too long.
-    #[error("the script can't be read")]
     Input,
     /// The output can't be written.
-    #[error("the answers can't be written")]
     Output,
     /// There is no memory for the session, or for a line.
-    #[error("out of memory")]
     OutOfMemory,
+}
+
+/// What the user is told. A fault of the first line is called as the session object's crates call it.
+impl fmt::Display for Fault {
+    fn fmt<W: fmt::Write>(&self, f: &mut fmt::Formatter<W>) -> fmt::Result {
+        match self {
+            Fault::Session(fault) => write!(f, "{fault}"),
+            _ => f.write_str(text_of(self)),
+        }
+    }
+}
+
+// What is said of a fault; of a session object that isn't read, the object's own fault says more.
+fn text_of(fault: &Fault) -> &'static str {
+    match fault {
+        Fault::Session(_) => "no session object",
+        Fault::Opening(cause) => name_of(cause),
+        Fault::Input => "the script can't be read",
+        Fault::Output => "the answers can't be written",
+        Fault::OutOfMemory => "out of memory",
+    }
 }
 
 // How a cause not to open a session is called.

@@ -34,7 +34,7 @@ impl fmt::Display for SessionFault {
     }
 }
 
-// How a fault is called that isn't of the boards.
+// How a fault is called; one of the boards has a name of its own.
 fn name_of(fault: &SessionFault) -> &'static str {
     match fault {
         SessionFault::TooLong => "TooLong",

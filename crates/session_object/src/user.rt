@@ -11,10 +11,10 @@ ghost use Rattle.session_object.specs.Reading.{Gives, Fails};
 use crate::session_fault::SessionFault;
 use disclosure_rules::Seat;
 use json_fields::{has_only, name_at};
-use session_roles::Role;
 use serde_json::Value;
 use session_commands::Digest;
 use session_opening::{NewUser, NewUsers, RoleList};
+use session_roles::Role;
 use std::alloc::Global;
 use user_fields::{digest_of, pair_of, place_of, role_of};
 use user_names::Name;
@@ -26,8 +26,8 @@ fn roles_in(alloc: Global, list: &[Value]) -> Result<Vec<Role>, SessionFault>
     let mut roles = Vec::new(alloc);
     for value in list {
         let Some(role) = role_of(value) else {
-        return Err(SessionFault::BadField);
-    };
+            return Err(SessionFault::BadField);
+        };
         roles.push(role)?;
     }
     Ok(roles)

@@ -5,7 +5,7 @@ ghost use Rattle.serde_json.specs.Data.{array, string};
 ghost use Rattle.serde_json.specs.View.{view};
 ghost use Rattle.wire.specs.ReceiptText.{refusal_name, about, refusal_text, answer_data, answers_data, receipt_data, receipt_text};
 
-use json_writing::{ObjectWriter, array_value, string_value};
+use json_writing::{ObjectWriter, array_value};
 use serde_json::{Value, push};
 use session_book::{Answer, Submission};
 use session_commands::Refusal;
@@ -33,7 +33,10 @@ fn receipt_value(
         ≡ receipt_data submission.now.answers.items submission.now.first submission.now.last version) }
 {
     ObjectWriter::new(alloc)
-        .member("answers", answers_value(alloc, submission.answers.as_slice()))
+        .member(
+            "answers",
+            answers_value(alloc, submission.answers.as_slice()),
+        )
         .member("first", Ok(Value::from(submission.first)))
         .member("last", Ok(Value::from(submission.last)))
         .member("version", Ok(Value::from(version)))
@@ -74,7 +77,8 @@ fn refusal_value(alloc: Global, refusal: &Refusal) -> Result<Value, AllocError>
 fn about(alloc: Global, name: &str, subject: &str) -> Result<Value, AllocError>
     ensures { IfOk result (λ value. view value ≡ string (about name.now subject.now)) }
 {
-    string_value(format!(in alloc; "{name}({subject})"))
+    let text = format!(in alloc; "{name}({subject})")?;
+    Ok(Value::String(text))
 }
 
 fn refusal_name(refusal: &Refusal) -> &'static str
