@@ -1,3 +1,2 @@
 pub mod ReplyLemmas
 pub mod FloatLemmas
-pub mod RangeLemmas

@@ -1,7 +1,2 @@
-pub mod DataOf
-pub mod StatusText
-pub mod BoardText
-pub mod TravellerText
-pub mod TableText
-pub mod ListText
+pub mod CostsText
 pub mod ReplyText

@@ -1,13 +1,7 @@
 //! The JSON text of every reply to a query.
 #![tactic(auto)]
 
-mod accounts_writing;
-mod board_writing;
-mod list_writing;
+mod costs_writing;
 mod reply_writing;
-mod status_writing;
-mod table_writing;
-mod to_json;
-mod traveller_writing;
 
 pub use reply_writing::reply_text;

@@ -1,5 +1,0 @@
-use Rattle.reply_texts.proofs.table_writing.not_a_play.Goals as goal
-
-pub returns : goal.returns
-returns c =
-    c.object.ensures _ (c.member.ensures _ _ c.new.ensures c.from.ensures)
