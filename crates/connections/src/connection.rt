@@ -119,8 +119,9 @@ impl<K: Keeper> Connection<K> {
         ensures fault { IfErr result (λ fault. (fault ≡ NoEntry) ⊎ (fault ≡ OutOfMemory)) }
         ensures adds { AddsNothing K.others self.old self.new }
     {
-        match self.keeper.query(alloc, user, query, since) {
-            Ok(reply) => text_of_reply(alloc, &reply),
+        let answer = self.keeper.query(alloc, user, query, since);
+        match &answer {
+            Ok(reply) => text_of_reply(alloc, reply),
             Err(QueryFault::NoEntry) => Err(ConnectionFault::NoEntry),
             Err(QueryFault::OutOfMemory) => Err(ConnectionFault::OutOfMemory),
         }

@@ -4,7 +4,8 @@ ghost use Rattle.std.specs.Prelude.{◌≡◌, IfOk, string_bytes};
 ghost use Rattle.serde_json.specs.View.{view};
 ghost use Rattle.connections.specs.Serving.{hello_data, hello_text};
 
-use serde_json::{Value, json};
+use json_writing::ObjectWriter;
+use serde_json::Value;
 use std::alloc::{AllocError, Global};
 use user_names::Name;
 
@@ -20,5 +21,7 @@ pub(crate) fn hello_text(alloc: Global, name: Name) -> Result<String, AllocError
 fn hello_value(alloc: Global, name: Name) -> Result<Value, AllocError>
     ensures { IfOk result (λ value. view value ≡ hello_data name) }
 {
-    json!(in alloc; {"hello": name.as_str()})
+    ObjectWriter::new(alloc)
+        .member("hello", Value::try_from_str(alloc, name.as_str()))
+        .object()
 }

@@ -33,10 +33,11 @@ impl<K: Keeper> Connection<K> {
         ensures refused { OnErr result (StaysOn self.old self.new) }
         ensures adds { Adds K.others self.old self.new message.now }
     {
-        match read_request(alloc, message, Source::Connection) {
+        let read = read_request(alloc, message, Source::Connection);
+        match &read {
             Ok(request) => self.serve_body(rt, alloc, &request.body),
             Err(RequestFault::OutOfMemory) => Err(AllocError),
-            Err(fault) => fault_text(fault).to_string(alloc),
+            Err(fault) => fault_text(*fault).to_string(alloc),
         }
     }
 
