@@ -2,7 +2,7 @@ ghost use Rattle.cards.specs.Play.{IsApart, is_of};
 ghost use Rattle.position_patterns.specs.Remainder.{IsLeftOf, IsPartOf, IsTrueRemainder, all_held};
 ghost use Rattle.position_patterns.specs.Tops.{IsPatternOf, pattern_of};
 ghost use Rattle.double_dummy_laws.specs.Pattern.{holding};
-ghost use Rattle.std.specs.Prelude.{◌≡◌, ◌<◌, All, IfOk, IsTrue, length};
+ghost use Rattle.std.specs.Prelude.{◌≡◌, ◌<◌, All, IfOk, OnOk, IsTrue, length};
 ghost use Rattle.std.specs.FinSet as set;
 ghost use Rattle.table_terms.specs.declared.suit.Suit.{Suit};
 ghost use Rattle.std.proofs.Props.{props};
@@ -64,6 +64,19 @@ fn is_same(a: Hand, b: Hand) -> bool
     a == b
 }
 
+/// Adds whatever may be left of a suit of the deal.
+fn add_suit(slots: &mut Vec<Remainder>, whole: &Holders, suit: Suit) -> Result<(), AllocError>
+    requires apart { IsApart whole.now }
+    requires slots { All (IsTrueRemainder whole.now) slots.old.items }
+    ensures { OnOk result (All (IsTrueRemainder whole.now) slots.new.items) }
+{
+    'masks: for mask in 0..8192u16 {
+        let part = whole.part(masked(suit, mask));
+        slots.push(whole.remainder(&part, suit))?;
+    }
+    Ok(())
+}
+
 impl DealPatterns {
     /// The patterns of the deal.
     pub fn new(alloc: Global, whole: &Holders) -> Result<DealPatterns, AllocError>
@@ -72,11 +85,7 @@ impl DealPatterns {
     {
         let mut slots = Vec::new(alloc);
         'suits: for number in 0..4u8 {
-            let suit = Suit::from_number(number);
-            'masks: for mask in 0..8192u16 {
-                let part = whole.part(masked(suit, mask));
-                slots.push(whole.remainder(&part, suit))?;
-            }
+            add_suit(&mut slots, whole, Suit::from_number(number))?;
         }
         Ok(DealPatterns {
             whole: *whole,

@@ -10,7 +10,7 @@ use std::marker::Model;
 use table_terms::{Place, Suit};
 
 /// What the four players hold.
-#[derive(Clone, Copy, Debug)]
+#[derive(Clone, Copy)]
 pub struct Holders {
     north: Hand,
     east: Hand,

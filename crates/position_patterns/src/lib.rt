@@ -2,6 +2,7 @@
 //! how many cards each player has. What holds at one position holds at every position of its pattern.
 #![tactic(auto)]
 
+mod chains;
 mod deal_patterns;
 mod finding;
 mod holders;

@@ -6,16 +6,13 @@ ghost use Rattle.position_patterns.specs.Tops.{IsPatternOf, IsTruePattern, patte
 ghost use Rattle.std.proofs.Props.{props};
 ghost use Rattle.std.specs.Prelude.{◌≡◌, All, IfSome, []};
 
+use crate::chains::Chains;
 use crate::finding::Finding;
 use crate::holders::Holders;
 use crate::pattern::{Entry, Pattern};
-use crate::sketch::{Block, Slot};
+use crate::sketch::NONE;
 use cards::Position;
 use std::alloc::{AllocError, Global};
-use table_terms::{Place, Strain};
-
-// What ends a chain.
-const NONE: u32 = u32::MAX;
 
 // How many blocks of a chain are looked at.
 const LONGEST: u32 = 100;
@@ -26,8 +23,7 @@ const LONGEST: u32 = 100;
 #[derive(Drop)]
 pub struct Memory {
     entries: Vec<Entry>,
-    blocks: Vec<Block>,
-    heads: Vec<u32>,
+    chains: Chains,
     room: usize,
     ghost true_entries: { All IsTruePattern entries.items } by { Prim.hlevel props },
 }
@@ -44,17 +40,10 @@ impl Memory {
     pub fn new(alloc: Global, tricks: u8) -> Result<Memory, AllocError> {
         let tricks = tricks.min(13);
         let room = 1 << (tricks + 8);
-        let entries = Vec::with_capacity(alloc, room)?;
-        let blocks = Vec::with_capacity(alloc, room / 2)?;
-        let chains: u32 = 1 << (tricks + 5);
-        let mut heads = Vec::new(alloc);
-        for _ in 0..chains {
-            heads.push(NONE)?;
-        }
+        let chains = Chains::new(alloc, room / 2, room / 8)?;
         Ok(Memory {
-            entries,
-            blocks,
-            heads,
+            entries: Vec::with_capacity(alloc, room)?,
+            chains,
             room,
         })
     }
@@ -62,7 +51,7 @@ impl Memory {
     /// Forgets everything.
     pub fn clear(&mut self) {
         self.entries.clear();
-        self.unlink();
+        self.chains.clear();
     }
 
     /// What is known of the position, at the beginning of a trick, if its pattern is remembered.
@@ -78,19 +67,22 @@ impl Memory {
         requires start { position.now.table ≡ [] }
         ensures { IfSome result (λ found. IsFound position.now target found.known found.holds) }
     {
-        let chain = self.chain_of(position, pattern);
+        let lengths = pattern.lengths();
+        let chain = self
+            .chains
+            .chain(lengths, position.leader(), position.strain());
         let tops = pattern.sketch();
-        let front = self.head(chain);
+        let front = self.chains.head(chain);
         let mut at = front;
         for _ in 0..LONGEST {
             if at == NONE {
                 return None;
             }
             if let Some(hit) = self.hit(at, tops, position, holders, pattern, target) {
-                self.to_front(front, at, hit.slot);
+                self.chains.to_front(front, at, hit.slot);
                 return Some(hit.finding);
             }
-            at = self.next(at);
+            at = self.chains.next(at);
         }
         None
     }
@@ -111,10 +103,10 @@ impl Memory {
         ensures { IfSome result (λ hit. IsFound position.now target hit.finding.known hit.finding.holds) }
     {
         let place = at as usize;
-        if place >= self.blocks.len() {
+        if place >= self.chains.blocks.len() {
             return None;
         }
-        for (slot, sketched) in self.blocks[place].slots.iter().enumerate() {
+        for (slot, sketched) in self.chains.blocks[place].slots.iter().enumerate() {
             if sketched.fits(tops) {
                 if let Some(finding) = self.answer(
                     sketched.entry,
@@ -170,129 +162,46 @@ impl Memory {
         requires pattern { (suit : Suit) → IsPatternOf (pattern_of pattern.now suit) (holding holders.now suit) }
         requires found { IsFound position.now target finding.now.known finding.now.holds }
     {
-        if self.entries.len() >= self.room || self.blocks.len() >= self.room / 2 {
+        if self.entries.len() >= self.room || self.chains.blocks.len() >= self.room / 2 {
             self.forget();
         }
         let entry = Entry::new(position, holders, pattern, target, finding);
         let place = self.entries.len();
         if push_entry(&mut self.entries, entry) {
-            self.link(place);
-        }
-    }
-
-    /// Puts an entry into its chain.
-    fn link(&mut self, place: usize) {
-        let Some(entry) = self.entries.get(place).copied() else {
-            return;
-        };
-        if place < NONE as usize {
-            let chain = self.chain(entry.lengths(), entry.leader, entry.strain);
-            self.insert(chain, Slot::of(&entry, place as u32));
+            self.chains.link(place, &entry);
         }
     }
 
     /// Forgets the answers of few tricks, which are many and soon found again: a quarter of the room is kept at most.
     fn forget(&mut self) {
-        let least = self.least_kept();
+        let least = least_kept(&self.entries, self.room / 4);
         keep(&mut self.entries, least);
-        self.unlink();
-        for place in 0..self.entries.len() {
-            self.link(place);
+        self.chains.clear();
+        for (place, entry) in self.entries.iter().enumerate() {
+            self.chains.link(place, entry);
         }
     }
+}
 
-    /// From how many tricks on the answers fit into a quarter of the room.
-    fn least_kept(&self) -> u8 {
-        for least in 3..14 {
-            let kept = self
-                .entries
-                .iter()
-                .filter(|entry| entry.tricks >= least)
-                .count();
-            if kept <= self.room / 4 {
-                return least;
-            }
-        }
-        14
-    }
-
-    /// Empties the chains.
-    fn unlink(&mut self) {
-        self.blocks.clear();
-        for head in self.heads.iter_mut() {
-            *head = NONE;
+/// From how many tricks on there is room for the answers.
+fn least_kept(entries: &[Entry], room: usize) -> u8 {
+    for least in 3..14 {
+        if how_many(entries, least) <= room {
+            return least;
         }
     }
+    14
+}
 
-    /// Puts a slot first in its chain: into the first block, or into a new one before it.
-    fn insert(&mut self, chain: usize, slot: Slot) {
-        let front = self.head(chain);
-        if let Some(free) = self.free_slot(front) {
-            self.put(front, free, slot);
-            self.to_front(front, front, free);
-            return;
-        }
-        let at = self.blocks.len();
-        if at < NONE as usize && self.blocks.push(Block::new(front, slot)).is_ok() {
-            self.set_head(chain, at as u32);
+/// How many entries are of so many tricks and more.
+fn how_many(entries: &[Entry], least: u8) -> usize {
+    let mut found: usize = 0;
+    for entry in entries {
+        if entry.tricks >= least {
+            found = found.wrapping_add(1);
         }
     }
-
-    /// Lets a slot stand first in its chain, whose first block is this.
-    fn to_front(&mut self, front: u32, at: u32, slot: usize) {
-        if let Some(first) = self.slot(front, 0) {
-            if let Some(served) = self.slot(at, slot) {
-                self.put(at, slot, first);
-                self.put(front, 0, served);
-            }
-        }
-    }
-
-    fn slot(&self, at: u32, slot: usize) -> Option<Slot> {
-        self.blocks.get(at as usize)?.slots.get(slot).copied()
-    }
-
-    fn put(&mut self, at: u32, slot: usize, sketched: Slot) {
-        if let Some(block) = self.blocks.get_mut(at as usize) {
-            block.put(slot, sketched);
-        }
-    }
-
-    fn free_slot(&self, at: u32) -> Option<usize> {
-        self.blocks.get(at as usize)?.free_slot()
-    }
-
-    fn next(&self, at: u32) -> u32 {
-        let place = at as usize;
-        if place < self.blocks.len() {
-            self.blocks[place].next
-        } else {
-            NONE
-        }
-    }
-
-    fn head(&self, chain: usize) -> u32 {
-        self.heads.get(chain).copied().unwrap_or(NONE)
-    }
-
-    fn set_head(&mut self, chain: usize, at: u32) {
-        if let Some(slot) = self.heads.get_mut(chain) {
-            *slot = at;
-        }
-    }
-
-    /// The chain of a position's pattern.
-    fn chain_of(&self, position: &Position, pattern: &Pattern) -> usize {
-        self.chain(pattern.lengths(), position.leader(), position.strain())
-    }
-
-    /// The chain of a pattern's lengths, leader and strain.
-    fn chain(&self, lengths: u64, leader: Place, strain: Strain) -> usize {
-        let mut hash = lengths ^ leader as u64 ^ (strain as u64) << 8;
-        hash = (hash ^ hash >> 29).wrapping_mul(0x9e37_79b9_7f4a_7c15);
-        let mask = (self.heads.len() as u64).saturating_sub(1);
-        ((hash >> 20) & mask) as usize
-    }
+    found
 }
 
 /// Keeps the entries of so many tricks and more.

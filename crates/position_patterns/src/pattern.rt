@@ -15,14 +15,14 @@ use table_terms::{Place, Strain, Suit};
 
 /// A suit's cards that are left: who holds each, the top card's holder in the lowest digit to base 4, and how many
 /// cards each player has, to base 16.
-#[derive(Clone, Copy, Debug)]
+#[derive(Clone, Copy)]
 pub struct SuitPattern {
     pub owners: u32,
     pub lengths: u16,
 }
 
 /// The four suits' patterns.
-#[derive(Clone, Copy, Debug)]
+#[derive(Clone, Copy)]
 pub struct Pattern {
     pub spades: SuitPattern,
     pub hearts: SuitPattern,

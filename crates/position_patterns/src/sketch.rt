@@ -3,8 +3,8 @@ use crate::pattern::{Entry, Pattern, SuitTops};
 // How many slots a block has: with the next block's number they fill a line of a processor's cache.
 const SLOTS: usize = 5;
 
-// What a slot without an entry points at.
-const NONE: u32 = u32::MAX;
+// What a slot without an entry points at, and what ends a chain.
+pub const NONE: u32 = u32::MAX;
 
 /// A sketch of an entry: the holders of its top cards, up to four of each suit. Most entries that do not match are passed over
 /// by their sketch, unread; which are decides nothing but the time.
@@ -108,20 +108,25 @@ impl Block {
         }
     }
 
-    /// The first slot without an entry.
-    pub fn free_slot(&self) -> Option<usize> {
-        for (i, slot) in self.slots.iter().enumerate() {
-            if slot.entry == NONE {
-                return Some(i);
-            }
+    /// Writes the slot of this number, if there is one, and gives what stood there.
+    pub fn put(&mut self, slot: usize, written: Slot) -> Slot {
+        if slot >= SLOTS {
+            return written;
         }
-        None
+        let old = self.slots[slot];
+        self.slots[slot] = written;
+        old
     }
 
-    /// Writes a slot, if the block has one of this number.
-    pub fn put(&mut self, slot: usize, written: Slot) {
-        if slot < SLOTS {
-            self.slots[slot] = written;
+    /// Puts a slot first, where one is free.
+    pub fn fill(&mut self, first: Slot) -> bool {
+        for i in 0..SLOTS {
+            if self.slots[i].entry == NONE {
+                self.slots[i] = self.slots[0];
+                self.slots[0] = first;
+                return true;
+            }
         }
+        false
     }
 }

@@ -4,6 +4,3 @@ use Rattle.position_patterns.specs.Remainder.{IsTrueRemainder}
 
 abbrev pub invariant-suits : goal.invariant-suits
 invariant-suits l = All (IsTrueRemainder l.whole) l.slots.items
-
-abbrev pub invariant-masks : goal.invariant-masks
-invariant-masks l = All (IsTrueRemainder l.whole) l.slots.items

@@ -1,0 +1,94 @@
+use crate::pattern::Entry;
+use crate::sketch::{Block, NONE, Slot};
+use std::alloc::{AllocError, Global};
+use table_terms::{Place, Strain};
+
+/// Chains of blocks whose slots point at entries of which the lengths, leader and strain have one hash: where each chain
+/// begins, and all blocks.
+#[derive(Drop)]
+pub struct Chains {
+    heads: Vec<u32>,
+    pub blocks: Vec<Block>,
+}
+
+impl Chains {
+    /// So many empty chains, and room for so many blocks.
+    pub fn new(alloc: Global, room: usize, chains: usize) -> Result<Chains, AllocError> {
+        let heads = Vec::from_elem(alloc, NONE, chains)?;
+        Ok(Chains {
+            heads,
+            blocks: Vec::with_capacity(alloc, room)?,
+        })
+    }
+
+    /// Empties the chains.
+    pub fn clear(&mut self) {
+        self.blocks.clear();
+        self.heads.fill(NONE);
+    }
+
+    /// The chain of a pattern's lengths, leader and strain.
+    pub fn chain(&self, lengths: u64, leader: Place, strain: Strain) -> usize {
+        let mut hash = lengths ^ leader as u64 ^ (strain as u64) << 8;
+        hash = (hash ^ hash >> 29).wrapping_mul(0x9e37_79b9_7f4a_7c15);
+        let mask = (self.heads.len() as u64).saturating_sub(1);
+        ((hash >> 20) & mask) as usize
+    }
+
+    /// The first block of a chain.
+    pub fn head(&self, chain: usize) -> u32 {
+        if chain < self.heads.len() {
+            self.heads[chain]
+        } else {
+            NONE
+        }
+    }
+
+    /// The block after this one.
+    pub fn next(&self, at: u32) -> u32 {
+        let place = at as usize;
+        if place < self.blocks.len() {
+            self.blocks[place].next
+        } else {
+            NONE
+        }
+    }
+
+    /// Lets a slot stand first in its chain, whose first block is this.
+    pub fn to_front(&mut self, front: u32, at: u32, slot: usize) {
+        let first = front as usize;
+        let place = at as usize;
+        if first < self.blocks.len() && place < self.blocks.len() {
+            let passed = self.blocks[first].slots[0];
+            let served = self.blocks[place].put(slot, passed);
+            self.blocks[first].slots[0] = served;
+        }
+    }
+
+    /// Puts an entry first in its chain: into the first block, or into a new one before it.
+    pub fn link(&mut self, place: usize, entry: &Entry) {
+        if place >= NONE as usize {
+            return;
+        }
+        let slot = Slot::of(entry, place as u32);
+        let chain = self.chain(entry.lengths(), entry.leader, entry.strain);
+        let front = self.head(chain);
+        if !self.fill(front, slot) {
+            self.lengthen(chain, Block::new(front, slot));
+        }
+    }
+
+    /// Puts a slot first into a block where one is free.
+    fn fill(&mut self, at: u32, slot: Slot) -> bool {
+        let place = at as usize;
+        place < self.blocks.len() && self.blocks[place].fill(slot)
+    }
+
+    /// Puts a block before a chain's others, if it finds room.
+    fn lengthen(&mut self, chain: usize, block: Block) {
+        let at = self.blocks.len();
+        if chain < self.heads.len() && at < NONE as usize && self.blocks.push(block).is_ok() {
+            self.heads[chain] = at as u32;
+        }
+    }
+}
