@@ -1,18 +1,18 @@
 ghost use Rattle.std.specs.Prelude.{◌≤◌};
 
 use cards::{Card, Hand, Position, Trick, strength};
-use table_terms::{Strain, Suit};
+use table_terms::Suit;
 
 /// What the weights of a player's cards are read off: the hands round the table from his own, all cards in play, and
 /// the trick under way.
-#[derive(Drop)]
+#[derive(Clone, Copy)]
 pub struct Weights {
     mine: Hand,
     left: Hand,
     partner: Hand,
     right: Hand,
     all: Hand,
-    strain: Strain,
+    trump: Option<Suit>,
     trick: Trick,
     best: Option<Card>,
     is_ours: bool,
@@ -27,14 +27,15 @@ impl Weights {
         let left = position.hand(player.left());
         let partner = position.hand(player.partner());
         let right = position.hand(player.partner().left());
-        let (best, is_ours) = best_of(position.strain(), trick);
+        let trump = position.strain().trump();
+        let (best, is_ours) = best_of(trump, trick);
         Weights {
             mine,
             left,
             partner,
             right,
             all: mine.union(left).union(partner.union(right)),
-            strain: position.strain(),
+            trump,
             trick,
             best,
             is_ours,
@@ -60,7 +61,8 @@ impl Weights {
         let suit = card.suit;
         let rank = card.rank.height() as u16;
         let base = self.suit_weight(suit);
-        let Some(first) = top(self.all.of_suit(suit)) else {
+        let suited = self.all.of_suit(suit);
+        let Some(first) = top(suited) else {
             return base;
         };
         let is_ruffed = self.ruffs(self.left, suit) || self.ruffs(self.right, suit);
@@ -77,7 +79,7 @@ impl Weights {
         if self.ruffs(self.partner, suit) {
             return base + 26 - rank;
         }
-        let second = top(self.all.of_suit(suit).without(first));
+        let second = top(suited.without(first));
         let builds = has(self.mine.union(self.partner), second);
         let weight = if builds { base + 2 - rank } else { base - rank };
         if self.right.contains(first) {
@@ -112,16 +114,18 @@ impl Weights {
     /// The second and the third card of a trick.
     fn follow(&self, card: Card, led: Suit, best: Card, played: u8) -> u16 {
         let rank = card.rank.height() as u16;
-        if self.power(card, led) <= self.power(best, led) {
+        let power = self.power(card, led);
+        let beaten = self.power(best, led);
+        if power <= beaten {
             return self.low(card, led);
         }
         let answer = self.answer(led);
-        let is_safe = self.power(card, led) > answer;
+        let is_safe = power > answer;
         if self.is_ours {
             if self.is_trump(best.suit) && best.suit != led {
                 return 280 - rank;
             }
-            if self.power(best, led) > answer {
+            if beaten > answer {
                 return 293 - rank;
             }
             return if is_safe { 324 - rank } else { 286 - rank };
@@ -156,13 +160,14 @@ impl Weights {
         }
         let held = length(self.mine, suit);
         let base = 299 - 2 * held - rank - if self.is_trump(suit) { 12 } else { 0 };
-        let Some(first) = top(self.all.of_suit(suit)) else {
+        let suited = self.all.of_suit(suit);
+        let Some(first) = top(suited) else {
             return base;
         };
         if card == first {
             return base - 11;
         }
-        let second = top(self.all.of_suit(suit).without(first));
+        let second = top(suited.without(first));
         let guards = held == 2 && has(self.mine, second);
         if guards { base - 8 } else { base }
     }
@@ -170,7 +175,7 @@ impl Weights {
     /// How strong the next opponent's strongest answer is.
     fn answer(&self, led: Suit) -> u8 {
         let followed = self.greatest(self.left.of_suit(led), led);
-        match self.strain.trump() {
+        match self.trump {
             Some(trump) if followed == 0 => self.greatest(self.left.of_suit(trump), led),
             _ => followed,
         }
@@ -185,16 +190,16 @@ impl Weights {
     }
 
     fn power(&self, card: Card, led: Suit) -> u8 {
-        strength(self.strain.trump(), led, card)
+        strength(self.trump, led, card)
     }
 
     fn is_trump(&self, suit: Suit) -> bool {
-        self.strain.trump() == Some(suit)
+        self.trump == Some(suit)
     }
 
     /// Whether the hand can trump this suit.
     fn ruffs(&self, hand: Hand, suit: Suit) -> bool {
-        match self.strain.trump() {
+        match self.trump {
             Some(trump) => trump != suit
                 && hand.of_suit(suit).is_empty()
                 && !hand.of_suit(trump).is_empty(),
@@ -204,8 +209,7 @@ impl Weights {
 }
 
 /// The card that wins a trick under way so far, and whether the partner of the player in turn played it.
-fn best_of(strain: Strain, trick: Trick) -> (Option<Card>, bool) {
-    let trump = strain.trump();
+fn best_of(trump: Option<Suit>, trick: Trick) -> (Option<Card>, bool) {
     match trick {
         Trick::Empty => (None, false),
         Trick::One(a) => (Some(a), false),
