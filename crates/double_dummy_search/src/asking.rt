@@ -27,7 +27,9 @@ pub fn value(
     let mut high = position.tricks_left();
     while low < high {
         let asked = guess.max(low + 1).min(high);
-        let found = search(position, asked, patterns, memory, budget)?;
+        let Ok(found) = search(position, asked, patterns, memory, budget) else {
+            return Err(BudgetSpent);
+        };
         if found.holds {
             low = asked;
         } else {

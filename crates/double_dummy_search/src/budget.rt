@@ -3,7 +3,7 @@ ghost use Rattle.std.specs.Prelude.{◌≡◌, ◌+◌, ◌≤◌, OnOk, OnErr};
 use std::marker::Model;
 
 /// How many positions may still be visited.
-#[derive(Debug, Drop)]
+#[derive(Drop)]
 pub struct Budget {
     left: u64,
 }

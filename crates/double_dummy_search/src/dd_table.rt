@@ -47,11 +47,21 @@ fn solve_strains(
     ensures err { OnErr result (budget.new ≡ 0) }
     ensures spent { budget.new ≤ budget.old }
 {
-    let spades = solve_strain(deal, Strain::Spades, patterns, memory, budget)?;
-    let hearts = solve_strain(deal, Strain::Hearts, patterns, memory, budget)?;
-    let diamonds = solve_strain(deal, Strain::Diamonds, patterns, memory, budget)?;
-    let clubs = solve_strain(deal, Strain::Clubs, patterns, memory, budget)?;
-    let no_trump = solve_strain(deal, Strain::NoTrump, patterns, memory, budget)?;
+    let Ok(spades) = solve_strain(deal, Strain::Spades, patterns, memory, budget) else {
+        return Err(BudgetSpent);
+    };
+    let Ok(hearts) = solve_strain(deal, Strain::Hearts, patterns, memory, budget) else {
+        return Err(BudgetSpent);
+    };
+    let Ok(diamonds) = solve_strain(deal, Strain::Diamonds, patterns, memory, budget) else {
+        return Err(BudgetSpent);
+    };
+    let Ok(clubs) = solve_strain(deal, Strain::Clubs, patterns, memory, budget) else {
+        return Err(BudgetSpent);
+    };
+    let Ok(no_trump) = solve_strain(deal, Strain::NoTrump, patterns, memory, budget) else {
+        return Err(BudgetSpent);
+    };
     Ok(DdTable::new(deal, spades, hearts, diamonds, clubs, no_trump))
 }
 
@@ -69,9 +79,14 @@ fn solve_strain(
     ensures spent { budget.new ≤ budget.old }
 {
     memory.clear();
-    let north = solve_declarer(deal, strain, Place::North, 7, patterns, memory, budget)?;
-    let south = solve_declarer(deal, strain, Place::South, north, patterns, memory, budget)?;
-    let east = solve_declarer(
+    let Ok(north) = solve_declarer(deal, strain, Place::North, 7, patterns, memory, budget) else {
+        return Err(BudgetSpent);
+    };
+    let Ok(south) = solve_declarer(deal, strain, Place::South, north, patterns, memory, budget)
+    else {
+        return Err(BudgetSpent);
+    };
+    let Ok(east) = solve_declarer(
         deal,
         strain,
         Place::East,
@@ -79,8 +94,12 @@ fn solve_strain(
         patterns,
         memory,
         budget,
-    )?;
-    let west = solve_declarer(deal, strain, Place::West, east, patterns, memory, budget)?;
+    ) else {
+        return Err(BudgetSpent);
+    };
+    let Ok(west) = solve_declarer(deal, strain, Place::West, east, patterns, memory, budget) else {
+        return Err(BudgetSpent);
+    };
     Ok(DeclarerTricks {
         north,
         east,
@@ -106,7 +125,9 @@ fn solve_declarer(
 {
     let start = Position::start(deal, strain, declarer);
     let side = declarer.side();
-    let tricks = value(&start, tricks_for(side, guess), patterns, memory, budget)?;
+    let Ok(tricks) = value(&start, tricks_for(side, guess), patterns, memory, budget) else {
+        return Err(BudgetSpent);
+    };
     Ok(tricks_for(side, tricks))
 }
 

@@ -1,7 +1,7 @@
 use thiserror::Error;
 
 /// Why a position or a deal was not solved.
-#[derive(Clone, Copy, Debug, PartialEq, Eq, Error)]
+#[derive(Clone, Copy, Debug, Error)]
 pub enum SolveError {
     /// The visits of the budget are spent.
     #[error("out of budget")]

@@ -17,17 +17,16 @@ pub fn best(position: &Position, others: Hand, playable: Hand, untried: Hand) ->
     ensures some { IfSome result (λ card. set.contains untried card ≡ true) }
     ensures none { IfNone result (untried ≡ set.empty) }
 {
-    let mut best = untried.first()?;
+    let Some(mut best) = untried.first() else {
+        return None;
+    };
     if is_one_run(untried, others) {
         return Some(best);
     }
     let weights = Weights::of(position);
     let mut most = 0;
     let mut rest = untried;
-    'runs: for _ in 0..13 {
-        let Some(card) = rest.first() else {
-            break;
-        };
+    'runs: while let Some(card) = rest.first() {
         let run = run_of(position, others, playable, card);
         let weight = weights.weight(card, run);
         if most < weight {

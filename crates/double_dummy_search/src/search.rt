@@ -70,7 +70,9 @@ pub fn search(
     if let Some(found) = memory.find(position, &holders, &pattern, target) {
         return Ok(found);
     }
-    let found = explore(position, target, patterns, memory, budget)?;
+    let Ok(found) = explore(position, target, patterns, memory, budget) else {
+        return Err(BudgetSpent);
+    };
     memory.store(position, &holders, &pattern, target, &found);
     Ok(found)
 }
@@ -98,14 +100,18 @@ fn explore(
             known: Hand::new(),
         });
     }
-    budget.visit()?;
+    let Ok(()) = budget.visit() else {
+        return Err(BudgetSpent);
+    };
     let wanted = wants(position);
     let others = run::others(position);
     let mut known = Hand::new();
     while let Some(card) = best(position, others, playable, untried) {
         let rest = target - position.point(card);
         let next = position.after(card);
-        let found = search(&next, rest, patterns, memory, budget)?;
+        let Ok(found) = search(&next, rest, patterns, memory, budget) else {
+            return Err(BudgetSpent);
+        };
         let decisive = found.known.union(trick::decisive(position, card));
         if found.holds == wanted {
             return Ok(Finding {

@@ -22,8 +22,8 @@ loop-low-preserved-then-found c =
     let p = c.args.position.now in
     let asked = c.min-asked.result in
     let answer : nat_le asked (double_dummy p) ≡ true =
-    found_valid p asked c.in_ok-found.found.known c.in_ok-found.found.holds c.tricks_left-high.ensures.position
-    c.in_ok-found.ensures.found ∙ c.if-found.true in
+    found_valid p asked c.in-Ok.found.known c.in-Ok.found.holds c.tricks_left-high.ensures.position
+    c.in-Ok.ensures.found ∙ c.if-found.true in
     let enough : asked ≤ double_dummy p = leb-true asked (double_dummy p) answer in
     let before = c.loop-low.invariant in
     record {
@@ -39,8 +39,8 @@ loop-low-preserved c =
     let p = c.args.position.now in
     let asked = c.min-asked.result in
     let answer : nat_le asked (double_dummy p) ≡ false =
-    found_valid p asked c.in_ok-found.found.known c.in_ok-found.found.holds c.tricks_left-high.ensures.position
-    c.in_ok-found.ensures.found ∙ c.if-found.false in
+    found_valid p asked c.in-Ok.found.known c.in-Ok.found.holds c.tricks_left-high.ensures.position
+    c.in-Ok.ensures.found ∙ c.if-found.false in
     let short : double_dummy p < asked = leb-false asked (double_dummy p) answer in
     let before = c.loop-low.invariant in
     record {

@@ -6,4 +6,4 @@ pub returns-clause-tricks : goal.returns-clause-tricks
 returns-clause-tricks c =
     c.tricks_for-2.ensures
     ∙ (λ i. tricks_for (c.side-side.ensures i)
-    ((c.in_ok-tricks.ensures.tricks ∙ ap double_dummy c.start-start.ensures) i))
+    ((c.in-Ok.ensures.tricks ∙ ap double_dummy c.start-start.ensures) i))

@@ -8,3 +8,6 @@ invariant-runs l = record {
   best : set.contains l.fn.untried l.best ≡ true;
   rest : (card : Card) → set.contains l.rest card ≡ true → set.contains l.fn.untried card ≡ true;
 }
+
+abbrev pub decreases-runs : goal.decreases-runs
+decreases-runs l = set.len l.rest

@@ -40,6 +40,12 @@ pub returns-then-number-2-clause-free : goal.returns-then-number-2-clause-free
 returns-then-number-2-clause-free c higher between held _ _ _ _ =
     none_in c.new-then-number-2.result higher c.new-then-number-2.ensures held
 
+pub returns-clause-above : goal.returns-clause-above
+unfolding ace_of
+returns-clause-above c higher held =
+    higher_above c.args.card (ace_of c.args.card.suit) c.between-higher.result c.insert.new.self c.between-higher.ensures
+    c.insert.ensures (omega arith) higher (and_parts _ _ (sym (c.common-2.ensures higher) ∙ held)).0
+
 pub returns-clause-free : goal.returns-clause-free
 unfolding ace_of
 returns-clause-free c higher between held theirs suit low lower =

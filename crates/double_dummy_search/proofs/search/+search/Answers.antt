@@ -30,9 +30,9 @@ explore-search-requires t c =
 pub explore-returns-then-found-wanted-clause-found : goal.explore-returns-then-found-wanted-clause-found
 explore-returns-then-found-wanted-clause-found t c =
     let p = c.args.position.now in
-    let found = subst (λ b. IsFound c.after-next.result (c.args.target - c.point.result) c.in_ok-found.found.known b)
-    (same_bool _ _ c.if-found-wanted.true) c.in_ok-found.ensures.found in
-    found_decided p c.args.target c.in-Some.card c.in_ok-found.found.known c.union-decisive.result c.wants-wanted.result
+    let found = subst (λ b. IsFound c.after-next.result (c.args.target - c.point.result) c.in-Ok-search.found.known b)
+    (same_bool _ _ c.if-found-wanted.true) c.in-Ok-search.ensures.found in
+    found_decided p c.args.target c.in-Some.card c.in-Ok-search.found.known c.union-decisive.result c.wants-wanted.result
     (c.loop-card.invariant.untried c.in-Some.card c.in-Some.ensures.some)
     (λ ownership. known_more ownership _ _ _ _ _ (in_second _ _ _ c.union-decisive.ensures)
     (c.decisive.ensures ownership))
@@ -53,10 +53,10 @@ explore-loop-card-preserved t c = record {
   spent = omega (arith, c.search.ensures.spent, c.loop-card.invariant.spent);
   refused =
       let p = c.args.position.now in
-      let found = subst (λ b. IsFound c.after-next.result (c.args.target - c.point.result) c.in_ok-found.found.known b)
-      (other_bool _ _ c.if-found-wanted.false) c.in_ok-found.ensures.found in
+      let found = subst (λ b. IsFound c.after-next.result (c.args.target - c.point.result) c.in-Ok-search.found.known b)
+      (other_bool _ _ c.if-found-wanted.false) c.in-Ok-search.ensures.found in
       refused_step p c.args.target c.loop-card.untried c.difference-untried.result c.loop-card.known
-      c.learnt-known.result c.in_ok-found.found.known c.union-decisive.result c.run_of-run.result
+      c.learnt-known.result c.in-Ok-search.found.known c.union-decisive.result c.run_of-run.result
       c.in-Some.card (not c.wants-wanted.result) c.loop-card.invariant.refused
       (c.loop-card.invariant.untried c.in-Some.card c.in-Some.ensures.some)
       (found_next p c.after-next.result c.args.target _ c.point.result c.in-Some.card _ _ c.after-next.ensures
@@ -74,7 +74,7 @@ explore-returns-clause-found t c =
     let some = some_in (legal c.args.position.now)
     (λ e. true≢false (sym (c.is_empty.ensures.1 (c.legal_cards-playable.ensures ∙ e)) ∙ c.if-is_empty.false)) in
     found_refused c.args.position.now c.args.target c.loop-card.untried c.loop-card.known _ some.0 some.1
-    c.in_default.ensures.none c.loop-card.invariant.refused
+    c.in_default-best.ensures.none c.loop-card.invariant.refused
 
 pub search-returns-then-tricks_left-target-clause-found : goal.search-returns-then-tricks_left-target-clause-found
 search-returns-then-tricks_left-target-clause-found t c =
@@ -83,4 +83,59 @@ search-returns-then-tricks_left-target-clause-found t c =
     too_many c.args.position.now c.args.target _ (omega arith)
 
 pub search-store-requires-clause-found : goal.search-store-requires-clause-found
-search-store-requires-clause-found t c = c.in_ok-found.ensures.found
+search-store-requires-clause-found t c = c.in-Ok.ensures.found
+
+pub explore-best-requires-clause-others : goal.explore-best-requires-clause-others
+explore-best-requires-clause-others t c = c.others-others.ensures
+
+pub explore-best-requires-clause-playable : goal.explore-best-requires-clause-playable
+explore-best-requires-clause-playable t c = c.legal_cards-playable.ensures
+
+pub explore-best-requires-clause-untried : goal.explore-best-requires-clause-untried
+explore-best-requires-clause-untried t c = c.loop-card.invariant.untried
+
+pub explore-after-next-requires : goal.explore-after-next-requires
+explore-after-next-requires t c = c.loop-card.invariant.untried c.in-Some.card c.in-Some.ensures.some
+
+pub explore-run_of-run-requires-clause-others : goal.explore-run_of-run-requires-clause-others
+explore-run_of-run-requires-clause-others t c = c.others-others.ensures
+
+pub explore-run_of-run-requires-clause-playable : goal.explore-run_of-run-requires-clause-playable
+explore-run_of-run-requires-clause-playable t c = c.legal_cards-playable.ensures
+
+pub explore-run_of-run-requires-clause-legal : goal.explore-run_of-run-requires-clause-legal
+explore-run_of-run-requires-clause-legal t c = c.loop-card.invariant.untried c.in-Some.card c.in-Some.ensures.some
+
+pub search-find-requires-clause-same : goal.search-find-requires-clause-same
+search-find-requires-clause-same t c = c.of-holders.ensures.hands
+
+pub search-find-requires-clause-pattern : goal.search-find-requires-clause-pattern
+search-find-requires-clause-pattern t c = c.pattern-pattern.ensures
+
+pub search-store-requires-clause-same : goal.search-store-requires-clause-same
+search-store-requires-clause-same t c = c.of-holders.ensures.hands
+
+pub search-store-requires-clause-apart : goal.search-store-requires-clause-apart
+search-store-requires-clause-apart t c = c.of-holders.ensures.apart
+
+pub search-store-requires-clause-pattern : goal.search-store-requires-clause-pattern
+search-store-requires-clause-pattern t c = c.pattern-pattern.ensures
+
+pub explore-returns-in_default-search-clause-err : goal.explore-returns-in_default-search-clause-err
+explore-returns-in_default-search-clause-err t c = c.in_default-search.ensures.err
+
+pub search-pattern-pattern-requires : goal.search-pattern-pattern-requires
+search-pattern-pattern-requires t c =
+    subst (IsLeftOf c.args.patterns.now.whole) (sym c.of-holders.ensures.hands) c.requires
+
+pub search-returns-then-ne-clause-found : goal.search-returns-then-ne-clause-found
+search-returns-then-ne-clause-found t c = c.explore.ensures.found
+
+pub search-returns-in-Some-clause-found : goal.search-returns-in-Some-clause-found
+search-returns-in-Some-clause-found t c = c.in-Some.ensures
+
+pub search-returns-in_default-explore-clause-err : goal.search-returns-in_default-explore-clause-err
+search-returns-in_default-explore-clause-err t c = c.in_default-explore.ensures.err
+
+pub search-returns-clause-found : goal.search-returns-clause-found
+search-returns-clause-found t c = c.in-Ok.ensures.found
