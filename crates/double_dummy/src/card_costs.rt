@@ -1,7 +1,7 @@
 ghost use Rattle.std.specs.Prelude.{◌≡◌, ◌≢◌, ◌+◌, ◌≤◌, ℕ, [], None, Some, Ok, Err, IfOk, OnOk, IfErr, OnErr, length, true};
 ghost use Rattle.std.specs.FinSet as set;
 ghost use Rattle.cards.specs.Hands.{IsDeal};
-ghost use Rattle.cards.specs.Play.{IsPosition, start, legal, cards_left};
+ghost use Rattle.cards.specs.Play.{IsApart, IsPosition, start, legal, cards_left};
 ghost use Rattle.position_patterns.specs.Remainder.{IsLeftOf};
 ghost use Rattle.double_dummy.specs.Played.{IsPlayed};
 ghost use Rattle.double_dummy.specs.declared.error.CostsError.TheVariants.{NotAPlay, OutOfBudget};
@@ -80,13 +80,7 @@ pub fn costs_from(
     if budget.left() == 0 {
         return Err(CostsError::OutOfBudget);
     }
-    let Ok(patterns) = DealPatterns::new(alloc, &Holders::dealt(deal)) else {
-        return Err(CostsError::OutOfMemory);
-    };
-    let Ok(mut memory) = Memory::new(alloc, 13) else {
-        return Err(CostsError::OutOfMemory);
-    };
-    cost_each(alloc, &start, play, &patterns, &mut memory, budget)
+    cost_play(alloc, &Holders::dealt(deal), &start, play, budget)
 }
 
 /// The number, from 1, of the first card that is not legal.
@@ -101,6 +95,33 @@ fn first_illegal(start: &Position, play: &[Card]) -> Option<usize>
         position = position.after(*card);
     }
     None
+}
+
+/// The costs of a play's cards, with room for what the search remembers.
+fn cost_play(
+    alloc: Global,
+    dealt: &Holders,
+    start: &Position,
+    play: &[Card],
+    budget: &mut Budget,
+) -> Result<Costs, CostsError>
+    requires play { first_illegal 1 start.now play.now ≡ None }
+    requires hands { dealt.now ≡ start.now.hands }
+    requires apart { IsApart dealt.now }
+    requires cards { cards_left start.now ≡ 52 }
+    requires table { start.now.table ≡ [] }
+    ensures costs { IfOk result (λ costs. costs ≡ cost_list start.now play.now) }
+    ensures refusal { IfErr result (λ refusal. (number : ℕ) → refusal ≢ NotAPlay number) }
+    ensures out_of_budget { IfErr result (λ refusal. refusal ≡ OutOfBudget → budget.new ≡ 0) }
+    ensures spent { budget.new ≤ budget.old }
+{
+    let Ok(patterns) = DealPatterns::new(alloc, dealt) else {
+        return Err(CostsError::OutOfMemory);
+    };
+    let Ok(mut memory) = Memory::new(alloc, 13) else {
+        return Err(CostsError::OutOfMemory);
+    };
+    cost_each(alloc, start, play, &patterns, &mut memory, budget)
 }
 
 /// The costs of the cards, one after another.
@@ -168,7 +189,9 @@ fn play_card(
     ensures spent { budget.new ≤ budget.old }
 {
     let next = position.after(card);
-    let tricks = value(&next, before, patterns, memory, budget)?;
+    let Ok(tricks) = value(&next, before, patterns, memory, budget) else {
+        return Err(BudgetSpent);
+    };
     let with_card = position.point(card) + tricks;
     let cost = match position.trick().turn(position.leader()).side() {
         Side::NorthSouth => before.saturating_sub(with_card),

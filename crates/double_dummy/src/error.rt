@@ -1,7 +1,7 @@
 use thiserror::Error;
 
 /// Why the cards of a play have no costs.
-#[derive(Clone, Copy, Debug, PartialEq, Eq, Error)]
+#[derive(Clone, Copy, Debug, Error)]
 pub enum CostsError {
     /// The card of this number, from 1, is the first that is not legal.
     #[error("card {0} is not legal")]

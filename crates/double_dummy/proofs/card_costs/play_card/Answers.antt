@@ -17,5 +17,5 @@ pub overflow_add-with_card : goal.overflow_add-with_card
 overflow_add-with_card c =
     let bound = thirteen_next c.args.position.now c.after-next.result c.args.card c.after-next.ensures c.requires.valid
     c.requires.legal c.requires.few c.value.ensures.valid in
-    let is = c.in_ok-tricks.ensures.tricks in
+    let is = c.in-Ok.ensures.tricks in
     omega (arith, c.point.ensures.small)
