@@ -2,7 +2,7 @@ use std::fmt;
 use thiserror::Error;
 
 /// Why no boards are read from a text. An offset is that of a `[`, from the text's first byte.
-#[derive(Clone, Copy, Debug, PartialEq, Eq, Error)]
+#[derive(Clone, Copy, Debug, Error)]
 pub enum DealsError {
     /// A `[` that begins no tag.
     BadTag(usize),

@@ -13,7 +13,9 @@ pub(crate) fn board_number(digits: &[u8], boards: u8) -> Option<u8>
     if digits.is_empty() {
         return None;
     }
-    let number = capped_number(digits)?;
+    let Some(number) = capped_number(digits) else {
+        return None;
+    };
     match u8::try_from(number) {
         Ok(number) if 1 <= number && number <= boards => Some(number),
         _ => None,

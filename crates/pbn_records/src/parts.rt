@@ -31,10 +31,18 @@ pub(crate) struct DealParts<'t> {
 pub(crate) fn four_parts(value: &[u8]) -> Option<FourParts<'_>>
     ensures { kept_parts result ≡ four_of (parts value.now) }
 {
-    let (begin, rest) = next_part(value)?;
-    let (left, rest) = next_part(rest)?;
-    let (opposite, rest) = next_part(rest)?;
-    let (right, rest) = next_part(rest)?;
+    let Some((begin, rest)) = next_part(value) else {
+        return None;
+    };
+    let Some((left, rest)) = next_part(rest) else {
+        return None;
+    };
+    let Some((opposite, rest)) = next_part(rest) else {
+        return None;
+    };
+    let Some((right, rest)) = next_part(rest) else {
+        return None;
+    };
     if next_part(rest).is_some() {
         return None;
     }
