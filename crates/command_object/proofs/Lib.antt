@@ -1,4 +1,5 @@
 pub mod FormLemmas
+pub mod ListLemmas
 pub mod LetterLemmas
 pub mod MemberLemmas
 pub mod TableLemmas

@@ -1,21 +1,22 @@
 //! The commands of a batch.
 
-ghost use Rattle.std.specs.Prelude.{◌≡◌, Some, codes, IfOk, IfErr};
+ghost use Rattle.std.specs.Prelude.{◌≡◌, Some, [], ◌∷◌, ◌++◌, codes, take, drop, IfOk, IfErr};
 ghost use Rattle.serde_json.specs.Find.{get};
 ghost use Rattle.serde_json.specs.View.{view, items_view};
 ghost use Rattle.json_fields.specs.Reading.{wanted, Fails, Gives};
-ghost use Rattle.json_fields.specs.Form.{is_word_of};
+ghost use Rattle.json_fields.specs.Form.{by_word, is_word_of};
+ghost use Rattle.json_fields.specs.Message.{table, board};
 ghost use Rattle.user_fields.specs.User.{user_name};
-ghost use Rattle.command_object.specs.Command.{commands, role_called, is_unknown, has_unknown, command_called, command_of, commands_in};
+ghost use Rattle.command_object.specs.Command.{commands, north_south, east_west, reason, role_called, role, senior, junior, is_unknown, has_unknown, command_called, command_of, commands_in};
 
 use crate::commands::Commands;
 use crate::play::play_of;
 use crate::result::result_of;
-use json_fields::{RequestFault, has_only, is_one_of, name_at, small_at, text_at};
-use session_roles::Role;
+use json_fields::{RequestFault, has_only, is_one_of, name_at, small_number_at, text_at};
 use scoring::Outcome;
 use serde_json::Value;
 use session_commands::Command;
+use session_roles::Role;
 use std::alloc::Global;
 use user_fields::{digest_of, pair_of, place_of, role_named};
 use user_names::Name;
@@ -70,19 +71,65 @@ pub fn has_unknown(list: &[Value]) -> bool
     false
 }
 
-fn user_name_of(value: &Value) -> Result<Name, RequestFault>
-    ensures { result ≡ wanted (user_name.value (get user_name.name (view value.now))) }
+// The members, each by its name.
+fn table_of(value: &Value) -> Option<u8>
+    ensures { result ≡ table.value (get table.name (view value.now)) }
 {
-    name_at(value, "name").ok_or(RequestFault::BadField)
+    small_number_at(value, "table")
 }
 
-fn role_at(value: &Value, name: &str) -> Result<Role, RequestFault>
-    ensures { result ≡ wanted ((role_called name.now).value (get name.now (view value.now))) }
+fn board_of(value: &Value) -> Option<u8>
+    ensures { result ≡ board.value (get board.name (view value.now)) }
 {
-    match text_at(value, name) {
-        Some(word) => role_named(word).ok_or(RequestFault::BadField),
-        None => Err(RequestFault::BadField),
-    }
+    small_number_at(value, "board")
+}
+
+fn user_name_of(value: &Value) -> Option<Name>
+    ensures { result ≡ user_name.value (get user_name.name (view value.now)) }
+{
+    name_at(value, "name")
+}
+
+fn role_at(value: &Value, name: &str) -> Option<Role>
+    ensures { result ≡ (role_called name.now).value (get name.now (view value.now)) }
+{
+    role_named(text_at(value, name)?)
+}
+
+fn role_of(value: &Value) -> Option<Role>
+    ensures { result ≡ role.value (get role.name (view value.now)) }
+{
+    role_at(value, "role")
+}
+
+fn senior_of(value: &Value) -> Option<Role>
+    ensures { result ≡ senior.value (get senior.name (view value.now)) }
+{
+    role_at(value, "senior")
+}
+
+fn junior_of(value: &Value) -> Option<Role>
+    ensures { result ≡ junior.value (get junior.name (view value.now)) }
+{
+    role_at(value, "junior")
+}
+
+fn north_south_of(value: &Value) -> Option<u8>
+    ensures { result ≡ north_south.value (get north_south.name (view value.now)) }
+{
+    small_number_at(value, "ns")
+}
+
+fn east_west_of(value: &Value) -> Option<u8>
+    ensures { result ≡ east_west.value (get east_west.name (view value.now)) }
+{
+    small_number_at(value, "ew")
+}
+
+fn reason_of(value: &Value) -> Option<u8>
+    ensures { result ≡ reason.value (get reason.name (view value.now)) }
+{
+    small_number_at(value, "reason")
 }
 
 fn enter_of(alloc: Global, value: &Value) -> Result<Command, RequestFault>
@@ -91,9 +138,15 @@ fn enter_of(alloc: Global, value: &Value) -> Result<Command, RequestFault>
     if !has_only(value, &["cmd", "table", "board", "result", "play"]) {
         return Err(RequestFault::BadField);
     }
-    let table = small_at(value, "table")?;
-    let board = small_at(value, "board")?;
-    let outcome = result_of(value)?;
+    let Some(table) = table_of(value) else {
+        return Err(RequestFault::BadField);
+    };
+    let Some(board) = board_of(value) else {
+        return Err(RequestFault::BadField);
+    };
+    let Some(outcome) = result_of(value) else {
+        return Err(RequestFault::BadField);
+    };
     let play = play_of(alloc, value)?;
     Ok(Command::Enter {
         table,
@@ -103,16 +156,16 @@ fn enter_of(alloc: Global, value: &Value) -> Result<Command, RequestFault>
     })
 }
 
-fn confirm_of(value: &Value) -> Result<Command, RequestFault>
-    ensures { result ≡ wanted (command_called (codes "Confirm") (view value.now)) }
+fn confirm_of(value: &Value) -> Option<Command>
+    ensures { result ≡ command_called (codes "Confirm") (view value.now) }
 {
     if !has_only(value, &["cmd", "table", "board", "result"]) {
-        return Err(RequestFault::BadField);
+        return None;
     }
-    let table = small_at(value, "table")?;
-    let board = small_at(value, "board")?;
+    let table = table_of(value)?;
+    let board = board_of(value)?;
     let outcome = result_of(value)?;
-    Ok(Command::Confirm {
+    Some(Command::Confirm {
         table,
         board,
         outcome,
@@ -125,9 +178,15 @@ fn correct_of(alloc: Global, value: &Value) -> Result<Command, RequestFault>
     if !has_only(value, &["cmd", "table", "board", "result", "play"]) {
         return Err(RequestFault::BadField);
     }
-    let table = small_at(value, "table")?;
-    let board = small_at(value, "board")?;
-    let outcome = result_of(value)?;
+    let Some(table) = table_of(value) else {
+        return Err(RequestFault::BadField);
+    };
+    let Some(board) = board_of(value) else {
+        return Err(RequestFault::BadField);
+    };
+    let Some(outcome) = result_of(value) else {
+        return Err(RequestFault::BadField);
+    };
     let play = play_of(alloc, value)?;
     Ok(Command::Correct {
         table,
@@ -137,18 +196,18 @@ fn correct_of(alloc: Global, value: &Value) -> Result<Command, RequestFault>
     })
 }
 
-fn rule_of(value: &Value) -> Result<Command, RequestFault>
-    ensures { result ≡ wanted (command_called (codes "Rule") (view value.now)) }
+fn rule_of(value: &Value) -> Option<Command>
+    ensures { result ≡ command_called (codes "Rule") (view value.now) }
 {
     if !has_only(value, &["cmd", "table", "board", "ns", "ew", "reason"]) {
-        return Err(RequestFault::BadField);
+        return None;
     }
-    let table = small_at(value, "table")?;
-    let board = small_at(value, "board")?;
-    let north_south = small_at(value, "ns")?;
-    let east_west = small_at(value, "ew")?;
-    let reason = small_at(value, "reason")?;
-    Ok(Command::Rule {
+    let table = table_of(value)?;
+    let board = board_of(value)?;
+    let north_south = north_south_of(value)?;
+    let east_west = east_west_of(value)?;
+    let reason = reason_of(value)?;
+    Some(Command::Rule {
         table,
         board,
         north_south,
@@ -157,163 +216,194 @@ fn rule_of(value: &Value) -> Result<Command, RequestFault>
     })
 }
 
-fn void_of(value: &Value) -> Result<Command, RequestFault>
-    ensures { result ≡ wanted (command_called (codes "Void") (view value.now)) }
+fn void_of(value: &Value) -> Option<Command>
+    ensures { result ≡ command_called (codes "Void") (view value.now) }
 {
     if !has_only(value, &["cmd", "table", "board"]) {
-        return Err(RequestFault::BadField);
+        return None;
     }
-    let table = small_at(value, "table")?;
-    let board = small_at(value, "board")?;
-    Ok(Command::Void { table, board })
+    let table = table_of(value)?;
+    let board = board_of(value)?;
+    Some(Command::Void { table, board })
 }
 
-fn hold_of(value: &Value) -> Result<Command, RequestFault>
-    ensures { result ≡ wanted (command_called (codes "Hold") (view value.now)) }
+fn hold_of(value: &Value) -> Option<Command>
+    ensures { result ≡ command_called (codes "Hold") (view value.now) }
 {
     if !has_only(value, &["cmd", "board"]) {
-        return Err(RequestFault::BadField);
+        return None;
     }
-    let board = small_at(value, "board")?;
-    Ok(Command::Hold { board })
+    let board = board_of(value)?;
+    Some(Command::Hold { board })
 }
 
-fn release_of(value: &Value) -> Result<Command, RequestFault>
-    ensures { result ≡ wanted (command_called (codes "Release") (view value.now)) }
+fn release_of(value: &Value) -> Option<Command>
+    ensures { result ≡ command_called (codes "Release") (view value.now) }
 {
     if !has_only(value, &["cmd", "board"]) {
-        return Err(RequestFault::BadField);
+        return None;
     }
-    let board = small_at(value, "board")?;
-    Ok(Command::Release { board })
+    let board = board_of(value)?;
+    Some(Command::Release { board })
 }
 
-fn seat_of(value: &Value) -> Result<Command, RequestFault>
-    ensures { result ≡ wanted (command_called (codes "Seat") (view value.now)) }
+fn seat_of(value: &Value) -> Option<Command>
+    ensures { result ≡ command_called (codes "Seat") (view value.now) }
 {
     if !has_only(value, &["cmd", "name", "pair", "place"]) {
-        return Err(RequestFault::BadField);
+        return None;
     }
     let name = user_name_of(value)?;
-    let pair = pair_of(value).ok_or(RequestFault::BadField)?;
-    let place = place_of(value).ok_or(RequestFault::BadField)?;
-    Ok(Command::Seat { name, pair, place })
+    let pair = pair_of(value)?;
+    let place = place_of(value)?;
+    Some(Command::Seat { name, pair, place })
 }
 
-fn unseat_of(value: &Value) -> Result<Command, RequestFault>
-    ensures { result ≡ wanted (command_called (codes "Unseat") (view value.now)) }
+fn unseat_of(value: &Value) -> Option<Command>
+    ensures { result ≡ command_called (codes "Unseat") (view value.now) }
 {
     if !has_only(value, &["cmd", "name"]) {
-        return Err(RequestFault::BadField);
+        return None;
     }
     let name = user_name_of(value)?;
-    Ok(Command::Unseat { name })
+    Some(Command::Unseat { name })
 }
 
-fn next_round_of(value: &Value) -> Result<Command, RequestFault>
-    ensures { result ≡ wanted (command_called (codes "NextRound") (view value.now)) }
+fn next_round_of(value: &Value) -> Option<Command>
+    ensures { result ≡ command_called (codes "NextRound") (view value.now) }
 {
     if !has_only(value, &["cmd"]) {
-        return Err(RequestFault::BadField);
+        return None;
     }
-    Ok(Command::NextRound)
+    Some(Command::NextRound)
 }
 
-fn close_of(value: &Value) -> Result<Command, RequestFault>
-    ensures { result ≡ wanted (command_called (codes "Close") (view value.now)) }
+fn close_of(value: &Value) -> Option<Command>
+    ensures { result ≡ command_called (codes "Close") (view value.now) }
 {
     if !has_only(value, &["cmd"]) {
-        return Err(RequestFault::BadField);
+        return None;
     }
-    Ok(Command::Close)
+    Some(Command::Close)
 }
 
-fn finalise_of(value: &Value) -> Result<Command, RequestFault>
-    ensures { result ≡ wanted (command_called (codes "Finalise") (view value.now)) }
+fn finalise_of(value: &Value) -> Option<Command>
+    ensures { result ≡ command_called (codes "Finalise") (view value.now) }
 {
     if !has_only(value, &["cmd"]) {
-        return Err(RequestFault::BadField);
+        return None;
     }
-    Ok(Command::Finalise)
+    Some(Command::Finalise)
 }
 
-fn add_user_of(value: &Value) -> Result<Command, RequestFault>
-    ensures { result ≡ wanted (command_called (codes "AddUser") (view value.now)) }
+fn add_user_of(value: &Value) -> Option<Command>
+    ensures { result ≡ command_called (codes "AddUser") (view value.now) }
 {
     if !has_only(value, &["cmd", "name", "digest"]) {
-        return Err(RequestFault::BadField);
+        return None;
     }
     let name = user_name_of(value)?;
-    let digest = digest_of(value).ok_or(RequestFault::BadField)?;
-    Ok(Command::AddUser { name, digest })
+    let digest = digest_of(value)?;
+    Some(Command::AddUser { name, digest })
 }
 
-fn assign_of(value: &Value) -> Result<Command, RequestFault>
-    ensures { result ≡ wanted (command_called (codes "Assign") (view value.now)) }
+fn assign_of(value: &Value) -> Option<Command>
+    ensures { result ≡ command_called (codes "Assign") (view value.now) }
 {
     if !has_only(value, &["cmd", "name", "role"]) {
-        return Err(RequestFault::BadField);
+        return None;
     }
     let name = user_name_of(value)?;
-    let role = role_at(value, "role")?;
-    Ok(Command::Assign { name, role })
+    let role = role_of(value)?;
+    Some(Command::Assign { name, role })
 }
 
-fn deassign_of(value: &Value) -> Result<Command, RequestFault>
-    ensures { result ≡ wanted (command_called (codes "Deassign") (view value.now)) }
+fn deassign_of(value: &Value) -> Option<Command>
+    ensures { result ≡ command_called (codes "Deassign") (view value.now) }
 {
     if !has_only(value, &["cmd", "name", "role"]) {
-        return Err(RequestFault::BadField);
+        return None;
     }
     let name = user_name_of(value)?;
-    let role = role_at(value, "role")?;
-    Ok(Command::Deassign { name, role })
+    let role = role_of(value)?;
+    Some(Command::Deassign { name, role })
 }
 
-fn add_inheritance_of(value: &Value) -> Result<Command, RequestFault>
-    ensures { result ≡ wanted (command_called (codes "AddInheritance") (view value.now)) }
+fn add_inheritance_of(value: &Value) -> Option<Command>
+    ensures { result ≡ command_called (codes "AddInheritance") (view value.now) }
 {
     if !has_only(value, &["cmd", "senior", "junior"]) {
-        return Err(RequestFault::BadField);
+        return None;
     }
-    let senior = role_at(value, "senior")?;
-    let junior = role_at(value, "junior")?;
-    Ok(Command::AddInheritance { senior, junior })
+    let senior = senior_of(value)?;
+    let junior = junior_of(value)?;
+    Some(Command::AddInheritance { senior, junior })
 }
 
-fn delete_inheritance_of(value: &Value) -> Result<Command, RequestFault>
-    ensures { result ≡ wanted (command_called (codes "DeleteInheritance") (view value.now)) }
+fn delete_inheritance_of(value: &Value) -> Option<Command>
+    ensures { result ≡ command_called (codes "DeleteInheritance") (view value.now) }
 {
     if !has_only(value, &["cmd", "senior", "junior"]) {
-        return Err(RequestFault::BadField);
+        return None;
     }
-    let senior = role_at(value, "senior")?;
-    let junior = role_at(value, "junior")?;
-    Ok(Command::DeleteInheritance { senior, junior })
+    let senior = senior_of(value)?;
+    let junior = junior_of(value)?;
+    Some(Command::DeleteInheritance { senior, junior })
 }
 
+// The command of a word. Memory is taken for a play alone.
 fn command_called(alloc: Global, word: &str, value: &Value) -> Result<Command, RequestFault>
     ensures { Gives result (wanted (command_called word.now (view value.now))) }
 {
     match word {
         "Enter" => enter_of(alloc, value),
-        "Confirm" => confirm_of(value),
         "Correct" => correct_of(alloc, value),
+        _ => match board_command(word, value) {
+            Some(command) => Ok(command),
+            None => Err(RequestFault::BadField),
+        },
+    }
+}
+
+// The others, in the order of the table: what is done at a board first.
+fn board_command(word: &str, value: &Value) -> Option<Command>
+    ensures { result ≡ by_word (codes "cmd" ∷ []) (take 1 (drop 1 commands) ++ drop 3 commands) word.now (view value.now) }
+{
+    match word {
+        "Confirm" => confirm_of(value),
         "Rule" => rule_of(value),
         "Void" => void_of(value),
         "Hold" => hold_of(value),
         "Release" => release_of(value),
+        _ => round_command(word, value),
+    }
+}
+
+// Then who sits where, and the rounds.
+fn round_command(word: &str, value: &Value) -> Option<Command>
+    ensures { result ≡ by_word (codes "cmd" ∷ []) (drop 7 commands) word.now (view value.now) }
+{
+    match word {
         "Seat" => seat_of(value),
         "Unseat" => unseat_of(value),
         "NextRound" => next_round_of(value),
         "Close" => close_of(value),
         "Finalise" => finalise_of(value),
+        _ => user_command(word, value),
+    }
+}
+
+// Then users and their roles.
+fn user_command(word: &str, value: &Value) -> Option<Command>
+    ensures { result ≡ by_word (codes "cmd" ∷ []) (drop 12 commands) word.now (view value.now) }
+{
+    match word {
         "AddUser" => add_user_of(value),
         "Assign" => assign_of(value),
         "Deassign" => deassign_of(value),
         "AddInheritance" => add_inheritance_of(value),
         "DeleteInheritance" => delete_inheritance_of(value),
-        _ => Err(RequestFault::BadField),
+        _ => None,
     }
 }
 

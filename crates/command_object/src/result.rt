@@ -3,65 +3,51 @@
 ghost use Rattle.std.specs.Prelude.{◌≡◌, [], Some};
 ghost use Rattle.serde_json.specs.Find.{get};
 ghost use Rattle.serde_json.specs.View.{view};
-ghost use Rattle.json_fields.specs.Reading.{wanted};
 ghost use Rattle.json_fields.specs.Form.{formed};
 ghost use Rattle.command_object.specs.Result.{declarer, trumps, doubled, level, tricks, played, text_or_played, outcome};
 
-use json_fields::{RequestFault, doubling_numbered, has_only, place_named, small_at, strain_named, text_at};
+use json_fields::{
+    doubling_numbered, has_only, place_named, small_number_at, strain_named, text_at,
+};
 use scoring::{Contract, Doubling, Level, Outcome, Tricks};
 use serde_json::Value;
 use table_terms::{Place, Strain};
 
-fn declarer_of(value: &Value) -> Result<Place, RequestFault>
-    ensures { result ≡ wanted (declarer.value (get declarer.name (view value.now))) }
+fn declarer_of(value: &Value) -> Option<Place>
+    ensures { result ≡ declarer.value (get declarer.name (view value.now)) }
 {
-    match text_at(value, "by") {
-        Some(text) => place_named(text).ok_or(RequestFault::BadField),
-        None => Err(RequestFault::BadField),
-    }
+    place_named(text_at(value, "by")?)
 }
 
-fn strain_of(value: &Value) -> Result<Strain, RequestFault>
-    ensures { result ≡ wanted (trumps.value (get trumps.name (view value.now))) }
+fn strain_of(value: &Value) -> Option<Strain>
+    ensures { result ≡ trumps.value (get trumps.name (view value.now)) }
 {
-    match text_at(value, "strain") {
-        Some(text) => strain_named(text).ok_or(RequestFault::BadField),
-        None => Err(RequestFault::BadField),
-    }
+    strain_named(text_at(value, "strain")?)
 }
 
-fn doubling_of(value: &Value) -> Result<Doubling, RequestFault>
-    ensures { result ≡ wanted (doubled.value (get doubled.name (view value.now))) }
+fn doubling_of(value: &Value) -> Option<Doubling>
+    ensures { result ≡ doubled.value (get doubled.name (view value.now)) }
 {
-    let number = small_at(value, "doubled")?;
-    doubling_numbered(number).ok_or(RequestFault::BadField)
+    doubling_numbered(small_number_at(value, "doubled")?)
 }
 
-fn level_of(value: &Value) -> Result<Level, RequestFault>
-    ensures { result ≡ wanted (level.value (get level.name (view value.now))) }
+fn level_of(value: &Value) -> Option<Level>
+    ensures { result ≡ level.value (get level.name (view value.now)) }
 {
-    let number = small_at(value, "level")?;
-    match Level::new(number) {
-        Some(level) => Ok(level),
-        None => Err(RequestFault::BadField),
-    }
+    Level::new(small_number_at(value, "level")?)
 }
 
-fn tricks_of(value: &Value) -> Result<Tricks, RequestFault>
-    ensures { result ≡ wanted (tricks.value (get tricks.name (view value.now))) }
+fn tricks_of(value: &Value) -> Option<Tricks>
+    ensures { result ≡ tricks.value (get tricks.name (view value.now)) }
 {
-    let number = small_at(value, "tricks")?;
-    match Tricks::new(number) {
-        Some(tricks) => Ok(tricks),
-        None => Err(RequestFault::BadField),
-    }
+    Tricks::new(small_number_at(value, "tricks")?)
 }
 
-fn played_of(value: &Value) -> Result<Outcome, RequestFault>
-    ensures { result ≡ wanted (formed [] played (view value.now)) }
+fn played_of(value: &Value) -> Option<Outcome>
+    ensures { result ≡ formed [] played (view value.now) }
 {
     if !has_only(value, &["by", "doubled", "level", "strain", "tricks"]) {
-        return Err(RequestFault::BadField);
+        return None;
     }
     let declarer = declarer_of(value)?;
     let doubling = doubling_of(value)?;
@@ -74,25 +60,25 @@ fn played_of(value: &Value) -> Result<Outcome, RequestFault>
         declarer,
         doubling,
     };
-    Ok(Outcome::Played { contract, tricks })
+    Some(Outcome::Played { contract, tricks })
 }
 
-fn passed_out(text: &str, value: &Value) -> Result<Outcome, RequestFault>
-    ensures { result ≡ wanted (text_or_played (Some text.now) (view value.now)) }
+fn passed_out(text: &str, value: &Value) -> Option<Outcome>
+    ensures { result ≡ text_or_played (Some text.now) (view value.now) }
 {
     if text == "pass" {
-        Ok(Outcome::PassedOut)
+        Some(Outcome::PassedOut)
     } else {
-        Err(RequestFault::BadField)
+        None
     }
 }
 
 #[tactic(auto, unfolding(crate::specs::Result::outcome_by))]
-pub(crate) fn result_of(value: &Value) -> Result<Outcome, RequestFault>
-    ensures { result ≡ wanted (outcome.value (get outcome.name (view value.now))) }
+pub(crate) fn result_of(value: &Value) -> Option<Outcome>
+    ensures { result ≡ outcome.value (get outcome.name (view value.now)) }
 {
     let Some(member) = value.get("result") else {
-        return Err(RequestFault::BadField);
+        return None;
     };
     match member.as_str() {
         Some(text) => passed_out(text, member),

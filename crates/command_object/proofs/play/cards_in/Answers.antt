@@ -1,6 +1,5 @@
-use Rattle.std.proofs.Common.{add-one, sym, ◌∙◌, arith}
+use Rattle.std.proofs.Common.{add-one, sym, arith}
 use Rattle.json_fields.proofs.ListLemmas.{each_kept}
-use Rattle.json_fields.proofs.ReadingLemmas.{is_there}
 use Rattle.command_object.specs.Play.{card_of}
 use Rattle.command_object.proofs.play.cards_in.Goals as goal
 
@@ -8,4 +7,4 @@ pub loop-value-preserved : goal.loop-value-preserved
 loop-value-preserved c =
     let l = c.loop-value in
     rw (add-one, c.in_ok-push.ensures.items)
-    (each_kept card_of l.cards.items c.args.list.now l.value-index c.value-item.result c.in_ok-card.card _ l.invariant (omega (arith, c.loop-value-test.true)) c.value-item.is (is_there _ _ (sym c.card_of.ensures ∙ c.in_ok-card.was)))
+    (each_kept card_of l.cards.items c.args.list.now l.value-index c.value-item.result c.in-Some.card _ l.invariant (omega (arith, c.loop-value-test.true)) c.value-item.is (sym c.in-Some.ensures))
