@@ -1,21 +1,22 @@
 //! Atoms, each by the name of its one member.
 
 ghost use Rattle.std.specs.Prelude.{◌≡◌, Some, [], option_map, option_and_then};
-ghost use Rattle.serde_json.specs.Find.{get, as_str};
+ghost use Rattle.serde_json.specs.Find.{get, as_bool, as_str};
 ghost use Rattle.serde_json.specs.View.{view};
 ghost use Rattle.json_fields.specs.Doubling.{doubling_numbered};
 ghost use Rattle.json_fields.specs.Field.{small, at_most};
 ghost use Rattle.json_fields.specs.Form.{formed};
 ghost use Rattle.json_fields.specs.Letter.{place_named, strain_named};
+ghost use Rattle.query_filter.specs.declared.atom.Atom.TheVariants as atom;
 ghost use Rattle.filter_object.specs.Atom.{marking_named, most, least, bounds, score, score_bounds, declarer, trumps, double_dummy, atom_called};
 
-use table_terms::{Place, Strain, Vulnerability};
 use json_fields::{
     doubling_numbered, has_only, place_named, small_number_at, strain_named, text_at,
 };
 use query_filter::{Atom, Bounds, ScoreBounds};
 use scoring::Doubling;
 use serde_json::Value;
+use table_terms::{Place, Strain, Vulnerability};
 
 fn marking_named(text: &str) -> Option<Vulnerability>
     ensures { result ≡ marking_named text.now }
@@ -29,22 +30,53 @@ fn marking_named(text: &str) -> Option<Vulnerability>
     }
 }
 
-fn marking(value: &Value) -> Option<Vulnerability>
-    ensures { result ≡ option_and_then marking_named (as_str (view value.now)) }
+fn vulnerability(value: &Value) -> Option<Atom>
+    ensures { result ≡ option_map (λ x. atom.Vulnerability x) (option_and_then marking_named (as_str (view value.now))) }
 {
-    marking_named(value.as_str()?)
+    let marking = marking_named(value.as_str()?)?;
+    Some(Atom::Vulnerability(marking))
 }
 
-fn place(value: &Value) -> Option<Place>
-    ensures { result ≡ option_and_then place_named (as_str (view value.now)) }
+fn dealer(value: &Value) -> Option<Atom>
+    ensures { result ≡ option_map (λ x. atom.Dealer x) (option_and_then place_named (as_str (view value.now))) }
 {
-    place_named(value.as_str()?)
+    let place = place_named(value.as_str()?)?;
+    Some(Atom::Dealer(place))
 }
 
-fn strain(value: &Value) -> Option<Strain>
-    ensures { result ≡ option_and_then strain_named (as_str (view value.now)) }
+fn level(value: &Value) -> Option<Atom>
+    ensures { result ≡ option_map (λ x. atom.Level x) (formed [] bounds (view value.now)) }
 {
-    strain_named(value.as_str()?)
+    let levels = bounds(value)?;
+    Some(Atom::Level(levels))
+}
+
+fn strain(value: &Value) -> Option<Atom>
+    ensures { result ≡ option_map (λ x. atom.Strain x) (option_and_then strain_named (as_str (view value.now))) }
+{
+    let strain = strain_named(value.as_str()?)?;
+    Some(Atom::Strain(strain))
+}
+
+fn doubled(value: &Value) -> Option<Atom>
+    ensures { result ≡ option_map (λ x. atom.Doubled x) (option_and_then doubling_numbered (small (Some (view value.now)))) }
+{
+    let doubling = doubling(value)?;
+    Some(Atom::Doubled(doubling))
+}
+
+fn made(value: &Value) -> Option<Atom>
+    ensures { result ≡ option_map (λ x. atom.Made x) (as_bool (view value.now)) }
+{
+    let made = value.as_bool()?;
+    Some(Atom::Made(made))
+}
+
+fn scores(value: &Value) -> Option<Atom>
+    ensures { result ≡ option_map (λ x. atom.Score x) (score_bounds (view value.now)) }
+{
+    let points = score_bounds(value)?;
+    Some(Atom::Score(points))
 }
 
 fn doubling(value: &Value) -> Option<Doubling>
@@ -141,13 +173,13 @@ pub(crate) fn atom_called(name: &str, value: &Value) -> Option<Atom>
     ensures { result ≡ atom_called name.now (view value.now) }
 {
     match name {
-        "vul" => Some(Atom::Vulnerability(marking(value)?)),
-        "dealer" => Some(Atom::Dealer(place(value)?)),
-        "level" => Some(Atom::Level(bounds(value)?)),
-        "strain" => Some(Atom::Strain(strain(value)?)),
-        "doubled" => Some(Atom::Doubled(doubling(value)?)),
-        "made" => Some(Atom::Made(value.as_bool()?)),
-        "score" => Some(Atom::Score(score_bounds(value)?)),
+        "vul" => vulnerability(value),
+        "dealer" => dealer(value),
+        "level" => level(value),
+        "strain" => strain(value),
+        "doubled" => doubled(value),
+        "made" => made(value),
+        "score" => scores(value),
         "dd" => double_dummy(value),
         _ => None,
     }
