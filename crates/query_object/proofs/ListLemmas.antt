@@ -18,37 +18,19 @@ read_ok : {A : Type 0} (o : Option A) (x : A) → wanted o ≡ Ok x → o ≡ So
 read_ok None x h = absurd (cc)
 read_ok (Some y) x h = cc
 
-applied_none : {A B : Type 0} (f : Option (A → B)) → applied f None ≡ None
-applied_none None = refl
-applied_none (Some f) = refl
-
 made_numbers : (alone : Bool) (by : Option (Option Formula)) (start most : Option ℕ) (n k : ℕ)
-    → alone ≡ true → wanted start ≡ Ok n → wanted most ≡ Ok k → made alone by start most ≡ made true by (Some n) (Some k)
+    → alone ≡ true → start ≡ Some n → most ≡ Some k → made alone by start most ≡ made true by (Some n) (Some k)
 made_numbers alone by start most n k is first last =
     ap (λ b. made b by start most) is
-    ∙ ap (λ o. made true by o most) (read_ok start n first)
-    ∙ ap (λ o. made true by (Some n) o) (read_ok most k last)
+    ∙ ap (λ o. made true by o most) first
+    ∙ ap (λ o. made true by (Some n) o) last
 
 -- all members are as they should be
 pub list_made : (alone : Bool) (by : Option (Option Formula)) (start most : Option ℕ) (f : Option Formula) (n k : ℕ)
-    → alone ≡ true → wanted start ≡ Ok n → wanted most ≡ Ok k → wanted by ≡ Ok f
+    → alone ≡ true → start ≡ Some n → most ≡ Some k → wanted by ≡ Ok f
     → wanted (made alone by start most) ≡ Ok (query.List f n k)
 list_made alone by start most f n k is first last h =
     ap wanted (made_numbers alone by start most n k is first last ∙ ap (λ o. made true o (Some n) (Some k)) (read_ok by f h))
-
-no_limit : (alone : Bool) (by : Option (Option Formula)) (start : Option ℕ) → made alone by start None ≡ None
-no_limit true by start = applied_none (applied (applied (Some (λ f n k. query.List f n k)) by) start)
-no_limit false by start = refl
-
--- the limit isn't as it should be
-pub list_without_limit : (alone : Bool) (by : Option (Option Formula)) (start most : Option ℕ) (fault : RequestFault)
-    → wanted most ≡ Err fault → Gives (Err fault) (wanted (made alone by start most))
-list_without_limit alone by start None TooLong h = absurd (cc)
-list_without_limit alone by start None Malformed h = absurd (cc)
-list_without_limit alone by start None UnknownRequest h = absurd (cc)
-list_without_limit alone by start None BadField h = ap wanted (no_limit alone by start)
-list_without_limit alone by start None OutOfMemory h = tt
-list_without_limit alone by start (Some k) fault h = absurd (cc)
 
 no_filter : (alone : Bool) (start most : Option ℕ) → made alone None start most ≡ None
 no_filter true start most = refl
@@ -75,7 +57,7 @@ filtered (Some f) n k h = h
 
 -- a list that is made with a filter
 pub list_filtered : (alone : Bool) (by : Option (Option Formula)) (start most : Option ℕ) (n k : ℕ)
-    → alone ≡ true → wanted start ≡ Ok n → wanted most ≡ Ok k → IsSomeAnd by (λ f. IsSome f)
+    → alone ≡ true → start ≡ Some n → most ≡ Some k → IsSomeAnd by (λ f. IsSome f)
     → IsSomeAnd (made alone by start most) IsFiltered
 list_filtered alone by start most n k is first last h =
     subst (λ o. IsSomeAnd o IsFiltered) (sym (made_numbers alone by start most n k is first last)) (filtered by n k h)

@@ -9,7 +9,7 @@ ghost use Rattle.query_object.specs.List.{filter, from, limit};
 ghost use Rattle.query_object.specs.Query.{query_called, IsFiltered};
 
 use filter_object::{FilterFault, read_filter};
-use json_fields::{RequestFault, has_only, small_at};
+use json_fields::{RequestFault, has_only, small_number_at};
 use query_filter::Filter;
 use serde_json::Value;
 use session_queries::Query;
@@ -18,26 +18,26 @@ use std::alloc::Global;
 // The greatest limit, and the one where none is asked for.
 const MOST_BOARDS: u8 = 64;
 
-fn from_of(value: &Value) -> Result<u8, RequestFault>
-    ensures { result ≡ wanted (from.value (get from.name (view value.now))) }
+fn from_of(value: &Value) -> Option<u8>
+    ensures { result ≡ from.value (get from.name (view value.now)) }
 {
     match value.get("from") {
-        Some(_) => small_at(value, "from"),
-        None => Ok(1),
+        Some(_) => small_number_at(value, "from"),
+        None => Some(1),
     }
 }
 
-fn limit_of(value: &Value) -> Result<u8, RequestFault>
-    ensures { result ≡ wanted (limit.value (get limit.name (view value.now))) }
+fn limit_of(value: &Value) -> Option<u8>
+    ensures { result ≡ limit.value (get limit.name (view value.now)) }
 {
     if value.get("limit").is_none() {
-        return Ok(MOST_BOARDS);
+        return Some(MOST_BOARDS);
     }
-    let limit = small_at(value, "limit")?;
+    let limit = small_number_at(value, "limit")?;
     if 1 <= limit && limit <= MOST_BOARDS {
-        Ok(limit)
+        Some(limit)
     } else {
-        Err(RequestFault::BadField)
+        None
     }
 }
 
@@ -64,8 +64,12 @@ pub(crate) fn list_query(alloc: Global, value: &Value) -> Result<Query, RequestF
         return Err(RequestFault::BadField);
     }
     // The filter comes last, since it alone takes memory.
-    let from = from_of(value)?;
-    let limit = limit_of(value)?;
+    let Some(from) = from_of(value) else {
+        return Err(RequestFault::BadField);
+    };
+    let Some(limit) = limit_of(value) else {
+        return Err(RequestFault::BadField);
+    };
     let filter = filter_of(alloc, value)?;
     Ok(Query::List {
         filter,

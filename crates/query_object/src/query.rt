@@ -1,14 +1,16 @@
 //! The queries, each by its word.
 
-ghost use Rattle.std.specs.Prelude.{◌≡◌, codes, Err, IsSomeAnd};
+ghost use Rattle.std.specs.Prelude.{◌≡◌, codes, drop, take, Err, IsSomeAnd};
+ghost use Rattle.serde_json.specs.Find.{get};
 ghost use Rattle.serde_json.specs.View.{view};
-ghost use Rattle.json_fields.specs.Form.{is_word_of};
+ghost use Rattle.json_fields.specs.Form.{by_word, is_word_of};
+ghost use Rattle.json_fields.specs.Message.{table, board};
 ghost use Rattle.json_fields.specs.Reading.{wanted, Gives};
 ghost use Rattle.json_fields.specs.declared.request_fault.RequestFault.TheVariants.{OutOfMemory};
-ghost use Rattle.query_object.specs.Query.{queries, query_called, IsFiltered};
+ghost use Rattle.query_object.specs.Query.{asking, queries, query_called, IsFiltered};
 
 use crate::list::list_query;
-use json_fields::{RequestFault, has_only, is_one_of, small_at};
+use json_fields::{RequestFault, has_only, is_one_of, small_number_at};
 use movement::Cell;
 use serde_json::Value;
 use session_queries::Query;
@@ -35,94 +37,106 @@ pub fn is_query_word(word: &str) -> bool
     )
 }
 
-fn status_query(value: &Value) -> Result<Query, RequestFault>
-    ensures { result ≡ wanted (query_called (codes "status") (view value.now)) }
+fn table_of(value: &Value) -> Option<u8>
+    ensures { result ≡ table.value (get table.name (view value.now)) }
+{
+    small_number_at(value, "table")
+}
+
+fn board_of(value: &Value) -> Option<u8>
+    ensures { result ≡ board.value (get board.name (view value.now)) }
+{
+    small_number_at(value, "board")
+}
+
+fn status_query(value: &Value) -> Option<Query>
+    ensures { result ≡ query_called (codes "status") (view value.now) }
 {
     if !has_only(value, &["ask", "as", "since"]) {
-        return Err(RequestFault::BadField);
+        return None;
     }
-    Ok(Query::Status)
+    Some(Query::Status)
 }
 
-fn ranking_query(value: &Value) -> Result<Query, RequestFault>
-    ensures { result ≡ wanted (query_called (codes "ranking") (view value.now)) }
+fn ranking_query(value: &Value) -> Option<Query>
+    ensures { result ≡ query_called (codes "ranking") (view value.now) }
 {
     if !has_only(value, &["ask", "as", "since"]) {
-        return Err(RequestFault::BadField);
+        return None;
     }
-    Ok(Query::Ranking)
+    Some(Query::Ranking)
 }
 
-fn accounts_query(value: &Value) -> Result<Query, RequestFault>
-    ensures { result ≡ wanted (query_called (codes "accounts") (view value.now)) }
+fn accounts_query(value: &Value) -> Option<Query>
+    ensures { result ≡ query_called (codes "accounts") (view value.now) }
 {
     if !has_only(value, &["ask", "as", "since"]) {
-        return Err(RequestFault::BadField);
+        return None;
     }
-    Ok(Query::Accounts)
+    Some(Query::Accounts)
 }
 
-fn board_query(value: &Value) -> Result<Query, RequestFault>
-    ensures { result ≡ wanted (query_called (codes "board") (view value.now)) }
+fn board_query(value: &Value) -> Option<Query>
+    ensures { result ≡ query_called (codes "board") (view value.now) }
 {
     if !has_only(value, &["ask", "as", "since", "board"]) {
-        return Err(RequestFault::BadField);
+        return None;
     }
-    let board = small_at(value, "board")?;
-    Ok(Query::Board(board))
+    let board = board_of(value)?;
+    Some(Query::Board(board))
 }
 
-fn traveller_query(value: &Value) -> Result<Query, RequestFault>
-    ensures { result ≡ wanted (query_called (codes "traveller") (view value.now)) }
+fn traveller_query(value: &Value) -> Option<Query>
+    ensures { result ≡ query_called (codes "traveller") (view value.now) }
 {
     if !has_only(value, &["ask", "as", "since", "board"]) {
-        return Err(RequestFault::BadField);
+        return None;
     }
-    let board = small_at(value, "board")?;
-    Ok(Query::Traveller(board))
+    let board = board_of(value)?;
+    Some(Query::Traveller(board))
 }
 
-fn analysis_query(value: &Value) -> Result<Query, RequestFault>
-    ensures { result ≡ wanted (query_called (codes "analysis") (view value.now)) }
+fn analysis_query(value: &Value) -> Option<Query>
+    ensures { result ≡ query_called (codes "analysis") (view value.now) }
 {
     if !has_only(value, &["ask", "as", "since", "board"]) {
-        return Err(RequestFault::BadField);
+        return None;
     }
-    let board = small_at(value, "board")?;
-    Ok(Query::Analysis(board))
+    let board = board_of(value)?;
+    Some(Query::Analysis(board))
 }
 
-fn play_query(value: &Value) -> Result<Query, RequestFault>
-    ensures { result ≡ wanted (query_called (codes "play") (view value.now)) }
+fn play_query(value: &Value) -> Option<Query>
+    ensures { result ≡ query_called (codes "play") (view value.now) }
 {
     if !has_only(value, &["ask", "as", "since", "table", "board"]) {
-        return Err(RequestFault::BadField);
+        return None;
     }
-    let table = small_at(value, "table")?;
-    let board = small_at(value, "board")?;
-    Ok(Query::Play(Cell { table, board }))
+    let table = table_of(value)?;
+    let board = board_of(value)?;
+    Some(Query::Play(Cell { table, board }))
 }
 
-fn costs_query(value: &Value) -> Result<Query, RequestFault>
-    ensures { result ≡ wanted (query_called (codes "costs") (view value.now)) }
+fn costs_query(value: &Value) -> Option<Query>
+    ensures { result ≡ query_called (codes "costs") (view value.now) }
 {
     if !has_only(value, &["ask", "as", "since", "table", "board"]) {
-        return Err(RequestFault::BadField);
+        return None;
     }
-    let table = small_at(value, "table")?;
-    let board = small_at(value, "board")?;
-    Ok(Query::Costs(Cell { table, board }))
+    let table = table_of(value)?;
+    let board = board_of(value)?;
+    Some(Query::Costs(Cell { table, board }))
 }
 
-fn reason_query(value: &Value) -> Result<Query, RequestFault>
-    ensures { result ≡ wanted (query_called (codes "reason") (view value.now)) }
+fn reason_query(value: &Value) -> Option<Query>
+    ensures { result ≡ query_called (codes "reason") (view value.now) }
 {
     if !has_only(value, &["ask", "as", "since", "table", "board"]) {
-        return Err(RequestFault::BadField);
+        return None;
     }
-    let table = small_at(value, "table")?;
-    let board = small_at(value, "board")?;
-    Ok(Query::Reason(Cell { table, board }))
+    let table = table_of(value)?;
+    let board = board_of(value)?;
+    Some(Query::Reason(Cell { table, board }))
 }
 
 /// The query of a word. Memory is refused only of a list by a filter, and only where each of its members is as it
@@ -132,16 +146,34 @@ pub fn query_called(alloc: Global, word: &str, value: &Value) -> Result<Query, R
     ensures memory { result ≡ Err OutOfMemory → IsSomeAnd (query_called word.now (view value.now)) IsFiltered }
 {
     match word {
+        "list" => list_query(alloc, value),
+        _ => plain_query(word, value).ok_or(RequestFault::BadField),
+    }
+}
+
+// The queries before the list, none of which takes memory.
+fn plain_query(word: &str, value: &Value) -> Option<Query>
+    ensures { result ≡ by_word asking (take 9 queries) word.now (view value.now) }
+{
+    match word {
         "status" => status_query(value),
         "ranking" => ranking_query(value),
         "accounts" => accounts_query(value),
         "board" => board_query(value),
         "traveller" => traveller_query(value),
+        _ => table_query(word, value),
+    }
+}
+
+// Those after the traveller.
+fn table_query(word: &str, value: &Value) -> Option<Query>
+    ensures { result ≡ by_word asking (drop 5 (take 9 queries)) word.now (view value.now) }
+{
+    match word {
         "analysis" => analysis_query(value),
         "play" => play_query(value),
         "costs" => costs_query(value),
         "reason" => reason_query(value),
-        "list" => list_query(alloc, value),
-        _ => Err(RequestFault::BadField),
+        _ => None,
     }
 }
