@@ -1,3 +1,2 @@
 pub mod RowLemmas
 pub mod ParseLemmas
-pub mod OptionLemmas

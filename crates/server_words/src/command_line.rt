@@ -1,88 +1,82 @@
 //! The command line as `clap` takes it.
 
-ghost use Rattle.std.specs.Prelude.{◌≡◌, false, IfOk, codes};
-ghost use Rattle.clap.specs.Words.{app_of, new_app, rule_of, with_rule, with_subcommand};
+ghost use Rattle.std.specs.Prelude.{◌≡◌, false, Ok, OnOk, codes};
+ghost use Rattle.clap.specs.Words.{app_of, new_app, rule_of, shape_of, with_rule, with_subcommand};
 ghost use Rattle.clap.specs.declared.builder.command.Command.TheViews.{out-Command};
-ghost use Rattle.server_words.specs.CommandLine.{command_line, serve_line, with_files, with_counts, port_rule, file_rule, number_rule, default_rule};
+ghost use Rattle.server_words.specs.CommandLine.{command_line, needing_one, serve_line, with_files, with_counts, option_rule, port_rule, file_rule, number_rule, default_rule};
 
 use clap::builder::ValueParser;
 use clap::{Arg, Command};
 use std::alloc::{AllocError, Global};
+use std::mem;
 
-/// The program's command, with its two subcommands.
-pub(crate) fn command_line<'a>(alloc: Global) -> Result<Command<'a>, AllocError>
-    ensures { IfOk result (λ command. app_of command ≡ command_line) }
+/// The program's command, still without its subcommands.
+pub(crate) fn plain_line<'a>(alloc: Global) -> Command<'a>
+    ensures { app_of result ≡ needing_one }
 {
-    let plain = Command::new(alloc, "bridge_server")
+    Command::new(alloc, "bridge_server")
         .about("Serves a session of duplicate bridge while it is played")
-        .subcommand_required(true);
-    let with_script = with_script(alloc, plain)?;
-    let serve = serve_line(alloc)?;
-    with_script.subcommand(serve)
+        .subcommand_required(true)
 }
 
-// The command with the subcommand that answers a script.
-fn with_script<'a>(alloc: Global, command: Command<'a>) -> Result<Command<'a>, AllocError>
-    ensures { IfOk result (λ line. app_of line ≡ with_subcommand (app_of command.entry) (new_app (codes "script")).top) }
+/// Adds the two subcommands.
+pub(crate) fn add_subcommands(alloc: Global, command: &mut Command<'_>) -> Result<(), AllocError>
+    ensures { app_of command.old ≡ needing_one → OnOk result (app_of command.new ≡ command_line) }
+{
+    add_script(alloc, command)?;
+    add_serve(alloc, command)
+}
+
+// Adds the subcommand that answers a script.
+fn add_script(alloc: Global, command: &mut Command<'_>) -> Result<(), AllocError>
+    ensures { OnOk result (app_of command.new ≡ with_subcommand (app_of command.old) (new_app (codes "script")).top) }
 {
     let script = Command::new(alloc, "script").about(
         "Answers a script on standard input, line by line",
     );
-    command.subcommand(script)
+    add_subcommand(alloc, command, script)
 }
 
-// The subcommand that serves clients.
-fn serve_line<'a>(alloc: Global) -> Result<Command<'a>, AllocError>
-    ensures line { IfOk result (λ command. app_of command ≡ serve_line) }
-    ensures local { IfOk result (λ command. (out-Command command).has_globals ≡ false) }
+// Adds the subcommand that serves clients. It is added whatever came of its options, so that it is moved on one way alone.
+fn add_serve(alloc: Global, command: &mut Command<'_>) -> Result<(), AllocError>
+    ensures { OnOk result (app_of command.new ≡ with_subcommand (app_of command.old) serve_line.top) }
 {
-    let plain = Command::new(alloc, "serve").about("Serves clients over WebSockets on 127.0.0.1");
-    let with_files = with_files(alloc, plain)?;
-    let port = number(alloc, "port", (1, 65_535))
-        .required(true)
-        .help("The port on 127.0.0.1");
-    let with_port = with_files.arg(port)?;
-    with_counts(alloc, with_port)
+    let mut serve = Command::new(alloc, "serve").about(
+        "Serves clients over WebSockets on 127.0.0.1",
+    );
+    let filled = add_options(alloc, &mut serve);
+    let added = add_subcommand(alloc, command, serve);
+    match filled {
+        Ok(()) => added,
+        Err(error) => Err(error),
+    }
 }
 
-// The command with the files of the session as its next options.
-fn with_files<'a>(alloc: Global, command: Command<'a>) -> Result<Command<'a>, AllocError>
-    ensures line { IfOk result (λ line. app_of line ≡ with_files (app_of command.entry)) }
-    ensures local { IfOk result (λ line. (out-Command line).has_globals ≡ (out-Command command.entry).has_globals) }
+// Adds the options of the subcommand that serves clients.
+fn add_options(alloc: Global, command: &mut Command<'_>) -> Result<(), AllocError>
+    ensures line { OnOk result (app_of command.new ≡ with_counts (with_rule (with_files (app_of command.old)) port_rule)) }
+    ensures local { OnOk result ((out-Command command.new).has_globals ≡ (out-Command command.old).has_globals) }
 {
-    let with_session = with_file(alloc, command, "session", "The session object")?;
-    with_file(
-        alloc,
-        with_session,
-        "deals",
-        "The deals of the session, in PBN",
-    )
+    add_files(alloc, command)?;
+    add_port(alloc, command)?;
+    add_counts(alloc, command)
 }
 
-// The command with one more option, which has to name a file.
-fn with_file<'a>(
-    alloc: Global,
-    command: Command<'a>,
-    name: &'a str,
-    help: &'a str,
-) -> Result<Command<'a>, AllocError>
-    ensures line { IfOk result (λ line. app_of line ≡ with_rule (app_of command.entry) (file_rule name.now)) }
-    ensures local { IfOk result (λ line. (out-Command line).has_globals ≡ (out-Command command.entry).has_globals) }
+// Adds the files of the session.
+fn add_files(alloc: Global, command: &mut Command<'_>) -> Result<(), AllocError>
+    ensures line { OnOk result (app_of command.new ≡ with_files (app_of command.old)) }
+    ensures local { OnOk result ((out-Command command.new).has_globals ≡ (out-Command command.old).has_globals) }
 {
-    let file = Arg::new(alloc, name)
-        .long(name)
-        .value_name("FILE")
-        .required(true)
-        .help(help);
-    command.arg(file)
+    add_file(alloc, command, "session", "The session object")?;
+    add_file(alloc, command, "deals", "The deals of the session, in PBN")
 }
 
-// The command with the numbers that have a default as its next options.
-fn with_counts<'a>(alloc: Global, command: Command<'a>) -> Result<Command<'a>, AllocError>
-    ensures line { IfOk result (λ line. app_of line ≡ with_counts (app_of command.entry)) }
-    ensures local { IfOk result (λ line. (out-Command line).has_globals ≡ (out-Command command.entry).has_globals) }
+// Adds the numbers that have a default.
+fn add_counts(alloc: Global, command: &mut Command<'_>) -> Result<(), AllocError>
+    ensures line { OnOk result (app_of command.new ≡ with_counts (app_of command.old)) }
+    ensures local { OnOk result ((out-Command command.new).has_globals ≡ (out-Command command.old).has_globals) }
 {
-    let with_displays = with_count(
+    add_count(
         alloc,
         command,
         "displays",
@@ -90,17 +84,17 @@ fn with_counts<'a>(alloc: Global, command: Command<'a>) -> Result<Command<'a>, A
         "4",
         "How many clients are served at once",
     )?;
-    let with_workers = with_count(
+    add_count(
         alloc,
-        with_displays,
+        command,
         "workers",
         (0, 16),
         "2",
         "How many threads solve deals",
     )?;
-    with_count(
+    add_count(
         alloc,
-        with_workers,
+        command,
         "connections",
         (0, 1_000_000),
         "0",
@@ -108,32 +102,102 @@ fn with_counts<'a>(alloc: Global, command: Command<'a>) -> Result<Command<'a>, A
     )
 }
 
-// The command with one more option, which has a number within these limits, and this one where it isn't there.
-fn with_count<'a>(
+// Adds an option that has to name a file.
+fn add_file<'a>(
     alloc: Global,
-    command: Command<'a>,
+    command: &mut Command<'a>,
+    name: &'a str,
+    help: &'a str,
+) -> Result<(), AllocError>
+    ensures line { OnOk result (app_of command.new ≡ with_rule (app_of command.old) (file_rule name.now)) }
+    ensures local { OnOk result ((out-Command command.new).has_globals ≡ (out-Command command.old).has_globals) }
+{
+    let file = option(alloc, name, "FILE", help).required(true);
+    add(alloc, command, file)
+}
+
+// Adds the port, which has to be there.
+fn add_port(alloc: Global, command: &mut Command<'_>) -> Result<(), AllocError>
+    ensures line { OnOk result (app_of command.new ≡ with_rule (app_of command.old) port_rule) }
+    ensures local { OnOk result ((out-Command command.new).has_globals ≡ (out-Command command.old).has_globals) }
+{
+    let port = number(alloc, "port", (1, 65_535), "The port on 127.0.0.1").required(true);
+    add(alloc, command, port)
+}
+
+// Adds an option that has a number within these limits, and this one where it isn't there.
+fn add_count<'a>(
+    alloc: Global,
+    command: &mut Command<'a>,
     name: &'a str,
     limits: (i64, i64),
     default: &'a str,
     help: &'a str,
-) -> Result<Command<'a>, AllocError>
-    ensures line { IfOk result (λ line. app_of line
-        ≡ with_rule (app_of command.entry) (default_rule name.now limits.0 limits.1 default.now)) }
-    ensures local { IfOk result (λ line. (out-Command line).has_globals ≡ (out-Command command.entry).has_globals) }
+) -> Result<(), AllocError>
+    ensures line { OnOk result (app_of command.new
+        ≡ with_rule (app_of command.old) (default_rule name.now limits.0 limits.1 default.now)) }
+    ensures local { OnOk result ((out-Command command.new).has_globals ≡ (out-Command command.old).has_globals) }
 {
-    let count = number(alloc, name, limits)
-        .default_value(default)
-        .help(help);
-    command.arg(count)
+    let count = number(alloc, name, limits, help).default_value(default);
+    add(alloc, command, count)
+}
+
+// Adds the option.
+fn add<'a>(alloc: Global, command: &mut Command<'a>, option: Arg<'a>) -> Result<(), AllocError>
+    ensures line { option.entry.global ≡ false →
+        OnOk result (app_of command.new ≡ with_rule (app_of command.old) (rule_of option.entry)) }
+    ensures local { option.entry.global ≡ false →
+        OnOk result ((out-Command command.new).has_globals ≡ (out-Command command.old).has_globals) }
+{
+    let old = mem::replace(command, Command::new(alloc, ""));
+    put(command, old.arg(option))
+}
+
+// Adds the subcommand.
+fn add_subcommand<'a>(
+    alloc: Global,
+    command: &mut Command<'a>,
+    subcommand: Command<'a>,
+) -> Result<(), AllocError>
+    ensures { (out-Command subcommand.entry).has_globals ≡ false →
+        OnOk result (app_of command.new ≡ with_subcommand (app_of command.old) (shape_of subcommand.entry)) }
+{
+    let old = mem::replace(command, Command::new(alloc, ""));
+    put(command, old.subcommand(subcommand))
+}
+
+// Puts the command that was made where it belongs. `clap` makes each one of the one before, whose many fields are moved in the
+// functions above and here alone.
+fn put<'a>(
+    command: &mut Command<'a>,
+    made: Result<Command<'a>, AllocError>,
+) -> Result<(), AllocError>
+    ensures { OnOk result (made.entry ≡ Ok command.new) }
+{
+    match made {
+        Ok(new) => {
+            *command = new;
+            Ok(())
+        }
+        Err(error) => Err(error),
+    }
 }
 
 // An option that has a number within these limits.
-fn number<'a>(alloc: Global, name: &'a str, limits: (i64, i64)) -> Arg<'a>
+fn number<'a>(alloc: Global, name: &'a str, limits: (i64, i64), help: &'a str) -> Arg<'a>
     ensures rule { rule_of result ≡ number_rule name.now limits.0 limits.1 }
+    ensures local { result.global ≡ false }
+{
+    option(alloc, name, "NUMBER", help).value_parser(ValueParser::signed(limits.0, limits.1))
+}
+
+// An option of this name, whose value help calls so.
+fn option<'a>(alloc: Global, name: &'a str, value: &'a str, help: &'a str) -> Arg<'a>
+    ensures rule { rule_of result ≡ option_rule name.now }
     ensures local { result.global ≡ false }
 {
     Arg::new(alloc, name)
         .long(name)
-        .value_name("NUMBER")
-        .value_parser(ValueParser::signed(limits.0, limits.1))
+        .value_name(value)
+        .help(help)
 }

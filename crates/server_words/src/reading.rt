@@ -1,11 +1,12 @@
 //! What the program's words ask for, read by `clap`.
 
 ghost use Rattle.std.specs.Prelude.{MatchResult, ◌≡◌, ◌⊎◌, ℕ, List, [], codes, map, string_bytes, Some, IfOk, IfErr, IfSome, IsSome};
-ghost use Rattle.clap.specs.Words.{HasKind, first_of, found_of, kind_of, rows_of};
+ghost use Rattle.clap.specs.Words.{HasKind, app_of, first_of, found_of, kind_of, rows_of};
 ghost use Rattle.clap.specs.declared.error.kind.ErrorKind.TheVariants.{InvalidValue, OutOfMemory};
+ghost use Rattle.server_words.specs.CommandLine.{command_line};
 ghost use Rattle.server_words.specs.Words.{AsksFor, IsInRange, IsReadFrom, faults_in};
 
-use crate::command_line::command_line;
+use crate::command_line::{add_subcommands, plain_line};
 use crate::words::{Serving, Words};
 use clap::error::ErrorKind;
 use clap::{ArgMatches, Command, Error};
@@ -20,13 +21,29 @@ pub fn read_words<'a>(alloc: Global, words: &'a [String]) -> Result<Words<'a>, E
     ensures refused { IfErr result (λ error. (kind_of error ≡ InvalidValue)
         ⊎ HasKind (faults_in (map string_bytes words.entry.now)) error) }
 {
-    let matches = match matches_of(alloc, words) {
+    let mut command = plain_line(alloc);
+    match add_subcommands(alloc, &mut command) {
+        Ok(()) => words_by(&mut command, words),
+        Err(error) => Err(Error::from(error)),
+    }
+}
+
+// The same by the program's command, which is lent, and dropped where it was made.
+fn words_by<'a>(command: &mut Command<'a>, words: &'a [String]) -> Result<Words<'a>, Error>
+    requires { app_of command.old ≡ command_line }
+    ensures asked { IfOk result (AsksFor (map string_bytes words.entry.now)) }
+    ensures script { AsksFor (map string_bytes words.entry.now) Words.Script →
+        IfErr result (λ error. kind_of error ≡ OutOfMemory) }
+    ensures refused { IfErr result (λ error. (kind_of error ≡ InvalidValue)
+        ⊎ HasKind (faults_in (map string_bytes words.entry.now)) error) }
+{
+    let matches = match matches_of(command, words) {
         Ok(matches) => matches,
         Err(error) => return Err(error),
     };
     match words_of(&matches) {
         Some(words) => Ok(words),
-        None => Err(unread(alloc)),
+        None => Err(out_of_range(command)),
     }
 }
 
@@ -46,14 +63,12 @@ fn words_of<'a>(matches: &ArgMatches<'a>) -> Option<Words<'a>>
 }
 
 // What `clap` makes of the words.
-fn matches_of<'a>(alloc: Global, words: &'a [String]) -> Result<ArgMatches<'a>, Error>
+fn matches_of<'a>(command: &mut Command<'a>, words: &'a [String]) -> Result<ArgMatches<'a>, Error>
+    requires { app_of command.old ≡ command_line }
     ensures { MatchResult result (IsReadFrom (map string_bytes words.entry.now))
         (HasKind (faults_in (map string_bytes words.entry.now))) }
 {
-    match command_line(alloc) {
-        Ok(command) => command.try_get_matches_from(words),
-        Err(error) => Err(Error::from(error)),
-    }
+    command.try_get_matches_from_mut(words)
 }
 
 // How clients are to be served.
@@ -77,17 +92,7 @@ fn serving_of<'a>(given: &ArgMatches<'a>) -> Option<Serving<'a>>
     }
 }
 
-// `clap` takes no such words: each option has a value, which is in its range.
-fn unread(alloc: Global) -> Error
-    ensures { (kind_of result ≡ InvalidValue) ⊎ (kind_of result ≡ OutOfMemory) }
-{
-    match command_line(alloc) {
-        Ok(mut command) => out_of_range(&mut command),
-        Err(error) => Error::from(error),
-    }
-}
-
-// What is said of such a value. The command is lent, and dropped where it was made.
+// What is said of a value out of its range. `clap` takes no such words: each option has a value, which is in its range.
 fn out_of_range(command: &mut Command<'_>) -> Error
     ensures { (kind_of result ≡ InvalidValue) ⊎ (kind_of result ≡ OutOfMemory) }
 {

@@ -2,7 +2,7 @@ ghost use Rattle.std.specs.Prelude.{◌≡◌, true};
 ghost use Rattle.server_words.specs.Words.{IsInRange};
 
 /// What the program's words ask for.
-#[derive(Clone, Copy, Debug, PartialEq, Eq)]
+#[derive(Clone, Copy, PartialEq)]
 pub enum Words<'a> {
     /// To answer a script on standard input.
     Script,
@@ -11,7 +11,7 @@ pub enum Words<'a> {
 }
 
 /// How clients are served.
-#[derive(Clone, Copy, Debug, PartialEq, Eq)]
+#[derive(Clone, Copy, PartialEq)]
 pub struct Serving<'a> {
     /// The path of the file with the session object.
     pub session: &'a str,
