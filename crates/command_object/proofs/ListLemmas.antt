@@ -1,5 +1,5 @@
 -- Where an element isn't read, the list isn't.
-use Rattle.std.proofs.Common.{◌≡◌, ℕ, zero, suc, ◌<◌, List, [], ◌∷◌, length, get_or, drop, Option, Some, None, Result, Ok, refl, sym, ap, ◌∙◌, arith}
+use Rattle.std.proofs.Common.{◌≡◌, ℕ, zero, suc, ◌<◌, List, [], ◌∷◌, length, get_or, drop, Option, Some, None, Result, Ok, Err, refl, sym, ap, ◌∙◌, arith}
 use Rattle.serde_json.specs.Data.{Data}
 use Rattle.serde_json.specs.View.{view, items_view}
 use Rattle.serde_json.specs.declared.value.Value.{Value}
@@ -16,7 +16,7 @@ none_next read (w ∷ values) zero v below is none =
     ap (λ o. first_then o (each read (items_view values))) (ap (λ x. read (view x)) (sym is) ∙ none)
 none_next read (w ∷ values) (suc i) v below is none = none_next read values i v (omega arith) is none
 
-pub each_refused : {A : Type 0} (read : Data → Option A) (front : List A) (values : List Value) (i : ℕ) (v : Value) (all : Option (List A))
+each_refused : {A : Type 0} (read : Data → Option A) (front : List A) (values : List Value) (i : ℕ) (v : Value) (all : Option (List A))
     → with_front front (each read (items_view (drop i values))) ≡ all
     → i < length values → v ≡ get_or values i v → read (view v) ≡ None → all ≡ None
 each_refused read front values i v all kept below is none =
@@ -47,3 +47,10 @@ pub each_fails : {A : Type 0} (read : Data → Option A) (front : List A) (value
     → i < length values → v ≡ get_or values i v → Fails fault (wanted (read (view v))) → Fails fault (wanted all)
 each_fails read front values i v all fault kept below is h =
     fails_by fault (read (view v)) all (each_refused read front values i v all kept below is) h
+
+pub fails : {A : Type 0} (fault : RequestFault) (read : Result A RequestFault) → read ≡ Err fault → Fails fault read
+fails TooLong read h = h
+fails Malformed read h = h
+fails UnknownRequest read h = h
+fails BadField read h = h
+fails OutOfMemory read h = tt

@@ -22,22 +22,22 @@ fn card_named(text: &str) -> Option<Card>
 }
 
 #[tactic(auto, unfolding(crate::specs::Play::card_of))]
-fn card_of(value: &Value) -> Option<Card>
-    ensures { result ≡ card_of (view value.now) }
+fn card_of(value: &Value) -> Result<Card, RequestFault>
+    ensures { result ≡ wanted (card_of (view value.now)) }
 {
-    card_named(value.as_str()?)
+    match value.as_str() {
+        Some(text) => card_named(text).ok_or(RequestFault::BadField),
+        None => Err(RequestFault::BadField),
+    }
 }
 
-#[tactic(auto, using(crate::proofs::ListLemmas::each_refused))]
 fn cards_in(alloc: Global, list: &[Value]) -> Result<Vec<Card>, RequestFault>
     ensures cards { IfOk result (λ cards. cards_in (items_view list.now) ≡ Some cards.items) }
     ensures fault { IfErr result (λ fault. Fails fault (wanted (cards_in (items_view list.now)))) }
 {
     let mut cards = Vec::new(alloc);
     for value in list {
-        let Some(card) = card_of(value) else {
-            return Err(RequestFault::BadField);
-        };
+        let card = card_of(value)?;
         cards.push(card)?;
     }
     Ok(cards)
