@@ -5,14 +5,15 @@ ghost use Rattle.serde_json.specs.Find.{get};
 ghost use Rattle.serde_json.specs.View.{view, items_view};
 ghost use Rattle.json_fields.specs.Reading.{wanted, Fails, Gives};
 ghost use Rattle.json_fields.specs.Form.{by_word, is_word_of};
-ghost use Rattle.json_fields.specs.Message.{table, board};
 ghost use Rattle.user_fields.specs.User.{user_name};
 ghost use Rattle.command_object.specs.Command.{commands, north_south, east_west, reason, role_called, role, senior, junior, is_unknown, has_unknown, command_called, command_of, commands_in};
 
 use crate::commands::Commands;
 use crate::play::play_of;
 use crate::result::result_of;
-use json_fields::{RequestFault, has_only, is_one_of, name_at, small_number_at, text_at};
+use json_fields::{
+    RequestFault, board_of, has_only, is_one_of, name_at, small_number_at, table_of, text_at,
+};
 use scoring::Outcome;
 use serde_json::Value;
 use session_commands::Command;
@@ -71,19 +72,7 @@ pub fn has_unknown(list: &[Value]) -> bool
     false
 }
 
-// The members, each by its name.
-fn table_of(value: &Value) -> Option<u8>
-    ensures { result ≡ table.value (get table.name (view value.now)) }
-{
-    small_number_at(value, "table")
-}
-
-fn board_of(value: &Value) -> Option<u8>
-    ensures { result ≡ board.value (get board.name (view value.now)) }
-{
-    small_number_at(value, "board")
-}
-
+// The members of commands alone, each by its name.
 fn user_name_of(value: &Value) -> Option<Name>
     ensures { result ≡ user_name.value (get user_name.name (view value.now)) }
 {

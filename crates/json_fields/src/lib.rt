@@ -13,6 +13,6 @@ mod word;
 pub use doubling::doubling_numbered;
 pub use field::{has_only, limited_at, name_at, small_number_at, text_at, whole_at};
 pub use letter::{place_named, strain_named};
-pub use message::{since_of, small_at, user_of};
+pub use message::{board_of, since_of, table_of, user_of};
 pub use request_fault::RequestFault;
 pub use word::is_one_of;

@@ -3,20 +3,26 @@
 ghost use Rattle.std.specs.Prelude.{◌≡◌};
 ghost use Rattle.serde_json.specs.Find.{get};
 ghost use Rattle.serde_json.specs.View.{view};
-ghost use Rattle.json_fields.specs.Field.{small};
 ghost use Rattle.json_fields.specs.Reading.{wanted};
-ghost use Rattle.json_fields.specs.Message.{user, since};
+ghost use Rattle.json_fields.specs.Message.{table, board, user, since};
 
-use crate::field::{name_at, small_number_at, whole_at};
+use crate::field::{name_at, small_number_at};
 use crate::request_fault::RequestFault;
 use serde_json::Value;
 use user_names::Name;
 
-/// The number up to 255 in the member of this name.
-pub fn small_at(value: &Value, name: &str) -> Result<u8, RequestFault>
-    ensures { result ≡ wanted (small (get name.now (view value.now))) }
+/// The table that a message names.
+pub fn table_of(value: &Value) -> Option<u8>
+    ensures { result ≡ table.value (get table.name (view value.now)) }
 {
-    small_number_at(value, name).ok_or(RequestFault::BadField)
+    small_number_at(value, "table")
+}
+
+/// The board that a message names.
+pub fn board_of(value: &Value) -> Option<u8>
+    ensures { result ≡ board.value (get board.name (view value.now)) }
+{
+    small_number_at(value, "board")
 }
 
 /// The user in whose name a message is.

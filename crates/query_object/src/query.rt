@@ -1,16 +1,14 @@
 //! The queries, each by its word.
 
 ghost use Rattle.std.specs.Prelude.{◌≡◌, codes, drop, take, Err, IsSomeAnd};
-ghost use Rattle.serde_json.specs.Find.{get};
 ghost use Rattle.serde_json.specs.View.{view};
 ghost use Rattle.json_fields.specs.Form.{by_word, is_word_of};
-ghost use Rattle.json_fields.specs.Message.{table, board};
 ghost use Rattle.json_fields.specs.Reading.{wanted, Gives};
 ghost use Rattle.json_fields.specs.declared.request_fault.RequestFault.TheVariants.{OutOfMemory};
 ghost use Rattle.query_object.specs.Query.{asking, queries, query_called, IsFiltered};
 
 use crate::list::list_query;
-use json_fields::{RequestFault, has_only, is_one_of, small_number_at};
+use json_fields::{RequestFault, board_of, has_only, is_one_of, table_of};
 use movement::Cell;
 use serde_json::Value;
 use session_queries::Query;
@@ -35,18 +33,6 @@ pub fn is_query_word(word: &str) -> bool
             "list",
         ],
     )
-}
-
-fn table_of(value: &Value) -> Option<u8>
-    ensures { result ≡ table.value (get table.name (view value.now)) }
-{
-    small_number_at(value, "table")
-}
-
-fn board_of(value: &Value) -> Option<u8>
-    ensures { result ≡ board.value (get board.name (view value.now)) }
-{
-    small_number_at(value, "board")
 }
 
 fn status_query(value: &Value) -> Option<Query>
