@@ -4,18 +4,14 @@
 //! none, the name says which it is.
 #![tactic(auto)]
 
-mod connecting;
 mod opening;
 mod repeating;
-mod session;
-mod solver;
 
-use crate::connecting::answer_connections;
 use crate::opening::open_all;
 use crate::repeating::answer_repeated;
-use crate::session::answer_beside_solver;
 use program::run_script;
 use server_program::run_program;
+use session_runs::{answer_beside_solver, answer_connections};
 use std::env;
 use std::io::{self, BufReader, Read, Write};
 use std::net::Net;

@@ -19,11 +19,11 @@ use disclosure_rules::{Fact, Viewer, decide};
 use movement::Cell;
 use query_filter::Filter;
 use rbac::{Account, Inheritance};
+use session_commands::CellState;
+use session_commands::room::with_room;
 use session_queries::{
     Body, Items, Query, analysis_of, costs_of, play_of, push_found, reason_of, shown_results,
 };
-use session_commands::CellState;
-use session_commands::room::with_room;
 use session_state::{Seated, State};
 use standings::{Earning, add_earnings, ranking_of, traveller_rows};
 use std::alloc::{AllocError, Global};

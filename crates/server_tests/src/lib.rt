@@ -1,5 +1,5 @@
-//! Tests of the program and of what it is made of: messages, session objects and scripts, and clients over sockets, in another
-//! thread than the server.
+//! Tests of the program as it is called: its words, its streams and its statuses, and clients over sockets, in another thread
+//! than the server.
 #![tactic(auto)]
 
 #[cfg(test)]

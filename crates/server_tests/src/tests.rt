@@ -1,13 +1,4 @@
 mod calling;
-mod client;
-mod devices;
-mod endings;
-mod files;
-mod lines;
-mod messages;
-mod objects;
 mod running;
 mod serving;
-mod session;
 mod statuses;
-mod texts;

@@ -12,8 +12,8 @@ use crate::schedule::{awaits_round, misses_board, misses_cell};
 use crate::state::State;
 use disclosure_rules::Seat;
 use movement::Cell;
-use session_roles::Operation;
 use session_commands::{Actor, Command, Refusal};
+use session_roles::Operation;
 use user_names::Name;
 
 /// How many entries a journal has at most.

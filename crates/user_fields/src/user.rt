@@ -7,9 +7,9 @@ ghost use Rattle.user_fields.specs.User.{digest_named, digest, role_named, role_
 
 use hex::FromHex;
 use json_fields::{place_named, text_at};
-use session_roles::Role;
 use serde_json::Value;
 use session_commands::Digest;
+use session_roles::Role;
 use table_terms::{Pair, Place};
 
 fn digest_named(digits: &str) -> Option<Digest>

@@ -1,8 +1,6 @@
 //! The program as it is called: its words, its streams and its statuses.
 
-use super::devices::{FailingReader, FailingWriter};
 use super::running::{run, run_over, words_of};
-use super::session::SESSION;
 use std::alloc::AllocError;
 use std::io::{BufWriter, ErrorKind};
 use std::net::Net;
@@ -10,6 +8,7 @@ use std::rt::Files;
 use std::sync::Wait;
 use std::test::Fail;
 use std::time::Clock;
+use test_devices::{FailingReader, FailingWriter, SESSION};
 
 // A message after a session.
 const ASKED: &str = "\n{\"as\":\"d\",\"ask\":\"board\",\"board\":4}\n";

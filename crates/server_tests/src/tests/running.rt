@@ -1,7 +1,5 @@
 //! The program, run over streams in memory.
 
-use super::session::SESSION;
-use program::{Fault, run_script};
 use server_program::run_words;
 use std::alloc::{AllocError, Global};
 use std::io::{Read, Write};
@@ -9,6 +7,7 @@ use std::net::Net;
 use std::rt::Files;
 use std::sync::Wait;
 use std::time::Clock;
+use test_devices::SESSION;
 
 /// How the program ended: its status, what it wrote, what it said besides, and how much of its script it left unread.
 #[derive(Drop)]
@@ -64,15 +63,6 @@ pub(super) fn run_over<R: Files + Net + Clock + Wait + AllocGlobal, I: Read, W: 
     errors: &mut E,
 ) -> u8 {
     run_words(rt, words, reader, writer, errors)
-}
-
-/// Runs a script, and says how it ended.
-pub(super) fn run_to_end<I: Read, W: Write>(
-    alloc: Global,
-    reader: &mut I,
-    writer: &mut W,
-) -> Result<(), Fault> {
-    run_script(alloc, reader, writer)
 }
 
 /// The words of a line, as the program is called with them: after its name.

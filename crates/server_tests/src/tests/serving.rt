@@ -1,9 +1,6 @@
 //! Clients that are served.
 
-use super::client::{ACCEPTED, BINARY, CLOSE, Client, HANDSHAKE, TEXT, free_port, is_served};
-use super::files::{line_to_serve, make_folder, write_file};
 use super::running::{run_over, words_of};
-use super::session::{DEALS, SESSION_ALONE};
 use std::net::Net;
 use std::process::Abort;
 use std::rt::Files;
@@ -11,6 +8,10 @@ use std::sync::Wait;
 use std::test::Fail;
 use std::thread;
 use std::time::Clock;
+use test_devices::{
+    ACCEPTED, BINARY, CLOSE, Client, DEALS, HANDSHAKE, SESSION_ALONE, TEXT, free_port, is_served,
+    line_to_serve, make_folder, write_file,
+};
 
 const HELLO: &str = r#"{"hello":"n1","token":"abc"}"#;
 

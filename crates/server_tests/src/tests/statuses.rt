@@ -1,8 +1,6 @@
 //! The statuses of words by which nobody is served.
 
-use super::files::{line_to_serve, make_folder, write_file};
 use super::running::run;
-use super::session::{DEALS, SESSION, SESSION_ALONE, filled};
 use std::alloc::AllocError;
 use std::net::{Ipv4Addr, Net, TcpListener};
 use std::process::Abort;
@@ -10,6 +8,7 @@ use std::rt::Files;
 use std::sync::Wait;
 use std::test::Fail;
 use std::time::Clock;
+use test_devices::{DEALS, SESSION, SESSION_ALONE, filled, line_to_serve, make_folder, write_file};
 
 // Two files of a folder, the status of a session of them at a port where another listens, and what is said. The folder itself is
 // no file, and there is nothing with the last name.

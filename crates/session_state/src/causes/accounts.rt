@@ -9,8 +9,8 @@ ghost use Rattle.session_commands.specs.declared.command.Command.TheVariants.{De
 use crate::causes::first_of;
 use crate::state::State;
 use rbac::{Change, Roles, is_user_name};
-use session_roles::Role;
 use session_commands::{Digest, Refusal};
+use session_roles::Role;
 use user_names::Name;
 
 pub fn add_user_cause(state: &State, name: Name) -> Option<Refusal>

@@ -8,8 +8,8 @@ use crate::causes::first_of;
 use crate::state::State;
 use disclosure_rules::Seat;
 use movement::Movement;
-use session_roles::Role;
 use session_commands::Refusal;
+use session_roles::Role;
 use table_terms::{Pair, Place, Side};
 use user_names::Name;
 

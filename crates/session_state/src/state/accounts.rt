@@ -7,9 +7,9 @@ ghost use Rattle.session_commands.specs.declared.command.Command.TheVariants.{De
 
 use crate::state::State;
 use rbac::Roles;
-use session_roles::Role;
 use session_commands::Digest;
 use session_commands::room::push_within;
+use session_roles::Role;
 use user_names::Name;
 
 impl State {

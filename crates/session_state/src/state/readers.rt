@@ -7,8 +7,8 @@ use crate::seated::Seated;
 use crate::state::State;
 use disclosure_rules::Phase;
 use rbac::Account;
-use session_roles::Role;
 use session_commands::Digest;
+use session_roles::Role;
 use user_names::Name;
 
 impl State {

@@ -13,8 +13,8 @@ use crate::seated::Seated;
 use crate::state::State;
 use disclosure_rules::Seat;
 use rbac::{Change, Roles};
-use session_roles::{Role, RoleSet};
 use session_commands::room::push_within;
+use session_roles::{Role, RoleSet};
 use user_names::Name;
 
 impl State {

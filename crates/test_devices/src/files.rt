@@ -6,14 +6,14 @@ use std::rt::Files;
 use std::test::Fail;
 
 /// Makes the folder.
-pub(super) fn make_folder<R: Files + AllocGlobal>(rt: &R, port: u16) -> Result<(), Fail> {
+pub fn make_folder<R: Files + AllocGlobal>(rt: &R, port: u16) -> Result<(), Fail> {
     let folder = format!(in rt.alloc(); "/tmp/bridge_server_test_{port}")?;
     fs::create_dir_all(rt, folder.as_str())?;
     Ok(())
 }
 
 /// Writes a file into it.
-pub(super) fn write_file<R: Files + AllocGlobal>(
+pub fn write_file<R: Files + AllocGlobal>(
     rt: &R,
     port: u16,
     name: &str,
@@ -25,7 +25,7 @@ pub(super) fn write_file<R: Files + AllocGlobal>(
 }
 
 /// The line of words that serves a session of these two files at the port, which ends so.
-pub(super) fn line_to_serve(
+pub fn line_to_serve(
     alloc: Global,
     port: u16,
     session: &str,

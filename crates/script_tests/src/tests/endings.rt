@@ -1,13 +1,14 @@
 //! How a script ends whose reader or writer fails.
 
-use super::devices::{Arriving, FailingReader, FailingWriter, Waiting};
-use super::lines::{answered_within, answers, script, unread_after};
 use super::running::run_to_end;
 use program::Fault;
 use std::alloc::Global;
 use std::cell::Cell;
 use std::io::{BufWriter, ErrorKind};
 use std::test::Fail;
+use test_devices::{
+    Arriving, FailingReader, FailingWriter, Waiting, answered_within, answers, script, unread_after,
+};
 
 /// Whether the answers to the lines that were read are written, and no more, where a read fails after so many bytes.
 fn answers_what_was_read(alloc: Global, script: &[u8], answers: &[u8], good: usize) -> bool {

@@ -1,15 +1,15 @@
 //! Readers and writers for the tests, which fail, or look at one another.
 
-use super::lines::answered_within;
+use crate::lines::answered_within;
 use std::cell::Cell;
 use std::io;
 use std::io::{ErrorKind, Read, Write};
 
 /// A reader of these bytes that fails once, after so many of them, and then goes on.
 #[derive(Drop)]
-pub(super) struct FailingReader<'b> {
-    pub(super) bytes: &'b [u8],
-    pub(super) good: usize,
+pub struct FailingReader<'b> {
+    pub bytes: &'b [u8],
+    pub good: usize,
 }
 
 impl Read for FailingReader<'_> {
@@ -26,10 +26,10 @@ impl Read for FailingReader<'_> {
 
 /// A writer that fails once so, where it has no more room, and then goes on.
 #[derive(Drop)]
-pub(super) struct FailingWriter {
-    pub(super) held: Vec<u8>,
-    pub(super) room: usize,
-    pub(super) fault: ErrorKind,
+pub struct FailingWriter {
+    pub held: Vec<u8>,
+    pub room: usize,
+    pub fault: ErrorKind,
 }
 
 impl Write for FailingWriter {
@@ -51,8 +51,8 @@ impl Write for FailingWriter {
 
 /// A writer that tells how many bytes have come to it.
 #[derive(Drop)]
-pub(super) struct Arriving<'c> {
-    pub(super) arrived: &'c Cell<usize>,
+pub struct Arriving<'c> {
+    pub arrived: &'c Cell<usize>,
 }
 
 impl Write for Arriving<'_> {
@@ -69,10 +69,10 @@ impl Write for Arriving<'_> {
 
 /// A reader of a script that fails where it is asked for more before what answers each line has arrived.
 #[derive(Drop)]
-pub(super) struct Waiting<'s> {
-    pub(super) script: &'s [u8],
-    pub(super) at: usize,
-    pub(super) arrived: &'s Cell<usize>,
+pub struct Waiting<'s> {
+    pub script: &'s [u8],
+    pub at: usize,
+    pub arrived: &'s Cell<usize>,
 }
 
 impl Read for Waiting<'_> {

@@ -1,11 +1,11 @@
 //! What is read of messages, from a script and on a connection.
 
 use super::running::run_to_end;
-use super::session::{SESSION, filled};
 use json_fields::RequestFault;
 use session_queries::Query;
 use std::alloc::{AllocError, Global};
 use std::test::Fail;
+use test_devices::{SESSION, filled};
 use wire::{MOST_MESSAGE_BYTES, Request, RequestBody, Source, read_request};
 
 /// The fault of a message, if it has one.

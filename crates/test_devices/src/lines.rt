@@ -1,6 +1,6 @@
 //! A script, and what answers each of its lines.
 
-use super::session::SESSION;
+use crate::session::SESSION;
 use std::alloc::{AllocError, Global};
 
 // The lines of the script after the session's, with what ends each, and what answers each.
@@ -27,7 +27,7 @@ const LINES: &[(&str, &str)] = &[
 ];
 
 /// The whole script.
-pub(super) fn script(alloc: Global) -> Result<String, AllocError> {
+pub fn script(alloc: Global) -> Result<String, AllocError> {
     let mut script = format!(in alloc; "{SESSION}\n")?;
     for (line, _) in LINES {
         script.push_str(line)?;
@@ -36,7 +36,7 @@ pub(super) fn script(alloc: Global) -> Result<String, AllocError> {
 }
 
 /// All its answers.
-pub(super) fn answers(alloc: Global) -> Result<String, AllocError> {
+pub fn answers(alloc: Global) -> Result<String, AllocError> {
     let mut answers = String::new(alloc);
     for (_, answer) in LINES {
         answers.push_str(answer)?;
@@ -45,7 +45,7 @@ pub(super) fn answers(alloc: Global) -> Result<String, AllocError> {
 }
 
 /// How many bytes of them answer the lines whose LF is among the first so many bytes of the script.
-pub(super) fn answered_within(good: usize) -> usize {
+pub fn answered_within(good: usize) -> usize {
     let mut answered: usize = 0;
     let mut left = good.saturating_sub(SESSION.len() + 1);
     for (line, answer) in LINES {
@@ -59,7 +59,7 @@ pub(super) fn answered_within(good: usize) -> usize {
 }
 
 /// How many bytes of a script so long are unread after the line whose answer found so much room, and no more.
-pub(super) fn unread_after(script: usize, room: usize) -> usize {
+pub fn unread_after(script: usize, room: usize) -> usize {
     let mut unread = script.saturating_sub(SESSION.len() + 1);
     let mut left = room;
     for (line, answer) in LINES {

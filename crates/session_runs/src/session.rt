@@ -14,7 +14,7 @@ use std::io::{self, Write};
 use wire::{RequestBody, Source, read_request, receipt_text};
 
 /// Answers each line after the first. A session that isn't opened, or a line that can't be answered, ends this.
-pub(crate) fn answer_beside_solver<O: Write>(
+pub fn answer_beside_solver<O: Write>(
     alloc: Global,
     text: &str,
     writer: &mut O,

@@ -1,10 +1,10 @@
 //! The session object: what opens a session, and what is refused.
 
 use super::running::run_to_end;
-use super::session::{DEALS, SESSION, SESSION_ALONE, filled};
 use session_object::{SessionFault, SessionObject, read_session};
 use std::alloc::{AllocError, Global};
 use std::test::Fail;
+use test_devices::{DEALS, SESSION, SESSION_ALONE, filled};
 
 /// Whether these deals beside a session object make a field of it bad.
 fn has_bad_field(alloc: Global, text: &str, deals: Option<&[u8]>) -> bool {

@@ -7,20 +7,20 @@ use std::thread;
 use std::time::{Clock, Duration};
 
 /// The first byte of a frame that is a whole text (5.2).
-pub(super) const TEXT: u8 = 0x81;
+pub const TEXT: u8 = 0x81;
 
 /// The first byte of a frame that is a whole binary message.
-pub(super) const BINARY: u8 = 0x82;
+pub const BINARY: u8 = 0x82;
 
 /// The first byte of a frame that ends the connection.
-pub(super) const CLOSE: u8 = 0x88;
+pub const CLOSE: u8 = 0x88;
 
 /// The request of the standard's own example (1.2, 1.3).
-pub(super) const HANDSHAKE: &[u8] = b"GET / HTTP/1.1\r\nHost: 127.0.0.1\r\nUpgrade: websocket\r\n\
+pub const HANDSHAKE: &[u8] = b"GET / HTTP/1.1\r\nHost: 127.0.0.1\r\nUpgrade: websocket\r\n\
 Connection: Upgrade\r\nSec-WebSocket-Key: dGhlIHNhbXBsZSBub25jZQ==\r\nSec-WebSocket-Version: 13\r\n\r\n";
 
 /// What the head of its answer has, in small letters.
-pub(super) const ACCEPTED: &[&str] = &[
+pub const ACCEPTED: &[&str] = &[
     "http/1.1 101 ",
     "\r\nupgrade: websocket\r\n",
     "\r\nconnection: upgrade\r\n",
@@ -31,16 +31,16 @@ pub(super) const ACCEPTED: &[&str] = &[
 type Frame = (u8, &'static str);
 
 /// What a client sends and how it is answered: a handshake, frame for frame, and what it leaves with.
-pub(super) struct Client {
-    pub(super) name: &'static str,
-    pub(super) handshake: &'static [u8],
-    pub(super) accepted: &'static [&'static str],
-    pub(super) frames: &'static [(Frame, Frame)],
-    pub(super) last: &'static [u8],
+pub struct Client {
+    pub name: &'static str,
+    pub handshake: &'static [u8],
+    pub accepted: &'static [&'static str],
+    pub frames: &'static [(Frame, Frame)],
+    pub last: &'static [u8],
 }
 
 /// A port at which nothing listens.
-pub(super) fn free_port<R: Net>(rt: &R) -> io::Result<u16> {
+pub fn free_port<R: Net>(rt: &R) -> io::Result<u16> {
     let listener = TcpListener::bind(rt, SocketAddr::from((Ipv4Addr::LOCALHOST, 0)))?;
     Ok(listener.local_addr()?.port())
 }
@@ -57,7 +57,7 @@ fn stream_to<R: Net + Clock>(rt: &R, port: u16) -> io::Result<R::Stream> {
 }
 
 /// Whether the server answers a client so.
-pub(super) fn is_served<R: Net + Clock>(rt: &R, alloc: Global, port: u16, client: &Client) -> bool {
+pub fn is_served<R: Net + Clock>(rt: &R, alloc: Global, port: u16, client: &Client) -> bool {
     match stream_to(rt, port) {
         Ok(mut stream) => is_answered(&mut stream, alloc, client),
         Err(_) => false,

@@ -1,0 +1,5 @@
+mod endings;
+mod messages;
+mod objects;
+mod running;
+mod texts;
