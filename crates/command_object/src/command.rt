@@ -16,10 +16,9 @@ use json_fields::{
 };
 use scoring::Outcome;
 use serde_json::Value;
-use session_commands::Command;
 use session_roles::Role;
 use std::alloc::Global;
-use user_fields::{digest_of, pair_of, place_of, role_named};
+use user_fields::{Command, digest_of, pair_of, place_of, role_named};
 use user_names::Name;
 
 // Whether a command is called so.

@@ -15,8 +15,8 @@ use Rattle.session_book.specs.declared.audit.AuditError.{AuditError}
 use Rattle.session_book.specs.declared.audit.AuditError.TheVariants as error
 use Rattle.session_book.specs.declared.audit.AuditRow.{AuditRow}
 use Rattle.session_book.specs.Journal.{replay, IsAccepted}
-use Rattle.session_queries.specs.declared.query.Query.{Query}
-use Rattle.published_view.specs.Reply.{reply_of}
+use Rattle.session_keeper.specs.session_queries.declared.query.Query.{Query}
+use Rattle.session_keeper.specs.published_view.Reply.{reply_of}
 use Rattle.reply_texts.specs.ReplyText.{reply_text}
 use Rattle.session_keeper.specs.declared.receipt.BatchReceipt.{BatchReceipt}
 use Rattle.session_keeper.specs.Keeping.{IsReceiptOf}

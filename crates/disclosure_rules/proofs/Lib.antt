@@ -1,3 +1,4 @@
+pub use Rattle.movement.proofs as movement_lemmas
 pub mod FirstLemmas
 pub mod LiveCellsLemmas
 pub mod NumbersLemmas

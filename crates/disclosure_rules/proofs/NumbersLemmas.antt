@@ -5,7 +5,7 @@ use Rattle.std.specs.List.{range_with_len}
 use Rattle.std.specs.Int.{Width, bit_at, bit_not}
 use mir.Val.{bits}
 use Rattle.std.proofs.lemmas.Bool.{eqb-true, eq-eqb, ne_eqb, cases_eq, cases_lt, false≢true, or_right, or_left}
-use Rattle.table_terms.specs.Bits.{any_filter, set_bit, clear_bit}
+use Rattle.movement.specs.table_terms.Bits.{any_filter, set_bit, clear_bit}
 use Rattle.disclosure_rules.specs.Numbers.{has_number, numbers_that, with_number, without_number, numbers_of_bits}
 
 -- a range has the numbers from its first one on, and no others

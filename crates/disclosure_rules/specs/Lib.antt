@@ -1,3 +1,4 @@
+pub use Rattle.movement.specs as movement
 pub mod Fact
 pub mod LiveCells
 pub mod Numbers

@@ -1,4 +1,4 @@
-use table_terms::{Place, Vulnerability};
+use movement::{Place, Vulnerability};
 
 /// What is marked on a board (Law 2).
 #[derive(Clone, Copy, Debug, PartialEq, Eq)]

@@ -1,4 +1,4 @@
-use table_terms::{Pair, Place};
+use movement::{Pair, Place};
 
 /// Where a user sits: one of the two places of a pair.
 #[derive(Clone, Copy, Debug, PartialEq, Eq)]

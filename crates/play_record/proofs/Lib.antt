@@ -1,1 +1,2 @@
+pub use Rattle.cards.proofs as cards_lemmas
 pub mod PlayLemmas

@@ -1,2 +1,3 @@
+pub use Rattle.cards.specs as cards
 pub mod Play
 pub mod PlayPlaces

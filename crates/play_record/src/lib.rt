@@ -3,4 +3,5 @@
 
 mod play;
 
+pub use cards::{Card, Deal};
 pub use play::Play;

@@ -2,7 +2,7 @@
 use Rattle.std.specs.Prelude.{ℕ, Bool, true, false, is_some, if◌then◌else◌, Option, Some, None, Result, Ok, Err, List, [], ◌∷◌, ◌++◌, map, filter, take, drop, length}
 use Rattle.std.specs.List.{fold}
 use Rattle.script_lines.specs.Lines.{lines_of}
-use Rattle.published_view.specs.Reply.{reply_of}
+use Rattle.session_keeper.specs.published_view.Reply.{reply_of}
 use Rattle.session_book.specs.declared.answer.Answer.{Answer}
 use Rattle.session_book.specs.declared.answer.Answer.TheVariants.{Refused}
 use Rattle.session_commands.specs.declared.actor.Actor.TheVariants.{User}

@@ -11,3 +11,5 @@ mod script;
 pub use fault::Fault;
 pub use first_line::open_session;
 pub use script::{SCRIPT_LIMIT, run_script};
+pub use session_keeper::{Keeper, PlainKeeper};
+pub use wire::fault_text;

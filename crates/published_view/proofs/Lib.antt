@@ -1,3 +1,4 @@
+pub use Rattle.session_book.proofs as session_book_lemmas
 pub mod ElementLemmas
 pub mod PlaceLemmas
 pub mod AgreementLemmas

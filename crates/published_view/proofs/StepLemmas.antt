@@ -4,7 +4,7 @@ use Rattle.std.specs.Prelude.{Option, Some, None, if◌then◌else◌}
 use Rattle.std.specs.List.{fold}
 use Rattle.std.proofs.lemmas.Bool.{cases_eq}
 use Rattle.std.proofs.lemmas.List.{length-append}
-use Rattle.session_state.specs.SessionState.{SessionState}
+use Rattle.session_book.specs.session_state.SessionState.{SessionState}
 use Rattle.session_commands.specs.declared.actor.Actor.TheVariants.{User, Solver}
 use Rattle.session_commands.specs.declared.command.Command.{Command}
 use Rattle.session_commands.specs.declared.entry.Entry.{Entry}

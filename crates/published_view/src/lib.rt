@@ -7,4 +7,7 @@ mod listing;
 mod preface;
 mod view;
 
+pub use session_book::{AuditError, AuditRows, Book, Submission};
+pub use session_opening::{Config, OpeningRefusal};
+pub use session_queries::{Query, Reply};
 pub use view::View;

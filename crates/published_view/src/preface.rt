@@ -53,7 +53,7 @@ fn has_place(movement: Movement, asked: Fact) -> bool
 }
 
 /// Whether the movement has the cell.
-#[tactic(auto, using(session_state::proofs::ScheduleLemmas::found_scheduled))]
+#[tactic(auto, using(crate::proofs::PlaceLemmas::found_scheduled))]
 fn has_cell(movement: Movement, cell: Cell) -> bool
     ensures { result ≡ is_scheduled movement cell }
 {

@@ -5,3 +5,4 @@ mod list;
 mod query;
 
 pub use query::{is_query_word, query_called};
+pub use session_queries::Query;

@@ -2,9 +2,8 @@
 
 use crate::files::read_file;
 use crate::session_server::SessionServer;
-use program::{Fault, open_session};
+use program::{Fault, PlainKeeper, open_session};
 use server_words::Serving;
-use session_keeper::PlainKeeper;
 use std::io::{Read, Write};
 use std::net::{Net, OpenListener};
 use std::rt::Files;

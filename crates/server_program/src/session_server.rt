@@ -2,17 +2,16 @@
 
 ghost use Rattle.std.specs.Prelude.{◌≡◌, None, MatchOption};
 ghost use Rattle.json_fields.specs.declared.request_fault.RequestFault.TheVariants.{Malformed, OutOfMemory};
-ghost use Rattle.wire.specs.ReceiptText.{fault_text};
+ghost use Rattle.program.specs.wire.ReceiptText.{fault_text};
 ghost use Rattle.connections.specs.Linked.{StaysOn};
 ghost use Rattle.connections.specs.Serving.{Serves};
 
 use connections::Connection;
 use json_fields::RequestFault;
-use session_keeper::Keeper;
+use program::{Keeper, fault_text};
 use std::alloc::{AllocError, Global};
 use std::sync::Wait;
 use websocket_server::MessageServer;
-use wire::fault_text;
 
 /// Answers the messages of one client after another, over one who keeps the session.
 #[derive(Drop)]

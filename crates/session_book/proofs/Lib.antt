@@ -1,3 +1,4 @@
+pub use Rattle.session_state.proofs as session_state_lemmas
 pub mod AuditLemmas
 pub mod ExposureLemmas
 pub mod ExposureTableLemmas

@@ -1,4 +1,4 @@
-use session_commands::Refusal;
+use session_state::Refusal;
 
 /// What became of a command.
 #[derive(Clone, Copy, Debug, PartialEq, Eq)]

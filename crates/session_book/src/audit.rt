@@ -2,8 +2,8 @@
 ghost use Rattle.std.specs.Prelude.{◌≡◌, IfOk};
 ghost use Rattle.session_book.specs.Audit.{audit_rows};
 
-use session_commands::Entry;
-use session_commands::room::push_within;
+use session_state::Entry;
+use session_state::room::push_within;
 use std::alloc::{AllocError, Global};
 use std::marker::Model;
 use thiserror::Error;

@@ -1,10 +1,7 @@
 ghost use Rattle.std.specs.Prelude.{◌≡◌};
 ghost use Rattle.session_commands.specs.CellState.{is_contract_of, same_play};
 
-use cards::Card;
-use play_record::Play;
-use scoring::{Contract, Outcome};
-use solver_results::PlayCosts;
+use solver_results::{Card, Contract, Outcome, Play, PlayCosts};
 
 /// What is known of a board at a table.
 #[derive(Clone, Copy)]

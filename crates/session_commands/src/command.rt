@@ -1,11 +1,8 @@
 use crate::digest::Digest;
 use crate::refusal::Refusal;
-use disclosure_rules::Phase;
-use movement::Cell;
-use play_record::Play;
-use scoring::Outcome;
+use disclosure_rules::{Cell, Phase};
 use session_roles::{Operation, Role};
-use solver_results::{DdTable, PlayCosts};
+use solver_results::{DdTable, Outcome, Play, PlayCosts};
 use table_terms::{Pair, Place};
 use user_names::Name;
 

@@ -13,7 +13,9 @@ pub use actor::Actor;
 pub use cell_state::CellState;
 pub use command::Command;
 pub use digest::Digest;
+pub use disclosure_rules::{
+    Cell, Fact, Marks, Movement, Phase, Public, Rule, Seat, Viewer, decide,
+};
 pub use entry::Entry;
-pub use play_record::Play;
 pub use refusal::Refusal;
-pub use solver_results::{DdTable, PlayCosts};
+pub use solver_results::{Costs, DdTable, Deal, Outcome, Play, PlayAnswer, PlayCosts};

@@ -10,10 +10,10 @@ use Rattle.session_commands.specs.declared.command.Command.{Command}
 use Rattle.session_commands.specs.declared.entry.Entry.{Entry}
 use Rattle.session_commands.specs.declared.refusal.Refusal.{Refusal}
 use Rattle.session_state.specs.SessionState.{SessionState}
-use Rattle.session_book.specs.Journal.{Ledger, state_of, entry_of, refusal_after}
-use Rattle.session_book.specs.Run.{Progress, answered, step, run, Runs}
-use Rattle.session_book.specs.Replay.{replay}
-use Rattle.session_book.proofs.JournalLemmas.{replayed_more}
+use Rattle.published_view.specs.session_book.Journal.{Ledger, state_of, entry_of, refusal_after}
+use Rattle.published_view.specs.session_book.Run.{Progress, answered, step, run, Runs}
+use Rattle.published_view.specs.session_book.Replay.{replay}
+use Rattle.published_view.proofs.session_book_lemmas.JournalLemmas.{replayed_more}
 use Rattle.session_state.specs.Apply.{apply}
 use Rattle.session_state.specs.Refusal.{most_entries}
 use Rattle.published_view.specs.View.{Seen, seen_after, most_versions}

@@ -4,7 +4,7 @@ use mathlib.Core.List.{IsPrefix}
 use Rattle.session_state.specs.SessionState.{SessionState}
 use Rattle.session_commands.specs.declared.command.Command.{Command}
 use Rattle.session_commands.specs.declared.entry.Entry.{Entry}
-use Rattle.session_book.specs.Run.{Progress, Runs}
+use Rattle.published_view.specs.session_book.Run.{Progress, Runs}
 use Rattle.session_keeper.specs.Keeping.{GoesOn}
 use Rattle.session_keeper.proofs.GrowthLemmas.{runs_extend}
 

@@ -2,8 +2,8 @@
 use Rattle.std.specs.Prelude.{◌≡◌, ◌≤◌, List, take, length}
 use Rattle.session_commands.specs.declared.entry.Entry.{Entry}
 use Rattle.session_state.specs.SessionState.{SessionState}
-use Rattle.session_book.specs.Journal.{IsAccepted}
-use Rattle.session_book.specs.Replay.{replay}
+use Rattle.published_view.specs.session_book.Journal.{IsAccepted}
+use Rattle.published_view.specs.session_book.Replay.{replay}
 use Rattle.published_view.specs.View.{Seen}
 use Rattle.session_keeper.specs.declared.keeper.PlainKeeper.TheInside.{Inside}
 

@@ -6,11 +6,11 @@ use Rattle.session_roles.specs.declared.operation.Operation.TheVariants.{Audit}
 use Rattle.session_state.specs.SessionState.{SessionState}
 use Rattle.session_commands.specs.declared.command.Command.{Command}
 use Rattle.session_commands.specs.declared.entry.Entry.{Entry}
-use Rattle.session_book.specs.Audit.{audit_rows}
-use Rattle.session_book.specs.declared.audit.AuditError.TheVariants.{NotPermitted}
-use Rattle.session_book.specs.Journal.{replay}
-use Rattle.session_book.specs.Run.{Runs, first_number, last_number}
-use Rattle.session_book.specs.declared.answer.Answer.{Answer}
+use Rattle.published_view.specs.session_book.Audit.{audit_rows}
+use Rattle.published_view.specs.session_book.declared.audit.AuditError.TheVariants.{NotPermitted}
+use Rattle.published_view.specs.session_book.Journal.{replay}
+use Rattle.published_view.specs.session_book.Run.{Runs, first_number, last_number}
+use Rattle.published_view.specs.session_book.declared.answer.Answer.{Answer}
 use Rattle.session_keeper.specs.declared.receipt.AuditReceipt.{AuditReceipt}
 use Rattle.session_keeper.specs.declared.receipt.BatchReceipt.{BatchReceipt}
 

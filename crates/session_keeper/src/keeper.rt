@@ -2,25 +2,24 @@ ghost use Rattle.std.specs.Prelude.{◌≡◌, ◌+◌, ◌<◌, ◌≤◌, ◌�
 ghost use Rattle.movement.specs.Movement.{boards_of};
 ghost use Rattle.rbac.specs.Authorization.{HasPermission};
 ghost use Rattle.session_roles.specs.declared.operation.Operation.TheVariants.{Audit};
-ghost use Rattle.session_book.specs.Audit.{audit_rows};
-ghost use Rattle.session_book.specs.declared.audit.AuditError.TheVariants.{NotPermitted};
-ghost use Rattle.session_book.specs.Journal.{IsAccepted, state_of};
-ghost use Rattle.session_book.specs.Run.{Runs, first_number, last_number, most_commands};
-ghost use Rattle.session_opening.specs.Opening.{opening_of};
-ghost use Rattle.session_opening.specs.OpeningRefusal.{opening_refusal};
-ghost use Rattle.session_opening.specs.declared.opening_refusal.OpeningRefusal.TheVariants as opening_cause;
-ghost use Rattle.session_queries.specs.Query.{fact_of};
+ghost use Rattle.published_view.specs.session_book.Audit.{audit_rows};
+ghost use Rattle.published_view.specs.session_book.declared.audit.AuditError.TheVariants.{NotPermitted};
+ghost use Rattle.published_view.specs.session_book.Journal.{IsAccepted, state_of};
+ghost use Rattle.published_view.specs.session_book.Run.{Runs, first_number, last_number, most_commands};
+ghost use Rattle.published_view.specs.session_opening.Opening.{opening_of};
+ghost use Rattle.published_view.specs.session_opening.OpeningRefusal.{opening_refusal};
+ghost use Rattle.published_view.specs.session_opening.declared.opening_refusal.OpeningRefusal.TheVariants as opening_cause;
+ghost use Rattle.published_view.specs.session_queries.Query.{fact_of};
 ghost use Rattle.session_state.specs.Readers.{digest_of};
 ghost use Rattle.session_state.specs.Refusal.{most_entries};
 ghost use Rattle.session_state.specs.SessionState.{viewer_of};
 ghost use Rattle.published_view.specs.Reply.{before_answer, reply_of};
 ghost use Rattle.session_keeper.specs.Keeper.{IsBehind};
 
-use published_view::View;
-use session_book::{AuditError, AuditRows, Book, Submission};
+use published_view::{
+    AuditError, AuditRows, Book, Config, OpeningRefusal, Query, Reply, Submission, View,
+};
 use session_commands::{Command, Digest};
-use session_opening::{Config, OpeningRefusal};
-use session_queries::{Query, Reply};
 use session_state::State;
 use std::alloc::{AllocError, Global};
 use std::marker::Model;
@@ -34,7 +33,7 @@ pub struct PlainKeeper {
 }
 
 impl Model for PlainKeeper {
-    ghost use Rattle.session_book.specs.Journal.{Ledger, ledger_code};
+    ghost use Rattle.published_view.specs.session_book.Journal.{Ledger, ledger_code};
 
     ghost Value = { Ledger };
 

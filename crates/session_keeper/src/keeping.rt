@@ -1,15 +1,15 @@
 //! What keeps a session, as connections see it.
 
 ghost use Rattle.std.specs.Prelude.{◌≡◌, ◌≤◌, length, IfOk, OnOk, OnErr};
-ghost use Rattle.session_book.specs.Journal.{replay, IsAccepted};
-ghost use Rattle.session_book.specs.Run.{most_commands};
+ghost use Rattle.published_view.specs.session_book.Journal.{replay, IsAccepted};
+ghost use Rattle.published_view.specs.session_book.Run.{most_commands};
 ghost use Rattle.session_keeper.specs.Keeping.{GoesOn, IsReceiptOf, IsAuditOf, RanOnce};
 ghost use Rattle.published_view.specs.Reply.{reply_of};
 ghost use Rattle.session_state.specs.Readers.{digest_of};
 
 use crate::receipt::{AuditReceipt, BatchReceipt};
+use published_view::{Query, Reply};
 use session_commands::{Command, Digest};
-use session_queries::{Query, Reply};
 use std::alloc::{AllocError, Global};
 use std::sync::Wait;
 use thiserror::Error;

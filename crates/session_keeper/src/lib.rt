@@ -9,4 +9,5 @@ mod receipt;
 
 pub use keeper::PlainKeeper;
 pub use keeping::{Keeper, NoEntry, QueryFault};
+pub use published_view::{Query, Reply};
 pub use receipt::{AuditReceipt, BatchReceipt};

@@ -1,4 +1,4 @@
-use session_book::{AuditError, AuditRows, Submission};
+use published_view::{AuditError, AuditRows, Submission};
 
 /// What is told of a batch.
 #[derive(Debug, Drop)]

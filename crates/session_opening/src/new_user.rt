@@ -1,6 +1,6 @@
 use crate::role_list::RoleList;
 use disclosure_rules::Seat;
-use session_commands::Digest;
+use session_state::Digest;
 use user_names::Name;
 
 /// A user with whom a session opens.

@@ -16,10 +16,9 @@ use crate::opening_refusal::OpeningRefusal;
 use cards::Deal;
 use disclosure_rules::{Boards, LiveCells, Marks, Phase, Public};
 use rbac::Roles;
-use session_commands::Digest;
-use session_commands::room::push_within;
 use session_roles::Role;
-use session_state::{Seated, State};
+use session_state::room::push_within;
+use session_state::{Digest, Seated, State};
 use std::alloc::{AllocError, Global};
 use table_terms::{Place, Vulnerability};
 

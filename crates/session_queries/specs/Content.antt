@@ -14,11 +14,11 @@ use Rattle.disclosure_rules.specs.declared.fact.Fact.TheVariants as fact
 use Rattle.disclosure_rules.specs.declared.public.Public.{Public}
 use Rattle.query_filter.specs.declared.trick_table.StrainTricks.{StrainTricks}
 use Rattle.query_filter.specs.declared.trick_table.TrickTable.{TrickTable}
-use Rattle.solver_results.specs.PlayAnswer.{PlayedDeal, answer_of}
-use Rattle.solver_results.specs.declared.play_answer.PlayAnswer.{PlayAnswer}
-use Rattle.solver_results.specs.declared.play_answer.PlayAnswer.TheVariants as answer
-use Rattle.session_commands.specs.declared.cell_state.CellState.{CellState}
-use Rattle.session_commands.specs.declared.cell_state.CellState.TheVariants.{Empty, Entered, Confirmed, Ruled}
+use Rattle.session_state.specs.solver_results.PlayAnswer.{PlayedDeal, answer_of}
+use Rattle.session_state.specs.solver_results.declared.play_answer.PlayAnswer.{PlayAnswer}
+use Rattle.session_state.specs.solver_results.declared.play_answer.PlayAnswer.TheVariants as answer
+use Rattle.session_state.specs.session_commands.declared.cell_state.CellState.{CellState}
+use Rattle.session_state.specs.session_commands.declared.cell_state.CellState.TheVariants.{Empty, Entered, Confirmed, Ruled}
 use Rattle.session_state.specs.declared.seated.Seated.{Seated}
 use Rattle.play_record.specs.Play.{has_card}
 use Rattle.session_state.specs.Readers.{seats_in_order}

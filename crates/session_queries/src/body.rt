@@ -7,8 +7,7 @@ use movement::Cell;
 use query_filter::TrickTable;
 use rbac::{Account, Inheritance};
 use scoring::Standing;
-use session_commands::Play;
-use session_state::Seated;
+use session_state::{Play, Seated};
 use standings::TravellerRow;
 
 /// What a query is answered.

@@ -1,4 +1,4 @@
-use solver_results::Costs;
+use session_state::Costs;
 
 /// What each card of a play cost its side.
 #[derive(Clone, Copy)]

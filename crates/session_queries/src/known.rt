@@ -4,9 +4,7 @@ ghost use Rattle.session_queries.specs.Content.{analysis_of, costs_of, costs_of_
 
 use crate::card_costs::CardCosts;
 use query_filter::{StrainTricks, TrickTable};
-use session_commands::{CellState, DdTable, Play, PlayCosts};
-use session_state::State;
-use solver_results::PlayAnswer;
+use session_state::{CellState, DdTable, Play, PlayAnswer, PlayCosts, State};
 use standings::CellResult;
 use table_terms::{Place, Strain};
 

@@ -4,10 +4,10 @@ use Rattle.std.specs.Prelude.{Option, Some, None, not, nat_le}
 use Rattle.std.specs.Bool.{then_some}
 use Rattle.std.specs.Option.{option_or}
 use Rattle.std.proofs.lemmas.Bool.{false≢true, cases_lt, le-leb}
-use Rattle.cards.specs.declared.card.Card.{Card}
-use Rattle.movement.specs.Schedule.{is_scheduled}
-use Rattle.scoring.specs.declared.outcome.Outcome.{Outcome}
-use Rattle.disclosure_rules.specs.Seating.{some_that}
+use Rattle.session_commands.specs.cards.declared.card.Card.{Card}
+use Rattle.session_commands.specs.movement.Schedule.{is_scheduled}
+use Rattle.session_commands.specs.scoring.declared.outcome.Outcome.{Outcome}
+use Rattle.session_commands.specs.disclosure_rules.Seating.{some_that}
 use Rattle.session_commands.specs.declared.command.Command.{Command}
 use Rattle.session_commands.specs.declared.command.Command.TheVariants.{Enter, NextRound}
 use Rattle.session_commands.specs.declared.refusal.Refusal.{Refusal}

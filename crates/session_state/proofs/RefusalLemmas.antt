@@ -17,7 +17,7 @@ use Rattle.session_commands.specs.Command.{operation_of, is_told_by_table}
 use Rattle.session_commands.specs.declared.actor.Actor.{Actor}
 use Rattle.session_commands.specs.declared.actor.Actor.TheVariants.{User, Solver}
 use Rattle.session_roles.specs.declared.operation.Operation.{Operation}
-use Rattle.disclosure_rules.specs.Seating.{some_that}
+use Rattle.session_commands.specs.disclosure_rules.Seating.{some_that}
 use Rattle.session_commands.specs.Refusal.{spoiled, is_out_of_memory}
 use Rattle.session_state.specs.Refusal.{is_permitted, IsPermitted, first_of, needed_causes, own_causes, hindrances, causes, hindrance_of, refusal_of, most_entries}
 use Rattle.session_state.specs.SessionState.{SessionState}

@@ -1,3 +1,5 @@
+pub use Rattle.session_commands.specs as session_commands
+pub use Rattle.session_commands.specs.solver_results as solver_results
 pub mod Accounts
 pub mod Apply
 pub mod KeptState

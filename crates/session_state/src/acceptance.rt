@@ -1,6 +1,6 @@
 //! When a command is refused.
 ghost use Rattle.std.specs.Prelude.{◌≡◌, not, IfSome, IfNone};
-ghost use Rattle.disclosure_rules.specs.Seating.{some_that};
+ghost use Rattle.session_commands.specs.disclosure_rules.Seating.{some_that};
 ghost use Rattle.session_state.specs.Accounts.{has_account};
 ghost use Rattle.session_commands.specs.Command.{cell_of, board_of};
 ghost use Rattle.rbac.specs.Authorization.{has_permission};
@@ -10,9 +10,7 @@ ghost use Rattle.session_state.specs.SessionState.{IsPlaced, IsKeptBoard};
 use crate::causes::{accounts, first_of, progress, results, seats, solved};
 use crate::schedule::{awaits_round, misses_board, misses_cell};
 use crate::state::State;
-use disclosure_rules::Seat;
-use movement::Cell;
-use session_commands::{Actor, Command, Refusal};
+use session_commands::{Actor, Cell, Command, Refusal, Seat};
 use session_roles::Operation;
 use user_names::Name;
 

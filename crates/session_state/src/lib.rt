@@ -11,4 +11,8 @@ mod state;
 pub use acceptance::MOST_ENTRIES;
 pub use causes::first_of;
 pub use seated::Seated;
+pub use session_commands::{
+    Actor, CellState, Command, Costs, DdTable, Digest, Entry, Play, PlayAnswer, PlayCosts, Refusal,
+    room,
+};
 pub use state::State;

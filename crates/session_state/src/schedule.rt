@@ -1,11 +1,11 @@
 ghost use Rattle.std.specs.Prelude.{◌≡◌, true, false, not, IfSome};
-ghost use Rattle.disclosure_rules.specs.Seating.{some_that};
-ghost use Rattle.movement.specs.Movement.{IsCell};
-ghost use Rattle.movement.specs.Schedule.{is_scheduled, is_later};
+ghost use Rattle.session_commands.specs.disclosure_rules.Seating.{some_that};
+ghost use Rattle.session_commands.specs.movement.Movement.{IsCell};
+ghost use Rattle.session_commands.specs.movement.Schedule.{is_scheduled, is_later};
 ghost use Rattle.session_state.specs.Refusal.{is_board};
 ghost use Rattle.session_state.specs.SessionState.{IsPlaced, IsKeptBoard};
 
-use movement::{Cell, Movement};
+use session_commands::{Cell, Movement};
 
 /// Whether the cell's table is scheduled to play its board.
 #[tactic(auto, using(crate::proofs::ScheduleLemmas::found_scheduled))]
@@ -18,7 +18,7 @@ pub fn is_scheduled(movement: Movement, cell: Cell) -> bool
 }
 
 /// Whether a cell is played after a round.
-#[tactic(auto, using(movement::proofs::ScheduleTests::later_than))]
+#[tactic(auto, using(crate::proofs::ScheduleLemmas::later_than))]
 pub fn is_later(movement: Movement, cell: Cell, round: u8) -> bool
     requires { IsCell movement cell }
     ensures { result ≡ is_later movement cell round }

@@ -1,4 +1,4 @@
-use disclosure_rules::Seat;
+use session_commands::Seat;
 use user_names::Name;
 
 /// A user, and where the user sits.

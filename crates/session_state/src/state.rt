@@ -1,9 +1,9 @@
 ghost use Rattle.std.specs.Prelude.{◌≡◌, ◌-◌, ◌<◌, ◌≤◌, ◌↔◌, [], length, slice_get, vec_capacity, Some, None, IfOk, IfSome, IsTrue, replicate};
-ghost use Rattle.movement.specs.Movement.{boards_of, most_tables, most_boards};
+ghost use Rattle.session_commands.specs.movement.Movement.{boards_of, most_tables, most_boards};
 ghost use Rattle.rbac.specs.Account.{most_users};
 ghost use Rattle.rbac.specs.Authorization.{HasPermission, IsValid, has_permission};
-ghost use Rattle.disclosure_rules.specs.LiveCells.{is_live};
-ghost use Rattle.disclosure_rules.specs.Policy.{first_rule};
+ghost use Rattle.session_commands.specs.disclosure_rules.LiveCells.{is_live};
+ghost use Rattle.session_commands.specs.disclosure_rules.Policy.{first_rule};
 ghost use Rattle.session_state.specs.Accounts.{has_account};
 ghost use Rattle.session_state.specs.Seats.{is_taken, AreSeated};
 ghost use Rattle.session_state.specs.Apply.{apply, effect};
@@ -22,16 +22,13 @@ mod solved;
 
 use crate::acceptance::{hindrance, refusal};
 use crate::seated::Seated;
-use cards::Deal;
-use disclosure_rules::{Fact, Marks, Public, Rule, Seat, Viewer, decide};
-use movement::{Cell, Movement};
-use play_record::Play;
 use rbac::{Account, Roles};
-use scoring::Outcome;
 use session_commands::room::{filled, with_room};
-use session_commands::{Actor, CellState, Command, Digest, Entry, Refusal};
+use session_commands::{
+    Actor, Cell, CellState, Command, DdTable, Deal, Digest, Entry, Fact, Marks, Movement, Outcome,
+    Play, PlayCosts, Public, Refusal, Rule, Seat, Viewer, decide,
+};
 use session_roles::{Operation, RoleSet};
-use solver_results::{DdTable, PlayCosts};
 use std::alloc::{AllocError, Global};
 use std::marker::Model;
 use user_names::Name;

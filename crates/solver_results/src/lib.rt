@@ -11,3 +11,5 @@ pub use costs::Costs;
 pub use dd_table::{DdTable, DeclarerTricks};
 pub use play_answer::PlayAnswer;
 pub use play_costs::PlayCosts;
+pub use play_record::{Card, Deal, Play};
+pub use scoring::{Contract, Outcome};

@@ -2,8 +2,7 @@ ghost use Rattle.std.specs.Prelude.{◌≡◌};
 ghost use Rattle.solver_results.specs.PlayAnswer.{answer_of};
 
 use crate::play_answer::PlayAnswer;
-use cards::{Card, Deal};
-use play_record::Play;
+use play_record::{Card, Deal, Play};
 use scoring::Contract;
 use std::marker::Model;
 

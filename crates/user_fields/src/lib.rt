@@ -3,4 +3,5 @@
 
 mod user;
 
+pub use session_commands::{Command, Play};
 pub use user::{digest_of, pair_of, place_of, role_named, role_of};

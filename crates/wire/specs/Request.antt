@@ -9,7 +9,7 @@ use Rattle.serde_json.specs.Read.{read}
 use Rattle.serde_json.specs.Find.{get, as_str, as_array, as_object}
 use Rattle.session_book.specs.Run.{most_commands}
 use Rattle.session_commands.specs.declared.command.Command.{Command}
-use Rattle.session_queries.specs.declared.query.Query.{Query}
+use Rattle.query_object.specs.session_queries.declared.query.Query.{Query}
 use Rattle.wire.specs.declared.request.Request.{Request}
 use Rattle.wire.specs.declared.request.RequestBody.{RequestBody}
 use Rattle.wire.specs.declared.request.RequestBody.TheVariants as body

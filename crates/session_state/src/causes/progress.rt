@@ -4,8 +4,7 @@ ghost use Rattle.session_state.specs.Refusal.{first_of, are_all_live, own_causes
 ghost use Rattle.session_commands.specs.declared.command.Command.TheVariants.{Hold, Release, NextRound, Close, Finalise};
 
 use crate::state::State;
-use disclosure_rules::Public;
-use session_commands::Refusal;
+use session_commands::{Public, Refusal};
 
 pub fn hold_cause(state: &State, board: u8) -> Option<Refusal>
     ensures { result ≡ first_of (own_causes state.now (Hold board)) }

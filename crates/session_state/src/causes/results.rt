@@ -6,10 +6,7 @@ ghost use Rattle.session_commands.specs.declared.command.Command.TheVariants.{En
 
 use crate::causes::first_of;
 use crate::state::State;
-use movement::Cell;
-use play_record::Play;
-use scoring::Outcome;
-use session_commands::Refusal;
+use session_commands::{Cell, Outcome, Play, Refusal};
 
 pub fn enter_cause(state: &State, cell: Cell, outcome: Outcome, play: &Play) -> Option<Refusal>
     requires { IsPlaced cell }

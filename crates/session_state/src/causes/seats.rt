@@ -6,9 +6,7 @@ ghost use Rattle.session_commands.specs.declared.command.Command.TheVariants as 
 
 use crate::causes::first_of;
 use crate::state::State;
-use disclosure_rules::Seat;
-use movement::Movement;
-use session_commands::Refusal;
+use session_commands::{Movement, Refusal, Seat};
 use session_roles::Role;
 use table_terms::{Pair, Place, Side};
 use user_names::Name;

@@ -6,9 +6,7 @@ ghost use Rattle.session_commands.specs.declared.command.Command.TheVariants.{So
 
 use crate::causes::first_of;
 use crate::state::State;
-use movement::Cell;
-use session_commands::Refusal;
-use solver_results::{DdTable, PlayCosts};
+use session_commands::{Cell, DdTable, PlayCosts, Refusal};
 
 pub fn solved_cause(state: &State, board: u8, table: &DdTable) -> Option<Refusal>
     requires { IsKeptBoard board }

@@ -6,7 +6,7 @@ ghost use Rattle.session_state.specs.SessionState.{IsKeptBoard};
 ghost use Rattle.session_commands.specs.declared.command.Command.TheVariants.{Hold, Release, NextRound, Close, Finalise};
 
 use crate::state::State;
-use disclosure_rules::Phase;
+use session_commands::Phase;
 
 impl State {
     // Withholds a board.

@@ -7,10 +7,7 @@ ghost use Rattle.session_state.specs.SessionState.{IsPlaced};
 ghost use Rattle.session_commands.specs.declared.command.Command.TheVariants.{Enter, Confirm, Correct, Rule, Void};
 
 use crate::state::{State, place_of};
-use movement::Cell;
-use play_record::Play;
-use scoring::Outcome;
-use session_commands::CellState;
+use session_commands::{Cell, CellState, Outcome, Play};
 
 impl State {
     // Sets what is entered.

@@ -6,8 +6,7 @@ ghost use Rattle.session_state.specs.SessionState.{IsPlaced, IsKeptBoard};
 ghost use Rattle.session_commands.specs.declared.command.Command.TheVariants.{Solved, Analysed};
 
 use crate::state::{State, place_of};
-use movement::Cell;
-use solver_results::{DdTable, PlayCosts};
+use session_commands::{Cell, DdTable, PlayCosts};
 
 impl State {
     // Keeps a board's table.

@@ -1,6 +1,6 @@
 use Rattle.std.proofs.Common.{◌≡◌, sym}
 use Rattle.std.specs.Prelude.{None, IfOk, IfErr}
-use Rattle.session_queries.specs.Query.{fact_of}
+use Rattle.published_view.specs.session_queries.Query.{fact_of}
 use Rattle.session_state.specs.SessionState.{viewer_of}
 use Rattle.published_view.specs.Reply.{before_answer, reply_of}
 use Rattle.session_keeper.proofs.GrowthLemmas.{as_book}

@@ -2,8 +2,8 @@ use Rattle.std.proofs.Common.{◌≡◌, ◌↔◌, subst}
 use Rattle.std.specs.Prelude.{IfErr}
 use Rattle.rbac.specs.Authorization.{HasPermission}
 use Rattle.session_roles.specs.declared.operation.Operation.TheVariants.{Audit}
-use Rattle.session_book.specs.declared.audit.AuditError.TheVariants.{NotPermitted}
-use Rattle.session_book.specs.Journal.{Ledger, state_of}
+use Rattle.published_view.specs.session_book.declared.audit.AuditError.TheVariants.{NotPermitted}
+use Rattle.published_view.specs.session_book.Journal.{Ledger, state_of}
 use Rattle.session_keeper.proofs.keeper.PlainKeeper.audit.Goals as goal
 
 pub returns-clause-err : goal.returns-clause-err
