@@ -9,7 +9,7 @@ use table_terms::Suit;
 use thiserror::Error;
 
 /// One of the 52 cards of the pack (Law 1).
-#[derive(Clone, Copy, Debug, PartialEq, Eq)]
+#[derive(Clone, Copy, PartialEq, Eq)]
 pub struct Card {
     pub suit: Suit,
     pub rank: Rank,
@@ -26,7 +26,7 @@ impl Card {
 }
 
 /// A text that names no card.
-#[derive(Clone, Copy, Debug, PartialEq, Eq, Error)]
+#[derive(Clone, Copy, Debug, Error)]
 #[error("not a card")]
 pub struct NotACard;
 

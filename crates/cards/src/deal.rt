@@ -11,7 +11,7 @@ use table_terms::Place;
 use thiserror::Error;
 
 /// The cards as they were dealt: thirteen to each player (Laws 1 and 6).
-#[derive(Clone, Copy, Debug, PartialEq, Eq)]
+#[derive(Clone, Copy, PartialEq, Eq)]
 pub struct Deal {
     north: Hand,
     east: Hand,
@@ -34,7 +34,7 @@ impl Model for Deal {
 }
 
 /// Four hands that are no deal: one has other than thirteen cards, or two have a card in common.
-#[derive(Clone, Copy, Debug, PartialEq, Eq, Error)]
+#[derive(Clone, Copy, Debug, Error)]
 #[error("not a deal")]
 pub struct NotADeal;
 

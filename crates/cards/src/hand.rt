@@ -13,7 +13,7 @@ use std::marker::Model;
 use table_terms::Suit;
 
 /// A set of cards, as a player holds it.
-#[derive(Clone, Copy, Debug)]
+#[derive(Clone, Copy)]
 pub struct Hand {
     bits: u64,
 }

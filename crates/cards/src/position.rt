@@ -17,7 +17,7 @@ use table_terms::{Place, Side, Strain};
 use thiserror::Error;
 
 /// What the players hold and what lies on the table at a moment of the play.
-#[derive(Clone, Copy, Debug, PartialEq, Eq)]
+#[derive(Clone, Copy)]
 pub struct Position {
     north: Hand,
     east: Hand,
@@ -65,12 +65,12 @@ impl Model for Position {
 
 /// Hands and cards on the table that are no position: a card is in two places, more than three are on the table, or the
 /// hands are not equal once each card on the table is counted to its player.
-#[derive(Clone, Copy, Debug, PartialEq, Eq, Error)]
+#[derive(Clone, Copy, Debug, Error)]
 #[error("not a position")]
 pub struct NotAPosition;
 
 /// A card that the player in turn does not hold, or that does not follow suit although another would (Law 44C).
-#[derive(Clone, Copy, Debug, PartialEq, Eq, Error)]
+#[derive(Clone, Copy, Debug, Error)]
 #[error("not a legal card")]
 pub struct NotLegal;
 

@@ -8,7 +8,7 @@ use crate::hand::Hand;
 use table_terms::{Place, Suit};
 
 /// A trick under way: the cards on the table, in the order in which they were played.
-#[derive(Clone, Copy, Debug, PartialEq, Eq)]
+#[derive(Clone, Copy, PartialEq, Eq)]
 pub enum Trick {
     Empty,
     One(Card),

@@ -4,7 +4,7 @@ ghost use Rattle.denials.specs.Evidence.{explanation};
 use disclosure_rules::Rule;
 
 /// Why a user is denied a fact.
-#[derive(Clone, Copy, Debug, PartialEq, Eq)]
+#[derive(Clone, Copy, PartialEq, Eq)]
 pub struct Denial {
     /// The first rule that forbids the fact.
     pub rule: Rule,

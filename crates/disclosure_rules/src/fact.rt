@@ -5,7 +5,7 @@ ghost use Rattle.disclosure_rules.specs.Fact.{is_reason};
 use movement::Cell;
 
 /// Something that a user may be shown. Boards are numbered from 1.
-#[derive(Clone, Copy, Debug, PartialEq, Eq)]
+#[derive(Clone, Copy)]
 pub enum Fact {
     /// What every member may see: the movement, the seats, the phase, what is held and where there is a result.
     Public,

@@ -1,7 +1,7 @@
 use movement::{Place, Vulnerability};
 
 /// What is marked on a board (Law 2).
-#[derive(Clone, Copy, Debug, PartialEq, Eq)]
+#[derive(Clone, Copy)]
 pub struct Marks {
     pub dealer: Place,
     pub vulnerability: Vulnerability,

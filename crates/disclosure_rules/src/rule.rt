@@ -2,7 +2,7 @@ ghost use Rattle.std.specs.Prelude.{◌≡◌};
 ghost use Rattle.disclosure_rules.specs.Policy.{rule_number};
 
 /// The rules of the policy, in their order. Each forbids a fact to some users.
-#[derive(Clone, Copy, Debug, PartialEq, Eq)]
+#[derive(Clone, Copy, PartialEq, Eq)]
 pub enum Rule {
     NoAccount,
     NotAMember,

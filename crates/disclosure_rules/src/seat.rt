@@ -1,7 +1,7 @@
 use movement::{Pair, Place};
 
 /// Where a user sits: one of the two places of a pair.
-#[derive(Clone, Copy, Debug, PartialEq, Eq)]
+#[derive(Clone, Copy, PartialEq, Eq)]
 pub struct Seat {
     pub pair: Pair,
     pub place: Place,

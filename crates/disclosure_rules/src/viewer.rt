@@ -5,7 +5,7 @@ use crate::seat::Seat;
 use session_roles::{Role, RoleSet};
 
 /// A user, as the policy sees one.
-#[derive(Clone, Copy, Debug, PartialEq, Eq)]
+#[derive(Clone, Copy)]
 pub struct Viewer {
     /// The roles that the user is authorized for; none where there is no such account.
     pub roles: Option<RoleSet>,

@@ -7,7 +7,7 @@ use std::marker::Model;
 use table_terms::Suit;
 
 /// The cards of a board as they were played, in their order: at most 52, which lie in the value itself.
-#[derive(Clone, Copy, Debug)]
+#[derive(Clone, Copy)]
 pub struct Play {
     cards: [Card; 52],
     len: u8,

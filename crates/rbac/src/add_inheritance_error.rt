@@ -2,7 +2,7 @@ use session_roles::SeparationSet;
 use thiserror::Error;
 
 /// Why an inheritance pair is not added.
-#[derive(Clone, Copy, Debug, PartialEq, Eq, Error)]
+#[derive(Clone, Copy, Debug, Error)]
 pub enum AddInheritanceError {
     #[error("the junior role inherits the senior one")]
     Cycle,

@@ -1,7 +1,7 @@
 use thiserror::Error;
 
 /// Why a user is not added.
-#[derive(Clone, Copy, Debug, PartialEq, Eq, Error)]
+#[derive(Clone, Copy, Debug, Error)]
 pub enum AddUserError {
     #[error("a name has 1 to 32 letters, digits, `-` and `_`")]
     BadName,

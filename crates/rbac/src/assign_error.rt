@@ -2,7 +2,7 @@ use session_roles::SeparationSet;
 use thiserror::Error;
 
 /// Why a role is not assigned to a user.
-#[derive(Clone, Copy, Debug, PartialEq, Eq, Error)]
+#[derive(Clone, Copy, Debug, Error)]
 pub enum AssignError {
     #[error("there is no such user")]
     NoSuchUser,

@@ -1,7 +1,7 @@
 use thiserror::Error;
 
 /// Why an assigned role is not taken away.
-#[derive(Clone, Copy, Debug, PartialEq, Eq, Error)]
+#[derive(Clone, Copy, Debug, Error)]
 pub enum DeassignError {
     #[error("there is no such user")]
     NoSuchUser,

@@ -3,7 +3,7 @@ ghost use Rattle.std.specs.Prelude.{◌≡◌, vec_capacity};
 use session_roles::Role;
 
 /// A pair of the role hierarchy (INCITS 359-2012): the senior role inherits what the junior one may do.
-#[derive(Clone, Copy, Debug, PartialEq, Eq)]
+#[derive(Clone, Copy, PartialEq, Eq)]
 pub struct Inheritance {
     pub senior: Role,
     pub junior: Role,

@@ -2,7 +2,7 @@ ghost use Rattle.std.specs.Prelude.{◌≡◌, ◌≤◌};
 ghost use Rattle.scoring.specs.Doubling.{times_doubled};
 
 /// Whether a contract was doubled, and then redoubled (Law 19).
-#[derive(Clone, Copy, Debug, PartialEq, Eq)]
+#[derive(Clone, Copy, PartialEq, Eq)]
 pub enum Doubling {
     Undoubled,
     Doubled,

@@ -3,7 +3,7 @@ ghost use Rattle.std.specs.Prelude.{◌≡◌, ◌≤◌, SomeIff};
 use std::marker::Model;
 
 /// How many odd tricks a contract undertakes to win, 1 to 7: tricks beyond the first six (Law 18A).
-#[derive(Clone, Copy, Debug, PartialEq, Eq)]
+#[derive(Clone, Copy, PartialEq, Eq)]
 pub struct Level {
     number: u8,
 }

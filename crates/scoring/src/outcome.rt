@@ -2,7 +2,7 @@ use crate::contract::Contract;
 use crate::tricks::Tricks;
 
 /// How a board ended at one table.
-#[derive(Clone, Copy, Debug)]
+#[derive(Clone, Copy)]
 pub enum Outcome {
     /// All four players passed (Law 22).
     PassedOut,

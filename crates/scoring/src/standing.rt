@@ -1,7 +1,7 @@
 use table_terms::Pair;
 
 /// What a pair has earned in a session, and what it could have earned.
-#[derive(Clone, Copy, Debug, PartialEq, Eq)]
+#[derive(Clone, Copy)]
 pub struct Standing {
     pub pair: Pair,
     /// The sum over its boards, in hundredths of a scoring unit (Law 78A).

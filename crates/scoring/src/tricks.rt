@@ -3,7 +3,7 @@ ghost use Rattle.std.specs.Prelude.{◌≡◌, ◌≤◌, SomeIff};
 use std::marker::Model;
 
 /// How many of the thirteen tricks declarer's side won, 0 to 13.
-#[derive(Clone, Copy, Debug, PartialEq, Eq)]
+#[derive(Clone, Copy, PartialEq, Eq)]
 pub struct Tricks {
     number: u8,
 }

@@ -1,5 +1,5 @@
 /// What ended a line.
-#[derive(Clone, Copy, Debug, PartialEq, Eq)]
+#[derive(Clone, Copy, PartialEq, Eq)]
 pub enum LineEnd {
     /// An LF, and there may be more lines.
     LineFeed,

@@ -6,7 +6,7 @@ use std::io::Write;
 use thiserror::Error;
 
 /// A text wasn't written, or only a first part of it.
-#[derive(Clone, Copy, Debug, PartialEq, Eq, Error)]
+#[derive(Clone, Copy, Debug, Error)]
 #[error("the output can't be written")]
 pub struct WriteFault;
 

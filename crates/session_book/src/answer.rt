@@ -1,7 +1,7 @@
 use session_state::Refusal;
 
 /// What became of a command.
-#[derive(Clone, Copy, Debug, PartialEq, Eq)]
+#[derive(Clone, Copy)]
 pub enum Answer {
     /// It is an entry of the journal.
     Accepted,

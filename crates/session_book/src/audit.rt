@@ -51,7 +51,7 @@ impl AuditRows {
 }
 
 /// Why no audit is given.
-#[derive(Clone, Copy, Debug, PartialEq, Eq, Error)]
+#[derive(Clone, Copy, Debug, Error)]
 pub enum AuditError {
     #[error("the user has no permission for the audit")]
     NotPermitted,

@@ -4,7 +4,7 @@ ghost use Rattle.session_book.specs.Run.{first_number, last_number};
 use crate::answer::Answer;
 
 /// What became of a batch.
-#[derive(Debug, Drop)]
+#[derive(Drop)]
 pub struct Submission {
     /// The answers, in the order of the commands.
     pub answers: Vec<Answer>,

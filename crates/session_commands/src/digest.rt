@@ -1,5 +1,5 @@
 /// The SHA-256 of the token by which a user signs in.
-#[derive(Clone, Copy, Debug, PartialEq, Eq)]
+#[derive(Clone, Copy)]
 pub struct Digest {
     pub bytes: [u8; 32],
 }

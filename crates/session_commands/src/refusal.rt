@@ -4,7 +4,7 @@ use thiserror::Error;
 use user_names::Name;
 
 /// Why a command is refused. Each command's causes are looked at in this order, but for those of its own.
-#[derive(Clone, Copy, Debug, PartialEq, Eq, Error)]
+#[derive(Clone, Copy, Debug, Error)]
 pub enum Refusal {
     NotPermitted,
     NoSuchUser,

@@ -16,7 +16,7 @@ use thiserror::Error;
 use user_names::Name;
 
 /// Why a query has no reply.
-#[derive(Clone, Copy, Debug, PartialEq, Eq, Error)]
+#[derive(Clone, Copy, Debug, Error)]
 pub enum QueryFault {
     /// No version could be entered.
     #[error("NoEntry")]
@@ -27,7 +27,7 @@ pub enum QueryFault {
 }
 
 /// No version could be entered.
-#[derive(Clone, Copy, Debug, PartialEq, Eq, Error)]
+#[derive(Clone, Copy, Debug, Error)]
 #[error("NoEntry")]
 pub struct NoEntry;
 

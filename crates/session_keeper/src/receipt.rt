@@ -1,7 +1,7 @@
 use published_view::{AuditError, AuditRows, Submission};
 
 /// What is told of a batch.
-#[derive(Debug, Drop)]
+#[derive(Drop)]
 pub struct BatchReceipt {
     /// The answers, and the numbers of the entries that joined the journal.
     pub submission: Submission,

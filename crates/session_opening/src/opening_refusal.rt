@@ -3,7 +3,7 @@ use std::fmt;
 use thiserror::Error;
 
 /// Why a session isn't opened, in the order in which the causes are looked at: first user by user, then of all users.
-#[derive(Clone, Copy, Debug, PartialEq, Eq, Error)]
+#[derive(Clone, Copy, Debug, Error)]
 pub enum OpeningRefusal {
     BadName,
     UserExists,

@@ -5,7 +5,7 @@ ghost use Rattle.session_roles.specs.declared.role.Role.{Role};
 use std::fmt;
 
 /// A role of a session, in the order in which roles are listed (core RBAC of INCITS 359-2012).
-#[derive(Clone, Copy, Debug)]
+#[derive(Clone, Copy)]
 pub enum Role {
     Member,
     Spectator,

@@ -5,7 +5,7 @@ use crate::role::Role;
 use std::marker::Model;
 
 /// A set of roles, which clauses see as the list of its roles in their order.
-#[derive(Clone, Copy, Debug)]
+#[derive(Clone, Copy)]
 pub struct RoleSet {
     bits: u8,
 }

@@ -7,7 +7,7 @@ use crate::role_set::RoleSet;
 use std::fmt;
 
 /// A set of the static separation of duty of INCITS 359-2012: nobody is authorized for both of its roles.
-#[derive(Clone, Copy, Debug, PartialEq, Eq)]
+#[derive(Clone, Copy, Debug)]
 pub enum SeparationSet {
     S1,
     S2,

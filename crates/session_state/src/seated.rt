@@ -2,7 +2,7 @@ use session_commands::Seat;
 use user_names::Name;
 
 /// A user, and where the user sits.
-#[derive(Clone, Copy, Debug)]
+#[derive(Clone, Copy)]
 pub struct Seated {
     pub name: Name,
     pub seat: Seat,

@@ -4,7 +4,7 @@ use play_record::Play;
 use scoring::Contract;
 
 /// What is to be solved.
-#[derive(Clone, Copy, Debug)]
+#[derive(Clone, Copy)]
 pub enum Work {
     /// The double-dummy table of a board.
     Table {

@@ -3,7 +3,7 @@ ghost use Rattle.std.specs.Prelude.{◌≡◌, ◌≤◌, [], length};
 use std::marker::Model;
 
 /// What each card of a play costs the side that plays it, in tricks: at most 52 numbers, which lie in the value itself.
-#[derive(Clone, Copy, Debug)]
+#[derive(Clone, Copy)]
 pub struct Costs {
     numbers: [u8; 52],
     len: u8,

@@ -8,7 +8,7 @@ use std::marker::Model;
 use table_terms::{Place, Strain};
 
 /// The tricks that each player takes as declarer in one strain.
-#[derive(Clone, Copy, Debug, PartialEq, Eq)]
+#[derive(Clone, Copy)]
 pub struct DeclarerTricks {
     pub north: u8,
     pub east: u8,
@@ -18,7 +18,7 @@ pub struct DeclarerTricks {
 
 /// A deal's double-dummy table: the tricks of each declarer in each strain. Clauses see the deal alone, since the type
 /// keeps that the twenty numbers are the deal's.
-#[derive(Clone, Copy, Debug)]
+#[derive(Clone, Copy)]
 pub struct DdTable {
     deal: Deal,
     spades: DeclarerTricks,

@@ -1,7 +1,7 @@
 use crate::costs::Costs;
 
 /// What is found of a play.
-#[derive(Clone, Copy, Debug)]
+#[derive(Clone, Copy)]
 pub enum PlayAnswer {
     /// What each card costs the side that plays it.
     Costs(Costs),

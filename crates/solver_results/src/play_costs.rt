@@ -8,7 +8,7 @@ use std::marker::Model;
 
 /// What is found of a play, with its deal, its contract and its cards. Clauses see those three alone, since the type
 /// keeps that the answer is theirs.
-#[derive(Clone, Copy, Debug)]
+#[derive(Clone, Copy)]
 pub struct PlayCosts {
     deal: Deal,
     contract: Contract,

@@ -5,7 +5,7 @@ use crate::side::Side;
 use std::fmt;
 
 /// Two partners of a Mitchell movement, by the side that they play and their number in it.
-#[derive(Clone, Copy, Debug, PartialEq, Eq)]
+#[derive(Clone, Copy, PartialEq, Eq)]
 pub struct Pair {
     pub side: Side,
     pub number: u8,

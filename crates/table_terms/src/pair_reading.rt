@@ -10,7 +10,7 @@ use std::str::FromStr;
 use thiserror::Error;
 
 /// A text that names no pair.
-#[derive(Clone, Copy, Debug, PartialEq, Eq, Error)]
+#[derive(Clone, Copy, Debug, Error)]
 #[error("not a pair")]
 pub struct NotAPair;
 

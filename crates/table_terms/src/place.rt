@@ -6,7 +6,7 @@ use crate::side::Side;
 use std::fmt;
 
 /// Where a player sits at the table, clockwise from North (Law 3).
-#[derive(Clone, Copy, Debug, PartialEq, Eq)]
+#[derive(Clone, Copy, PartialEq, Eq)]
 pub enum Place {
     North,
     East,

@@ -4,7 +4,7 @@ ghost use Rattle.table_terms.specs.Side.{other_side, side_text};
 use std::fmt;
 
 /// Two partners at a table (Law 4): North and South, or East and West.
-#[derive(Clone, Copy, Debug, PartialEq, Eq)]
+#[derive(Clone, Copy, PartialEq, Eq)]
 pub enum Side {
     NorthSouth,
     EastWest,

@@ -6,7 +6,7 @@ use crate::suit::Suit;
 use std::fmt;
 
 /// What a contract names beside its level: a suit as trumps, or no trump.
-#[derive(Clone, Copy, Debug, PartialEq, Eq)]
+#[derive(Clone, Copy, PartialEq, Eq)]
 pub enum Strain {
     Spades,
     Hearts,

@@ -5,7 +5,7 @@ ghost use Rattle.table_terms.specs.declared.suit.Suit.{Suit};
 use std::fmt;
 
 /// A suit of the pack (Law 1), in the order in which a hand is written.
-#[derive(Clone, Copy, Debug, PartialEq, Eq)]
+#[derive(Clone, Copy, PartialEq, Eq)]
 pub enum Suit {
     Spades,
     Hearts,

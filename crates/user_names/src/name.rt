@@ -28,7 +28,7 @@ impl Model for Name {
 }
 
 /// A text of more than 32 bytes.
-#[derive(Clone, Copy, Debug, PartialEq, Eq, Error)]
+#[derive(Clone, Copy, Debug, Error)]
 #[error("a name has at most 32 bytes")]
 pub struct NameTooLong;
 

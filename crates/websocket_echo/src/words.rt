@@ -2,7 +2,7 @@ ghost use Rattle.std.specs.Prelude.{IfSome, IfNone, map, string_bytes};
 ghost use Rattle.websocket_echo.specs.Words.{Names, AsksFor};
 
 /// What the program's words ask for.
-#[derive(Clone, Copy)]
+#[derive(Clone, Copy, PartialEq, Eq)]
 pub(crate) struct Words {
     /// The port on 127.0.0.1.
     pub port: u16,
