@@ -59,15 +59,6 @@ run_up p others playable suited free both run card has_others playable_is may su
         ])
 
 -- the cards above one, without the others' from the first on
-pub nobody_between : (others higher both : Cards) (card first top between : Card) →
-    ((other : Card) → set.contains both other ≡ (set.contains others other && set.contains higher other)) →
-    ((other : Card) → set.contains both other ≡ true → number_in_pack first ≤ number_in_pack other) →
-    set.contains others between ≡ true → set.contains higher between ≡ true →
-    number_in_pack top < number_in_pack first →
-    number_in_pack between < number_in_pack top → ⊥
-nobody_between others higher both card first top between is least theirs in_higher below lower =
-    omega (arith, least between (is between ∙ and_from _ _ theirs in_higher))
-
 -- the cards of a suit above one: those between it and the ace, and the ace
 pub higher_above : (card ace : Card) (gap higher : Cards) → ((other : Card) → set.contains gap other
     ≡ (nat_lt (number_in_pack card) (number_in_pack other) && nat_lt (number_in_pack other) (number_in_pack ace))) →

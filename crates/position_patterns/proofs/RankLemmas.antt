@@ -2,7 +2,6 @@
 use Rattle.std.proofs.Common.{◌≡◌, ℕ, ◌+◌, ◌-◌, ◌*◌, ◌^◌, ◌%◌, bit_and, ◌<◌, ◌≤◌, true, false, ◌⊎◌, List, [], ◌∷◌, refl, sym, ap, ◌∙◌, subst, inl, inr, arith, zero, suc, Some, None, add-one, lit<}
 use Rattle.std.proofs.Math.Nat.{pow-suc, mul_comm}
 use Rattle.std.proofs.lemmas.Nat.{one_shl, and_mask}
-use Rattle.std.proofs.Math.Pow.{pow_mono}
 use Rattle.cards.specs.declared.card.Card.{Card}
 use Rattle.table_terms.specs.declared.suit.Suit.{Suit}
 use Rattle.cards.specs.declared.rank.Rank.{Rank}
@@ -160,11 +159,6 @@ so_far_all hands suit k owners lengths e all = (
       ∙ ap lengths_number (held_below-all hands suit k e),
 )
 
--- there is room for one more digit in 32 bits
-pub small_enough : (k owners : ℕ) → k < 13 → owners < 2 ^ (2 * k) → owners < 2 ^ 24
-small_enough k owners less small = let more : 2 ^ (2 * k) ≤ 2 ^ 24 =
-    pow_mono {i = 2 * k} {j = 24} (omega arith) in omega arith
-
 -- the known cards below a height, and how many cards reach down to the lowest of them
 pub record IsReachSoFar (known : Cards) (hands : Hands) (suit : Suit) (k count : ℕ) : Type 0 where
   pub within : k ≤ 13
@@ -277,15 +271,6 @@ tops_more hands suit count tops more rest k rank place some some' e held e' befo
             | inl here ↦ inl (subst (λ c. set.contains more c ≡ true) here (inserted tops more _ e'))
             | inr more' ↦ inr more'
           ]
-    ]
-
-pub tops_done : (hands : Hands) (suit : Suit) (count : ℕ) (tops : Cards) (rest k j : ℕ) → rest ≡ 0 →
-    AreTopsSoFar hands suit count tops rest k → AreTopsSoFar hands suit count tops rest j
-tops_done hands suit count tops rest k j none before card top =
-    elim (before card top) [
-      | inl in' ↦ inl in'
-      | inr later ↦ absurd
-          (subst (λ n. IsTop n (held_below hands suit k) card) none later)
     ]
 
 pub tops_free : (hands : Hands) (suit : Suit) (count : ℕ) (tops : Cards) (rest k : ℕ) (rank : Rank) → 0 < k →

@@ -8,7 +8,7 @@ use Rattle.cards.specs.declared.rank.Rank.{Rank}
 use Rattle.table_terms.specs.declared.place.Place.{Place}
 use Rattle.table_terms.specs.declared.place.Place.TheVariants.{North, East, South, West}
 use Rattle.cards.specs.Rank.{ranks_down}
-use Rattle.cards.specs.Cards.{Cards, AreDisjoint}
+use Rattle.cards.specs.Cards.{Cards}
 use Rattle.cards.specs.Hands.{Hands, IsDeal, hand_of}
 use Rattle.cards.specs.CardBits.{card_cmp_total}
 use Rattle.std.specs.FinSet as set
@@ -106,56 +106,6 @@ left_without whole hands card is =
       part =
           λ place other held. is.part place other (without_had hands card other place held).0;
     }
-
-pub left_apart : (whole hands : Hands) → IsLeftOf whole hands → IsApart hands
-left_apart whole hands is x y card held held' = is.apart x y card (is.part x card held) (is.part y card held')
-
--- two sets with no card in common have no card in common
-none_in_both : (s t : Cards) (card : Card) → AreDisjoint s t → set.contains s card ≡ true →
-    set.contains t card ≡ true → ⊥
-none_in_both s t card apart in_s in_t = true≢false (sym in_t ∙ apart card in_s)
-
-pub all_apart : (hands : Hands) → AreDisjoint hands.north hands.south → AreDisjoint hands.east hands.west →
-    AreDisjoint (set.union hands.north hands.south) (set.union hands.east hands.west) → IsApart hands
-all_apart hands ns ew sides North North card h h' = refl
-all_apart hands ns ew sides East East card h h' = refl
-all_apart hands ns ew sides South South card h h' = refl
-all_apart hands ns ew sides West West card h h' = refl
-all_apart hands ns ew sides North South card h h' = absurd (none_in_both _ _ card ns h h')
-all_apart hands ns ew sides South North card h h' = absurd (none_in_both _ _ card ns h' h)
-all_apart hands ns ew sides East West card h h' = absurd (none_in_both _ _ card ew h h')
-all_apart hands ns ew sides West East card h h' = absurd (none_in_both _ _ card ew h' h)
-all_apart hands ns ew sides North East card h h' =
-    absurd (none_in_both _ _ card sides (in_left hands.north hands.south card h)
-    (in_left hands.east hands.west card h'))
-all_apart hands ns ew sides North West card h h' =
-    absurd (none_in_both _ _ card sides (in_left hands.north hands.south card h)
-    (in_right hands.east hands.west card h'))
-all_apart hands ns ew sides South East card h h' =
-    absurd (none_in_both _ _ card sides (in_right hands.north hands.south card h)
-    (in_left hands.east hands.west card h'))
-all_apart hands ns ew sides South West card h h' =
-    absurd (none_in_both _ _ card sides (in_right hands.north hands.south card h)
-    (in_right hands.east hands.west card h'))
-all_apart hands ns ew sides East North card h h' =
-    absurd (none_in_both _ _ card sides (in_left hands.north hands.south card h')
-    (in_left hands.east hands.west card h))
-all_apart hands ns ew sides West North card h h' =
-    absurd (none_in_both _ _ card sides (in_left hands.north hands.south card h')
-    (in_right hands.east hands.west card h))
-all_apart hands ns ew sides East South card h h' =
-    absurd (none_in_both _ _ card sides (in_right hands.north hands.south card h')
-    (in_left hands.east hands.west card h))
-all_apart hands ns ew sides West South card h h' =
-    absurd (none_in_both _ _ card sides (in_right hands.north hands.south card h')
-    (in_right hands.east hands.west card h))
-
-pub both_sides_apart : (hands : Hands) (s t : Cards) → s ≡ set.union hands.north hands.south →
-    t ≡ set.union hands.east hands.west →
-    AreDisjoint hands.north hands.south → AreDisjoint hands.east hands.west → AreDisjoint s t → IsApart hands
-both_sides_apart hands s t e e' ns ew sides =
-    all_apart hands ns ew (λ card in_s. ap (λ u. set.contains u card) (sym e')
-    ∙ sides card (ap (λ u. set.contains u card) e ∙ in_s))
 
 -- each player's cards among some, hand by hand
 pub among_of : (whole part : Hands) (cards : Cards) →

@@ -93,18 +93,6 @@ impl Holders {
         SuitPattern { owners, lengths }
     }
 
-    /// The patterns of the four suits.
-    pub fn pattern(&self) -> Pattern
-        ensures { (suit : Suit) → IsPatternOf (pattern_of result suit) (holding self.now suit) }
-    {
-        Pattern {
-            spades: self.suit_pattern(Suit::Spades),
-            hearts: self.suit_pattern(Suit::Hearts),
-            diamonds: self.suit_pattern(Suit::Diamonds),
-            clubs: self.suit_pattern(Suit::Clubs),
-        }
-    }
-
     /// How many of the suit's cards, from the top, there are down to the lowest known one.
     pub fn reach(&self, suit: Suit, known: Hand) -> u8
         ensures reach { IsReach known (holding self.now suit) result }
