@@ -1,5 +1,5 @@
 use crate::pattern::Entry;
-use crate::sketch::{Block, NONE, Slot};
+use crate::sketch::{Block, NONE, SLOTS, Slot};
 use std::alloc::{AllocError, Global};
 use table_terms::{Place, Strain};
 
@@ -58,14 +58,14 @@ impl Chains {
     pub fn to_front(&mut self, front: u32, at: u32, slot: usize) {
         let first = front as usize;
         let place = at as usize;
-        if first < self.blocks.len() && place < self.blocks.len() {
-            let passed = self.blocks[first].slots[0];
-            let served = self.blocks[place].put(slot, passed);
+        if first < self.blocks.len() && place < self.blocks.len() && slot < SLOTS {
+            let served = self.blocks[place].slots[slot];
+            self.blocks[place].slots[slot] = self.blocks[first].slots[0];
             self.blocks[first].slots[0] = served;
         }
     }
 
-    /// Puts an entry first in its chain: into the first block, or into a new one before it.
+    /// Puts an entry first in its chain: into the first block, or into a new one before it, if that finds room.
     pub fn link(&mut self, place: usize, entry: &Entry) {
         if place >= NONE as usize {
             return;
@@ -73,20 +73,12 @@ impl Chains {
         let slot = Slot::of(entry, place as u32);
         let chain = self.chain(entry.lengths(), entry.leader, entry.strain);
         let front = self.head(chain);
-        if !self.fill(front, slot) {
-            self.lengthen(chain, Block::new(front, slot));
+        let first = front as usize;
+        if first < self.blocks.len() && self.blocks[first].fill(slot) {
+            return;
         }
-    }
-
-    /// Puts a slot first into a block where one is free.
-    fn fill(&mut self, at: u32, slot: Slot) -> bool {
-        let place = at as usize;
-        place < self.blocks.len() && self.blocks[place].fill(slot)
-    }
-
-    /// Puts a block before a chain's others, if it finds room.
-    fn lengthen(&mut self, chain: usize, block: Block) {
         let at = self.blocks.len();
+        let block = Block::new(front, slot);
         if chain < self.heads.len() && at < NONE as usize && self.blocks.push(block).is_ok() {
             self.heads[chain] = at as u32;
         }

@@ -186,22 +186,17 @@ impl Memory {
 /// From how many tricks on there is room for the answers.
 fn least_kept(entries: &[Entry], room: usize) -> u8 {
     for least in 3..14 {
-        if how_many(entries, least) <= room {
+        let mut found: usize = 0;
+        for entry in entries {
+            if entry.tricks >= least {
+                found = found.wrapping_add(1);
+            }
+        }
+        if found <= room {
             return least;
         }
     }
     14
-}
-
-/// How many entries are of so many tricks and more.
-fn how_many(entries: &[Entry], least: u8) -> usize {
-    let mut found: usize = 0;
-    for entry in entries {
-        if entry.tricks >= least {
-            found = found.wrapping_add(1);
-        }
-    }
-    found
 }
 
 /// Keeps the entries of so many tricks and more.

@@ -1,7 +1,7 @@
 use crate::pattern::{Entry, Pattern, SuitTops};
 
 // How many slots a block has: with the next block's number they fill a line of a processor's cache.
-const SLOTS: usize = 5;
+pub const SLOTS: usize = 5;
 
 // What a slot without an entry points at, and what ends a chain.
 pub const NONE: u32 = u32::MAX;
@@ -38,14 +38,6 @@ impl Slot {
             mask,
             holders,
             entry: place,
-        }
-    }
-
-    fn free() -> Slot {
-        Slot {
-            mask: 0,
-            holders: 1,
-            entry: NONE,
         }
     }
 
@@ -101,21 +93,15 @@ impl Pattern {
 impl Block {
     /// A block with one slot.
     pub fn new(next: u32, first: Slot) -> Block {
-        let free = Slot::free();
+        let free = Slot {
+            mask: 0,
+            holders: 1,
+            entry: NONE,
+        };
         Block {
             next,
             slots: [first, free, free, free, free],
         }
-    }
-
-    /// Writes the slot of this number, if there is one, and gives what stood there.
-    pub fn put(&mut self, slot: usize, written: Slot) -> Slot {
-        if slot >= SLOTS {
-            return written;
-        }
-        let old = self.slots[slot];
-        self.slots[slot] = written;
-        old
     }
 
     /// Puts a slot first, where one is free.
