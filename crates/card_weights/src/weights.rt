@@ -102,12 +102,10 @@ impl Weights {
             + 2 * length(self.partner, suit)
             + length(self.left, suit)
             + 7 * length(self.right, suit);
-        if self.is_trump(suit) {
-            base - 13
-        } else if held == 1 && self.ruffs(self.mine.difference(self.mine.of_suit(suit)), suit) {
-            base + 10
-        } else {
-            base
+        match self.trump {
+            Some(trump) if trump == suit => base - 13,
+            Some(trump) if held == 1 && length(self.mine, trump) > 0 => base + 10,
+            _ => base,
         }
     }
 
@@ -200,9 +198,7 @@ impl Weights {
     /// Whether the hand can trump this suit.
     fn ruffs(&self, hand: Hand, suit: Suit) -> bool {
         match self.trump {
-            Some(trump) => trump != suit
-                && hand.of_suit(suit).is_empty()
-                && !hand.of_suit(trump).is_empty(),
+            Some(trump) => length(hand, suit) == 0 && length(hand, trump) > 0,
             None => false,
         }
     }
@@ -245,9 +241,9 @@ fn has(hand: Hand, card: Option<Card>) -> bool {
 
 /// How many cards a hand has of a suit.
 fn length(hand: Hand, suit: Suit) -> u16
-    ensures { result ≤ 13 }
+    ensures { result ≤ 52 }
 {
-    hand.of_suit(suit).len().min(13) as u16
+    hand.of_suit(suit).len() as u16
 }
 
 /// The last card of a set in the order of the pack: of one suit's cards the highest.
