@@ -1,12 +1,8 @@
-use thiserror::Error;
-
 /// Why a position or a deal was not solved.
-#[derive(Clone, Copy, Debug, Error)]
+#[derive(Clone, Copy)]
 pub enum SolveError {
     /// The visits of the budget are spent.
-    #[error("out of budget")]
     OutOfBudget,
     /// What the search remembers found no memory.
-    #[error("out of memory")]
     OutOfMemory,
 }
