@@ -1,6 +1,6 @@
 //! A client of the server, whose bytes are those of RFC 6455.
 
-use std::alloc::{AllocError, Global};
+use std::alloc::Global;
 use std::io::{self, Read, Write};
 use std::net::{Ipv4Addr, Net, OpenListener, SocketAddr, TcpListener, TcpStream};
 use std::thread;
@@ -45,105 +45,63 @@ pub fn free_port<R: Net>(rt: &R) -> io::Result<u16> {
     Ok(listener.local_addr()?.port())
 }
 
-/// A stream to the server, which may still have to open its session.
-fn stream_to<R: Net + Clock>(rt: &R, port: u16) -> io::Result<R::Stream> {
+/// Whether the server, which may still have to open its session, answers a client so.
+pub fn is_served<R: Net + Clock>(rt: &R, alloc: Global, port: u16, client: &Client) -> bool {
     for _ in 0..1000 {
-        if let Ok(stream) = TcpStream::connect(rt, (Ipv4Addr::LOCALHOST, port)) {
-            return Ok(stream);
+        if let Ok(mut stream) = TcpStream::connect(rt, (Ipv4Addr::LOCALHOST, port)) {
+            return is_answered(&mut stream, alloc, client).unwrap_or(false);
         }
         thread::sleep(rt, Duration::from_millis(10));
     }
-    TcpStream::connect(rt, (Ipv4Addr::LOCALHOST, port))
-}
-
-/// Whether the server answers a client so.
-pub fn is_served<R: Net + Clock>(rt: &R, alloc: Global, port: u16, client: &Client) -> bool {
-    match stream_to(rt, port) {
-        Ok(mut stream) => is_answered(&mut stream, alloc, client),
-        Err(_) => false,
-    }
+    false
 }
 
 /// Whether a client is answered so over its stream.
-fn is_answered<S: Read + Write>(stream: &mut S, alloc: Global, client: &Client) -> bool {
-    stream.write_all(client.handshake).is_ok()
-        && (client.accepted.is_empty() || accepts(stream, alloc, client.accepted))
-        && hears_all(stream, alloc, client.frames)
-        && stream.write_all(client.last).is_ok()
-}
-
-/// Whether the head of an answer has all these parts.
-fn accepts<S: Read>(stream: &mut S, alloc: Global, parts: &[&str]) -> bool {
-    let Ok(head) = head_of(stream, alloc) else {
-        return false;
-    };
-    match str::from_utf8(head.as_slice()) {
-        Ok(text) => has_all(text, parts),
-        Err(_) => false,
+fn is_answered<S: Read + Write>(
+    stream: &mut S,
+    alloc: Global,
+    client: &Client,
+) -> io::Result<bool> {
+    stream.write_all(client.handshake)?;
+    let mut is_so = client.accepted.is_empty() || accepts(stream, alloc, client.accepted)?;
+    for (sent, heard) in client.frames {
+        is_so = is_so && has_answer(stream, alloc, sent, heard)?;
     }
+    stream.write_all(client.last)?;
+    Ok(is_so)
 }
 
-/// Whether the text has all these parts.
-fn has_all(text: &str, parts: &[&str]) -> bool {
-    for part in parts {
-        if !text.contains(*part) {
-            return false;
-        }
-    }
-    true
-}
-
-/// The head of an answer, in small letters: what comes up to an empty line.
-fn head_of<S: Read>(stream: &mut S, alloc: Global) -> Result<Vec<u8>, AllocError> {
-    let mut head = Vec::new(alloc);
+/// Whether the head of an answer, which is what comes up to an empty line, has all these parts in small letters.
+fn accepts<S: Read>(stream: &mut S, alloc: Global, parts: &[&str]) -> io::Result<bool> {
+    let mut head = String::new(alloc);
     let mut byte = [0u8];
     for _ in 0..1000 {
-        if head.ends_with(b"\r\n\r\n") || stream.read_exact(&mut byte).is_err() {
+        if head.ends_with("\r\n\r\n") || stream.read_exact(&mut byte).is_err() {
             break;
         }
-        head.push(byte[0].to_ascii_lowercase())?;
+        head.push(char::from(byte[0].to_ascii_lowercase()))?;
     }
-    Ok(head)
+    let mut has_all = true;
+    for part in parts {
+        has_all = has_all && head.contains(*part);
+    }
+    Ok(has_all)
 }
 
-/// Whether each frame has its answer.
-fn hears_all<S: Read + Write>(stream: &mut S, alloc: Global, frames: &[(Frame, Frame)]) -> bool {
-    for (sent, heard) in frames {
-        if !has_answer(stream, alloc, sent, heard) {
-            return false;
-        }
-    }
-    true
-}
-
-/// Whether the frame that is sent has this answer.
+/// Whether the frame that is sent, masked by bytes that are all five, has this answer: a test's masking key is no secret.
 fn has_answer<S: Read + Write>(
     stream: &mut S,
     alloc: Global,
-    sent: &Frame,
-    (first, text): &Frame,
-) -> bool {
-    let Ok(frame) = masked(alloc, sent) else {
-        return false;
-    };
-    stream.write_all(frame.as_slice()).is_ok()
-        && hears(stream, &[*first, length_of(text)])
-        && hears(stream, text.as_bytes())
-}
-
-/// The length of a frame's text.
-fn length_of(text: &str) -> u8 {
-    u8::try_from(text.len()).unwrap_or(0)
-}
-
-/// A client's frame, masked by bytes that are all five: a test's masking key is no secret.
-fn masked(alloc: Global, (first, text): &Frame) -> Result<Vec<u8>, AllocError> {
+    (opening, sent): &Frame,
+    (first, heard): &Frame,
+) -> io::Result<bool> {
     let mut frame = Vec::new(alloc);
-    frame.extend_from_slice(&[*first, 0x80 | length_of(text), 5, 5, 5, 5])?;
-    for byte in text.as_bytes() {
+    frame.extend_from_slice(&[*opening, 0x80 | (sent.len() % 126) as u8, 5, 5, 5, 5])?;
+    for byte in sent.as_bytes() {
         frame.push(*byte ^ 5)?;
     }
-    Ok(frame)
+    stream.write_all(frame.as_slice())?;
+    Ok(hears(stream, &[*first, (heard.len() % 126) as u8]) && hears(stream, heard.as_bytes()))
 }
 
 /// Whether these bytes come next.
