@@ -5,27 +5,7 @@ use std::alloc::{AllocError, Global};
 use std::io;
 use std::io::{ErrorKind, Read, Write};
 use std::test::Fail;
-
-/// A reader of these bytes that fails once, after so many of them, and then goes on.
-#[derive(Drop)]
-struct FailsOnce<'b> {
-    bytes: &'b [u8],
-    good: usize,
-    fault: Option<ErrorKind>,
-}
-
-impl Read for FailsOnce<'_> {
-    fn read(&mut self, buf: &mut [u8]) -> io::Result<usize> {
-        if self.good == 0 {
-            if let Some(kind) = self.fault.take() {
-                return Err(io::Error::from(kind));
-            }
-        }
-        let count = self.bytes.read(buf)?;
-        self.good = self.good.saturating_sub(count);
-        Ok(count)
-    }
-}
+use test_devices::FailingReader;
 
 /// A writer that takes at most so many bytes a call. After so many bytes in all it fails once, or takes nothing once where
 /// it has no fault, and then goes on.
@@ -35,24 +15,18 @@ struct StopsOnce {
     room: usize,
     at_once: usize,
     fault: Option<ErrorKind>,
-    has_stopped: bool,
 }
 
 impl Write for StopsOnce {
     fn write(&mut self, buf: &[u8]) -> io::Result<usize> {
-        if self.room == 0 && !self.has_stopped {
-            self.has_stopped = true;
+        if self.room == 0 {
+            self.room = usize::MAX;
             return match self.fault {
                 Some(kind) => Err(io::Error::from(kind)),
                 None => Ok(0),
             };
         }
-        let most = if self.has_stopped {
-            self.at_once
-        } else {
-            self.at_once.min(self.room)
-        };
-        let count = most.min(buf.len());
+        let count = buf.len().min(self.room).min(self.at_once);
         self.held.extend_from_slice(&buf[..count])?;
         self.room = self.room.saturating_sub(count);
         Ok(count)
@@ -84,15 +58,18 @@ static LINES: [(&[u8], LineEnd); 6] = [
     (b"", LineEnd::EndOfInput),
 ];
 
-fn reads_each(line: &mut Vec<u8>) -> bool {
-    let mut input: &[u8] = b"a,b\n\r\nc\r\r\n\nlast\r";
-    let mut left = 16;
-    for (text, end) in &LINES {
-        if !reads(&mut input, line, 5, &mut left, Ok(*end), text) {
-            return false;
-        }
-    }
-    left == 0
+/// Whether a text is read as one line, which ends so and of which this is kept. So many bytes more could be read.
+fn keeps(
+    line: &mut Vec<u8>,
+    text: &[u8],
+    most: usize,
+    spare: usize,
+    end: LineEnd,
+    kept: &[u8],
+) -> bool {
+    let mut input = text;
+    let mut left = text.len().saturating_add(spare);
+    reads(&mut input, line, most, &mut left, Ok(end), kept) && left == spare
 }
 
 /// Every byte value but LF (10) from 0 on, again and again.
@@ -109,98 +86,75 @@ fn long_text(alloc: Global, count: usize) -> Result<Vec<u8>, AllocError> {
     Ok(text)
 }
 
-/// Whether a text of one line is read to its end, and so many of its bytes are kept. One byte more than it has could be read.
-fn keeps(line: &mut Vec<u8>, text: &[u8], most: usize, kept: usize) -> bool {
-    let mut input = text;
-    let mut left = 100_001;
-    let read = read_line(&mut input, line, most, &mut left);
-    read == Ok(LineEnd::EndOfInput)
-        && left == 1
-        && line.len() == kept
-        && text.starts_with(line.as_slice())
-}
-
 /// Lines about the two bytes that are wanted, and what is kept of each: one CR before an LF is none of theirs, and any
 /// other is.
-static ABOUT_TWO: [(&[u8], &[u8]); 12] = [
-    (b"ab\n", b"ab"),
-    (b"ab\r\n", b"ab"),
-    (b"ab\r\r\n", b"ab\r"),
-    (b"abc\n", b"abc"),
-    (b"abc\r\n", b"abc"),
-    (b"abcd\n", b"abc"),
-    (b"abcd\r\n", b"abc"),
-    (b"abcdefgh\n", b"abc"),
-    (b"ab\rdefg\n", b"ab\r"),
-    (b"ab\r", b"ab\r"),
-    (b"abc\r", b"abc"),
-    (b"abcdefgh", b"abc"),
+static ABOUT_TWO: [(&[u8], LineEnd, &[u8]); 12] = [
+    (b"ab\n", LineEnd::LineFeed, b"ab"),
+    (b"ab\r\n", LineEnd::LineFeed, b"ab"),
+    (b"ab\r\r\n", LineEnd::LineFeed, b"ab\r"),
+    (b"abc\n", LineEnd::LineFeed, b"abc"),
+    (b"abc\r\n", LineEnd::LineFeed, b"abc"),
+    (b"abcd\n", LineEnd::LineFeed, b"abc"),
+    (b"abcd\r\n", LineEnd::LineFeed, b"abc"),
+    (b"abcdefgh\n", LineEnd::LineFeed, b"abc"),
+    (b"ab\rdefg\n", LineEnd::LineFeed, b"ab\r"),
+    (b"ab\r", LineEnd::EndOfInput, b"ab\r"),
+    (b"abc\r", LineEnd::EndOfInput, b"abc"),
+    (b"abcdefgh", LineEnd::EndOfInput, b"abc"),
 ];
-
-/// Whether a line of which two bytes are wanted is read whole, and this is kept.
-fn keeps_of_two(line: &mut Vec<u8>, text: &[u8], kept: &[u8]) -> bool {
-    let mut input = text;
-    let mut left = text.len();
-    read_line(&mut input, line, 2, &mut left).is_ok() && line.as_slice() == kept && left == 0
-}
-
-fn keeps_each_of_two(line: &mut Vec<u8>) -> bool {
-    for (text, kept) in &ABOUT_TWO {
-        if !keeps_of_two(line, text, kept) {
-            return false;
-        }
-    }
-    true
-}
-
-/// Whether the fourth byte of an input that may have three is a fault, and no want of memory.
-fn is_over_the_limit(line: &mut Vec<u8>) -> bool {
-    let mut input: &[u8] = b"a\nbc";
-    let mut left = 3;
-    read_line(&mut input, line, 1, &mut left) == Ok(LineEnd::LineFeed)
-        && read_line(&mut input, line, 1, &mut left) == Err(ReadFault::Input)
-}
-
-/// Whether a read of "abc" and an LF that fails after its first bytes keeps them, and the next call goes on after them.
-fn goes_on(line: &mut Vec<u8>, before: &[u8], after: &[u8]) -> bool {
-    let mut reader = FailsOnce {
-        bytes: b"abc\n",
-        good: before.len(),
-        fault: Some(ErrorKind::Interrupted),
-    };
-    let mut left = 100;
-    let fault = Err(ReadFault::Input);
-    let end = Ok(LineEnd::LineFeed);
-    reads(&mut reader, line, 3, &mut left, fault, before)
-        && reads(&mut reader, line, 3, &mut left, end, after)
-}
 
 /// What is read before the fault, and after it.
 static CUTS: [(&[u8], &[u8]); 4] = [(b"", b"abc"), (b"a", b"bc"), (b"ab", b"c"), (b"abc", b"")];
 
-fn goes_on_at_each(line: &mut Vec<u8>) -> bool {
-    for (before, after) in &CUTS {
-        if !goes_on(line, before, after) {
-            return false;
-        }
-    }
-    true
-}
-
 /// A text of 100,000 bytes, in which every byte value but LF stands, is kept whole where so many bytes are wanted; of 65,536
-/// that are, one more is kept and shows that there are more.
+/// that are, one more is kept and shows that there are more. One byte more than it has could be read.
 #[test]
-fn reads_lines_and_their_faults(rt: HostRuntime) -> Result<(), Fail> {
-    let text = long_text(rt.alloc(), 100_000)?;
+fn reads_lines(rt: HostRuntime) -> Result<(), Fail> {
     let mut line = Vec::new(rt.alloc());
-    assert!(rt; reads_each(&mut line));
-    assert!(rt; keeps(&mut line, &text, 100_000, 100_000));
-    assert!(rt; keeps(&mut line, &text, 65_536, 65_537));
-    assert!(rt; keeps_each_of_two(&mut line));
-    assert!(rt; is_over_the_limit(&mut line));
-    assert!(rt; goes_on_at_each(&mut line));
+    let mut input: &[u8] = b"a,b\n\r\nc\r\r\n\nlast\r";
+    let mut left = 16;
+    for (text, end) in &LINES {
+        assert!(rt; reads(&mut input, &mut line, 5, &mut left, Ok(*end), text));
+    }
+    assert!(rt; left == 0);
+    for (text, end, kept) in &ABOUT_TWO {
+        assert!(rt; keeps(&mut line, text, 2, 0, *end, kept));
+    }
+    let text = long_text(rt.alloc(), 100_000)?;
+    let most_of_it = text.get(..65_537).unwrap_or(&[]);
+    assert!(rt; keeps(&mut line, &text, 100_000, 1, LineEnd::EndOfInput, &text));
+    assert!(rt; keeps(&mut line, &text, 65_536, 1, LineEnd::EndOfInput, most_of_it));
     Ok(())
 }
+
+/// The fourth byte of an input that may have three is a fault, and no want of memory. A read of "abc" and an LF that fails
+/// after its first bytes keeps them, and the next call goes on after them.
+#[test]
+fn goes_on_after_faults(rt: HostRuntime) {
+    let mut line = Vec::new(rt.alloc());
+    let mut input: &[u8] = b"a\nbc";
+    let mut left = 3;
+    let end = Ok(LineEnd::LineFeed);
+    let fault = Err(ReadFault::Input);
+    assert!(rt; read_line(&mut input, &mut line, 1, &mut left) == end);
+    assert!(rt; read_line(&mut input, &mut line, 1, &mut left) == fault);
+    for (before, after) in &CUTS {
+        let mut reader = FailingReader {
+            bytes: b"abc\n",
+            good: before.len(),
+        };
+        let mut left = 100;
+        assert!(rt; reads(&mut reader, &mut line, 3, &mut left, fault, before));
+        assert!(rt; reads(&mut reader, &mut line, 3, &mut left, end, after));
+    }
+}
+
+/// How the writer stops.
+static FAULTS: [Option<ErrorKind>; 3] = [
+    Some(ErrorKind::Interrupted),
+    Some(ErrorKind::WouldBlock),
+    None,
+];
 
 /// Whether a text is written whole where there is room for it, and as far as there is room where not; and whether the
 /// writer goes on after that.
@@ -213,33 +167,20 @@ fn writes(mut writer: StopsOnce, text: &[u8]) -> bool {
         && write_text(&mut writer, b"").is_ok()
 }
 
-/// Whether it is so where the writer stops after none of the bytes, after one, and so on past the last.
-fn writes_to_each(alloc: Global, at_once: usize, fault: Option<ErrorKind>) -> bool {
-    for room in 0..20 {
-        let writer = StopsOnce {
-            held: Vec::new(alloc),
-            room,
-            at_once,
-            fault,
-            has_stopped: false,
-        };
-        if !writes(writer, b"a line of text\n") {
-            return false;
-        }
-    }
-    true
-}
-
-/// Whether it is so of each fault.
-fn stops_at_each(alloc: Global, at_once: usize) -> bool {
-    writes_to_each(alloc, at_once, Some(ErrorKind::Interrupted))
-        && writes_to_each(alloc, at_once, Some(ErrorKind::WouldBlock))
-        && writes_to_each(alloc, at_once, None)
-}
-
+/// The writer stops after none of the bytes, after one, and so on past the last.
 #[test]
 fn a_write_that_stops_once_is_a_fault(rt: HostRuntime) {
-    assert!(rt; stops_at_each(rt.alloc(), 1));
-    assert!(rt; stops_at_each(rt.alloc(), 2));
-    assert!(rt; stops_at_each(rt.alloc(), 3));
+    for at_once in 1..4 {
+        for fault in &FAULTS {
+            for room in 0..20 {
+                let writer = StopsOnce {
+                    held: Vec::new(rt.alloc()),
+                    room,
+                    at_once,
+                    fault: *fault,
+                };
+                assert!(rt; writes(writer, b"a line of text\n"));
+            }
+        }
+    }
 }
