@@ -5,7 +5,7 @@ mod passing;
 mod pooling;
 mod solving;
 
-use cards::Deal;
+use cards::{Deal, DealTextError};
 use crossbeam_channel::{Receiver, Sender, unbounded};
 use solver_pool::{Done, Found, Job, OpenGate, Pool, Work, run_worker};
 use std::alloc::{AllocError, Global};
@@ -17,11 +17,9 @@ const SUITS_FROM_EAST: &str =
     "E:AKQJT98765432... .AKQJT98765432.. ..AKQJT98765432. ...AKQJT98765432";
 
 /// The table of a board whose deal is written so.
-fn table_work(board: u8, deal: &str) -> Option<Work> {
-    match deal.parse::<Deal>() {
-        Ok(deal) => Some(Work::Table { board, deal }),
-        Err(_) => None,
-    }
+fn table_work(board: u8, deal: &str) -> Result<Work, DealTextError> {
+    let deal = deal.parse::<Deal>()?;
+    Ok(Work::Table { board, deal })
 }
 
 /// The job of this work.

@@ -45,17 +45,6 @@ impl<R: Clock> Gate for HoldsFirst<'_, R> {
     }
 }
 
-/// Whether the pool gives the jobs of two boards, which are sent to workers.
-fn gives_two(rt: &impl Wait, pool: &mut Pool, to_workers: &Sender<Job>) -> bool {
-    let Some(first) = table_work(1, SUITS) else {
-        return false;
-    };
-    let Some(second) = table_work(2, SUITS_FROM_EAST) else {
-        return false;
-    };
-    gives(rt, pool, to_workers, 1, &first) && gives(rt, pool, to_workers, 2, &second)
-}
-
 /// Whether the second job is done while the first waits, where there are two workers. Each has a visit for a job.
 fn second_is_first<R: Threads + Wait + Clock + Sync>(
     rt: &R,
@@ -68,42 +57,30 @@ fn second_is_first<R: Threads + Wait + Clock + Sync>(
         second_is_done: AtomicBool::new(false),
         first_saw_it: AtomicBool::new(false),
     };
-    thread::join(
-        rt,
-        || run_worker(rt, alloc, &gate, jobs, from_workers, 1),
-        || run_worker(rt, alloc, &gate, jobs, from_workers, 1),
-    );
+    let work = || run_worker(rt, alloc, &gate, jobs, from_workers, 1);
+    thread::join(rt, work, work);
     gate.first_saw_it.load(Ordering::SeqCst)
 }
 
-/// Whether it is, and the pool takes both results.
-fn work_beside<R: Threads + Wait + Clock + Sync>(
-    rt: &R,
-    alloc: Global,
-    pool: &mut Pool,
-    jobs: &Receiver<Job>,
-) -> bool {
-    let Ok((from_workers, results)) = unbounded::<Done, Global>(alloc) else {
-        return false;
-    };
-    let overtaken = second_is_first(rt, alloc, jobs, &from_workers);
-    drop(from_workers);
-    overtaken && take_unsolved(rt, pool, &results) == (2, true)
-}
-
-/// Whether they do so of two jobs that the pool gives.
-fn answer_beside<R: Threads + Wait + Clock + Sync>(rt: &R, alloc: Global, pool: &mut Pool) -> bool {
-    let Ok((to_workers, jobs)) = unbounded::<Job, Global>(alloc) else {
-        return false;
-    };
-    let given = gives_two(rt, pool, &to_workers);
-    drop(to_workers);
-    given && work_beside(rt, alloc, pool, &jobs)
-}
-
+/// The pool takes both results.
 #[test]
 fn the_second_job_is_done_while_the_first_waits(rt: HostRuntime) -> Result<(), Fail> {
     let mut pool = Pool::new(rt.alloc())?;
-    assert!(rt; answer_beside(&rt, rt.alloc(), &mut pool));
+    let (to_workers, jobs) = unbounded::<Job, Global>(rt.alloc())?;
+    assert!(rt; gives(&rt, &mut pool, &to_workers, 1, &table_work(1, SUITS)?));
+    assert!(rt;
+        gives(
+            &rt,
+            &mut pool,
+            &to_workers,
+            2,
+            &table_work(2, SUITS_FROM_EAST)?
+        )
+    );
+    drop(to_workers);
+    let (from_workers, results) = unbounded::<Done, Global>(rt.alloc())?;
+    assert!(rt; second_is_first(&rt, rt.alloc(), &jobs, &from_workers));
+    drop(from_workers);
+    assert!(rt; take_unsolved(&rt, &mut pool, &results) == (2, true));
     Ok(())
 }

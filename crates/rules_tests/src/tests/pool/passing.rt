@@ -3,7 +3,7 @@
 use super::{SUITS, is_given, job_of, table_work, take_unsolved};
 use crossbeam_channel::{Receiver, Sender, unbounded};
 use solver_pool::{Done, Gate, Job, Pool, Work, run_worker};
-use std::alloc::Global;
+use std::alloc::{AllocError, Global};
 use std::sync::Wait;
 use std::sync::atomic::{AtomicBool, AtomicU32, Ordering};
 use std::test::Fail;
@@ -55,10 +55,8 @@ fn works_in_turn<R: Threads + Wait + Clock + Sync>(
     from_worker: &Sender<Done>,
     results: &Receiver<Done>,
     work: &Work,
-) -> bool {
-    let Ok((to_worker, jobs)) = unbounded::<Job, Global>(alloc) else {
-        return false;
-    };
+) -> Result<bool, AllocError> {
+    let (to_worker, jobs) = unbounded::<Job, Global>(alloc)?;
     let gate = InTurn {
         results,
         calls: AtomicU32::new(0),
@@ -69,32 +67,18 @@ fn works_in_turn<R: Threads + Wait + Clock + Sync>(
         || send_slowly(rt, to_worker, work),
         || run_worker(rt, alloc, &gate, &jobs, from_worker, 0),
     );
-    gate.calls.load(Ordering::SeqCst) == 4 && !gate.out_of_turn.load(Ordering::SeqCst)
+    Ok(gate.calls.load(Ordering::SeqCst) == 4 && !gate.out_of_turn.load(Ordering::SeqCst))
 }
 
-/// Whether a worker without visits works so, and the pool takes the results of both jobs that it gave.
-fn answers_in_turn<R: Threads + Wait + Clock + Sync>(
-    rt: &R,
-    alloc: Global,
-    pool: &mut Pool,
-) -> bool {
-    let Some(work) = table_work(1, SUITS) else {
-        return false;
-    };
-    if !is_given(pool, 1, &work) || !is_given(pool, 2, &work) {
-        return false;
-    }
-    let Ok((from_worker, results)) = unbounded::<Done, Global>(alloc) else {
-        return false;
-    };
-    let in_turn = works_in_turn(rt, alloc, &from_worker, &results, &work);
-    drop(from_worker);
-    in_turn && take_unsolved(rt, pool, &results) == (2, true)
-}
-
+/// The worker has no visits, and the pool takes the results of both jobs that it gave.
 #[test]
 fn each_job_passes_the_gate_and_is_told_before_it_is_sent(rt: HostRuntime) -> Result<(), Fail> {
     let mut pool = Pool::new(rt.alloc())?;
-    assert!(rt; answers_in_turn(&rt, rt.alloc(), &mut pool));
+    let work = table_work(1, SUITS)?;
+    assert!(rt; is_given(&mut pool, 1, &work) && is_given(&mut pool, 2, &work));
+    let (from_worker, results) = unbounded::<Done, Global>(rt.alloc())?;
+    assert!(rt; works_in_turn(&rt, rt.alloc(), &from_worker, &results, &work)?);
+    drop(from_worker);
+    assert!(rt; take_unsolved(&rt, &mut pool, &results) == (2, true));
     Ok(())
 }

@@ -1,70 +1,60 @@
 //! What a worker finds.
 
 use super::{SUITS, gives, results_of, table_work, take_unsolved};
-use cards::{Card, Deal, Position};
-use crossbeam_channel::{Receiver, Sender, unbounded};
-use double_dummy::{Budget, DdTable, PlayAnswer, SolveError, solve};
+use cards::{Deal, Position};
+use crossbeam_channel::{Sender, unbounded};
+use double_dummy::{Budget, PlayAnswer, SolveError, solve};
 use movement::Cell;
 use play_record::Play;
 use scoring::{Contract, Doubling, Level};
-use solver_pool::{Done, Found, Job, Pool, Work, solve_job};
+use solver_pool::{Found, Job, Pool, Work, solve_job};
 use std::alloc::Global;
 use std::sync::Wait;
 use table_terms::{Place, Strain};
 
-/// One no trump by North.
-fn one_no_trump() -> Option<Contract> {
-    Some(Contract {
-        level: Level::new(1)?,
-        strain: Strain::NoTrump,
-        declarer: Place::North,
-        doubling: Doubling::Undoubled,
-    })
-}
-
-fn card(text: &str) -> Option<Card> {
-    text.parse().ok()
-}
-
 /// A trick with this second card.
 fn trick(second: &str) -> Option<Play> {
-    let cards = [card("S2")?, card(second)?, card("C2")?, card("SA")?];
+    let cards = [
+        "S2".parse().ok()?,
+        second.parse().ok()?,
+        "C2".parse().ok()?,
+        "SA".parse().ok()?,
+    ];
     Play::new(&cards)
 }
 
 /// North's two of spades and East's two of hearts have changed hands.
 const CHANGED: &str = "N:AKQJT9876543.2.. 2.AKQJT9876543.. ..AKQJT98765432. ...AKQJT98765432";
 
-/// The costs of a trick with this second card, of that deal.
+/// The costs of a trick with this second card, of that deal in one no trump by North.
 fn costs_work(second: &str) -> Option<Work> {
-    let deal = CHANGED.parse::<Deal>().ok()?;
-    let contract = one_no_trump()?;
-    let play = trick(second)?;
-    let cell = Cell { table: 1, board: 2 };
+    let contract = Contract {
+        level: Level::new(1)?,
+        strain: Strain::NoTrump,
+        declarer: Place::North,
+        doubling: Doubling::Undoubled,
+    };
     Some(Work::Costs {
-        cell,
-        deal,
+        cell: Cell { table: 1, board: 2 },
+        deal: CHANGED.parse::<Deal>().ok()?,
         contract,
-        play,
+        play: trick(second)?,
     })
 }
 
-/// The only job of a pool, which has been sent to a worker.
-fn job_sent(rt: &impl Wait, alloc: Global, work: &Work) -> Option<Receiver<Job>> {
+/// What a worker finds for the only job of a pool, which has the number 1.
+fn found_by_worker(rt: &impl Wait, alloc: Global, work: Option<Work>) -> Option<Found> {
     let mut pool = Pool::new(alloc).ok()?;
     let (to_worker, jobs) = unbounded::<Job, Global>(alloc).ok()?;
-    if gives(rt, &mut pool, &to_worker, 1, work) {
-        Some(jobs)
+    let given = gives(rt, &mut pool, &to_worker, 1, &work?);
+    drop(to_worker);
+    let results = results_of(rt, alloc, &jobs, 1_000_000).ok()?;
+    let done = results.recv(rt).ok()?;
+    if given && done.job().number == 1 {
+        Some(done.into_found())
     } else {
         None
     }
-}
-
-/// What a worker sends of one job.
-fn sent_of(rt: &impl Wait, alloc: Global, work: &Work) -> Option<Done> {
-    let jobs = job_sent(rt, alloc, work)?;
-    let results = results_of(rt, alloc, &jobs, 1_000_000).ok()?;
-    results.recv(rt).ok()
 }
 
 /// The tricks of North and South, and those of East and West, with each trump: who has the trumps takes all tricks;
@@ -77,56 +67,31 @@ const LONG_SUITS: &[(Strain, u8, u8)] = &[
     (Strain::NoTrump, 0, 0),
 ];
 
-/// Whether each player takes the tricks of this row.
-fn takes(table: &DdTable, &(strain, north_south, east_west): &(Strain, u8, u8)) -> bool {
-    table.tricks(strain, Place::North) == north_south
-        && table.tricks(strain, Place::East) == east_west
-        && table.tricks(strain, Place::South) == north_south
-        && table.tricks(strain, Place::West) == east_west
-}
-
-/// Whether a table was found, and it has the tricks of long suits.
-fn is_of_long_suits(found: &Found) -> bool {
-    let Found::Table(table) = found else {
+/// Whether a table was found, and each player takes the tricks of long suits.
+fn is_of_long_suits(found: &Option<Found>) -> bool {
+    let Some(Found::Table(table)) = found else {
         return false;
     };
-    for row in LONG_SUITS {
-        if !takes(table, row) {
+    for &(strain, north_south, east_west) in LONG_SUITS {
+        if table.tricks(strain, Place::North) != north_south
+            || table.tricks(strain, Place::East) != east_west
+            || table.tricks(strain, Place::South) != north_south
+            || table.tricks(strain, Place::West) != east_west
+        {
             return false;
         }
     }
     true
 }
 
-fn finds_a_table(rt: &impl Wait, alloc: Global) -> bool {
-    let Some(work) = table_work(1, SUITS) else {
-        return false;
-    };
-    match sent_of(rt, alloc, &work) {
-        Some(done) => done.job().number == 1 && is_of_long_suits(done.found()),
-        None => false,
-    }
-}
-
 /// Whether these costs of a play were found.
-fn are_costs(found: Found, costs: &[u8]) -> bool {
-    let Found::Costs(found) = found else {
+fn are_costs(found: &Option<Found>, costs: &[u8]) -> bool {
+    let Some(Found::Costs(found)) = found else {
         return false;
     };
-    let PlayAnswer::Costs(numbers) = found.answer() else {
-        return false;
-    };
-    numbers.as_slice() == costs
-}
-
-/// In one no trump by North, East leads the two of spades, and gives away eleven tricks by it.
-fn finds_costs(rt: &impl Wait, alloc: Global) -> bool {
-    let Some(work) = costs_work("D2") else {
-        return false;
-    };
-    match sent_of(rt, alloc, &work) {
-        Some(done) => done.job().number == 1 && are_costs(done.into_found(), &[11, 0, 0, 0]),
-        None => false,
+    match found.answer() {
+        PlayAnswer::Costs(numbers) => numbers.as_slice() == costs,
+        _ => false,
     }
 }
 
@@ -137,8 +102,8 @@ fn found_unpaid(alloc: Global, second: &str) -> Option<Found> {
 }
 
 /// Whether the second card was named, and the start of that play isn't solved without a visit.
-fn names_second(alloc: Global, found: &Found) -> bool {
-    let Found::Costs(costs) = found else {
+fn names_second(alloc: Global, found: &Option<Found>) -> bool {
+    let Some(Found::Costs(costs)) = found else {
         return false;
     };
     let position = Position::start(costs.deal(), Strain::NoTrump, Place::North);
@@ -147,29 +112,26 @@ fn names_second(alloc: Global, found: &Found) -> bool {
         && matches!(unsolved, Err(SolveError::OutOfBudget))
 }
 
-/// Without a visit nothing is solved, but a card that is not legal is named.
-fn names_an_illegal_card(alloc: Global) -> bool {
-    match found_unpaid(alloc, "H2") {
-        Some(found) => names_second(alloc, &found),
-        None => false,
-    }
-}
-
+/// In one no trump by North, East leads the two of spades, and gives away eleven tricks by it. Without a visit nothing is
+/// solved, but a card that is not legal is named.
 #[test]
 fn finds_tables_and_costs_and_names_illegal_cards(rt: HostRuntime) {
-    assert!(rt; finds_a_table(&rt, rt.alloc()));
-    assert!(rt; finds_costs(&rt, rt.alloc()));
-    assert!(rt; matches!(found_unpaid(rt.alloc(), "D2"), Some(Found::OutOfBudget)));
-    assert!(rt; names_an_illegal_card(rt.alloc()));
+    let alloc = rt.alloc();
+    let table = found_by_worker(&rt, alloc, table_work(1, SUITS).ok());
+    assert!(rt; is_of_long_suits(&table));
+    let costs = found_by_worker(&rt, alloc, costs_work("D2"));
+    assert!(rt; are_costs(&costs, &[11, 0, 0, 0]));
+    assert!(rt; matches!(found_unpaid(alloc, "D2"), Some(Found::OutOfBudget)));
+    assert!(rt; names_second(alloc, &found_unpaid(alloc, "H2")));
 }
 
 /// Whether the pool gives three jobs. They are sent to a worker as far as there is room.
 fn sends_three(rt: &impl Wait, pool: &mut Pool, to_worker: &Sender<Job>) -> bool {
+    let Ok(deal) = SUITS.parse::<Deal>() else {
+        return false;
+    };
     for board in 1u8..4 {
-        let Some(work) = table_work(board, SUITS) else {
-            return false;
-        };
-        let Ok(job) = pool.add(work) else {
+        let Ok(job) = pool.add(Work::Table { board, deal }) else {
             return false;
         };
         let _ = to_worker.send(rt, job);
