@@ -23,22 +23,12 @@ static PRINTED: [(Place, Vulnerability); 16] = [
 ];
 
 /// Boards 1 to 64, and on to 128: each further sixteen repeat the first.
-fn are_marked() -> bool {
-    for board in 1u8..129 {
-        let printed = PRINTED[(usize::from(board) - 1) % 16];
-        if (dealer_of(board), vulnerability_of(board)) != printed {
-            return false;
-        }
-    }
-    true
-}
-
-fn are_opponents() -> bool {
-    Side::NorthSouth.other() == Side::EastWest && Side::EastWest.other() == Side::NorthSouth
-}
-
 #[test]
 fn marks_boards_as_law_2_does_and_knows_opponents(rt: HostRuntime) {
-    assert!(rt; are_marked());
-    assert!(rt; are_opponents());
+    for board in 1u8..129 {
+        let printed = PRINTED[(usize::from(board) - 1) % 16];
+        assert!(rt; (dealer_of(board), vulnerability_of(board)) == printed);
+    }
+    assert!(rt; Side::NorthSouth.other() == Side::EastWest);
+    assert!(rt; Side::EastWest.other() == Side::NorthSouth);
 }

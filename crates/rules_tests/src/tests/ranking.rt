@@ -1,8 +1,8 @@
 //! What scores earn in matchpoints (Law 78A), and how pairs rank.
 
 use scoring::{Standing, matchpoints, rank_order};
-use std::alloc::Global;
 use std::cmp::Ordering;
+use std::test::Fail;
 use table_terms::{Pair, Side};
 
 /// Scores, and the units that they earn. Of the last three boards two tables have each score, and beat all that stand before
@@ -35,26 +35,6 @@ static BOARDS: [(&[i32], &[u32]); 7] = [
         ],
     ),
 ];
-
-/// Whether these scores earn these units. No board here has more than 64 scores.
-fn earn(alloc: Global, scores: &[i32], units: &[u32]) -> bool {
-    if scores.len() > 64 {
-        return false;
-    }
-    match matchpoints(alloc, scores) {
-        Ok(earned) => earned.as_slice() == units,
-        Err(_) => false,
-    }
-}
-
-fn each_earns(alloc: Global) -> bool {
-    for (scores, units) in &BOARDS {
-        if !earn(alloc, scores, units) {
-            return false;
-        }
-    }
-    true
-}
 
 /// Side, number, earned and tops: each standing ranks right before the next.
 static ORDER: [(Side, u8, u64, u64); 11] = [
@@ -89,17 +69,17 @@ fn standing((side, number, earned, tops): (Side, u8, u64, u64)) -> Standing {
     }
 }
 
-fn each_ranks_before_the_next() -> bool {
-    for i in 1..ORDER.len() {
-        if rank_order(standing(ORDER[i - 1]), standing(ORDER[i])) != Ordering::Less {
-            return false;
-        }
-    }
-    true
-}
-
+/// No board here has more than 64 scores.
 #[test]
-fn boards_in_matchpoints_and_pairs_in_their_order(rt: HostRuntime) {
-    assert!(rt; each_earns(rt.alloc()));
-    assert!(rt; each_ranks_before_the_next());
+fn boards_in_matchpoints_and_pairs_in_their_order(rt: HostRuntime) -> Result<(), Fail> {
+    for (scores, units) in &BOARDS {
+        assert!(rt; scores.len() <= 64);
+        let earned = matchpoints(rt.alloc(), scores)?;
+        assert!(rt; earned.as_slice() == *units);
+    }
+    for i in 1..ORDER.len() {
+        let order = rank_order(standing(ORDER[i - 1]), standing(ORDER[i]));
+        assert!(rt; order == Ordering::Less);
+    }
+    Ok(())
 }
