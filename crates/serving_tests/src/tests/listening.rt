@@ -56,45 +56,10 @@ fn too_long(alloc: Global) -> Result<Vec<u8>, AllocError> {
     Ok(frame)
 }
 
-// Whether the handshake of a client is accepted whose message is too long. Whether it hears more is open: it may still write.
-fn says_too_much<R: Net + AllocGlobal>(rt: &R, address: SocketAddr) -> io::Result<bool> {
-    let frame = too_long(rt.alloc())?;
-    let heard = heard_for(rt, address, HANDSHAKE, frame.as_slice())?;
-    Ok(is_accepted(heard.as_slice()))
-}
-
-// Whether a client hears an answer to its handshake, and then these frames, if it sends those.
-fn hears_frames<R: Net + AllocGlobal>(
-    rt: &R,
-    address: SocketAddr,
-    said: &[u8],
-    frames: &[u8],
-) -> io::Result<bool> {
-    let heard = heard_for(rt, address, HANDSHAKE, said)?;
-    Ok(has_frames(heard.as_slice(), frames))
-}
-
-// Whether a client hears nothing if its request is none of a WebSocket.
-fn hears_nothing<R: Net + AllocGlobal>(rt: &R, address: SocketAddr) -> io::Result<bool> {
-    let heard = heard_for(rt, address, b"GET / HTTP/1.1\r\n\r\n", b"")?;
-    Ok(heard.is_empty())
-}
-
 // The masked text of RFC 6455, section 5.7, and a close.
 const HELLO: &[u8] = b"\x81\x85\x37\xfa\x21\x3d\x7f\x9f\x4d\x51\x58\x88\x80\0\0\0\0";
 
-// Five clients, one after another, and whether each of them hears what it has to.
-fn come_and_go<R: Net + AllocGlobal>(rt: &R, address: SocketAddr) -> io::Result<bool> {
-    let nothing = hears_nothing(rt, address)?;
-    // A client that leaves at once.
-    drop(TcpStream::connect(rt, address)?);
-    // One that says no more in the middle of a frame.
-    let cut_off = hears_frames(rt, address, b"\x81\x8a\0\0\0\0abc", b"")?;
-    let too_much = says_too_much(rt, address)?;
-    let served = hears_frames(rt, address, HELLO, b"\x81\x041: 5\x88\0")?;
-    Ok(nothing && cut_off && too_much && served)
-}
-
+// Five clients come, one after another.
 #[test]
 fn a_client_that_fails_is_followed_by_the_next(rt: HostRuntime) -> Result<(), Fail> {
     let listener = listen(&rt, 0)?;
@@ -103,8 +68,20 @@ fn a_client_that_fails_is_followed_by_the_next(rt: HostRuntime) -> Result<(), Fa
     let served = thread::spawn(&rt, move || {
         serve_clients(&server_rt, server_rt.alloc(), &listener, 5, Counting::new()).clients
     })?;
-    let all_hear = come_and_go(&rt, address)?;
-    let clients = served.join(&rt);
-    assert!(rt; all_hear && clients == 5);
+    // A request that is none of a WebSocket.
+    let heard = heard_for(&rt, address, b"GET / HTTP/1.1\r\n\r\n", b"")?;
+    assert!(rt; heard.is_empty());
+    // A client that leaves at once.
+    drop(TcpStream::connect(&rt, address)?);
+    // One that says no more in the middle of a frame.
+    let heard = heard_for(&rt, address, HANDSHAKE, b"\x81\x8a\0\0\0\0abc")?;
+    assert!(rt; has_frames(heard.as_slice(), b""));
+    // One whose message is too long. Whether it hears more is open: it may still write.
+    let frame = too_long(rt.alloc())?;
+    let heard = heard_for(&rt, address, HANDSHAKE, frame.as_slice())?;
+    assert!(rt; is_accepted(heard.as_slice()));
+    let heard = heard_for(&rt, address, HANDSHAKE, HELLO)?;
+    assert!(rt; has_frames(heard.as_slice(), b"\x81\x041: 5\x88\0"));
+    assert!(rt; served.join(&rt) == 5);
     Ok(())
 }

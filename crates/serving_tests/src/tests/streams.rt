@@ -1,7 +1,7 @@
 //! A client's bytes in memory, and what is written for them.
 
 use super::{Counting, HANDSHAKE, has_frames};
-use std::alloc::{AllocError, Global};
+use std::alloc::Global;
 use std::io::{self, ErrorKind, Read, Write};
 use std::sync::Wait;
 use std::test::Fail;
@@ -65,14 +65,12 @@ fn is_served<R: Wait>(rt: &R, alloc: Global, (parts, writes, texts, frames): &Ro
     };
     let mut server = Counting::new();
     serve_stream(rt, alloc, &mut client, &mut server);
-    server.messages == *texts && is_written(client.written.as_slice(), *frames)
-}
-
-fn is_written(written: &[u8], frames: Option<&[u8]>) -> bool {
-    match frames {
-        Some(frames) => has_frames(written, frames),
-        None => written.is_empty(),
-    }
+    let written = client.written.as_slice();
+    server.messages == *texts
+        && match frames {
+            Some(frames) => has_frames(written, frames),
+            None => written.is_empty(),
+        }
 }
 
 // Frames of RFC 6455, section 5.2, with a mask of zeros.
@@ -134,25 +132,17 @@ const ROWS: &[Row<'static>] = &[
     (&[b"", LATE], usize::MAX, 0, None),
 ];
 
-// The first row whose client is served otherwise, if there is one.
-fn wrong_row<R: Wait>(rt: &R, alloc: Global) -> Option<usize> {
-    for (at, row) in ROWS.iter().enumerate() {
-        if !is_served(rt, alloc, row) {
-            return Some(at);
-        }
-    }
-    None
-}
-
 #[test]
-fn each_text_has_one_text(rt: HostRuntime) -> Result<(), Fail> {
-    assert_eq!(rt; wrong_row(&rt, rt.alloc()), None);
-    Ok(())
+fn each_text_has_one_text(rt: HostRuntime) {
+    for (at, row) in ROWS.iter().enumerate() {
+        assert!(rt; is_served(&rt, rt.alloc(), row), "row {at}");
+    }
 }
 
-// Whether the longest message has its answer, and one that is longer ends the connection before one more is read.
-fn is_limited<R: Wait>(rt: &R, alloc: Global) -> Result<bool, AllocError> {
-    let mut letters = Vec::new(alloc);
+// The longest message has its answer, and one that is longer ends the connection before one more is read.
+#[test]
+fn a_message_is_kept_up_to_its_limit(rt: HostRuntime) -> Result<(), Fail> {
+    let mut letters = Vec::new(rt.alloc());
     letters.resize(65_537, b'a')?;
     let parts = [
         HANDSHAKE,
@@ -164,11 +154,6 @@ fn is_limited<R: Wait>(rt: &R, alloc: Global) -> Result<bool, AllocError> {
         LATE,
     ];
     let frames = b"\x81\x081: 65537\x88\x02\x03\xf1".as_slice();
-    Ok(is_served(rt, alloc, &(&parts, usize::MAX, 1, Some(frames))))
-}
-
-#[test]
-fn a_message_is_kept_up_to_its_limit(rt: HostRuntime) -> Result<(), Fail> {
-    assert!(rt; is_limited(&rt, rt.alloc())?);
+    assert!(rt; is_served(&rt, rt.alloc(), &(&parts, usize::MAX, 1, Some(frames))));
     Ok(())
 }

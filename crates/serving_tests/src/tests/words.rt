@@ -1,6 +1,5 @@
 //! The words that the program is called with.
 
-use clap::Error;
 use clap::error::ErrorKind;
 use server_words::{Serving, Words, read_words};
 use std::alloc::{AllocError, Global};
@@ -111,53 +110,26 @@ const LINES: &[(&str, Outcome)] = &[
     ("script -h", HELP),
 ];
 
-// One word more.
-fn add_word(alloc: Global, words: &mut Vec<String>, word: &str) -> Result<(), AllocError> {
-    let word = String::from_str(alloc, word)?;
-    words.push(word)?;
-    Ok(())
-}
-
-// Adds the words of a line, after the program's name.
-fn add_line(alloc: Global, words: &mut Vec<String>, line: &str) -> Result<(), AllocError> {
-    add_word(alloc, words, "/usr/local/bin/bridge_server")?;
-    for word in line.split_ascii_whitespace() {
-        add_word(alloc, words, word)?;
-    }
-    Ok(())
-}
-
-fn is_outcome(read: &Result<Words<'_>, Error>, outcome: &Outcome) -> bool {
-    match (read, outcome) {
-        (Ok(read), Ok(asked)) => read == asked,
-        (Err(error), Err(ending)) => ending_of(error) == *ending,
-        _ => false,
-    }
-}
-
-fn ending_of(error: &Error) -> Ending {
-    (error.kind(), error.exit_code(), error.use_stderr())
-}
-
-// Whether this comes of the words of a line.
+// Whether this comes of the words of a line, after the program's name.
 fn comes_of(alloc: Global, line: &str, outcome: &Outcome) -> Result<bool, AllocError> {
     let mut words = Vec::new(alloc);
-    add_line(alloc, &mut words, line)?;
-    Ok(is_outcome(&read_words(alloc, words.as_slice()), outcome))
-}
-
-// The first line of which something else comes, if there is one.
-fn wrong_line(alloc: Global) -> Result<Option<&'static str>, AllocError> {
-    for (line, outcome) in LINES {
-        if !comes_of(alloc, line, outcome)? {
-            return Ok(Some(line));
-        }
+    words.push(String::from_str(alloc, "/usr/local/bin/bridge_server")?)?;
+    for word in line.split_ascii_whitespace() {
+        words.push(String::from_str(alloc, word)?)?;
     }
-    Ok(None)
+    Ok(match (read_words(alloc, words.as_slice()), outcome) {
+        (Ok(read), Ok(asked)) => read == *asked,
+        (Err(error), Err(ending)) => {
+            (error.kind(), error.exit_code(), error.use_stderr()) == *ending
+        }
+        _ => false,
+    })
 }
 
 #[test]
 fn each_line_asks_or_is_refused(rt: HostRuntime) -> Result<(), Fail> {
-    assert_eq!(rt; wrong_line(rt.alloc())?, None);
+    for (line, outcome) in LINES {
+        assert!(rt; comes_of(rt.alloc(), line, outcome)?, "{line}");
+    }
     Ok(())
 }
