@@ -12,8 +12,20 @@ use Rattle.pbn_records.specs.Kept.{KnowsBoard, board_at}
 use Rattle.pbn_records.specs.Reads.{start_of, values_from, IsLeastMissing, Reads}
 use Rattle.pbn_records.specs.InText.{HasRead}
 use Rattle.pbn_records.specs.Each.{KnowsFirst, IsUnknown, HasFirst}
-use Rattle.pbn_records.proofs.InOrderLemmas.{next_number, pushed_before, pushed_last}
 use Rattle.pbn_records.proofs.KnownLemmas.{none_known}
+
+-- what stands in a row with one board more
+pushed_before : (set : List Board) (board : Board) (index : ℕ) → index < length set → slice_get (set ++ board ∷ []) index ≡ slice_get set index
+pushed_before [] board index within = absurd (omega (arith, within))
+pushed_before (first ∷ set) board zero within = refl
+pushed_before (first ∷ set) board (suc index) within = pushed_before set board index (omega (arith, within))
+
+pushed_last : (set : List Board) (board : Board) → slice_get (set ++ board ∷ []) (length set) ≡ Some board
+pushed_last [] board = refl
+pushed_last (first ∷ set) board = pushed_last set board
+
+next_number : (number : ℕ) → 1 ≤ number → number - 1 + 1 ≡ number
+next_number number from = omega (arith, from)
 
 record IsKnown (number : ℕ) (first : Option Values) (known : Option Board) : Type 0 where
   pub values : Values
@@ -53,7 +65,7 @@ reads_of text boards state set read knows has = record {
 }
 
 -- one board more in a row
-pushed : (known : KnownBoards) (boards : ℕ) (set : List Board) (board : Board) → board_at known (boards + 1) ≡ Some board → HasFirst known boards set →
+pub pushed : (known : KnownBoards) (boards : ℕ) (set : List Board) (board : Board) → board_at known (boards + 1) ≡ Some board → HasFirst known boards set →
     HasFirst known (suc boards) (set ++ board ∷ [])
 pushed known boards set board e has = record {
   many = let long = length-append set (board ∷ []) in let many = has.many in omega (arith, long, many);

@@ -1,11 +1,8 @@
-ghost use Rattle.std.specs.Prelude.{◌≡◌, ◌+◌, ◌-◌, ◌≤◌, ◌<◌, ℕ, length, Some, nat_eq, slice_get};
-ghost use Rattle.indexmap.specs.IndexMap.{get};
+ghost use Rattle.std.specs.Prelude.{◌≡◌, ◌-◌, ◌≤◌, length, Some, slice_get};
 ghost use Rattle.pbn_records.specs.declared.board.Board.{Board};
-ghost use Rattle.pbn_records.specs.InOrder.{HasEach};
 
 use crate::board::Board;
 use cards::Deal;
-use indexmap::IndexMap;
 use std::marker::Model;
 use table_terms::{Place, Vulnerability};
 
@@ -13,33 +10,31 @@ use table_terms::{Place, Vulnerability};
 #[derive(Drop)]
 pub struct BoardSet {
     boards: u8,
-    read: IndexMap<u8, Board>,
+    row: Vec<Board>,
 }
 
 impl Model for BoardSet {
-    ghost use Rattle.std.specs.Prelude.{List};
+    ghost use Rattle.std.specs.Prelude.{◌≡◌, List, length};
     ghost use Rattle.pbn_records.specs.declared.board.Board.{Board};
     ghost use Rattle.std.specs.Coded.{coded_list};
-    ghost use Rattle.pbn_records.specs.InOrder.{HasEach, by_number};
     ghost use Rattle.pbn_records.specs.contracts.board.Board as the_board;
 
     ghost Value = { List Board };
 
     ghost coded = { coded_list the_board.the_row.coded };
 
-    ghost view = { λ set. by_number set.read set.boards };
+    ghost view = { λ set. set.row.items };
 
-    ghost invariant = { λ set. HasEach set.read set.boards };
+    ghost invariant = { λ set. length set.row.items ≡ set.boards };
 }
 
 impl BoardSet {
-    /// The boards from 1, of those that were read.
-    pub(crate) fn new(boards: u8, read: IndexMap<u8, Board>) -> BoardSet
-        requires { HasEach read boards }
-        ensures many { length result ≡ boards }
-        ensures each { (index : ℕ) → index < boards → slice_get result index ≡ get nat_eq read (index + 1) }
+    /// The boards from 1, in their order.
+    pub(crate) fn new(boards: u8, row: Vec<Board>) -> BoardSet
+        requires { length row.items ≡ boards }
+        ensures { result ≡ row.items }
     {
-        BoardSet { boards, read }
+        BoardSet { boards, row }
     }
 
     /// How many boards there are.
@@ -54,7 +49,7 @@ impl BoardSet {
         requires { (1 ≤ board) × (board ≤ length self.now) }
         ensures { slice_get self.now (board - 1) ≡ Some result }
     {
-        self.read[&board]
+        self.row[usize::from(board - 1)]
     }
 
     /// The deal of a board.

@@ -25,7 +25,7 @@ pub fn read_deals(alloc: Global, text: &[u8], boards: u8) -> Result<BoardSet, De
     if let Some(number) = unknown_board(&known, boards) {
         return Err(DealsError::MissingBoard(number));
     }
-    match board_set(known, boards) {
+    match board_set(alloc, known, boards) {
         Some(set) => Ok(set),
         None => Err(DealsError::OutOfMemory),
     }
@@ -85,13 +85,21 @@ fn unknown_board(known: &KnownBoards, boards: u8) -> Option<u8>
 }
 
 /// The boards from 1, each of which is known, unless memory for them was refused.
-#[tactic(auto, using(crate::proofs::InOrderLemmas::row_known))]
-fn board_set(known: KnownBoards, boards: u8) -> Option<BoardSet>
+fn board_set(alloc: Global, known: KnownBoards, boards: u8) -> Option<BoardSet>
     requires { KnowsFirst known boards }
     ensures { IfSome result (HasFirst known boards) }
 {
-    match known.in_order() {
-        Some(read) => Some(BoardSet::new(boards, read)),
-        None => None,
+    let Some(read) = known.in_order() else {
+        return None;
+    };
+    let Ok(mut row) = Vec::with_capacity(alloc, usize::from(boards)) else {
+        return None;
+    };
+    for index in 0..boards {
+        let Some(board) = read.get(&(index + 1)) else {
+            return None;
+        };
+        row.push_reserved(*board);
     }
+    Some(BoardSet::new(boards, row))
 }
