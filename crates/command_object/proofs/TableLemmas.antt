@@ -1,17 +1,17 @@
 -- What is read by each form of the table of commands is what it is.
 use Rattle.std.proofs.Common.{◌≡◌, ℕ, List, [], ◌∷◌, false, not, ◌||◌, codes, Option, Some, None, option_and_then, refl, ap, ◌∙◌}
 use Rattle.serde_json.specs.Data.{Data, Items, no_items, item}
-use Rattle.user_fields.specs.session_commands.declared.command.Command.{Command}
+use Rattle.session_state.specs.declared.command.Command.{Command}
 use Rattle.json_fields.specs.Form.{HasFormOf, AreEach}
 use Rattle.json_fields.specs.Field.{text, text_at}
 use Rattle.json_fields.specs.Message.{table, board}
-use Rattle.user_fields.specs.User.{user_name, pair, place, digest, role_named}
+use Rattle.json_fields.specs.User.{user_name, pair, place, digest, role_named}
 use Rattle.command_object.specs.Command.{commands, north_south, east_west, reason, role_called, role, senior, junior, command_called, command_of, is_other_word, is_unknown, has_unknown, IsCommand}
 use Rattle.command_object.specs.Result.{outcome}
 use Rattle.command_object.specs.Play.{play}
 use Rattle.json_fields.proofs.FormLemmas.{Agrees, form_agrees, with_agrees, numbered_agrees, called_agrees}
 use Rattle.json_fields.proofs.TableLemmas.{AllAgree, is_word, by_word_read, by_word_reads}
-use Rattle.user_fields.proofs.UserLemmas.{pair_agrees, place_agrees, digest_agrees, role_at, role_back}
+use Rattle.json_fields.proofs.UserLemmas.{pair_agrees, place_agrees, digest_agrees, role_at, role_back}
 use Rattle.command_object.proofs.MemberLemmas.{outcome_agrees, play_agrees}
 
 -- ---- what each form of the table says is what it is

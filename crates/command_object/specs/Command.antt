@@ -1,11 +1,11 @@
 -- The commands of a batch: objects, each with its word in the member `cmd`.
 use Rattle.std.specs.Prelude.{◌≡◌, ℕ, List, [], ◌∷◌, Bool, false, not, ◌||◌, codes, Option, Some, None, option_and_then}
 use Rattle.serde_json.specs.Data.{Data, Items, no_items, item}
-use Rattle.user_fields.specs.session_commands.declared.command.Command.{Command}
-use Rattle.user_fields.specs.session_commands.declared.command.Command.TheVariants.{Enter, Confirm, Correct, Rule, Void, Hold, Release}
-use Rattle.user_fields.specs.session_commands.declared.command.Command.TheVariants.{Seat, Unseat, NextRound, Close, Finalise}
-use Rattle.user_fields.specs.session_commands.declared.command.Command.TheVariants.{AddUser, Assign, Deassign, AddInheritance}
-use Rattle.user_fields.specs.session_commands.declared.command.Command.TheVariants.{DeleteInheritance}
+use Rattle.session_state.specs.declared.command.Command.{Command}
+use Rattle.session_state.specs.declared.command.Command.TheVariants.{Enter, Confirm, Correct, Rule, Void, Hold, Release}
+use Rattle.session_state.specs.declared.command.Command.TheVariants.{Seat, Unseat, NextRound, Close, Finalise}
+use Rattle.session_state.specs.declared.command.Command.TheVariants.{AddUser, Assign, Deassign, AddInheritance}
+use Rattle.session_state.specs.declared.command.Command.TheVariants.{DeleteInheritance}
 use Rattle.session_roles.specs.declared.role.Role.{Role}
 use Rattle.session_roles.specs.Role.{role_name}
 use Rattle.json_fields.specs.Form.{Member, Form, form, ◌with◌, is_word_of, by_word, HasFormOf, each}
@@ -13,7 +13,7 @@ use Rattle.json_fields.specs.Field.{text_at, numbered, named}
 use Rattle.json_fields.specs.Message.{table, board}
 use Rattle.command_object.specs.Result.{outcome}
 use Rattle.command_object.specs.Play.{play}
-use Rattle.user_fields.specs.User.{user_name, digest, role_named, pair, place}
+use Rattle.json_fields.specs.User.{user_name, digest, role_named, pair, place}
 
 -- a ruling: a percentage for each side, and the number of its reason
 abbrev pub north_south : Member ℕ

@@ -5,20 +5,21 @@ ghost use Rattle.serde_json.specs.Find.{get};
 ghost use Rattle.serde_json.specs.View.{view, items_view};
 ghost use Rattle.json_fields.specs.Reading.{wanted, Fails, Gives};
 ghost use Rattle.json_fields.specs.Form.{by_word, is_word_of};
-ghost use Rattle.user_fields.specs.User.{user_name};
+ghost use Rattle.json_fields.specs.User.{user_name};
 ghost use Rattle.command_object.specs.Command.{commands, north_south, east_west, reason, role_called, role, senior, junior, is_unknown, has_unknown, command_called, command_of, commands_in};
 
 use crate::commands::Commands;
 use crate::play::play_of;
 use crate::result::result_of;
 use json_fields::{
-    RequestFault, board_of, has_only, is_one_of, name_at, small_number_at, table_of, text_at,
+    RequestFault, board_of, digest_of, has_only, is_one_of, name_at, pair_of, place_of, role_named,
+    small_number_at, table_of, text_at,
 };
 use scoring::Outcome;
 use serde_json::Value;
 use session_roles::Role;
+use session_state::Command;
 use std::alloc::Global;
-use user_fields::{Command, digest_of, pair_of, place_of, role_named};
 use user_names::Name;
 
 // Whether a command is called so.

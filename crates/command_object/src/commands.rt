@@ -1,7 +1,7 @@
 ghost use Rattle.std.specs.Prelude.{◌≡◌};
 
+use session_state::Command;
 use std::marker::Model;
-use user_fields::Command;
 
 /// The commands of a batch, in their order.
 #[derive(Drop)]
@@ -12,8 +12,8 @@ pub struct Commands {
 impl Model for Commands {
     ghost use Rattle.std.specs.Prelude.{List};
     ghost use Rattle.std.specs.Coded.{coded_list};
-    ghost use Rattle.user_fields.specs.session_commands.contracts.command.Command as the_command;
-    ghost use Rattle.user_fields.specs.session_commands.declared.command.Command.{Command};
+    ghost use Rattle.session_state.specs.contracts.command.Command as the_command;
+    ghost use Rattle.session_state.specs.declared.command.Command.{Command};
 
     ghost Value = { List Command };
 

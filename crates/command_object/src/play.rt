@@ -9,8 +9,8 @@ ghost use Rattle.command_object.specs.Play.{card_named, card_of, cards_in, cards
 use cards::Card;
 use json_fields::RequestFault;
 use serde_json::Value;
+use session_state::Play;
 use std::alloc::Global;
-use user_fields::Play;
 
 fn card_named(text: &str) -> Option<Card>
     ensures { result ≡ card_named text.now }

@@ -4,18 +4,18 @@ use Rattle.std.specs.Prelude.{Option, Some, None, Result, Ok, Err, IfOk, IfErr, 
 use Rattle.rbac.specs.Authorization.{HasPermission}
 use Rattle.session_roles.specs.declared.operation.Operation.TheVariants.{Audit}
 use Rattle.session_state.specs.SessionState.{SessionState}
-use Rattle.session_commands.specs.declared.command.Command.{Command}
-use Rattle.session_commands.specs.declared.entry.Entry.{Entry}
+use Rattle.session_state.specs.declared.command.Command.{Command}
+use Rattle.session_state.specs.declared.entry.Entry.{Entry}
 use Rattle.session_book.specs.Audit.{audit_rows}
 use Rattle.session_book.specs.declared.audit.AuditError.{AuditError}
 use Rattle.session_book.specs.declared.audit.AuditError.TheVariants as error
 use Rattle.session_book.specs.declared.audit.AuditRow.{AuditRow}
 use Rattle.session_book.specs.Journal.{replay}
 use Rattle.session_book.specs.Run.{Runs}
-use Rattle.session_keeper.specs.declared.receipt.AuditReceipt.{AuditReceipt}
-use Rattle.session_keeper.specs.declared.receipt.BatchReceipt.{BatchReceipt}
-use Rattle.session_keeper.specs.Keeping.{IsAuditOf, IsReceiptOf}
-use Rattle.session_keeper.proofs.KeepingLemmas.{prefix_trans, goes_on_itself}
+use Rattle.published_view.specs.declared.receipt.AuditReceipt.{AuditReceipt}
+use Rattle.published_view.specs.declared.receipt.BatchReceipt.{BatchReceipt}
+use Rattle.published_view.specs.Keeping.{IsAuditOf, IsReceiptOf}
+use Rattle.published_view.proofs.KeepingLemmas.{prefix_trans, goes_on_itself}
 use Rattle.wire.specs.AuditText.{audit_text, audit_refusal_text}
 use Rattle.wire.specs.ReceiptText.{connection_fault_text}
 use Rattle.wire.specs.declared.audit_range.AuditRange.{AuditRange}

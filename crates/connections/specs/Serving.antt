@@ -8,18 +8,18 @@ use Rattle.rbac.specs.Authorization.{HasPermission}
 use Rattle.session_roles.specs.declared.operation.Operation.TheVariants.{Audit}
 use Rattle.session_state.specs.SessionState.{SessionState}
 use Rattle.session_state.specs.Readers.{digest_of}
-use Rattle.session_commands.specs.declared.command.Command.{Command}
-use Rattle.session_commands.specs.declared.entry.Entry.{Entry}
+use Rattle.session_state.specs.declared.command.Command.{Command}
+use Rattle.session_state.specs.declared.entry.Entry.{Entry}
 use Rattle.session_book.specs.Audit.{audit_rows}
 use Rattle.session_book.specs.declared.audit.AuditError.{AuditError}
 use Rattle.session_book.specs.declared.audit.AuditError.TheVariants as error
 use Rattle.session_book.specs.declared.audit.AuditRow.{AuditRow}
 use Rattle.session_book.specs.Journal.{replay, IsAccepted}
-use Rattle.session_keeper.specs.session_queries.declared.query.Query.{Query}
-use Rattle.session_keeper.specs.published_view.Reply.{reply_of}
+use Rattle.published_view.specs.session_queries.declared.query.Query.{Query}
+use Rattle.published_view.specs.Reply.{reply_of}
 use Rattle.reply_texts.specs.ReplyText.{reply_text}
-use Rattle.session_keeper.specs.declared.receipt.BatchReceipt.{BatchReceipt}
-use Rattle.session_keeper.specs.Keeping.{IsReceiptOf}
+use Rattle.published_view.specs.declared.receipt.BatchReceipt.{BatchReceipt}
+use Rattle.published_view.specs.Keeping.{IsReceiptOf}
 use Rattle.json_fields.specs.declared.request_fault.RequestFault.{RequestFault}
 use Rattle.wire.specs.AuditText.{audit_text, audit_refusal_text}
 use Rattle.wire.specs.ReceiptText.{receipt_text, fault_text, connection_fault_text}

@@ -13,8 +13,8 @@ ghost use Rattle.connections.specs.Serving.{batch_text, IsKnown, IsAuditText, Is
 use command_object::Commands;
 use reply_texts::reply_text;
 use session_book::AuditError;
-use session_commands::Digest as TokenDigest;
-use session_keeper::{AuditReceipt, BatchReceipt, Keeper, Query, QueryFault, Reply};
+use published_view::{AuditReceipt, BatchReceipt, Keeper, Query, QueryFault, Reply};
+use session_state::Digest as TokenDigest;
 use sha2::{Digest, Sha256};
 use std::alloc::{AllocError, Global};
 use std::marker::Model;

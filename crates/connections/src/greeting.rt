@@ -4,7 +4,7 @@ ghost use Rattle.std.specs.Prelude.{◌≡◌, IfOk, string_bytes};
 ghost use Rattle.serde_json.specs.View.{view};
 ghost use Rattle.connections.specs.Serving.{hello_data, hello_text};
 
-use json_writing::ObjectWriter;
+use json_fields::ObjectWriter;
 use serde_json::Value;
 use std::alloc::{AllocError, Global};
 use user_names::Name;

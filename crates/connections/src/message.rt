@@ -11,7 +11,7 @@ ghost use Rattle.connections.specs.Serving.{Greets, IsToldOf, Serves, ServesBody
 use crate::connection::Connection;
 use crate::greeting::hello_text;
 use json_fields::RequestFault;
-use session_keeper::Keeper;
+use published_view::Keeper;
 use std::alloc::{AllocError, Global};
 use std::sync::Wait;
 use user_names::Name;

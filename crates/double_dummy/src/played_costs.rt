@@ -8,9 +8,8 @@ use crate::card_costs::costs_from;
 use crate::error::CostsError;
 use cards::Deal;
 use double_dummy_search::{Budget, SolveError};
-use play_record::Play;
 use scoring::Contract;
-use solver_results::{PlayAnswer, PlayCosts};
+use solver_results::{Play, PlayAnswer, PlayCosts};
 use std::alloc::Global;
 
 /// What each card of a play costs, or which is the first that is not legal, kept with the deal, contract and play.

@@ -5,7 +5,7 @@ ghost use Rattle.cards.specs.declared.card.Card.{Card};
 ghost use Rattle.double_dummy_search.specs.Search.{HasOthers};
 
 use crate::run::{is_one_run, run_of};
-use card_weights::Weights;
+use crate::weights::Weights;
 use cards::{Card, Hand, Position};
 
 /// The most promising of the cards that are untried. Which it is decides nothing but the time.

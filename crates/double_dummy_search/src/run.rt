@@ -5,7 +5,7 @@ ghost use Rattle.cards.specs.declared.card.Card.{Card};
 ghost use Rattle.cards.specs.Play.{legal};
 ghost use Rattle.double_dummy_search.specs.Search.{HasOthers, IsRunOf};
 
-use card_weights::top;
+use crate::weights::top;
 use cards::{Card, Hand, Position, Rank};
 use position_patterns::Holders;
 

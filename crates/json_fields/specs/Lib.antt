@@ -1,7 +1,13 @@
+pub mod Atom
 pub mod Doubling
 pub mod Field
+pub mod Filter
+pub mod FilterReading
 pub mod Form
 pub mod Letter
 pub mod Message
 pub mod Object
 pub mod Reading
+pub mod SoleMember
+pub mod User
+pub mod Written

@@ -1,5 +1,6 @@
 pub mod At
 pub mod Boards
+pub mod Cutting
 pub mod DealValue
 pub mod Each
 pub mod Faults
@@ -8,8 +9,11 @@ pub mod GameBefore
 pub mod InOrder
 pub mod InText
 pub mod Kept
+pub mod Kinds
 pub mod MarkValue
+pub mod Pieces
 pub mod Reads
 pub mod Shown
 pub mod Tags
+pub mod Told
 pub mod Values

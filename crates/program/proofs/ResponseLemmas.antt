@@ -2,13 +2,13 @@
 use Rattle.std.proofs.Common.{◌≡◌, ℕ, Bool, true, false, List, [], ◌∷◌, ◌++◌, map, take, drop, length, refl, sym, ap, subst, ◌∙◌}
 use Rattle.std.specs.Prelude.{Option, Some, None, Result, Ok, Err, IfOk, IfErr, is_some, if◌then◌else◌}
 use Rattle.session_book.specs.declared.answer.Answer.TheVariants.{Refused}
-use Rattle.session_commands.specs.declared.command.Command.{Command}
-use Rattle.session_commands.specs.declared.entry.Entry.{Entry}
-use Rattle.session_commands.specs.declared.refusal.Refusal.TheVariants as refusal
+use Rattle.session_state.specs.declared.command.Command.{Command}
+use Rattle.session_state.specs.declared.entry.Entry.{Entry}
+use Rattle.session_state.specs.declared.refusal.Refusal.TheVariants as refusal
 use Rattle.session_book.specs.Journal.{replay}
 use Rattle.session_book.specs.Run.{Progress, run, Runs, first_number, last_number}
 use Rattle.session_state.specs.SessionState.{SessionState}
-use Rattle.session_keeper.specs.session_queries.declared.query.Query.{Query}
+use Rattle.published_view.specs.session_queries.declared.query.Query.{Query}
 use Rattle.json_fields.specs.declared.request_fault.RequestFault.{RequestFault}
 use Rattle.json_fields.specs.declared.request_fault.RequestFault.TheVariants.{TooLong, Malformed, UnknownRequest, BadField, OutOfMemory}
 use Rattle.wire.specs.declared.request.Request.{Request}
@@ -18,7 +18,7 @@ use Rattle.wire.specs.declared.connection_fault.ConnectionFault.TheVariants.{Not
 use Rattle.wire.specs.Request.{a_query, a_batch, meaning}
 use Rattle.json_fields.specs.Reading.{Fails}
 use Rattle.wire.specs.ReceiptText.{receipt_text, fault_text, connection_fault_text}
-use Rattle.session_keeper.specs.published_view.Reply.{reply_of}
+use Rattle.published_view.specs.Reply.{reply_of}
 use Rattle.reply_texts.specs.ReplyText.{reply_text}
 use Rattle.program.specs.Script.{Memory, ample, Response, response_to_meaning, response_to_line, stopped_at, run_with}
 use Rattle.program.specs.Standing.{line_of}

@@ -2,13 +2,13 @@
 use Rattle.std.specs.Prelude.{ℕ, Bool, true, false, is_some, if◌then◌else◌, Option, Some, None, Result, Ok, Err, List, [], ◌∷◌, ◌++◌, map, filter, take, drop, length}
 use Rattle.std.specs.List.{fold}
 use Rattle.script_lines.specs.Lines.{lines_of}
-use Rattle.session_keeper.specs.published_view.Reply.{reply_of}
+use Rattle.published_view.specs.Reply.{reply_of}
 use Rattle.session_book.specs.declared.answer.Answer.{Answer}
 use Rattle.session_book.specs.declared.answer.Answer.TheVariants.{Refused}
-use Rattle.session_commands.specs.declared.actor.Actor.TheVariants.{User}
-use Rattle.session_commands.specs.declared.command.Command.{Command}
-use Rattle.session_commands.specs.declared.entry.Entry.{Entry}
-use Rattle.session_commands.specs.declared.refusal.Refusal.TheVariants as refusal
+use Rattle.session_state.specs.declared.actor.Actor.TheVariants.{User}
+use Rattle.session_state.specs.declared.command.Command.{Command}
+use Rattle.session_state.specs.declared.entry.Entry.{Entry}
+use Rattle.session_state.specs.declared.refusal.Refusal.TheVariants as refusal
 use Rattle.session_book.specs.Journal.{replay, refusal_after}
 use Rattle.session_book.specs.Run.{Progress, run, first_number, last_number}
 use Rattle.session_state.specs.SessionState.{SessionState}

@@ -10,8 +10,8 @@ ghost use Rattle.program.specs.Writes.{Responds};
 
 use crate::response::with_line_feed;
 use json_fields::RequestFault;
+use published_view::PlainKeeper;
 use session_book::AuditError;
-use session_keeper::PlainKeeper;
 use std::alloc::{AllocError, Global};
 use user_names::Name;
 use wire::{AuditRange, audit_refusal_text, audit_text};

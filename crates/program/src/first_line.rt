@@ -5,7 +5,7 @@ ghost use Rattle.program.specs.FirstLine.{OpensWith, OpensNoneWith, fault_of_ses
 ghost use Rattle.program.specs.declared.fault.Fault.TheVariants.{OutOfMemory};
 
 use crate::fault::Fault;
-use session_keeper::PlainKeeper;
+use published_view::PlainKeeper;
 use session_object::{SessionFault, SessionObject, read_session};
 use session_opening::OpeningRefusal;
 use std::alloc::Global;

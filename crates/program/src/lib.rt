@@ -10,6 +10,6 @@ mod script;
 
 pub use fault::Fault;
 pub use first_line::open_session;
+pub use published_view::{Keeper, PlainKeeper};
 pub use script::{SCRIPT_LIMIT, run_script};
-pub use session_keeper::{Keeper, PlainKeeper};
 pub use wire::fault_text;

@@ -20,11 +20,11 @@ use movement::Cell;
 use query_filter::Filter;
 use rbac::{Account, Inheritance};
 use session_book::{Seated, State};
-use session_commands::CellState;
-use session_commands::room::with_room;
 use session_queries::{
     Body, Items, Query, analysis_of, costs_of, play_of, push_found, reason_of, shown_results,
 };
+use session_state::CellState;
+use session_state::room::with_room;
 use standings::{Earning, add_earnings, ranking_of, traveller_rows};
 use std::alloc::{AllocError, Global};
 

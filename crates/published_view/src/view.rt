@@ -1,7 +1,7 @@
 ghost use Rattle.std.specs.Prelude.{◌≡◌, ℕ, ◌+◌, List, [], ◌∷◌, ◌++◌, None, IfOk, IfErr, min};
 ghost use Rattle.disclosure_rules.specs.Policy.{first_rule};
 ghost use Rattle.session_book.specs.session_state.SessionState.{SessionState, viewer_of};
-ghost use Rattle.session_commands.specs.declared.entry.Entry.{Entry};
+ghost use Rattle.session_state.specs.declared.entry.Entry.{Entry};
 ghost use Rattle.session_book.specs.session_state.Readers.{digest_of};
 ghost use Rattle.session_queries.specs.Query.{fact_of};
 ghost use Rattle.published_view.specs.Reply.{before_answer, body_of, reply_of};
@@ -10,8 +10,8 @@ ghost use Rattle.published_view.specs.View.{StandsFor, seen_after, digest_after,
 use crate::bodies::answer_of;
 use crate::preface::before_answer;
 use session_book::{Book, State};
-use session_commands::{Digest, Entry};
 use session_queries::{Body, Query, Reply};
+use session_state::{Digest, Entry};
 use std::alloc::{AllocError, Global};
 use std::marker::Model;
 use user_names::Name;

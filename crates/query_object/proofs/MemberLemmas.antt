@@ -2,7 +2,7 @@
 use Rattle.std.proofs.Common.{◌≡◌, ℕ, ◌≤◌, nat_le, ◌&&◌, cond, Option, Some, None, option_map, option_and_then, refl, sym, ap, ◌∙◌, arith}
 use Rattle.serde_json.specs.Data.{Data}
 use Rattle.query_filter.specs.Formula.{Formula}
-use Rattle.filter_object.specs.Filter.{filter_of}
+use Rattle.json_fields.specs.Filter.{filter_of}
 use Rattle.json_fields.specs.Form.{Member}
 use Rattle.json_fields.proofs.FormLemmas.{Agrees, numbered_agrees, kept, both_true, is_most, most_is, means_read, means_reads}
 use Rattle.query_object.specs.Optional.{read_or, IsOr, optional}

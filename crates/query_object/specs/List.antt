@@ -2,7 +2,7 @@
 use Rattle.std.specs.Prelude.{◌≡◌, ℕ, ◌≤◌, nat_le, ◌&&◌, if◌then◌else◌, codes, Option, Some, None, option_map, option_and_then}
 use Rattle.serde_json.specs.Data.{Data}
 use Rattle.query_filter.specs.Formula.{Formula}
-use Rattle.filter_object.specs.Filter.{filter_of}
+use Rattle.json_fields.specs.Filter.{filter_of}
 use Rattle.json_fields.specs.Form.{Member}
 use Rattle.json_fields.specs.Field.{number, small, numbered}
 use Rattle.query_object.specs.Optional.{optional}

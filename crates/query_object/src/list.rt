@@ -8,8 +8,7 @@ ghost use Rattle.json_fields.specs.declared.request_fault.RequestFault.TheVarian
 ghost use Rattle.query_object.specs.List.{filter, from, limit};
 ghost use Rattle.query_object.specs.Query.{query_called, IsFiltered};
 
-use filter_object::{FilterFault, read_filter};
-use json_fields::{RequestFault, has_only, small_number_at};
+use json_fields::{FilterFault, RequestFault, has_only, read_filter, small_number_at};
 use query_filter::Filter;
 use serde_json::Value;
 use session_queries::Query;

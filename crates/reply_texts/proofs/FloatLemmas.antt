@@ -21,13 +21,13 @@ use Rattle.session_queries.specs.declared.card_costs.CardCosts.TheVariants.{Pend
 use Rattle.standings.specs.declared.row_result.RowResult.{RowResult}
 use Rattle.standings.specs.declared.row_result.RowResult.TheVariants.{Played, Ruled}
 use Rattle.standings.specs.declared.traveller_row.TravellerRow.{TravellerRow}
-use Rattle.reply_values.specs.DataOf.{number_data, list_data, option_data}
-use Rattle.reply_values.specs.StatusText.{held_boards, live_tables, tables_data, live_data, mark_data, marks_data, seat_data, status_data}
-use Rattle.reply_values.specs.BoardText.{tricks_data}
-use Rattle.reply_values.specs.TravellerText.{outcome_data, result_data, row_data}
+use Rattle.reply_texts.specs.DataOf.{number_data, list_data, option_data}
+use Rattle.reply_texts.specs.StatusText.{held_boards, live_tables, tables_data, live_data, mark_data, marks_data, seat_data, status_data}
+use Rattle.reply_texts.specs.BoardText.{tricks_data}
+use Rattle.reply_texts.specs.TravellerText.{outcome_data, result_data, row_data}
 use Rattle.reply_texts.specs.CostsText.{card_costs_data}
-use Rattle.reply_values.specs.TableText.{card_data}
-use Rattle.reply_values.specs.ListText.{standing_data, role_data, account_data, inheritance_data}
+use Rattle.reply_texts.specs.TableText.{card_data}
+use Rattle.reply_texts.specs.ListText.{standing_data, role_data, account_data, inheritance_data}
 use Rattle.reply_texts.specs.ReplyText.{body_data, reply_data}
 
 -- ---- lists, and what may be absent

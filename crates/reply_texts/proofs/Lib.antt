@@ -1,2 +1,3 @@
-pub mod ReplyLemmas
 pub mod FloatLemmas
+pub mod RangeLemmas
+pub mod ReplyLemmas

@@ -4,7 +4,7 @@ use Rattle.serde_json.specs.Data.{Data, string, array, object, member, no_member
 use Rattle.movement.specs.declared.cell.Cell.{Cell}
 use Rattle.session_queries.specs.declared.card_costs.CardCosts.{CardCosts}
 use Rattle.session_queries.specs.declared.card_costs.CardCosts.TheVariants.{Pending, NoCards, Each, NotAPlay}
-use Rattle.reply_values.specs.DataOf.{number_data, list_data, option_data}
+use Rattle.reply_texts.specs.DataOf.{number_data, list_data, option_data}
 
 -- what the cards cost, one after another: where no card was noted, an empty list; or the number of the first card that
 -- is not legal

@@ -10,13 +10,13 @@ use Rattle.denials.specs.Evidence.{explanation}
 use Rattle.session_queries.specs.declared.body.Body.{Body}
 use Rattle.session_queries.specs.declared.body.Body.TheVariants as body
 use Rattle.session_queries.specs.declared.reply.Reply.{Reply}
-use Rattle.reply_values.specs.DataOf.{number_data}
-use Rattle.reply_values.specs.StatusText.{status_data}
-use Rattle.reply_values.specs.BoardText.{board_data, analysis_data}
-use Rattle.reply_values.specs.TravellerText.{traveller_data}
+use Rattle.reply_texts.specs.DataOf.{number_data}
+use Rattle.reply_texts.specs.StatusText.{status_data}
+use Rattle.reply_texts.specs.BoardText.{board_data, analysis_data}
+use Rattle.reply_texts.specs.TravellerText.{traveller_data}
 use Rattle.reply_texts.specs.CostsText.{costs_data}
-use Rattle.reply_values.specs.TableText.{play_data, reason_data}
-use Rattle.reply_values.specs.ListText.{boards_data, ranking_data, accounts_data}
+use Rattle.reply_texts.specs.TableText.{play_data, reason_data}
+use Rattle.reply_texts.specs.ListText.{boards_data, ranking_data, accounts_data}
 
 -- the board or 0, the rule's number, the table or 0, and what the user is told
 abbrev pub denial_data : Denial → Data

@@ -3,12 +3,12 @@
 ghost use Rattle.std.specs.Prelude.{◌≡◌, IfOk};
 ghost use Rattle.serde_json.specs.View.{view};
 ghost use Rattle.reply_texts.specs.CostsText.{card_costs_data, costs_data};
-ghost use Rattle.reply_values.specs.DataOf.{option_data};
+ghost use Rattle.reply_texts.specs.DataOf.{option_data};
 ghost use Rattle.session_queries.specs.declared.card_costs.CardCosts.TheVariants.{NotAPlay};
 
-use json_writing::ObjectWriter;
+use crate::to_json::list_value;
+use json_fields::ObjectWriter;
 use movement::Cell;
-use reply_values::list_value;
 use serde_json::Value;
 use session_queries::CardCosts;
 use std::alloc::{AllocError, Global};

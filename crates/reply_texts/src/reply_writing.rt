@@ -3,16 +3,19 @@
 ghost use Rattle.std.specs.Prelude.{◌≡◌, IfOk, codes, string_bytes};
 ghost use Rattle.serde_json.specs.Data.{object, member, no_members, put};
 ghost use Rattle.serde_json.specs.View.{view};
-ghost use Rattle.reply_values.specs.DataOf.{number_data};
+ghost use Rattle.reply_texts.specs.DataOf.{number_data};
 ghost use Rattle.reply_texts.specs.ReplyText.{denial_data, body_word, body_data, reply_data, reply_text};
 
+use crate::accounts_writing::accounts_value;
+use crate::board_writing::{analysis_value, board_value};
 use crate::costs_writing::costs_value;
+use crate::list_writing::boards_value;
+use crate::status_writing::status_value;
+use crate::table_writing::{play_value, reason_value};
+use crate::to_json::list_value;
+use crate::traveller_writing::traveller_value;
 use denials::{Denial, explain};
-use json_writing::ObjectWriter;
-use reply_values::{
-    accounts_value, analysis_value, board_value, boards_value, list_value, play_value,
-    reason_value, status_value, traveller_value,
-};
+use json_fields::ObjectWriter;
 use serde_json::Value;
 use session_queries::{Body, Reply};
 use std::alloc::{AllocError, Global};

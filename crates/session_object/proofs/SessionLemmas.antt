@@ -4,11 +4,11 @@ use Rattle.std.proofs.lemmas.Option.{same_Some}
 use Rattle.serde_json.specs.Data.{Data}
 use Rattle.serde_json.specs.Find.{get}
 use Rattle.session_opening.specs.declared.new_user.NewUser.{NewUser}
-use Rattle.user_fields.specs.User.{user_name, digest, user_roles, pair, place}
+use Rattle.json_fields.specs.User.{user_name, digest, user_roles, pair, place}
 use Rattle.json_fields.specs.Field.{limited, numbered, written}
 use Rattle.json_fields.proofs.FormLemmas.{Agrees, AgreesForm, form_agrees, with_agrees, formed_read, formed_reads, numbered_agrees}
 use Rattle.json_fields.proofs.FormLemmas.{limited_agrees, called_agrees, written_agrees, listed_agrees}
-use Rattle.user_fields.proofs.UserLemmas.{digest_agrees, user_roles_agree, pair_agrees, place_agrees}
+use Rattle.json_fields.proofs.UserLemmas.{digest_agrees, user_roles_agree, pair_agrees, place_agrees}
 use Rattle.session_object.specs.Session.{Session, seated, unseated, user_form, user_of, IsUser, users, most_visits, with_boards, beside_boards, session_form, session_of, IsSession}
 
 -- ---- users

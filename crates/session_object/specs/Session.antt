@@ -5,7 +5,7 @@ use Rattle.serde_json.specs.Find.{get}
 use Rattle.session_opening.specs.declared.new_user.NewUser.{NewUser}
 use Rattle.json_fields.specs.Form.{Member, Form, form, ◌with◌, formed, HasForm}
 use Rattle.json_fields.specs.Field.{limited, numbered, written, listed}
-use Rattle.user_fields.specs.User.{user_name, digest, user_roles, pair, place}
+use Rattle.json_fields.specs.User.{user_name, digest, user_roles, pair, place}
 
 -- ---- users
 

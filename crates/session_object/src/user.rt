@@ -4,19 +4,18 @@ ghost use Rattle.std.specs.Prelude.{◌≡◌, [], Some, None, IfOk, IfErr};
 ghost use Rattle.serde_json.specs.Find.{get};
 ghost use Rattle.serde_json.specs.View.{view, items_view};
 ghost use Rattle.json_fields.specs.Form.{each, formed};
-ghost use Rattle.user_fields.specs.User.{role_of, user_roles};
+ghost use Rattle.json_fields.specs.User.{role_of, user_roles};
 ghost use Rattle.session_object.specs.Session.{seated, unseated, user_of, users};
 ghost use Rattle.session_object.specs.Reading.{Gives, Fails};
 
 use crate::session_fault::SessionFault;
 use disclosure_rules::Seat;
-use json_fields::{has_only, name_at};
+use json_fields::{digest_of, has_only, name_at, pair_of, place_of, role_of};
 use serde_json::Value;
-use session_commands::Digest;
 use session_opening::{NewUser, NewUsers, RoleList};
 use session_roles::Role;
+use session_state::Digest;
 use std::alloc::Global;
-use user_fields::{digest_of, pair_of, place_of, role_of};
 use user_names::Name;
 
 fn roles_in(alloc: Global, list: &[Value]) -> Result<Vec<Role>, SessionFault>

@@ -3,7 +3,7 @@
 
 use connections::Connection;
 use json_fields::RequestFault;
-use session_keeper::PlainKeeper;
+use published_view::PlainKeeper;
 use session_object::{SessionObject, read_session};
 use std::alloc::Global;
 use std::io::{self, Write};

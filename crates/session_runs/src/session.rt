@@ -7,7 +7,7 @@ use crate::solver::{costs_told, table_told};
 use published_view::View;
 use reply_texts::reply_text;
 use session_book::{Answer, Book};
-use session_commands::Refusal;
+use session_state::Refusal;
 use session_object::read_session;
 use std::alloc::Global;
 use std::io::{self, Write};

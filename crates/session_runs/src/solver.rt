@@ -7,8 +7,7 @@ use cards::{Card, Deal};
 use double_dummy::{Budget, play_costs, table};
 use movement::Cell;
 use scoring::{Contract, Doubling, Level};
-use session_commands::{DdTable, Play, PlayCosts};
-use session_state::State;
+use session_state::{DdTable, Play, PlayCosts, State};
 use std::alloc::Global;
 use table_terms::{Place, Strain};
 

@@ -1,12 +1,16 @@
+pub use Rattle.disclosure_rules.proofs as disclosure_rules_lemmas
+pub use Rattle.disclosure_rules.proofs.movement_lemmas as movement_lemmas
+pub use Rattle.solver_results.proofs.cards_lemmas as cards_lemmas
+pub use Rattle.solver_results.proofs.scoring_lemmas as scoring_lemmas
 pub mod AccountCauseLemmas
 pub mod AccountLemmas
 pub mod CompleteLemmas
 pub mod HindranceLemmas
 pub mod LiveLemmas
+pub mod OwnNumberLemmas
 pub mod PartLemmas
 pub mod ReaderLemmas
 pub mod RefusalLemmas
 pub mod ScheduleLemmas
 pub mod SeatCauseLemmas
 pub mod SeatLemmas
-pub mod OwnNumberLemmas

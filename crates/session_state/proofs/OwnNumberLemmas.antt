@@ -4,35 +4,35 @@ use Rattle.std.specs.Prelude.{◌⊎◌, Option, Some, None, is_some, not, ◌&&
 use Rattle.std.specs.Bool.{then_some, Decides}
 use Rattle.std.specs.Cmp.Lexicographic.{pointwise_decides}
 use Rattle.std.proofs.lemmas.Bool.{false≢true, eqb-true, eq-eqb}
-use Rattle.session_commands.specs.cards.Card.{number_in_pack}
-use Rattle.session_commands.specs.cards.CardBits.{same_number}
-use Rattle.session_commands.specs.cards.Hands.{Hands}
-use Rattle.session_commands.specs.cards.declared.card.Card.{Card}
-use Rattle.session_commands.proofs.cards_lemmas.CardBitsLemmas.{are_same_decides}
-use Rattle.session_commands.specs.disclosure_rules.Seating.{some_that}
-use Rattle.session_commands.specs.disclosure_rules.declared.public.Public.{Public}
-use Rattle.session_commands.specs.movement.declared.cell.Cell.{Cell}
-use Rattle.session_commands.specs.movement.Movement.{IsSection}
-use Rattle.session_commands.specs.play_record.Play.{same_card}
+use Rattle.session_state.specs.cards.Card.{number_in_pack}
+use Rattle.session_state.specs.cards.CardBits.{same_number}
+use Rattle.session_state.specs.cards.Hands.{Hands}
+use Rattle.session_state.specs.cards.declared.card.Card.{Card}
+use Rattle.session_state.proofs.cards_lemmas.CardBitsLemmas.{are_same_decides}
+use Rattle.session_state.specs.disclosure_rules.Seating.{some_that}
+use Rattle.session_state.specs.disclosure_rules.declared.public.Public.{Public}
+use Rattle.session_state.specs.movement.declared.cell.Cell.{Cell}
+use Rattle.session_state.specs.movement.Movement.{IsSection}
+use Rattle.session_state.specs.solver_results.Play.{same_card}
 use Rattle.rbac.specs.RoleData.{RoleData}
-use Rattle.session_commands.specs.scoring.declared.contract.Contract.{Contract}
-use Rattle.session_commands.specs.scoring.declared.outcome.Outcome.{Outcome}
-use Rattle.session_commands.specs.scoring.declared.outcome.Outcome.TheVariants.{PassedOut, Played}
-use Rattle.session_commands.proofs.scoring_lemmas.OutcomeLemmas.{same_outcome_decides}
-use Rattle.session_commands.specs.solver_results.PlayAnswer.{PlayedDeal}
+use Rattle.session_state.specs.scoring.declared.contract.Contract.{Contract}
+use Rattle.session_state.specs.scoring.declared.outcome.Outcome.{Outcome}
+use Rattle.session_state.specs.scoring.declared.outcome.Outcome.TheVariants.{PassedOut, Played}
+use Rattle.session_state.proofs.scoring_lemmas.OutcomeLemmas.{same_outcome_decides}
+use Rattle.session_state.specs.solver_results.PlayAnswer.{PlayedDeal}
 use Rattle.session_state.specs.Apply.{apply, effect, confirmed}
-use Rattle.session_commands.specs.CellState.{has_result, is_contract_of, same_play, is_played_as, is_counted, with_costs}
+use Rattle.session_state.specs.CellState.{has_result, is_contract_of, same_play, is_played_as, is_counted, with_costs}
 use Rattle.session_state.specs.OwnNumbers.{IsHandsOf, IsCostsOf, IsCounting, TellsOwn, KeepsOwn}
 use Rattle.session_state.specs.Refusal.{first_of, hindrance_of}
 use Rattle.session_state.specs.SessionState.{SessionState, cell_at, table_at, same_hands, is_dealt, place_of, IsPlaced}
-use Rattle.session_commands.specs.declared.cell_state.CellState.{CellState}
-use Rattle.session_commands.specs.declared.cell_state.CellState.TheVariants.{Empty, Entered, Confirmed, Ruled}
-use Rattle.session_commands.specs.declared.command.Command.{Command}
-use Rattle.session_commands.specs.declared.command.Command.TheVariants.{Enter, Confirm, Correct, Rule, Void, Hold, Release, Seat, Unseat, NextRound, Close, Finalise, AddUser, Assign, Deassign, AddInheritance, DeleteInheritance, Solved, Analysed}
-use Rattle.session_commands.specs.declared.digest.Digest.{Digest}
-use Rattle.session_commands.specs.declared.entry.Entry.{Entry}
-use Rattle.session_commands.specs.declared.refusal.Refusal.{Refusal}
-use Rattle.session_commands.specs.declared.refusal.Refusal.TheVariants.{NotLive, StrangeDeal, StrangePlay, AlreadySolved}
+use Rattle.session_state.specs.declared.cell_state.CellState.{CellState}
+use Rattle.session_state.specs.declared.cell_state.CellState.TheVariants.{Empty, Entered, Confirmed, Ruled}
+use Rattle.session_state.specs.declared.command.Command.{Command}
+use Rattle.session_state.specs.declared.command.Command.TheVariants.{Enter, Confirm, Correct, Rule, Void, Hold, Release, Seat, Unseat, NextRound, Close, Finalise, AddUser, Assign, Deassign, AddInheritance, DeleteInheritance, Solved, Analysed}
+use Rattle.user_names.specs.declared.digest.Digest.{Digest}
+use Rattle.session_state.specs.declared.entry.Entry.{Entry}
+use Rattle.session_state.specs.declared.refusal.Refusal.{Refusal}
+use Rattle.session_state.specs.declared.refusal.Refusal.TheVariants.{NotLive, StrangeDeal, StrangePlay, AlreadySolved}
 use Rattle.session_state.specs.declared.seated.Seated.{Seated}
 use Rattle.session_state.proofs.HindranceLemmas.{rest_none, not_met, cell_unhindered, own_unhindered}
 use Rattle.session_state.proofs.LiveLemmas.{own_place}

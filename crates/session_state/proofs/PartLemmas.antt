@@ -2,26 +2,26 @@
 use Rattle.std.proofs.Common.{◌≡◌, ◌≢◌, ℕ, Bool, true, false, List, refl, sym, ap}
 use Rattle.std.specs.Prelude.{Option, Some, None, is_some, not, if◌then◌else◌}
 use Rattle.std.proofs.lemmas.Bool.{false≢true}
-use Rattle.session_commands.specs.cards.Hands.{Hands}
-use Rattle.session_commands.specs.movement.declared.cell.Cell.{Cell}
-use Rattle.session_commands.specs.movement.Movement.{IsSection}
-use Rattle.session_commands.specs.movement.Schedule.{is_scheduled}
-use Rattle.session_commands.proofs.movement_lemmas.CellLemmas.{cell_in_range}
-use Rattle.session_commands.proofs.movement_lemmas.ScheduleTests.{scheduled-cell}
+use Rattle.session_state.specs.cards.Hands.{Hands}
+use Rattle.session_state.specs.movement.declared.cell.Cell.{Cell}
+use Rattle.session_state.specs.movement.Movement.{IsSection}
+use Rattle.session_state.specs.movement.Schedule.{is_scheduled}
+use Rattle.session_state.proofs.movement_lemmas.CellLemmas.{cell_in_range}
+use Rattle.session_state.proofs.movement_lemmas.ScheduleTests.{scheduled-cell}
 use Rattle.rbac.specs.declared.account.Account.{Account}
 use Rattle.rbac.specs.declared.inheritance.Inheritance.{Inheritance}
-use Rattle.session_commands.specs.disclosure_rules.Seating.{some_that}
-use Rattle.session_commands.specs.disclosure_rules.declared.phase.Phase.{Phase}
-use Rattle.session_commands.specs.declared.cell_state.CellState.{CellState}
-use Rattle.session_commands.specs.declared.cell_state.CellState.TheVariants.{Empty, Entered, Confirmed, Ruled}
-use Rattle.session_commands.specs.declared.command.Command.{Command}
-use Rattle.session_commands.specs.declared.command.Command.TheVariants.{Enter, Confirm, Correct, Rule, Void, Hold, Release, Seat, Unseat, NextRound, Close, Finalise, AddUser, Assign, Deassign, AddInheritance, DeleteInheritance, Solved, Analysed}
-use Rattle.session_commands.specs.declared.digest.Digest.{Digest}
-use Rattle.session_commands.specs.declared.entry.Entry.{Entry}
-use Rattle.session_commands.specs.declared.refusal.Refusal.{Refusal}
+use Rattle.session_state.specs.disclosure_rules.Seating.{some_that}
+use Rattle.session_state.specs.disclosure_rules.declared.phase.Phase.{Phase}
+use Rattle.session_state.specs.declared.cell_state.CellState.{CellState}
+use Rattle.session_state.specs.declared.cell_state.CellState.TheVariants.{Empty, Entered, Confirmed, Ruled}
+use Rattle.session_state.specs.declared.command.Command.{Command}
+use Rattle.session_state.specs.declared.command.Command.TheVariants.{Enter, Confirm, Correct, Rule, Void, Hold, Release, Seat, Unseat, NextRound, Close, Finalise, AddUser, Assign, Deassign, AddInheritance, DeleteInheritance, Solved, Analysed}
+use Rattle.user_names.specs.declared.digest.Digest.{Digest}
+use Rattle.session_state.specs.declared.entry.Entry.{Entry}
+use Rattle.session_state.specs.declared.refusal.Refusal.{Refusal}
 use Rattle.session_state.specs.declared.seated.Seated.{Seated}
 use Rattle.session_state.specs.Apply.{apply, effect, confirmed}
-use Rattle.session_commands.specs.Command.{cell_of}
+use Rattle.session_state.specs.Command.{cell_of}
 use Rattle.session_state.specs.Parts.{Part, Results, HeldBoards, Seats, Rounds, Phases, Accounts, Hierarchy, Tables, part_of, IsSameBut}
 use Rattle.session_state.specs.Refusal.{hindrance_of}
 use Rattle.session_state.specs.SessionState.{SessionState, cell_at, with_cell, place_of, IsPlaced}

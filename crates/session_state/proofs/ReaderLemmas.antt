@@ -3,7 +3,7 @@ use Rattle.std.proofs.Common.{◌≡◌, ℕ, zero, suc, ◌<◌, ◌≤◌, con
 use Rattle.std.specs.Prelude.{Some, None}
 use Rattle.rbac.specs.Account.{same_name}
 use Rattle.rbac.specs.declared.account.Account.{Account}
-use Rattle.session_commands.specs.declared.digest.Digest.{Digest}
+use Rattle.user_names.specs.declared.digest.Digest.{Digest}
 use Rattle.session_state.specs.Readers.{digest_among}
 
 -- the digest from a place on: the one there, or one after it

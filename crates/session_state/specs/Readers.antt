@@ -3,7 +3,7 @@ use Rattle.std.specs.Prelude.{ℕ, Option, Some, None, option_map, if◌then◌e
 use Rattle.std.specs.List.{filter_map}
 use Rattle.rbac.specs.Account.{same_name}
 use Rattle.rbac.specs.declared.account.Account.{Account}
-use Rattle.session_commands.specs.declared.digest.Digest.{Digest}
+use Rattle.user_names.specs.declared.digest.Digest.{Digest}
 use Rattle.session_state.specs.declared.seated.Seated.{Seated}
 use Rattle.session_state.specs.SessionState.{SessionState, seat_of}
 

@@ -8,44 +8,44 @@ use Rattle.std.specs.Prelude.{Option, None, IsSomeAnd, is_some, option_map, List
 use Rattle.std.specs.Bool.{then_some}
 use Rattle.std.specs.List.{list_all, range_with_len}
 use Rattle.std.specs.Option.{option_or}
-use Rattle.session_commands.specs.cards.declared.card.Card.{Card}
-use Rattle.session_commands.specs.movement.Movement.{Section, boards_of}
-use Rattle.session_commands.specs.movement.Schedule.{is_scheduled, is_later}
+use Rattle.session_state.specs.cards.declared.card.Card.{Card}
+use Rattle.session_state.specs.movement.Movement.{Section, boards_of}
+use Rattle.session_state.specs.movement.Schedule.{is_scheduled, is_later}
 use Rattle.rbac.specs.Account.{most_users, is_user_name}
 use Rattle.rbac.specs.Authorization.{HasPermission, has_permission}
 use Rattle.rbac.specs.Inheritance.{reaches}
 use Rattle.rbac.specs.RoleData.{RoleData, assign_user, deassign_user, add_inheritance, delete_inheritance}
 use Rattle.session_roles.specs.declared.role.Role.TheVariants.{Contestant}
-use Rattle.session_commands.specs.scoring.declared.outcome.Outcome.{Outcome}
-use Rattle.session_commands.specs.scoring.declared.outcome.Outcome.TheVariants.{PassedOut, Played}
-use Rattle.session_commands.specs.disclosure_rules.Numbers.{has_number}
-use Rattle.session_commands.specs.disclosure_rules.Seating.{some_that, is_complete}
-use Rattle.session_commands.specs.disclosure_rules.declared.public.Public.{Public}
-use Rattle.session_commands.specs.declared.command.Command.{Command}
-use Rattle.session_commands.specs.declared.command.Command.TheVariants.{Enter, Confirm, Correct, Rule, Void, Hold, Release}
-use Rattle.session_commands.specs.declared.command.Command.TheVariants.{Seat, Unseat, NextRound, Close, Finalise}
-use Rattle.session_commands.specs.declared.command.Command.TheVariants.{AddUser, Assign, Deassign, AddInheritance}
-use Rattle.session_commands.specs.declared.command.Command.TheVariants.{DeleteInheritance, Solved, Analysed}
-use Rattle.session_commands.specs.declared.refusal.Refusal.{Refusal}
-use Rattle.session_commands.specs.declared.refusal.Refusal.TheVariants.{NotPermitted, NoSuchUser, NoSuchCell, NoSuchBoard}
-use Rattle.session_commands.specs.declared.refusal.Refusal.TheVariants.{WrongPhase, RoundNotStarted, BadResult, AlreadyLive}
-use Rattle.session_commands.specs.declared.refusal.Refusal.TheVariants.{NothingEntered, Mismatch, NotLive, BadRuling}
-use Rattle.session_commands.specs.declared.refusal.Refusal.TheVariants.{AlreadyHeld, NotHeld, NoSuchPair, WrongDirection}
-use Rattle.session_commands.specs.declared.refusal.Refusal.TheVariants.{NotContestant, AlreadySeated, SeatTaken, NotSeated}
-use Rattle.session_commands.specs.declared.refusal.Refusal.TheVariants.{NoMoreRounds, NotAllLive, BadName, UserExists}
-use Rattle.session_commands.specs.declared.refusal.Refusal.TheVariants.{TooManyUsers, AlreadyAssigned, Separation}
-use Rattle.session_commands.specs.declared.refusal.Refusal.TheVariants.{NotAssigned, StillSeated, LastAdministrator, Cycle}
-use Rattle.session_commands.specs.declared.refusal.Refusal.TheVariants.{AlreadyThere, NotThere, StrangeDeal, AlreadySolved, StrangePlay}
-use Rattle.session_commands.specs.declared.refusal.Refusal.TheVariants.{JournalFull}
+use Rattle.session_state.specs.scoring.declared.outcome.Outcome.{Outcome}
+use Rattle.session_state.specs.scoring.declared.outcome.Outcome.TheVariants.{PassedOut, Played}
+use Rattle.session_state.specs.disclosure_rules.Numbers.{has_number}
+use Rattle.session_state.specs.disclosure_rules.Seating.{some_that, is_complete}
+use Rattle.session_state.specs.disclosure_rules.declared.public.Public.{Public}
+use Rattle.session_state.specs.declared.command.Command.{Command}
+use Rattle.session_state.specs.declared.command.Command.TheVariants.{Enter, Confirm, Correct, Rule, Void, Hold, Release}
+use Rattle.session_state.specs.declared.command.Command.TheVariants.{Seat, Unseat, NextRound, Close, Finalise}
+use Rattle.session_state.specs.declared.command.Command.TheVariants.{AddUser, Assign, Deassign, AddInheritance}
+use Rattle.session_state.specs.declared.command.Command.TheVariants.{DeleteInheritance, Solved, Analysed}
+use Rattle.session_state.specs.declared.refusal.Refusal.{Refusal}
+use Rattle.session_state.specs.declared.refusal.Refusal.TheVariants.{NotPermitted, NoSuchUser, NoSuchCell, NoSuchBoard}
+use Rattle.session_state.specs.declared.refusal.Refusal.TheVariants.{WrongPhase, RoundNotStarted, BadResult, AlreadyLive}
+use Rattle.session_state.specs.declared.refusal.Refusal.TheVariants.{NothingEntered, Mismatch, NotLive, BadRuling}
+use Rattle.session_state.specs.declared.refusal.Refusal.TheVariants.{AlreadyHeld, NotHeld, NoSuchPair, WrongDirection}
+use Rattle.session_state.specs.declared.refusal.Refusal.TheVariants.{NotContestant, AlreadySeated, SeatTaken, NotSeated}
+use Rattle.session_state.specs.declared.refusal.Refusal.TheVariants.{NoMoreRounds, NotAllLive, BadName, UserExists}
+use Rattle.session_state.specs.declared.refusal.Refusal.TheVariants.{TooManyUsers, AlreadyAssigned, Separation}
+use Rattle.session_state.specs.declared.refusal.Refusal.TheVariants.{NotAssigned, StillSeated, LastAdministrator, Cycle}
+use Rattle.session_state.specs.declared.refusal.Refusal.TheVariants.{AlreadyThere, NotThere, StrangeDeal, AlreadySolved, StrangePlay}
+use Rattle.session_state.specs.declared.refusal.Refusal.TheVariants.{JournalFull}
 use Rattle.session_state.specs.Accounts.{has_account, is_assigned, is_authorized_for, has_administrator, seats_a_stranger}
 use Rattle.session_state.specs.Accounts.{first_broken, has_pair}
-use Rattle.session_commands.specs.CellState.{has_result, is_empty, is_entered_otherwise, is_played_as, is_counted}
-use Rattle.session_commands.specs.Command.{operation_of, is_solvers, phases_of, user_of, cell_of, board_of}
-use Rattle.session_commands.specs.Command.{is_among}
-use Rattle.session_commands.specs.Refusal.{spoiled}
-use Rattle.session_commands.specs.declared.actor.Actor.{Actor}
-use Rattle.session_commands.specs.declared.actor.Actor.TheVariants.{User, Solver}
-use Rattle.session_commands.specs.play_record.Play.{has_card, has_repeat}
+use Rattle.session_state.specs.CellState.{has_result, is_empty, is_entered_otherwise, is_played_as, is_counted}
+use Rattle.session_state.specs.Command.{operation_of, is_solvers, phases_of, user_of, cell_of, board_of}
+use Rattle.session_state.specs.Command.{is_among}
+use Rattle.session_state.specs.StatelessRefusal.{spoiled}
+use Rattle.session_state.specs.declared.actor.Actor.{Actor}
+use Rattle.session_state.specs.declared.actor.Actor.TheVariants.{User, Solver}
+use Rattle.session_state.specs.solver_results.Play.{has_card, has_repeat}
 use Rattle.session_state.specs.Seats.{is_pair, is_of_side, has_seat, is_taken}
 use Rattle.session_state.specs.SessionState.{SessionState, cell_at, table_at, is_dealt}
 

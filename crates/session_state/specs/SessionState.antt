@@ -4,28 +4,28 @@ use Rattle.std.specs.List.{find}
 use Rattle.std.specs.Option.{option_map}
 use Rattle.std.specs.Cmp.Lexicographic.{pointwise}
 use Rattle.std.specs.Coded.{Coded, code_by, coded×, coded_list, coded_option}
-use Rattle.session_commands.specs.cards.Cards.{are_same}
-use Rattle.session_commands.specs.cards.Hands.{Hands, hands_code}
+use Rattle.session_state.specs.cards.Cards.{are_same}
+use Rattle.session_state.specs.cards.Hands.{Hands, hands_code}
 use Rattle.session_roles.specs.declared.role.Role.{Role}
 use Rattle.rbac.specs.Authorization.{authorized_roles}
 use Rattle.rbac.specs.RoleData.{RoleData}
 use Rattle.rbac.specs.contracts.roles.Roles as the_roles
-use Rattle.session_commands.specs.movement.declared.cell.Cell.{Cell}
-use Rattle.session_commands.specs.movement.Movement.{most_tables, most_boards}
-use Rattle.session_commands.specs.disclosure_rules.declared.public.Public.{Public}
-use Rattle.session_commands.specs.disclosure_rules.contracts.public.Public as the_public
-use Rattle.session_commands.specs.disclosure_rules.LiveCells.{is_live}
-use Rattle.session_commands.specs.disclosure_rules.Seating.{some_that}
-use Rattle.session_commands.specs.disclosure_rules.declared.seat.Seat.{Seat}
-use Rattle.session_commands.specs.disclosure_rules.declared.viewer.Viewer.{Viewer}
-use Rattle.session_commands.specs.declared.digest.Digest.{Digest}
-use Rattle.session_commands.specs.contracts.digest.Digest as the_digest
+use Rattle.session_state.specs.movement.declared.cell.Cell.{Cell}
+use Rattle.session_state.specs.movement.Movement.{most_tables, most_boards}
+use Rattle.session_state.specs.disclosure_rules.declared.public.Public.{Public}
+use Rattle.session_state.specs.disclosure_rules.contracts.public.Public as the_public
+use Rattle.session_state.specs.disclosure_rules.LiveCells.{is_live}
+use Rattle.session_state.specs.disclosure_rules.Seating.{some_that}
+use Rattle.session_state.specs.disclosure_rules.declared.seat.Seat.{Seat}
+use Rattle.session_state.specs.disclosure_rules.declared.viewer.Viewer.{Viewer}
+use Rattle.user_names.specs.declared.digest.Digest.{Digest}
+use Rattle.user_names.specs.contracts.digest.Digest as the_digest
 use Rattle.session_state.specs.declared.seated.Seated.{Seated}
 use Rattle.session_state.specs.contracts.seated.Seated as the_seated
-use Rattle.session_commands.specs.declared.cell_state.CellState.{CellState}
-use Rattle.session_commands.specs.declared.cell_state.CellState.TheVariants.{Empty}
-use Rattle.session_commands.specs.contracts.cell_state.CellState as the_cell_state
-use Rattle.session_commands.specs.CellState.{has_result}
+use Rattle.session_state.specs.declared.cell_state.CellState.{CellState}
+use Rattle.session_state.specs.declared.cell_state.CellState.TheVariants.{Empty}
+use Rattle.session_state.specs.contracts.cell_state.CellState as the_cell_state
+use Rattle.session_state.specs.CellState.{has_result}
 
 -- the users with their roles and the role hierarchy, the digest of each user's token in the order of the accounts,
 -- where users sit, what every member may see, what is known of each cell, and of board 1, 2, .. the hands, and the

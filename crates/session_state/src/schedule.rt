@@ -1,11 +1,11 @@
 ghost use Rattle.std.specs.Prelude.{◌≡◌, true, false, not, IfSome};
-ghost use Rattle.session_commands.specs.disclosure_rules.Seating.{some_that};
-ghost use Rattle.session_commands.specs.movement.Movement.{IsCell};
-ghost use Rattle.session_commands.specs.movement.Schedule.{is_scheduled, is_later};
+ghost use Rattle.session_state.specs.disclosure_rules.Seating.{some_that};
+ghost use Rattle.session_state.specs.movement.Movement.{IsCell};
+ghost use Rattle.session_state.specs.movement.Schedule.{is_scheduled, is_later};
 ghost use Rattle.session_state.specs.Refusal.{is_board};
 ghost use Rattle.session_state.specs.SessionState.{IsPlaced, IsKeptBoard};
 
-use session_commands::{Cell, Movement};
+use disclosure_rules::{Cell, Movement};
 
 /// Whether the cell's table is scheduled to play its board.
 #[tactic(auto, using(crate::proofs::ScheduleLemmas::found_scheduled))]

@@ -1,4 +1,4 @@
-use session_commands::Seat;
+use disclosure_rules::Seat;
 use user_names::Name;
 
 /// A user, and where the user sits.

@@ -1,17 +1,17 @@
 ghost use Rattle.std.specs.Prelude.{◌≡◌, ◌-◌, ◌<◌, ◌≤◌, ◌↔◌, [], length, slice_get, vec_capacity, Some, None, IfOk, IfSome, IsTrue, replicate};
-ghost use Rattle.session_commands.specs.movement.Movement.{boards_of, most_tables, most_boards};
+ghost use Rattle.session_state.specs.movement.Movement.{boards_of, most_tables, most_boards};
 ghost use Rattle.rbac.specs.Account.{most_users};
 ghost use Rattle.rbac.specs.Authorization.{HasPermission, IsValid, has_permission};
-ghost use Rattle.session_commands.specs.disclosure_rules.LiveCells.{is_live};
-ghost use Rattle.session_commands.specs.disclosure_rules.Policy.{first_rule};
+ghost use Rattle.session_state.specs.disclosure_rules.LiveCells.{is_live};
+ghost use Rattle.session_state.specs.disclosure_rules.Policy.{first_rule};
 ghost use Rattle.session_state.specs.Accounts.{has_account};
 ghost use Rattle.session_state.specs.Seats.{is_taken, AreSeated};
 ghost use Rattle.session_state.specs.Apply.{apply, effect};
-ghost use Rattle.session_commands.specs.CellState.{has_result};
-ghost use Rattle.session_commands.specs.Command.{cell_of, board_of};
+ghost use Rattle.session_state.specs.CellState.{has_result};
+ghost use Rattle.session_state.specs.Command.{cell_of, board_of};
 ghost use Rattle.session_state.specs.Refusal.{hindrance_of, refusal_of};
 ghost use Rattle.session_state.specs.SessionState.{authorized_of, seat_of, viewer_of, cell_at, table_at, is_dealt, with_cell, place_of, most_cells, IsPlaced, IsKeptBoard, AreLive};
-ghost use Rattle.session_commands.specs.declared.cell_state.CellState.TheVariants.{Empty};
+ghost use Rattle.session_state.specs.declared.cell_state.CellState.TheVariants.{Empty};
 
 mod accounts;
 mod progress;
@@ -21,17 +21,20 @@ mod seats;
 mod solved;
 
 use crate::acceptance::{hindrance, refusal};
+use crate::actor::Actor;
+use crate::cell_state::CellState;
+use crate::command::Command;
+use crate::entry::Entry;
+use crate::refusal::Refusal;
+use crate::room::{filled, with_room};
 use crate::seated::Seated;
+use disclosure_rules::{Cell, Fact, Marks, Movement, Public, Rule, Seat, Viewer, decide};
 use rbac::{Account, Roles};
-use session_commands::room::{filled, with_room};
-use session_commands::{
-    Actor, Cell, CellState, Command, DdTable, Deal, Digest, Entry, Fact, Marks, Movement, Outcome,
-    Play, PlayCosts, Public, Refusal, Rule, Seat, Viewer, decide,
-};
 use session_roles::{Operation, RoleSet};
+use solver_results::{DdTable, Deal, Outcome, Play, PlayCosts};
 use std::alloc::{AllocError, Global};
 use std::marker::Model;
-use user_names::Name;
+use user_names::{Digest, Name};
 
 /// How many boards there is room for.
 const MOST_BOARDS: usize = Movement::MOST_BOARDS as usize;

@@ -1,7 +1,7 @@
 use cards::Deal;
 use movement::Cell;
-use play_record::Play;
 use scoring::Contract;
+use solver_results::Play;
 
 /// What is to be solved.
 #[derive(Clone, Copy)]

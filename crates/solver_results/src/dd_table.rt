@@ -3,7 +3,7 @@ ghost use Rattle.table_terms.specs.declared.strain.Strain.TheVariants.{Spades, H
 ghost use Rattle.double_dummy_laws.specs.DoubleDummy.{declarer_tricks};
 ghost use Rattle.solver_results.specs.DdTable.{IsTricksIn, tricks_of};
 
-use play_record::Deal;
+use cards::Deal;
 use std::marker::Model;
 use table_terms::{Place, Strain};
 
@@ -29,7 +29,7 @@ pub struct DdTable {
 }
 
 impl Model for DdTable {
-    ghost use Rattle.play_record.specs.cards.Hands.{Hands, hands_code};
+    ghost use Rattle.solver_results.specs.cards.Hands.{Hands, hands_code};
 
     ghost Value = { Hands };
 

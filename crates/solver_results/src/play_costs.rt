@@ -1,8 +1,9 @@
 ghost use Rattle.std.specs.Prelude.{◌≡◌};
 ghost use Rattle.solver_results.specs.PlayAnswer.{answer_of};
 
+use crate::play::Play;
 use crate::play_answer::PlayAnswer;
-use play_record::{Card, Deal, Play};
+use cards::{Card, Deal};
 use scoring::Contract;
 use std::marker::Model;
 

@@ -5,10 +5,10 @@ ghost use Rattle.serde_json.specs.Data.{array};
 ghost use Rattle.serde_json.specs.View.{view, items_of};
 ghost use Rattle.wire.specs.AuditText.{actor_data, command_word, target, row_data, audit_data, audit_text, refusal_data, audit_refusal_text};
 
-use json_writing::{ArrayWriter, ObjectWriter, array_value, string_value};
+use json_fields::{ArrayWriter, ObjectWriter, array_value, string_value};
 use serde_json::{Value, push};
 use session_book::{AuditRow, AuditRows};
-use session_commands::{Actor, Command};
+use session_state::{Actor, Command};
 use std::alloc::{AllocError, Global};
 
 /// The text of an audit's rows, where the journal has this version.

@@ -5,10 +5,10 @@ ghost use Rattle.serde_json.specs.Data.{array, string};
 ghost use Rattle.serde_json.specs.View.{view};
 ghost use Rattle.wire.specs.ReceiptText.{refusal_name, about, refusal_text, answer_data, answers_data, receipt_data, receipt_text};
 
-use json_writing::{ObjectWriter, array_value};
+use json_fields::{ObjectWriter, array_value};
 use serde_json::{Value, push};
 use session_book::{Answer, Submission};
-use session_commands::Refusal;
+use session_state::Refusal;
 use std::alloc::{AllocError, Global};
 
 /// The text of the receipt for a batch after which the journal has this version.

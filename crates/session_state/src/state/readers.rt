@@ -1,14 +1,14 @@
 //! What is read of the parts of a state.
 ghost use Rattle.std.specs.Prelude.{◌≡◌, length, option_map, slice_get};
-ghost use Rattle.session_commands.specs.disclosure_rules.Numbers.{has_number};
+ghost use Rattle.session_state.specs.disclosure_rules.Numbers.{has_number};
 ghost use Rattle.session_state.specs.Readers.{digest_among, digest_of, seated_of};
 
 use crate::seated::Seated;
 use crate::state::State;
+use disclosure_rules::Phase;
 use rbac::Account;
-use session_commands::{Digest, Phase};
 use session_roles::Role;
-use user_names::Name;
+use user_names::{Digest, Name};
 
 impl State {
     /// The present round, from 1.

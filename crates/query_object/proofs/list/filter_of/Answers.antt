@@ -1,7 +1,7 @@
 use Rattle.std.proofs.Common.{None, Err, IsSome, IsSomeAnd, subst}
 use Rattle.serde_json.specs.View.{view}
-use Rattle.filter_object.specs.Filter.{filter_of}
-use Rattle.filter_object.specs.Reading.{Reads}
+use Rattle.json_fields.specs.Filter.{filter_of}
+use Rattle.json_fields.specs.FilterReading.{Reads}
 use Rattle.query_object.specs.Optional.{read_or}
 use Rattle.query_object.specs.List.{filter_at}
 use Rattle.query_object.proofs.ListLemmas.{filter_stands}

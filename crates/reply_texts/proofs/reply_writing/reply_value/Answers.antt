@@ -2,7 +2,7 @@ use Rattle.std.proofs.Common.{ap, ◌∙◌}
 use Rattle.std.specs.Prelude.{codes}
 use Rattle.std.proofs.lemmas.Result.{IfOk-weaker}
 use Rattle.serde_json.specs.Data.{object, member, no_members, put}
-use Rattle.reply_values.specs.DataOf.{number_data}
+use Rattle.reply_texts.specs.DataOf.{number_data}
 use Rattle.reply_texts.specs.ReplyText.{body_data}
 use Rattle.reply_texts.proofs.ReplyLemmas.{version_comes_last}
 use Rattle.reply_texts.proofs.reply_writing.reply_value.Goals as goal

@@ -5,7 +5,7 @@ use cards::{Deal, Position};
 use crossbeam_channel::{Sender, unbounded};
 use double_dummy::{Budget, PlayAnswer, SolveError, solve};
 use movement::Cell;
-use play_record::Play;
+use solver_results::Play;
 use scoring::{Contract, Doubling, Level};
 use solver_pool::{Found, Job, Pool, Work, solve_job};
 use std::alloc::Global;

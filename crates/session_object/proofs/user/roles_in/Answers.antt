@@ -1,6 +1,6 @@
 use Rattle.std.proofs.Common.{add-one, sym, ◌∙◌, arith}
 use Rattle.json_fields.proofs.ListLemmas.{each_kept}
-use Rattle.user_fields.specs.User.{role_of}
+use Rattle.json_fields.specs.User.{role_of}
 use Rattle.session_object.proofs.user.roles_in.Goals as goal
 
 pub loop-value-preserved : goal.loop-value-preserved

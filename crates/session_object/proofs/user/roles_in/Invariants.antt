@@ -1,7 +1,7 @@
 use Rattle.std.proofs.Common.{◌≡◌, drop}
 use Rattle.serde_json.specs.View.{items_view}
 use Rattle.json_fields.specs.Form.{each}
-use Rattle.user_fields.specs.User.{role_of}
+use Rattle.json_fields.specs.User.{role_of}
 use Rattle.json_fields.proofs.ListLemmas.{with_front}
 use Rattle.session_object.proofs.user.roles_in.Given as goal
 

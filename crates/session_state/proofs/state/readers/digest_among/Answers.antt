@@ -2,7 +2,7 @@ use Rattle.std.proofs.Common.{◌≡◌, false, suc, ◌+◌, [], cond, drop, ge
 use Rattle.std.specs.Prelude.{Some}
 use Rattle.rbac.specs.Account.{same_name}
 use Rattle.rbac.specs.declared.account.Account.{Account}
-use Rattle.session_commands.specs.declared.digest.Digest.{Digest}
+use Rattle.user_names.specs.declared.digest.Digest.{Digest}
 use Rattle.session_state.specs.Readers.{digest_among}
 use Rattle.session_state.proofs.ReaderLemmas.{digest_from}
 use Rattle.session_state.proofs.state.readers.digest_among.Goals as goal

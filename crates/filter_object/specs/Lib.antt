@@ -1,4 +1,0 @@
-pub mod Atom
-pub mod Filter
-pub mod Reading
-pub mod SoleMember

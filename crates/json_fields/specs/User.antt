@@ -1,0 +1,85 @@
+-- Members that say who a user is, which roles one has, and where one sits.
+use Rattle.std.specs.Prelude.{◌≡◌, ℕ, ◌≤◌, List, [], ◌∷◌, ◌++◌, map, codes, Option, Some, None, option_and_then, Result, Ok, Err}
+use Rattle.std.specs.List.{find, range_with_len}
+use Rattle.std.specs.Str.{bytes_eq}
+use Rattle.hex.specs.declared.error.FromHexError.{FromHexError}
+use Rattle.hex.specs.Hex.{decode_sized}
+use Rattle.serde_json.specs.Data.{Data}
+use Rattle.serde_json.specs.Find.{as_str}
+use Rattle.table_terms.specs.declared.pair.Pair.{Pair}
+use Rattle.table_terms.specs.declared.place.Place.{Place}
+use Rattle.table_terms.specs.declared.side.Side.{Side}
+use Rattle.table_terms.specs.declared.side.Side.TheVariants.{NorthSouth, EastWest}
+use Rattle.table_terms.specs.Pair.{pair_text}
+use Rattle.table_terms.specs.Place.{place_letter}
+use Rattle.session_roles.specs.declared.role.Role.{Role}
+use Rattle.session_roles.specs.Role.{roles, role_name}
+use Rattle.user_names.specs.declared.digest.Digest.{Digest}
+use Rattle.json_fields.specs.Form.{Member}
+use Rattle.json_fields.specs.Field.{text, called, named, listed}
+use Rattle.json_fields.specs.Letter.{place_named}
+
+-- the name of a user
+abbrev pub user_name : Member (List ℕ)
+user_name = called (codes "name")
+
+-- ---- digests: 64 hexadecimal digits, capital or small
+
+-- the bytes that digits stand for, if they stand for some
+abbrev pub stood_for : Result (List ℕ) FromHexError → Option Digest
+stood_for (Ok bytes) = Some (record { bytes = bytes })
+stood_for (Err error) = None
+
+-- the 32 bytes of 64 hexadecimal digits
+abbrev pub digest_named : List ℕ → Option Digest
+digest_named digits = stood_for (decode_sized digits 32)
+
+-- what stands there are 64 hexadecimal digits, which stand for these bytes
+abbrev pub IsDigest : Option Data → Digest → Type 0
+IsDigest o digest = (digits : List ℕ) × (text o ≡ Some digits) × (decode_sized digits 32 ≡ Ok digest.bytes)
+
+-- the digest of a user's token
+abbrev pub digest : Member Digest
+digest = record { name = codes "digest"; value = λ o. option_and_then digest_named (text o); Is = IsDigest }
+
+-- ---- roles
+
+-- the role of a name
+unfoldable pub role_named : List ℕ → Option Role
+role_named word = find (λ role. bytes_eq (role_name role) word) roles
+
+-- the role that stands there
+unfoldable pub role_of : Data → Option Role
+role_of d = option_and_then role_named (as_str d)
+
+-- the name of the role
+abbrev pub IsRole : Data → Role → Type 0
+IsRole d role = as_str d ≡ Some (role_name role)
+
+-- the roles of a user, in the order of the list
+abbrev pub user_roles : Member (List Role)
+user_roles = listed (codes "roles") role_of IsRole
+
+-- ---- seats
+
+-- the pairs of a side, by their numbers
+abbrev pub pairs_of : Side → List Pair
+pairs_of side = map (λ number. record { side = side; number = number }) (range_with_len 1 255)
+
+-- the pair whose text it is; numbers are 1 to 255
+unfoldable pub pair_named : List ℕ → Option Pair
+pair_named word = find (λ pair. bytes_eq (pair_text pair) word) (pairs_of NorthSouth ++ pairs_of EastWest)
+
+-- what stands there is the text of this pair
+pub record IsPair (o : Option Data) (pair : Pair) : Type 0 where
+  pub is : text o ≡ Some (pair_text pair)
+  pub least : 1 ≤ pair.number
+  pub most : pair.number ≤ 255
+
+-- the pair in which a user sits
+abbrev pub pair : Member Pair
+pair = record { name = codes "pair"; value = λ o. option_and_then pair_named (text o); Is = IsPair }
+
+-- and the place
+abbrev pub place : Member Place
+place = named (codes "place") place_named (λ place. place_letter place ∷ [])

@@ -1,0 +1,83 @@
+//! The members that say who a user is, which roles one has, and where one sits.
+
+ghost use Rattle.std.specs.Prelude.{◌≡◌};
+ghost use Rattle.serde_json.specs.Find.{get};
+ghost use Rattle.serde_json.specs.View.{view};
+ghost use Rattle.json_fields.specs.User.{digest_named, digest, role_named, role_of, pair_named, pair, place};
+
+use crate::field::text_at;
+use crate::letter::place_named;
+use hex::FromHex;
+use serde_json::Value;
+use session_roles::Role;
+use table_terms::{Pair, Place};
+use user_names::Digest;
+
+fn digest_named(digits: &str) -> Option<Digest>
+    ensures { result ≡ digest_named digits.now }
+{
+    match <[u8; 32] as FromHex>::from_hex(digits) {
+        Ok(bytes) => Some(Digest { bytes }),
+        Err(_) => None,
+    }
+}
+
+/// The digest in the member `digest`.
+pub fn digest_of(value: &Value) -> Option<Digest>
+    ensures { result ≡ digest.value (get digest.name (view value.now)) }
+{
+    match text_at(value, "digest") {
+        Some(digits) => digest_named(digits),
+        None => None,
+    }
+}
+
+/// The role of a name.
+pub fn role_named(word: &str) -> Option<Role>
+    ensures { result ≡ role_named word.now }
+{
+    match Role::from_name(word) {
+        Some(role) => Some(role),
+        None => None,
+    }
+}
+
+/// The role that stands there.
+#[tactic(auto, unfolding(crate::specs::User::role_of))]
+pub fn role_of(value: &Value) -> Option<Role>
+    ensures { result ≡ role_of (view value.now) }
+{
+    match value.as_str() {
+        Some(word) => role_named(word),
+        None => None,
+    }
+}
+
+fn pair_named(word: &str) -> Option<Pair>
+    ensures { result ≡ pair_named word.now }
+{
+    match word.parse::<Pair>() {
+        Ok(pair) => Some(pair),
+        Err(_) => None,
+    }
+}
+
+/// The pair in the member `pair`.
+pub fn pair_of(value: &Value) -> Option<Pair>
+    ensures { result ≡ pair.value (get pair.name (view value.now)) }
+{
+    match text_at(value, "pair") {
+        Some(word) => pair_named(word),
+        None => None,
+    }
+}
+
+/// The place in the member `place`.
+pub fn place_of(value: &Value) -> Option<Place>
+    ensures { result ≡ place.value (get place.name (view value.now)) }
+{
+    match text_at(value, "place") {
+        Some(word) => place_named(word),
+        None => None,
+    }
+}

@@ -1,4 +1,0 @@
-pub mod Cutting
-pub mod Kinds
-pub mod Pieces
-pub mod Told

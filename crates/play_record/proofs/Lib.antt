@@ -1,2 +1,0 @@
-pub use Rattle.cards.proofs as cards_lemmas
-pub mod PlayLemmas

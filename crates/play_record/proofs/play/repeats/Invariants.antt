@@ -1,6 +1,0 @@
-use Rattle.std.proofs.Common.{◌≡◌, drop}
-use Rattle.play_record.specs.Play.{has_repeat}
-use Rattle.play_record.proofs.play.repeats.Given as goal
-
-abbrev pub invariant-loop-i : goal.invariant-loop-i
-invariant-loop-i l = has_repeat l.cards ≡ has_repeat (drop l.i l.cards)

@@ -1,0 +1,70 @@
+-- What is written of a session's status: what every member may see.
+use Rattle.std.specs.Prelude.{ℕ, List, [], ◌∷◌, ◌++◌, take, codes}
+use Rattle.std.specs.List.{range_with_len}
+use Rattle.serde_json.specs.Data.{Data, string, array, object, member, no_members}
+use Rattle.serde_json.specs.View.{items_of}
+use Rattle.table_terms.specs.Pair.{pair_text}
+use Rattle.table_terms.specs.Place.{place_letter}
+use Rattle.table_terms.specs.Vulnerability.{vulnerability_text}
+use Rattle.movement.specs.Movement.{boards_of}
+use Rattle.disclosure_rules.specs.declared.marks.Marks.{Marks}
+use Rattle.disclosure_rules.specs.declared.phase.Phase.{Phase}
+use Rattle.disclosure_rules.specs.declared.phase.Phase.TheVariants.{Running, Closed, Final}
+use Rattle.disclosure_rules.specs.declared.public.Public.{Public}
+use Rattle.disclosure_rules.specs.LiveCells.{is_live}
+use Rattle.disclosure_rules.specs.Numbers.{has_number, numbers_that}
+use Rattle.session_state.specs.declared.seated.Seated.{Seated}
+use Rattle.reply_texts.specs.DataOf.{number_data, list_data}
+
+abbrev pub phase_name : Phase → List ℕ
+phase_name Running = codes "Running"
+phase_name Closed = codes "Closed"
+phase_name Final = codes "Final"
+
+-- the boards of the section that are held, in ascending order
+abbrev pub held_boards : Public → List ℕ
+held_boards public = numbers_that (boards_of public.movement) (has_number public.held)
+
+-- the tables of the section that have a result on a board, in ascending order
+abbrev pub live_tables : Public → ℕ → List ℕ
+live_tables public board =
+    numbers_that public.movement.tables (λ table. is_live public.live (record { table = table; board = board }))
+
+-- the tables that have a result on a board, as a list
+abbrev pub tables_data : Public → ℕ → Data
+tables_data public board = list_data number_data (live_tables public board)
+
+-- a list of tables for each board, from board 1 on
+abbrev pub live_data : Public → Data
+live_data public = list_data (tables_data public) (range_with_len 1 (boards_of public.movement))
+
+-- a board's marks: the dealer's letter and who is vulnerable, as `E ns`
+abbrev pub marks_text : Marks → List ℕ
+marks_text marks = (place_letter marks.dealer ∷ []) ++ (codes " " ++ vulnerability_text marks.vulnerability)
+
+abbrev pub mark_data : Marks → Data
+mark_data marks = string (marks_text marks)
+
+-- the marks of each board of the section, from board 1 on
+abbrev pub marks_data : Public → Data
+marks_data public = list_data mark_data (take (boards_of public.movement) public.marks)
+
+-- a user's name, pair and place
+abbrev pub seat_data : Seated → Data
+seat_data seated =
+    array (items_of (string seated.name
+    ∷ string (pair_text seated.seat.pair)
+    ∷ string (place_letter seated.seat.place ∷ [])
+    ∷ []))
+
+abbrev pub status_data : Public → List Seated → Data
+status_data public seats =
+    object (member (codes "held") (list_data number_data (held_boards public))
+    (member (codes "live") (live_data public)
+    (member (codes "marks") (marks_data public)
+    (member (codes "per_set") (number_data public.movement.per_set)
+    (member (codes "phase") (string (phase_name public.phase))
+    (member (codes "round") (number_data public.round)
+    (member (codes "rounds") (number_data public.movement.rounds)
+    (member (codes "seats") (list_data seat_data seats)
+    (member (codes "tables") (number_data public.movement.tables) no_members)))))))))

@@ -1,0 +1,130 @@
+//! What is written of a session's status.
+
+ghost use Rattle.std.specs.Prelude.{◌≡◌, IfOk};
+ghost use Rattle.serde_json.specs.View.{view};
+ghost use Rattle.reply_texts.specs.DataOf.{number_data, list_data};
+ghost use Rattle.reply_texts.specs.StatusText.{phase_name, held_boards, live_tables, tables_data, live_data, mark_data};
+ghost use Rattle.reply_texts.specs.StatusText.{marks_data, seat_data, status_data};
+
+use crate::to_json::{ToJson, list_value};
+use disclosure_rules::{Marks, Phase, Public};
+use json_fields::{ArrayWriter, ObjectWriter, array_value, string_value};
+use movement::Cell;
+use serde_json::{Value, push};
+use session_state::Seated;
+use std::alloc::{AllocError, Global};
+
+pub(crate) fn status_value(
+    alloc: Global,
+    public: &Public,
+    seats: &[Seated],
+) -> Result<Value, AllocError>
+    ensures { IfOk result (λ value. view value ≡ status_data public.now seats.now) }
+{
+    ObjectWriter::new(alloc)
+        .member("held", held_value(alloc, public))
+        .member("live", live_value(alloc, public))
+        .member("marks", marks_value(alloc, public))
+        .number("per_set", public.movement.per_set())
+        .member(
+            "phase",
+            Value::try_from_str(alloc, phase_name(public.phase)),
+        )
+        .number("round", public.round)
+        .number("rounds", public.movement.rounds())
+        .member("seats", list_value(alloc, seats))
+        .number("tables", public.movement.tables())
+        .object()
+}
+
+fn held_value(alloc: Global, public: &Public) -> Result<Value, AllocError>
+    ensures { IfOk result (λ value. view value ≡ list_data number_data (held_boards public.now)) }
+{
+    let boards = held_boards(alloc, public)?;
+    list_value(alloc, boards.as_slice())
+}
+
+// The boards of the section that are held.
+fn held_boards(alloc: Global, public: &Public) -> Result<Vec<u8>, AllocError>
+    ensures { IfOk result (λ boards. boards.items ≡ held_boards public.now) }
+{
+    let mut boards = Vec::new(alloc);
+    for before in 0..public.movement.boards() {
+        if public.held.contains(before + 1) {
+            boards.push(before + 1)?;
+        }
+    }
+    Ok(boards)
+}
+
+// For each board of the section, the tables that have a result on it.
+fn live_value(alloc: Global, public: &Public) -> Result<Value, AllocError>
+    ensures { IfOk result (λ value. view value ≡ live_data public.now) }
+{
+    let mut values = Vec::new(alloc);
+    for before in 0..public.movement.boards() {
+        let value = tables_value(alloc, public, before + 1)?;
+        push(&mut values, value)?;
+    }
+    Ok(array_value(values))
+}
+
+fn tables_value(alloc: Global, public: &Public, board: u8) -> Result<Value, AllocError>
+    ensures { IfOk result (λ value. view value ≡ tables_data public.now board) }
+{
+    let tables = live_tables(alloc, public, board)?;
+    list_value(alloc, tables.as_slice())
+}
+
+// The tables of the section that have a result on the board.
+fn live_tables(alloc: Global, public: &Public, board: u8) -> Result<Vec<u8>, AllocError>
+    ensures { IfOk result (λ tables. tables.items ≡ live_tables public.now board) }
+{
+    let mut tables = Vec::new(alloc);
+    for before in 0..public.movement.tables() {
+        let table = before + 1;
+        if public.live.contains(Cell { table, board }) {
+            tables.push(table)?;
+        }
+    }
+    Ok(tables)
+}
+
+// The marks of each board of the section.
+fn marks_value(alloc: Global, public: &Public) -> Result<Value, AllocError>
+    ensures { IfOk result (λ value. view value ≡ marks_data public.now) }
+{
+    let boards = public.movement.boards();
+    list_value(alloc, &public.marks[..usize::from(boards)])
+}
+
+impl ToJson for Marks {
+    ghost json = { mark_data };
+
+    fn to_json(&self, alloc: Global) -> Result<Value, AllocError> {
+        let text = format!(in alloc; "{} {}", self.dealer, self.vulnerability)?;
+        Ok(Value::String(text))
+    }
+}
+
+impl ToJson for Seated {
+    ghost json = { seat_data };
+
+    fn to_json(&self, alloc: Global) -> Result<Value, AllocError> {
+        ArrayWriter::new(alloc)
+            .item(Value::try_from_str(alloc, self.name.as_str()))
+            .item(string_value(self.seat.pair.to_string(alloc)))
+            .item(string_value(self.seat.place.to_string(alloc)))
+            .array()
+    }
+}
+
+fn phase_name(phase: Phase) -> &'static str
+    ensures { result.now ≡ phase_name phase }
+{
+    match phase {
+        Phase::Running => "Running",
+        Phase::Closed => "Closed",
+        Phase::Final => "Final",
+    }
+}

@@ -1,7 +1,0 @@
-use Rattle.std.proofs.Common.{◌≡◌}
-use Rattle.disclosure_rules.specs.Numbers.{has_number, numbers_that}
-use Rattle.reply_values.proofs.status_writing.held_boards.Given as goal
-
--- the boards so far are those that are held
-abbrev pub invariant-loop-before : goal.invariant-loop-before
-invariant-loop-before l = l.boards.items ≡ numbers_that l.before (has_number l.public.held)

@@ -1,2 +1,0 @@
-pub mod GrowthLemmas
-pub mod KeepingLemmas

@@ -1,9 +1,0 @@
-use Rattle.std.proofs.Common.{◌≡◌}
-use Rattle.session_keeper.specs.Keeper.{IsBehind}
-use Rattle.session_keeper.proofs.keeper.absorb_new.Given as goal
-
-abbrev pub invariant-loop-number : goal.invariant-loop-number
-invariant-loop-number l = record {
-  at : l.view.version ≡ l.number;
-  behind : IsBehind l.book.opening l.book.journal l.view;
-}

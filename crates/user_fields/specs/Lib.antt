@@ -1,2 +1,0 @@
-pub use Rattle.session_commands.specs as session_commands
-pub mod User
