@@ -3,15 +3,20 @@
 //! `analyse TABLE BOARD DEAL CARD..` tells what these cards cost in four spades by North with the deal of board DEAL, as those of
 //! the table.
 
+ghost use Rattle.std.specs.Prelude.{◌≡◌, ◌≤◌, [], length, IfSome};
+ghost use Rattle.session_book.specs.Run.{most_commands};
+ghost use Rattle.wire.specs.Request.{HasFew};
+
 use crate::solver::{costs_told, table_told};
-use published_view::View;
+use published_view::{Query, View};
 use reply_texts::reply_text;
-use session_book::{Answer, Book};
-use session_state::Refusal;
-use session_object::read_session;
+use session_book::{Answer, Book, State};
+use session_object::{SessionObject, read_session};
+use session_state::{Command, Refusal};
 use std::alloc::Global;
 use std::io::{self, Write};
-use wire::{RequestBody, Source, read_request, receipt_text};
+use user_names::Name;
+use wire::{AuditRange, Request, RequestBody, Source, read_request, receipt_text};
 
 /// Answers each line after the first. A session that isn't opened, or a line that can't be answered, ends this.
 pub fn answer_beside_solver<O: Write>(
@@ -53,10 +58,12 @@ pub(crate) struct Session {
 impl Session {
     /// The session of an object, if it opens one.
     pub(crate) fn open(alloc: Global, object: &str) -> Option<Session> {
-        let read = read_session(alloc, object.as_bytes(), None).ok()?;
-        let opening = read.config.open(alloc).ok()?;
-        let book = Book::open(alloc, opening).ok()?;
-        let view = View::open(alloc, &book).ok()?;
+        let Some(book) = opened_book(alloc, object) else {
+            return None;
+        };
+        let Ok(view) = View::open(alloc, &book) else {
+            return None;
+        };
         Some(Session { book, view })
     }
 
@@ -96,27 +103,67 @@ impl Session {
 
     // The answer to a query or to a batch.
     fn answer(&mut self, alloc: Global, line: &str) -> Option<String> {
-        let request = read_request(alloc, line.as_bytes(), Source::Script).ok()?;
+        let Ok(request) = read_request(alloc, line.as_bytes(), Source::Script) else {
+            return None;
+        };
+        self.answer_request(alloc, &request)
+    }
+
+    // The answer to a request.
+    fn answer_request(&mut self, alloc: Global, request: &Request) -> Option<String>
+        requires { HasFew request.now.body }
+    {
         let user = request.user?;
-        match request.body {
-            RequestBody::Query { query, since } => {
-                let reply = self.view.answer(alloc, user, &query, since).ok()?;
-                reply_text(alloc, &reply).ok()
-            }
-            RequestBody::Batch { commands } => {
-                let submission = self.book.submit(user, commands.as_slice()).ok()?;
-                receipt_text(alloc, &submission, self.book.version()).ok()
-            }
-            RequestBody::Audit { range } => {
-                let rows = self
-                    .book
-                    .audit(user, range.from as usize, range.limit as usize)
-                    .ok()?;
-                wire::audit_text(alloc, &rows, self.book.version()).ok()
-            }
+        match &request.body {
+            RequestBody::Query { query, since } => self.reply(alloc, user, query, *since),
+            RequestBody::Batch { commands } => self.receipt(alloc, user, commands.as_slice()),
+            RequestBody::Audit { range } => self.rows(alloc, user, range),
             RequestBody::Hello { .. } => None,
         }
     }
+
+    // The answer to a user's query.
+    fn reply(&self, alloc: Global, user: Name, query: &Query, since: u64) -> Option<String> {
+        let Ok(reply) = self.view.answer(alloc, user, query, since) else {
+            return None;
+        };
+        reply_text(alloc, &reply).ok()
+    }
+
+    // The answer to a user's batch.
+    fn receipt(&mut self, alloc: Global, user: Name, batch: &[Command]) -> Option<String>
+        requires { length batch.now ≤ most_commands }
+    {
+        let Ok(submission) = self.book.submit(user, batch) else {
+            return None;
+        };
+        receipt_text(alloc, &submission, self.book.version()).ok()
+    }
+
+    // The rows of the audit that a user asks for.
+    fn rows(&self, alloc: Global, user: Name, range: &AuditRange) -> Option<String> {
+        let Ok(rows) = self
+            .book
+            .audit(user, range.from as usize, range.limit as usize)
+        else {
+            return None;
+        };
+        wire::audit_text(alloc, &rows, self.book.version()).ok()
+    }
+}
+
+// The book of a session object, if it opens one.
+fn opened_book(alloc: Global, object: &str) -> Option<Book>
+    ensures { IfSome result (λ book. book.journal ≡ []) }
+{
+    let opening = opening_state(alloc, object)?;
+    Book::open(alloc, opening).ok()
+}
+
+// The state in which the session of an object opens, if it opens.
+fn opening_state(alloc: Global, object: &str) -> Option<State> {
+    let SessionObject { config, .. } = read_session(alloc, object.as_bytes(), None).ok()?;
+    config.open(alloc).ok()
 }
 
 // What the solver is answered.
