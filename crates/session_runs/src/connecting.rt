@@ -3,7 +3,7 @@
 
 use connections::Connection;
 use json_fields::RequestFault;
-use published_view::PlainKeeper;
+use published_view::{Keeper, PlainKeeper};
 use session_object::{SessionObject, read_session};
 use std::alloc::Global;
 use std::io::{self, Write};
@@ -32,34 +32,23 @@ fn opened(alloc: Global, object: &str) -> Option<PlainKeeper> {
 }
 
 // Answers one connection after another.
-fn answer_one_by_one<R: Wait + AllocGlobal, O: Write>(
+fn answer_one_by_one<R: Wait + AllocGlobal, K: Keeper, O: Write>(
     rt: &R,
-    keeper: PlainKeeper,
+    keeper: K,
     text: &str,
     writer: &mut O,
 ) -> io::Result<bool> {
-    let mut keeper = keeper;
+    let mut connection = Connection::new(keeper);
     for messages in text.split_inclusive("\n\n") {
-        keeper = answer_connection(rt, keeper, messages, writer)?;
+        answer_messages(rt, &mut connection, messages, writer)?;
+        connection = Connection::new(connection.into_keeper());
     }
     Ok(true)
 }
 
-// Answers a connection, and gives back who keeps the session.
-fn answer_connection<R: Wait + AllocGlobal, O: Write>(
+fn answer_messages<R: Wait + AllocGlobal, K: Keeper, O: Write>(
     rt: &R,
-    keeper: PlainKeeper,
-    messages: &str,
-    writer: &mut O,
-) -> io::Result<PlainKeeper> {
-    let mut connection = Connection::new(keeper);
-    answer_messages(rt, &mut connection, messages, writer)?;
-    Ok(connection.into_keeper())
-}
-
-fn answer_messages<R: Wait + AllocGlobal, O: Write>(
-    rt: &R,
-    connection: &mut Connection<PlainKeeper>,
+    connection: &mut Connection<K>,
     messages: &str,
     writer: &mut O,
 ) -> io::Result<()> {
@@ -73,9 +62,9 @@ fn answer_messages<R: Wait + AllocGlobal, O: Write>(
     Ok(())
 }
 
-fn answer_message<R: Wait + AllocGlobal, O: Write>(
+fn answer_message<R: Wait + AllocGlobal, K: Keeper, O: Write>(
     rt: &R,
-    connection: &mut Connection<PlainKeeper>,
+    connection: &mut Connection<K>,
     message: &str,
     writer: &mut O,
 ) -> io::Result<()> {
