@@ -56,20 +56,24 @@ impl PlainKeeper {
         ensures err { IfErr result (λ cause. (opening_refusal config ≡ Some cause)
             ⊎ ((cause ≡ opening_cause.OutOfMemory) × (opening_refusal config ≡ None))) }
     {
-        let opening = config.open(alloc)?;
-        match PlainKeeper::of(alloc, opening) {
-            Ok(keeper) => Ok(keeper),
-            Err(_) => Err(OpeningRefusal::OutOfMemory),
+        match config.open(alloc) {
+            Ok(opening) => PlainKeeper::of(alloc, opening),
+            Err(cause) => Err(cause),
         }
     }
 
     // The keeper of a session that opens in a state.
-    fn of(alloc: Global, opening: State) -> Result<PlainKeeper, AllocError>
+    fn of(alloc: Global, opening: State) -> Result<PlainKeeper, OpeningRefusal>
         ensures opening { IfOk result (λ keeper. keeper.opening ≡ opening) }
         ensures journal { IfOk result (λ keeper. keeper.journal ≡ []) }
+        ensures err { IfErr result (λ cause. cause ≡ opening_cause.OutOfMemory) }
     {
-        let book = Book::open(alloc, opening)?;
-        let view = View::open(alloc, &book)?;
+        let Ok(book) = Book::open(alloc, opening) else {
+            return Err(OpeningRefusal::OutOfMemory);
+        };
+        let Ok(view) = View::open(alloc, &book) else {
+            return Err(OpeningRefusal::OutOfMemory);
+        };
         Ok(PlainKeeper { book, view })
     }
 
