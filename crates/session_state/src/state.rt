@@ -124,6 +124,24 @@ impl State {
         let roles = self.roles.copy(alloc)?;
         let digests = with_room(alloc, &self.digests, Roles::MOST_USERS)?;
         let seats = with_room(alloc, &self.seats, Roles::MOST_USERS)?;
+        self.copy_boards(alloc, roles, digests, seats)
+    }
+
+    // A copy over copies of the users' roles, digests and seats, with room for all that a state can need.
+    fn copy_boards(
+        &self,
+        alloc: Global,
+        roles: Roles,
+        digests: Vec<Digest>,
+        seats: Vec<Seated>,
+    ) -> Result<State, AllocError>
+        requires roles { roles ≡ self.now.roles }
+        requires digests { digests.items ≡ self.now.digests }
+        requires seats { seats.items ≡ self.now.seats }
+        requires digest_room { most_users ≤ vec_capacity digests }
+        requires seat_room { most_users ≤ vec_capacity seats }
+        ensures { IfOk result (λ copy. copy ≡ self.now) }
+    {
         let cells = with_room(alloc, &self.cells, MOST_CELLS)?;
         let deals = with_room(alloc, &self.deals, self.deals.len())?;
         let tables = with_room(alloc, &self.tables, MOST_BOARDS)?;
