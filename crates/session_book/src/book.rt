@@ -78,7 +78,9 @@ impl Book {
     {
         let journal = Vec::with_capacity(alloc, FIRST_ROOM)?;
         let exposure = Exposure::at_opening(alloc, &opening)?;
-        let state = opening.copy(alloc)?;
+        let Ok(state) = opening.copy(alloc) else {
+            return Err(AllocError);
+        };
         Ok(Book {
             opening,
             journal,
