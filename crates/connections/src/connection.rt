@@ -118,9 +118,8 @@ impl<K: Keeper> Connection<K> {
         ensures fault { IfErr result (λ fault. (fault ≡ NoEntry) ⊎ (fault ≡ OutOfMemory)) }
         ensures adds { AddsNothing K.others self.old self.new }
     {
-        let answer = self.keeper.query(alloc, user, query, since);
-        match &answer {
-            Ok(reply) => text_of_reply(alloc, reply),
+        match self.keeper.query(alloc, user, query, since) {
+            Ok(reply) => text_of_reply(alloc, &reply),
             Err(QueryFault::NoEntry) => Err(ConnectionFault::NoEntry),
             Err(QueryFault::OutOfMemory) => Err(ConnectionFault::OutOfMemory),
         }

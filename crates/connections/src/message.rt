@@ -33,11 +33,10 @@ impl<K: Keeper> Connection<K> {
         ensures refused { OnErr result (StaysOn self.old self.new) }
         ensures adds { Adds K.others self.old self.new message.now }
     {
-        let read = read_request(alloc, message, Source::Connection);
-        match &read {
+        match read_request(alloc, message, Source::Connection) {
             Ok(request) => self.serve_body(rt, alloc, &request.body),
             Err(RequestFault::OutOfMemory) => Err(AllocError),
-            Err(fault) => fault_text(*fault).to_string(alloc),
+            Err(fault) => fault_text(fault).to_string(alloc),
         }
     }
 
