@@ -149,8 +149,8 @@ fn add<'a>(alloc: Global, command: &mut Command<'a>, option: Arg<'a>) -> Result<
     ensures local { option.entry.global ≡ false →
         OnOk result ((out-Command command.new).has_globals ≡ (out-Command command.old).has_globals) }
 {
-    let old = mem::replace(command, Command::new(alloc, ""));
-    put(command, old.arg(option))
+    let made = taken(alloc, command).arg(option);
+    put(command, made)
 }
 
 // Adds the subcommand.
@@ -162,21 +162,24 @@ fn add_subcommand<'a>(
     ensures { (out-Command subcommand.entry).has_globals ≡ false →
         OnOk result (app_of command.new ≡ with_subcommand (app_of command.old) (shape_of subcommand.entry)) }
 {
-    let old = mem::replace(command, Command::new(alloc, ""));
-    put(command, old.subcommand(subcommand))
+    let made = taken(alloc, command).subcommand(subcommand);
+    put(command, made)
 }
 
-// Puts the command that was made where it belongs. `clap` makes each one of the one before, whose many fields are moved in the
-// functions above and here alone.
-fn put<'a>(
-    command: &mut Command<'a>,
-    made: Result<Command<'a>, AllocError>,
-) -> Result<(), AllocError>
-    ensures { OnOk result (made.entry ≡ Ok command.new) }
+// Takes the command, of which `clap` makes the next one. Its many fields are moved in the functions above and here alone.
+fn taken<'a>(alloc: Global, command: &mut Command<'a>) -> Command<'a>
+    ensures { result ≡ command.old }
+{
+    mem::replace(command, Command::new(alloc, ""))
+}
+
+// Puts what was made where it belongs, whatever it is.
+fn put<T: Drop>(place: &mut T, made: Result<T, AllocError>) -> Result<(), AllocError>
+    ensures { OnOk result (made ≡ Ok place.new) }
 {
     match made {
         Ok(new) => {
-            *command = new;
+            *place = new;
             Ok(())
         }
         Err(error) => Err(error),

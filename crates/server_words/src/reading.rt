@@ -3,7 +3,7 @@
 ghost use Rattle.std.specs.Prelude.{MatchResult, ◌≡◌, ◌⊎◌, ℕ, List, [], codes, map, string_bytes, Some, IfOk, IfErr, IfSome, IsSome};
 ghost use Rattle.clap.specs.Words.{HasKind, app_of, first_of, found_of, kind_of, rows_of};
 ghost use Rattle.clap.specs.declared.error.kind.ErrorKind.TheVariants.{InvalidValue, OutOfMemory};
-ghost use Rattle.server_words.specs.CommandLine.{command_line};
+ghost use Rattle.server_words.specs.CommandLine.{needing_one};
 ghost use Rattle.server_words.specs.Words.{AsksFor, IsInRange, IsReadFrom, faults_in};
 
 use crate::command_line::{add_subcommands, plain_line};
@@ -22,28 +22,28 @@ pub fn read_words<'a>(alloc: Global, words: &'a [String]) -> Result<Words<'a>, E
         ⊎ HasKind (faults_in (map string_bytes words.entry.now)) error) }
 {
     let mut command = plain_line(alloc);
-    match add_subcommands(alloc, &mut command) {
-        Ok(()) => words_by(&mut command, words),
-        Err(error) => Err(Error::from(error)),
-    }
+    words_by(alloc, &mut command, words)
 }
 
 // The same by the program's command, which is lent, and dropped where it was made.
-fn words_by<'a>(command: &mut Command<'a>, words: &'a [String]) -> Result<Words<'a>, Error>
-    requires { app_of command.old ≡ command_line }
+fn words_by<'a>(
+    alloc: Global,
+    command: &mut Command<'a>,
+    words: &'a [String],
+) -> Result<Words<'a>, Error>
+    requires { app_of command.old ≡ needing_one }
     ensures asked { IfOk result (AsksFor (map string_bytes words.entry.now)) }
     ensures script { AsksFor (map string_bytes words.entry.now) Words.Script →
         IfErr result (λ error. kind_of error ≡ OutOfMemory) }
     ensures refused { IfErr result (λ error. (kind_of error ≡ InvalidValue)
         ⊎ HasKind (faults_in (map string_bytes words.entry.now)) error) }
 {
-    let matches = match matches_of(command, words) {
-        Ok(matches) => matches,
-        Err(error) => return Err(error),
-    };
-    match words_of(&matches) {
-        Some(words) => Ok(words),
-        None => Err(out_of_range(command)),
+    match matches_of(alloc, command, words) {
+        Ok(matches) => match words_of(&matches) {
+            Some(words) => Ok(words),
+            None => Err(out_of_range(command)),
+        },
+        Err(error) => Err(error),
     }
 }
 
@@ -62,13 +62,20 @@ fn words_of<'a>(matches: &ArgMatches<'a>) -> Option<Words<'a>>
     }
 }
 
-// What `clap` makes of the words.
-fn matches_of<'a>(command: &mut Command<'a>, words: &'a [String]) -> Result<ArgMatches<'a>, Error>
-    requires { app_of command.old ≡ command_line }
+// What `clap` makes of the words, once the command has its subcommands.
+fn matches_of<'a>(
+    alloc: Global,
+    command: &mut Command<'a>,
+    words: &'a [String],
+) -> Result<ArgMatches<'a>, Error>
+    requires { app_of command.old ≡ needing_one }
     ensures { MatchResult result (IsReadFrom (map string_bytes words.entry.now))
         (HasKind (faults_in (map string_bytes words.entry.now))) }
 {
-    command.try_get_matches_from_mut(words)
+    match add_subcommands(alloc, command) {
+        Ok(()) => command.try_get_matches_from_mut(words),
+        Err(error) => Err(Error::from(error)),
+    }
 }
 
 // How clients are to be served.
@@ -77,19 +84,30 @@ fn serving_of<'a>(given: &ArgMatches<'a>) -> Option<Serving<'a>>
     ensures deals { IfSome result (λ serving. first_of (codes "deals") (rows_of (found_of given.now)) ≡ Some serving.deals.now) }
     ensures range { IfSome result IsInRange }
 {
+    let (port, displays, workers, connections) = numbers_of(given)?;
     let serving = Serving {
         session: given.get_str("session")?,
         deals: given.get_str("deals")?,
-        port: given.get_one("port")?,
-        displays: given.get_one("displays")?,
-        workers: given.get_one("workers")?,
-        connections: given.get_one("connections")?,
+        port,
+        displays,
+        workers,
+        connections,
     };
     if serving.is_in_range() {
         Some(serving)
     } else {
         None
     }
+}
+
+// The port, and how many displays, workers and connections there are to be.
+fn numbers_of(given: &ArgMatches<'_>) -> Option<(u16, u8, u8, u32)> {
+    Some((
+        given.get_one("port")?,
+        given.get_one("displays")?,
+        given.get_one("workers")?,
+        given.get_one("connections")?,
+    ))
 }
 
 // What is said of a value out of its range. `clap` takes no such words: each option has a value, which is in its range.
