@@ -2,14 +2,14 @@
 
 use crate::files::read_file;
 use crate::session_server::SessionServer;
-use program::{Fault, PlainKeeper, open_session};
+use program::{Fault, Keeper, PlainKeeper, open_session};
 use server_words::Serving;
 use std::io::{Read, Write};
 use std::net::{Net, OpenListener};
 use std::rt::Files;
 use std::sync::Wait;
 use std::time::Clock;
-use websocket_server::{listen, serve_clients, serve_forever};
+use websocket_server::{MessageServer, listen, serve_clients, serve_forever};
 
 /// Serves clients one after another, in a session of files.
 pub(crate) fn serve<R: Files + Net + Clock + Wait + AllocGlobal>(
@@ -22,11 +22,11 @@ pub(crate) fn serve<R: Files + Net + Clock + Wait + AllocGlobal>(
     }
 }
 
-// Serves clients in an open session.
-fn serve_session<R: Net + Clock + Wait + AllocGlobal>(
+// Serves clients in an open session, whoever keeps it.
+fn serve_session<R: Net + Clock + Wait + AllocGlobal, K: Keeper>(
     rt: &R,
     serving: &Serving<'_>,
-    keeper: PlainKeeper,
+    keeper: K,
 ) -> Result<(), Fault> {
     match listen(rt, serving.port) {
         Ok(listener) => {
@@ -43,11 +43,11 @@ fn serve_session<R: Net + Clock + Wait + AllocGlobal>(
 }
 
 // Serves so many clients of a listener, or where that is 0 all of them.
-fn serve_at<R: Clock + Wait + AllocGlobal, L: OpenListener>(
+fn serve_at<R: Clock + Wait + AllocGlobal, L: OpenListener, S: MessageServer + Drop>(
     rt: &R,
     listener: &L,
     connections: u32,
-    server: SessionServer<PlainKeeper>,
+    server: S,
 )
 where
     L::Stream: Read + Write,
