@@ -77,7 +77,7 @@ fn serve_next<R: Wait, S: Read + Write + Drop, A: MessageServer>(
     ensures stopped { OnErr result (StopsAt S.remaining S.contents A.answers A.binary_text A.memory_text socket.old server.old server.new) }
 {
     match socket.read() {
-        Ok(message) => serve_message(rt, alloc, socket, server, message),
+        Ok(message) => serve_message(rt, alloc, socket, server, &message),
         Err(error) => Err(error),
     }
 }
@@ -88,11 +88,11 @@ fn serve_message<R: Wait, S: Read + Write + Drop, A: MessageServer>(
     alloc: Global,
     socket: &mut WebSocket<S, NoMask>,
     server: &mut A,
-    message: Message,
+    message: &Message,
 ) -> Result<(), Error>
     ensures sent { OnOk result
-        (ComesOf S.remaining S.contents A.answers A.binary_text A.memory_text (content_of message) socket.old server.old socket.new server.new) }
-    ensures unsent { OnErr result (Meets S.remaining S.contents A.answers A.binary_text A.memory_text (content_of message) server.old server.new) }
+        (ComesOf S.remaining S.contents A.answers A.binary_text A.memory_text (content_of message.now) socket.old server.old socket.new server.new) }
+    ensures unsent { OnErr result (Meets S.remaining S.contents A.answers A.binary_text A.memory_text (content_of message.now) server.old server.new) }
 {
     match message {
         Message::Text(text) => match answer_to(rt, alloc, text.as_bytes(), server) {
