@@ -9,7 +9,8 @@ use solver_pool::{Done, Found, Job, OpenGate, Pool, Work, run_worker};
 use std::alloc::Global;
 use std::io::{BufRead, BufReader};
 use std::sync::Wait;
-use std::{env, io, thread};
+use std::thread::{self, Threads};
+use std::{env, io};
 use table_terms::{Place, Strain};
 
 // More visits than any deal takes.
@@ -18,29 +19,10 @@ const VISITS: u64 = 1_000_000_000_000;
 const MOST_WORKERS: usize = 16;
 
 fn main(rt: HostRuntime) -> io::Result<()> {
-    let alloc: Global = rt.alloc();
     let workers = workers_asked(&rt)?;
     let deals = read_deals(&rt)?;
-    let mut pool = Pool::new(alloc)?;
-    let (to_workers, jobs) = unbounded::<Job, Global>(alloc)?;
-    give_jobs(&rt, &mut pool, &deals, &to_workers)?;
-    drop(to_workers);
-    let (from_workers, results) = unbounded::<Done, Global>(alloc)?;
-    thread::map_indices(
-        &rt,
-        alloc,
-        workers,
-        &|_| { run_worker(&rt, alloc, &OpenGate, &jobs, &from_workers, VISITS) },
-    )?;
-    drop(from_workers);
-    let tables = collect_tables(&rt, alloc, &mut pool, deals.len(), &results)?;
-    for (deal, table) in deals.iter().zip(tables.iter()) {
-        match table {
-            Some(table) => print_table(&rt, *deal, table)?,
-            None => println!(rt; "{deal}\tnot solved")?,
-        }
-    }
-    Ok(())
+    let tables = solve_deals(&rt, workers, deals.as_slice())?;
+    print_tables(&rt, deals.as_slice(), tables.as_slice())
 }
 
 // How many workers the first word asks for: 1 to 16, and one where there is no such word.
@@ -56,15 +38,57 @@ fn workers_asked(rt: &HostRuntime) -> io::Result<usize> {
 
 // The deals on standard input. A line that is no deal is left out.
 fn read_deals(rt: &HostRuntime) -> io::Result<Vec<Deal>> {
-    let reader = BufReader::new(rt.alloc(), rt.reader())?;
-    let mut deals = Vec::new(rt.alloc());
-    for line in reader.lines(rt.alloc()) {
-        let line = line?;
-        if let Ok(deal) = line.as_str().parse::<Deal>() {
+    deals_of(rt.alloc(), BufReader::new(rt.alloc(), rt.reader())?)
+}
+
+fn deals_of<R: BufRead + Drop>(alloc: Global, reader: R) -> io::Result<Vec<Deal>> {
+    let mut deals = Vec::new(alloc);
+    for line in reader.lines(alloc) {
+        if let Ok(deal) = line?.as_str().parse::<Deal>() {
             deals.push(deal)?;
         }
     }
     Ok(deals)
+}
+
+// The tables of the deals, at their places.
+fn solve_deals<R: Threads + Wait + AllocGlobal + Sync>(
+    rt: &R,
+    workers: usize,
+    deals: &[Deal],
+) -> io::Result<Vec<Option<DdTable>>> {
+    let mut pool = Pool::new(rt.alloc())?;
+    let jobs = jobs_of(rt, &mut pool, deals)?;
+    let results = results_of(rt, workers, &jobs)?;
+    collect_tables(rt, rt.alloc(), &mut pool, deals.len(), &results)
+}
+
+// The jobs for the deals, all that there will be.
+fn jobs_of<R: Wait + AllocGlobal>(
+    rt: &R,
+    pool: &mut Pool,
+    deals: &[Deal],
+) -> io::Result<Receiver<Job>> {
+    let (to_workers, jobs) = unbounded::<Job, Global>(rt.alloc())?;
+    give_jobs(rt, pool, deals, &to_workers)?;
+    Ok(jobs)
+}
+
+// What the workers made of the jobs, all that there will be.
+fn results_of<R: Threads + Wait + AllocGlobal + Sync>(
+    rt: &R,
+    workers: usize,
+    jobs: &Receiver<Job>,
+) -> io::Result<Receiver<Done>> {
+    let alloc: Global = rt.alloc();
+    let (from_workers, results) = unbounded::<Done, Global>(alloc)?;
+    thread::map_indices(
+        rt,
+        alloc,
+        workers,
+        &|_| { run_worker(rt, alloc, &OpenGate, jobs, &from_workers, VISITS) },
+    )?;
+    Ok(results)
 }
 
 // Sends a job for the table of each deal, as far as the pool takes them.
@@ -111,6 +135,18 @@ fn collect_tables(
         }
     }
     Ok(tables)
+}
+
+// Prints each deal with its table.
+fn print_tables(rt: &HostRuntime, deals: &[Deal], tables: &[Option<DdTable>]) -> io::Result<()> {
+    for (deal, table) in deals.iter().zip(tables.iter()) {
+        let printed = match table {
+            Some(table) => print_table(rt, *deal, table),
+            None => println!(rt; "{deal}\tnot solved"),
+        };
+        printed?;
+    }
+    Ok(())
 }
 
 // Prints a deal's twenty numbers, by declarer N, E, S, W and strain S, H, D, C, N.
