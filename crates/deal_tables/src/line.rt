@@ -49,7 +49,12 @@ fn read_cards(alloc: Global, word: &str) -> Option<Vec<Card>> {
         return Some(cards);
     }
     for card in word.split(',') {
-        cards.push(card.parse::<Card>().ok()?).ok()?;
+        let Ok(card) = card.parse::<Card>() else {
+            return None;
+        };
+        let Ok(()) = cards.push(card) else {
+            return None;
+        };
     }
     Some(cards)
 }

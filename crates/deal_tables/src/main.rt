@@ -66,16 +66,16 @@ fn hear(asked: &mut Asked, word: &str) {
 // Prints a line and what it asks for, if it is solved.
 fn solve_line(rt: &HostRuntime, text: &str, asked: &Asked) -> io::Result<bool> {
     let mut budget = Budget::new(asked.visits);
-    let is_solved = if asked.endings {
-        solve_ending(rt, text, &mut budget)?
+    let solved = if asked.endings {
+        solve_ending(rt, text, &mut budget)
     } else if let Ok(deal) = text.parse::<Deal>() {
-        solve_deal(rt, text, deal, &mut budget)?
+        solve_deal(rt, text, deal, &mut budget)
     } else if let Some(play) = text.strip_prefix("costs ") {
-        solve_play(rt, play, &mut budget)?
+        solve_play(rt, play, &mut budget)
     } else {
-        solve_ending(rt, text, &mut budget)?
+        solve_ending(rt, text, &mut budget)
     };
-    if !is_solved {
+    if !solved? {
         return Ok(false);
     }
     if asked.counts {
@@ -91,14 +91,12 @@ fn solve_deal(rt: &HostRuntime, text: &str, deal: Deal, budget: &mut Budget) -> 
     let Ok(numbers) = table(rt.alloc(), deal, budget) else {
         return Ok(false);
     };
-    print!(rt; "{text}\t")?;
-    print_numbers(rt, &by_strain(&numbers, Place::North))?;
-    print!(rt; " ")?;
-    print_numbers(rt, &by_strain(&numbers, Place::East))?;
-    print!(rt; " ")?;
-    print_numbers(rt, &by_strain(&numbers, Place::South))?;
-    print!(rt; " ")?;
-    print_numbers(rt, &by_strain(&numbers, Place::West))?;
+    print!(rt; "{text}")?;
+    let mut before = "\t";
+    for declarer in [Place::North, Place::East, Place::South, Place::West] {
+        print_numbers(rt, before, &by_strain(&numbers, declarer))?;
+        before = " ";
+    }
     Ok(true)
 }
 
@@ -152,7 +150,7 @@ fn solve_play(rt: &HostRuntime, text: &str, budget: &mut Budget) -> io::Result<b
     match costs(rt.alloc(), deal, contract, line.cards.as_slice(), budget) {
         Ok(numbers) => {
             print!(rt; "costs {text}\t")?;
-            print_numbers(rt, numbers.as_slice())?;
+            print_numbers(rt, "", numbers.as_slice())?;
         }
         Err(CostsError::NotAPlay(number)) => print!(rt;
             "costs {text}\tcard {number} is not legal"
@@ -174,9 +172,9 @@ fn contract_of(line: &Line) -> Option<(Deal, Contract)> {
     Some((deal, contract))
 }
 
-// Prints numbers with commas between them.
-fn print_numbers(rt: &HostRuntime, numbers: &[u8]) -> io::Result<()> {
-    let mut before = "";
+// Prints numbers with commas between them, and this before the first.
+fn print_numbers(rt: &HostRuntime, first: &str, numbers: &[u8]) -> io::Result<()> {
+    let mut before = first;
     for number in numbers {
         print!(rt; "{before}{number}")?;
         before = ",";
