@@ -59,15 +59,18 @@ fn serve<R: Net + Clock + Wait + AllocGlobal>(rt: &R, words: Words) -> io::Resul
 
 // The words that the program was called with, its name first. Where one is no text there are none, and they aren't understood.
 fn called_with<R: Runtime + AllocGlobal>(rt: &R) -> Result<Vec<String>, AllocError> {
-    let mut words = Vec::new(rt.alloc());
     match env::args(rt) {
-        Ok(all) => {
-            for word in all {
-                words.push(word)?;
-            }
-            Ok(words)
-        }
+        Ok(words) => listed(rt.alloc(), words),
         Err(error) if error.kind() == io::ErrorKind::OutOfMemory => Err(AllocError),
-        Err(_) => Ok(words),
+        Err(_) => Ok(Vec::new(rt.alloc())),
     }
+}
+
+// The words one after another.
+fn listed(alloc: Global, words: env::Args) -> Result<Vec<String>, AllocError> {
+    let mut all = Vec::new(alloc);
+    for word in words {
+        all.push(word)?;
+    }
+    Ok(all)
 }
