@@ -37,7 +37,11 @@ fn main(rt: HostRuntime) -> io::Result<()> {
     for word in env::args(&rt)? {
         hear(&mut asked, word.as_str());
     }
-    let reader = BufReader::new(rt.alloc(), rt.reader())?;
+    solve_lines(&rt, BufReader::new(rt.alloc(), rt.reader())?, &asked)
+}
+
+// Prints what each line asks for, and says of which lines nothing is printed.
+fn solve_lines<R: BufRead + Drop>(rt: &HostRuntime, reader: R, asked: &Asked) -> io::Result<()> {
     let mut number = 0u64;
     for line in reader.lines(rt.alloc()) {
         let line = line?;
@@ -46,7 +50,7 @@ fn main(rt: HostRuntime) -> io::Result<()> {
         if text.is_empty() || text.starts_with('#') {
             continue;
         }
-        if !solve_line(&rt, text, &asked)? {
+        if !solve_line(rt, text, asked)? {
             eprintln!(rt; "line {number} is not solved")?;
         }
     }
