@@ -11,6 +11,7 @@ use crate::receipt::{AuditReceipt, BatchReceipt};
 use session_queries::{Query, Reply};
 use session_state::{Command, Digest};
 use std::alloc::{AllocError, Global};
+use std::fmt;
 use std::sync::Wait;
 use thiserror::Error;
 use user_names::Name;
@@ -19,11 +20,16 @@ use user_names::Name;
 #[derive(Clone, Copy, Debug, Error)]
 pub enum QueryFault {
     /// No version could be entered.
-    #[error("NoEntry")]
     NoEntry,
     /// Memory was refused.
-    #[error("OutOfMemory")]
     OutOfMemory,
+}
+
+/// As it is called here.
+impl fmt::Display for QueryFault {
+    fn fmt<W: fmt::Write>(&self, f: &mut fmt::Formatter<W>) -> fmt::Result {
+        fmt::Debug::fmt(self, f)
+    }
 }
 
 /// No version could be entered.
