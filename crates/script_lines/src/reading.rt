@@ -6,6 +6,7 @@ ghost use Rattle.script_lines.specs.declared.reading.ReadFault.TheVariants.{Inpu
 
 use crate::line_end::LineEnd;
 use std::alloc::AllocFailed;
+use std::fmt;
 use std::io::Read;
 use thiserror::Error;
 
@@ -13,11 +14,18 @@ use thiserror::Error;
 #[derive(Clone, Copy, Debug, PartialEq, Eq, Error)]
 pub enum ReadFault {
     /// The reader failed, or has more bytes than may be read.
-    #[error("the input can't be read")]
     Input,
     /// Memory was refused.
-    #[error("out of memory")]
     OutOfMemory,
+}
+
+impl fmt::Display for ReadFault {
+    fn fmt<W: fmt::Write>(&self, f: &mut fmt::Formatter<W>) -> fmt::Result {
+        f.write_str(match self {
+            ReadFault::Input => "the input can't be read",
+            ReadFault::OutOfMemory => "out of memory",
+        })
+    }
 }
 
 /// Reads the next line to its end, and keeps its first `most + 1` bytes in place of what was there: so many show whether it
