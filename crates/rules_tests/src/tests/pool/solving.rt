@@ -2,12 +2,12 @@
 
 use super::{SUITS, gives, results_of, table_work, take_unsolved};
 use cards::{Deal, Position};
-use crossbeam_channel::{Sender, unbounded};
+use crossbeam_channel::{Receiver, Sender, unbounded};
 use double_dummy::{Budget, PlayAnswer, SolveError, solve};
 use movement::Cell;
 use solver_results::Play;
 use scoring::{Contract, Doubling, Level};
-use solver_pool::{Found, Job, Pool, Work, solve_job};
+use solver_pool::{Done, Found, Job, Pool, Work, solve_job};
 use std::alloc::Global;
 use std::sync::Wait;
 use table_terms::{Place, Strain};
@@ -44,16 +44,28 @@ fn costs_work(second: &str) -> Option<Work> {
 
 /// What a worker finds for the only job of a pool, which has the number 1.
 fn found_by_worker(rt: &impl Wait, alloc: Global, work: Option<Work>) -> Option<Found> {
-    let mut pool = Pool::new(alloc).ok()?;
-    let (to_worker, jobs) = unbounded::<Job, Global>(alloc).ok()?;
-    let given = gives(rt, &mut pool, &to_worker, 1, &work?);
+    let work = work?;
+    let Ok(mut pool) = Pool::new(alloc) else {
+        return None;
+    };
+    let Ok((to_worker, jobs)) = unbounded::<Job, Global>(alloc) else {
+        return None;
+    };
+    if !gives(rt, &mut pool, &to_worker, 1, &work) {
+        return None;
+    }
     drop(to_worker);
-    let results = results_of(rt, alloc, &jobs, 1_000_000).ok()?;
-    let done = results.recv(rt).ok()?;
-    if given && done.job().number == 1 {
-        Some(done.into_found())
-    } else {
-        None
+    match results_of(rt, alloc, &jobs, 1_000_000) {
+        Ok(results) => found_first(rt, &results),
+        Err(_) => None,
+    }
+}
+
+/// What the first result says, which is of the job with the number 1.
+fn found_first(rt: &impl Wait, results: &Receiver<Done>) -> Option<Found> {
+    match results.recv(rt) {
+        Ok(done) if done.job().number == 1 => Some(done.into_found()),
+        _ => None,
     }
 }
 
