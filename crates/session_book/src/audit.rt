@@ -5,6 +5,7 @@ ghost use Rattle.session_book.specs.Audit.{audit_rows};
 use session_state::Entry;
 use session_state::room::push_within;
 use std::alloc::{AllocError, Global};
+use std::fmt;
 use std::marker::Model;
 use thiserror::Error;
 
@@ -53,10 +54,17 @@ impl AuditRows {
 /// Why no audit is given.
 #[derive(Clone, Copy, Debug, Error)]
 pub enum AuditError {
-    #[error("the user has no permission for the audit")]
     NotPermitted,
-    #[error("out of memory")]
     OutOfMemory,
+}
+
+impl fmt::Display for AuditError {
+    fn fmt<W: fmt::Write>(&self, f: &mut fmt::Formatter<W>) -> fmt::Result {
+        f.write_str(match self {
+            AuditError::NotPermitted => "the user has no permission for the audit",
+            AuditError::OutOfMemory => "out of memory",
+        })
+    }
 }
 
 /// The rows of a journal from a number on, at most so many.
