@@ -11,9 +11,9 @@ ghost use Rattle.connections.specs.Linked.{HasGoneOn, StaysOn};
 ghost use Rattle.connections.specs.Serving.{batch_text, IsKnown, IsAuditText, IsBatchText, IsRowsText, ServedTo, query_text};
 
 use command_object::Commands;
+use published_view::{AuditReceipt, BatchReceipt, Keeper, Query, QueryFault, Reply};
 use reply_texts::reply_text;
 use session_book::AuditError;
-use published_view::{AuditReceipt, BatchReceipt, Keeper, Query, QueryFault, Reply};
 use session_state::Digest as TokenDigest;
 use sha2::{Digest, Sha256};
 use std::alloc::{AllocError, Global};
