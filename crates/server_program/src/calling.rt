@@ -10,7 +10,7 @@ ghost use Rattle.server_words.specs.declared.words.Words.TheVariants.{Script, Se
 ghost use Rattle.server_words.specs.declared.words.Serving.{Serving};
 ghost use Rattle.server_program.specs.Status.{IsStatus, status_of};
 
-use crate::serving::serve;
+use crate::serving::status_of_serving;
 use crate::statuses::{status_of, status_of_words};
 use program::run_script;
 use server_words::{Words, read_words};
@@ -54,15 +54,40 @@ pub fn run_words<R: Files + Net + Clock + Wait + AllocGlobal, I: Read, W: Write,
         Appends (W.contents writer.old) (W.contents writer.new) [] }
 {
     match read_words(rt.alloc(), words) {
-        Ok(Words::Script) => match run_script(rt.alloc(), reader, writer) {
-            Ok(()) => 0,
-            Err(fault) => status_of(fault, errors),
-        },
-        Ok(Words::Serve(serving)) => match serve(rt, &serving) {
-            Ok(()) => 0,
-            Err(fault) => status_of(fault, errors),
-        },
+        Ok(Words::Script) => status_of_script(rt.alloc(), reader, writer, errors),
+        Ok(Words::Serve(serving)) => status_of_serving(rt, &serving, errors),
         Err(error) => status_of_words(rt.alloc(), &error, writer, errors),
+    }
+}
+
+// The status after a script.
+fn status_of_script<I: Read, W: Write, E: Write>(
+    alloc: Global,
+    reader: &mut I,
+    writer: &mut W,
+    errors: &mut E,
+) -> u8
+    ensures statuses { IsStatus result }
+    ensures silent { result ≢ 1 → Appends (E.contents errors.old) (E.contents errors.new) [] }
+    ensures understood { result ≢ 2 }
+    ensures refused { result ≡ 1 →
+        IfSome (I.remaining reader.old) (λ input. (fault : Fault)
+        × (status_of fault ≡ 1)
+        × EndsWith fault input (I.remaining reader.new) (W.contents writer.old) (W.contents writer.new)) }
+    ensures answered { result ≡ 0 →
+        IfSome (I.remaining reader.old) (λ input.
+        IsDone input (I.remaining reader.new) (W.contents writer.old) (W.contents writer.new)) }
+    ensures failed { result ≡ 3 →
+        IfSome (I.remaining reader.old) (λ input.
+        EndsWith Input input (I.remaining reader.new) (W.contents writer.old) (W.contents writer.new)
+        ⊎ EndsWith Output input (I.remaining reader.new) (W.contents writer.old) (W.contents writer.new)) }
+    ensures no_memory { result ≡ 4 →
+        IfSome (I.remaining reader.old) (λ input.
+        EndsWith OutOfMemory input (I.remaining reader.new) (W.contents writer.old) (W.contents writer.new)) }
+{
+    match run_script(alloc, reader, writer) {
+        Ok(()) => 0,
+        Err(fault) => status_of(fault, errors),
     }
 }
 

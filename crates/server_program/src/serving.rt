@@ -1,7 +1,12 @@
 //! Clients that are served over WebSockets.
 
+ghost use Rattle.std.specs.Prelude.{◌≡◌, ◌≢◌, []};
+ghost use Rattle.std.specs.Io.KnownBytes.{Appends};
+ghost use Rattle.server_program.specs.Status.{IsStatus};
+
 use crate::files::read_file;
 use crate::session_server::SessionServer;
+use crate::statuses::status_of;
 use program::{Fault, Keeper, PlainKeeper, open_session};
 use server_words::Serving;
 use std::io::{Read, Write};
@@ -11,8 +16,24 @@ use std::sync::Wait;
 use std::time::Clock;
 use websocket_server::{MessageServer, listen, serve_clients, serve_forever};
 
-/// Serves clients one after another, in a session of files.
-pub(crate) fn serve<R: Files + Net + Clock + Wait + AllocGlobal>(
+/// Serves clients in a session of files, and answers the status after it, or where none could be served.
+pub(crate) fn status_of_serving<R: Files + Net + Clock + Wait + AllocGlobal, E: Write>(
+    rt: &R,
+    serving: &Serving<'_>,
+    errors: &mut E,
+) -> u8
+    ensures statuses { IsStatus result }
+    ensures silent { result ≢ 1 → Appends (E.contents errors.old) (E.contents errors.new) [] }
+    ensures understood { result ≢ 2 }
+{
+    match serve(rt, serving) {
+        Ok(()) => 0,
+        Err(fault) => status_of(fault, errors),
+    }
+}
+
+// Serves clients one after another, in a session of files.
+fn serve<R: Files + Net + Clock + Wait + AllocGlobal>(
     rt: &R,
     serving: &Serving<'_>,
 ) -> Result<(), Fault> {
