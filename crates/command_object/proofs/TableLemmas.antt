@@ -1,7 +1,7 @@
 -- What is read by each form of the table of commands is what it is.
 use Rattle.std.proofs.Common.{◌≡◌, ℕ, List, [], ◌∷◌, false, not, ◌||◌, codes, Option, Some, None, option_and_then, refl, ap, ◌∙◌}
 use Rattle.serde_json.specs.Data.{Data, Items, no_items, item}
-use Rattle.session_state.specs.declared.command.Command.{Command}
+use Rattle.session_commands.specs.declared.command.Command.{Command}
 use Rattle.json_fields.specs.Form.{HasFormOf, AreEach}
 use Rattle.json_fields.specs.Field.{text, text_at}
 use Rattle.json_fields.specs.Message.{table, board}

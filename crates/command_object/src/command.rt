@@ -17,8 +17,8 @@ use json_fields::{
 };
 use scoring::Outcome;
 use serde_json::Value;
+use session_commands::Command;
 use session_roles::Role;
-use session_state::Command;
 use std::alloc::Global;
 use user_names::Name;
 

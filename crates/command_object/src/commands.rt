@@ -1,6 +1,6 @@
 ghost use Rattle.std.specs.Prelude.{◌≡◌};
 
-use session_state::Command;
+use session_commands::Command;
 use std::marker::Model;
 
 /// The commands of a batch, in their order.
@@ -12,8 +12,8 @@ pub struct Commands {
 impl Model for Commands {
     ghost use Rattle.std.specs.Prelude.{List};
     ghost use Rattle.std.specs.Coded.{coded_list};
-    ghost use Rattle.session_state.specs.contracts.command.Command as the_command;
-    ghost use Rattle.session_state.specs.declared.command.Command.{Command};
+    ghost use Rattle.session_commands.specs.contracts.command.Command as the_command;
+    ghost use Rattle.session_commands.specs.declared.command.Command.{Command};
 
     ghost Value = { List Command };
 

@@ -1,8 +1,8 @@
 -- Where nothing has joined the journal, nothing was added.
 use Rattle.std.proofs.Common.{◌≡◌, inl, ℕ, List, refl}
 use Rattle.std.specs.Prelude.{Option, Some, None, Result, Ok, Err}
-use Rattle.session_state.specs.declared.command.Command.{Command}
-use Rattle.session_state.specs.declared.entry.Entry.{Entry}
+use Rattle.session_state.specs.session_commands.declared.command.Command.{Command}
+use Rattle.session_state.specs.session_commands.declared.entry.Entry.{Entry}
 use Rattle.json_fields.specs.declared.request_fault.RequestFault.{RequestFault}
 use Rattle.wire.specs.declared.request.Request.{Request}
 use Rattle.wire.specs.declared.request.RequestBody.{RequestBody}

@@ -2,8 +2,8 @@
 use Rattle.std.specs.Prelude.{◌≡◌, ℕ, Option, List, refl}
 use Rattle.std.specs.Coded.{Coded, code_by, coded×, coded_list, coded_option, coded_ℕ}
 use Rattle.session_state.specs.SessionState.{SessionState, session_code}
-use Rattle.session_state.specs.contracts.entry.Entry as the_entry
-use Rattle.session_state.specs.declared.entry.Entry.{Entry}
+use Rattle.session_state.specs.session_commands.contracts.entry.Entry as the_entry
+use Rattle.session_state.specs.session_commands.declared.entry.Entry.{Entry}
 use Rattle.published_view.specs.Keeping.{GoesOn}
 
 pub record Linked : Type 0 where

@@ -1,7 +1,7 @@
 //! What holds of connections: each function here has nothing to do, and its clauses are the theorem.
 
 ghost use Rattle.std.specs.Prelude.{List, ℕ};
-ghost use Rattle.session_state.specs.declared.command.Command.{Command};
+ghost use Rattle.session_state.specs.session_commands.declared.command.Command.{Command};
 ghost use Rattle.connections.specs.Linked.{Linked, HasGoneOn};
 ghost use Rattle.connections.specs.Serving.{IsBatchText};
 

@@ -3,7 +3,7 @@ use Rattle.std.proofs.Common.{◌≡◌, ℕ, Bool, true, false, ◌⊎◌, inl,
 use Rattle.std.specs.Prelude.{Some, None, not, ◌||◌, ◌&&◌, ◌==◌, nat_le, if◌then◌else◌}
 use Rattle.std.specs.List.{list_all}
 use Rattle.std.proofs.lemmas.Bool.{true≢false, cases_Bool, and_parts}
-use Rattle.pbn_records.specs.Pieces.{is_escape}
+use Rattle.pbn_pieces.specs.Pieces.{is_escape}
 use Rattle.pbn_records.specs.Values.{read_value, is_inherited_form}
 use Rattle.pbn_records.specs.MarkValue.{is_open}
 use Rattle.pbn_records.specs.Boards.{is_digit, are_digits, number_of, board_number}

@@ -2,7 +2,7 @@
 use Rattle.std.proofs.Common.{◌≡◌, ℕ, List, ◌∷◌, sym, ap, ◌∙◌}
 use Rattle.std.specs.Prelude.{Option, Some}
 use Rattle.table_terms.specs.declared.place.Place.{Place}
-use Rattle.pbn_records.proofs.CutLemmas.{some_same}
+use Rattle.pbn_pieces.proofs.CutLemmas.{some_same}
 use Rattle.pbn_records.specs.declared.parts.FourParts.{FourParts}
 use Rattle.pbn_records.specs.DealValue.{parts, four_of, HasParts}
 use Rattle.pbn_records.specs.FourParts.{kept_parts}

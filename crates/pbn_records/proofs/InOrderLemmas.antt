@@ -7,7 +7,7 @@ use Rattle.std.proofs.lemmas.List.{get_or-set_other}
 use Rattle.std.proofs.lemmas.Grind.{get_or-set_at}
 use Rattle.std.specs.Map.{lookup}
 use Rattle.indexmap.specs.IndexMap.{IndexMap, get}
-use Rattle.pbn_records.proofs.CutLemmas.{some_same, none_some}
+use Rattle.pbn_pieces.proofs.CutLemmas.{some_same, none_some}
 use Rattle.pbn_records.specs.declared.board.Board.{Board}
 use Rattle.pbn_records.specs.InOrder.{HasOneMore, in_place}
 

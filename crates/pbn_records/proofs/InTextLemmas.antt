@@ -4,13 +4,13 @@ use Rattle.std.specs.Prelude.{Option, Some, None, ◌==◌, ◌&&◌, if◌then�
 use Rattle.std.specs.Option.{is_some, option_or}
 use Rattle.std.specs.List.{AllByRecursion}
 use Rattle.std.proofs.lemmas.Bool.{true≢false, cond_both}
-use Rattle.pbn_records.specs.Pieces.{Piece, Comment, OpenComment, LineComment, EscapeLine, BlankLine, Quoted, Tagged, Broken, Plain, spelled, size, Stands, Joins}
-use Rattle.pbn_records.specs.declared.piece.Found.{Found}
-use Rattle.pbn_records.specs.declared.piece.Found.TheVariants as found
-use Rattle.pbn_records.specs.Told.{IsSkipped, Shows, Uncut, Takes}
-use Rattle.pbn_records.proofs.CutLemmas.{some_same}
-use Rattle.pbn_records.proofs.ExistenceLemmas.{cut_each}
-use Rattle.pbn_records.proofs.WalkLemmas.{spelled_front, has_bytes}
+use Rattle.pbn_pieces.specs.Pieces.{Piece, Comment, OpenComment, LineComment, EscapeLine, BlankLine, Quoted, Tagged, Broken, Plain, spelled, size, Stands, Joins}
+use Rattle.pbn_pieces.specs.declared.piece.Found.{Found}
+use Rattle.pbn_pieces.specs.declared.piece.Found.TheVariants as found
+use Rattle.pbn_pieces.specs.Told.{IsSkipped, Shows, Uncut, Takes}
+use Rattle.pbn_pieces.proofs.CutLemmas.{some_same}
+use Rattle.pbn_pieces.proofs.ExistenceLemmas.{cut_each}
+use Rattle.pbn_pieces.proofs.WalkLemmas.{spelled_front, has_bytes}
 use Rattle.pbn_records.specs.declared.fault.Fault.{Fault}
 use Rattle.pbn_records.specs.declared.fault.Fault.TheVariants as kind
 use Rattle.pbn_records.specs.declared.state.State.{State}

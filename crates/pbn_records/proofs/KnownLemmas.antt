@@ -10,7 +10,7 @@ use Rattle.pbn_records.specs.declared.board.Board.{Board}
 use Rattle.pbn_records.specs.declared.fault.FaultAt.{FaultAt}
 use Rattle.pbn_records.specs.declared.fault.Fault.{Fault}
 use Rattle.pbn_records.specs.declared.deals_error.DealsError.{DealsError}
-use Rattle.pbn_records.proofs.CutLemmas.{some_same}
+use Rattle.pbn_pieces.proofs.CutLemmas.{some_same}
 use Rattle.pbn_records.specs.declared.used.Used.TheVariants as used
 use Rattle.pbn_records.specs.Tags.{Valued}
 use Rattle.pbn_records.specs.Values.{Values}

@@ -8,7 +8,7 @@ use Rattle.table_terms.specs.declared.vulnerability.Vulnerability.{Vulnerability
 use Rattle.table_terms.specs.declared.vulnerability.Vulnerability.TheVariants.{Neither, NorthSouth, EastWest, Both}
 use Rattle.cards.specs.Hands.{Hands, IsDeal}
 use Rattle.table_terms.proofs.Law2Lemmas.{one_dealer, one_marking}
-use Rattle.pbn_records.proofs.CutLemmas.{some_same, cut_once}
+use Rattle.pbn_pieces.proofs.CutLemmas.{some_same, cut_once}
 use Rattle.pbn_records.specs.declared.board.Board.{Board}
 use Rattle.pbn_records.specs.declared.used.Used.TheVariants as used
 use Rattle.pbn_records.specs.Tags.{Valued, without_mark}

@@ -1,9 +1,6 @@
-pub mod CutLemmas
 pub mod DealValueLemmas
 pub mod EscapeLemmas
-pub mod ExistenceLemmas
 pub mod FaultLemmas
-pub mod FirstPieceLemmas
 pub mod FourPartsLemmas
 pub mod FreeLemmas
 pub mod GameBeforeLemmas
@@ -14,13 +11,8 @@ pub mod LawLemmas
 pub mod NumberLemmas
 pub mod OneFaultLemmas
 pub mod PartsLemmas
-pub mod PieceLawLemmas
-pub mod PieceLemmas
 pub mod ReaderLemmas
 pub mod ReadsLemmas
 pub mod RefusalLemmas
 pub mod RisingLemmas
-pub mod SplitLemmas
 pub mod StateLemmas
-pub mod UnclosedLemmas
-pub mod WalkLemmas

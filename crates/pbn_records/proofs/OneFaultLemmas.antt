@@ -11,9 +11,9 @@ use Rattle.cards.specs.Cards.{Cards}
 use Rattle.cards.specs.Hands.{Hands}
 use Rattle.cards.specs.HandReading.{IsHandText}
 use Rattle.cards.specs.CardBits.{each_rank}
-use Rattle.pbn_records.specs.Pieces.{Piece, Comment, OpenComment, LineComment, EscapeLine, BlankLine, Quoted, Tagged, Broken, Plain, size}
-use Rattle.pbn_records.proofs.CutLemmas.{some_same}
-use Rattle.pbn_records.proofs.WalkLemmas.{has_bytes}
+use Rattle.pbn_pieces.specs.Pieces.{Piece, Comment, OpenComment, LineComment, EscapeLine, BlankLine, Quoted, Tagged, Broken, Plain, size}
+use Rattle.pbn_pieces.proofs.CutLemmas.{some_same}
+use Rattle.pbn_pieces.proofs.WalkLemmas.{has_bytes}
 use Rattle.pbn_records.specs.declared.used.Used.{Used}
 use Rattle.pbn_records.specs.declared.used.Used.TheVariants as used
 use Rattle.pbn_records.specs.declared.fault.Fault.{Fault}

@@ -3,8 +3,8 @@ use Rattle.std.proofs.Common.{◌≡◌, ℕ, ◌<◌, true, ◌⊎◌, inl, inr
 use Rattle.std.specs.Prelude.{Some, None}
 use Rattle.std.specs.Option.{is_some}
 use Rattle.std.proofs.lemmas.Bool.{true≢false}
-use Rattle.pbn_records.specs.Pieces.{Piece}
-use Rattle.pbn_records.proofs.CutLemmas.{cut_once}
+use Rattle.pbn_pieces.specs.Pieces.{Piece}
+use Rattle.pbn_pieces.proofs.CutLemmas.{cut_once}
 use Rattle.pbn_records.specs.declared.board.Board.{Board}
 use Rattle.pbn_records.specs.declared.fault.Fault.{Fault}
 use Rattle.pbn_records.specs.declared.fault.Fault.TheVariants as kind

@@ -4,8 +4,8 @@ use Rattle.std.specs.Prelude.{Option, Some, None, codes, bytes_eq}
 use Rattle.std.specs.Option.{is_some, option_or}
 use Rattle.std.specs.List.{AllByRecursion}
 use Rattle.std.proofs.lemmas.Bool.{true≢false, cond_both}
-use Rattle.pbn_records.specs.Pieces.{Piece, Comment, OpenComment, LineComment, EscapeLine, BlankLine, Quoted, Tagged, Broken, Plain, size}
-use Rattle.pbn_records.proofs.CutLemmas.{some_same}
+use Rattle.pbn_pieces.specs.Pieces.{Piece, Comment, OpenComment, LineComment, EscapeLine, BlankLine, Quoted, Tagged, Broken, Plain, size}
+use Rattle.pbn_pieces.proofs.CutLemmas.{some_same}
 use Rattle.pbn_records.specs.declared.used.Used.{Used}
 use Rattle.pbn_records.specs.declared.fault.Fault.{Fault}
 use Rattle.pbn_records.specs.Tags.{Placed, Valued, Mark, Named, Break, mark_of, marks_from, bad_at, bad_from, name_of, used_of, tag_in, has_already, ended, games_from}

@@ -8,8 +8,8 @@ use Rattle.pbn_records.specs.Tags.{Placed, Named, tag_in}
 use Rattle.pbn_records.specs.Values.{values_of}
 use Rattle.pbn_records.specs.Faults.{HasFault}
 use Rattle.pbn_records.specs.Shown.{shown, tag_of, values_read}
-use Rattle.pbn_records.specs.declared.piece.Found.{Found}
-use Rattle.pbn_records.specs.declared.piece.Found.TheVariants as found
+use Rattle.pbn_pieces.specs.declared.piece.Found.{Found}
+use Rattle.pbn_pieces.specs.declared.piece.Found.TheVariants as found
 use Rattle.pbn_records.specs.declared.deals_error.DealsError.TheVariants.{BadTag}
 use Rattle.pbn_records.specs.Kept.{Walk, end_of, step, Knows, IsGameFault}
 

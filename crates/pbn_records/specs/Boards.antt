@@ -4,7 +4,7 @@ use Rattle.std.specs.Prelude.{ℕ, ◌+◌, ◌*◌, ◌-◌, Bool, false, not, 
 use Rattle.std.specs.List.{list_all}
 use Rattle.pbn_records.specs.declared.board.Board.{Board}
 use Rattle.cards.specs.Hands.{Hands}
-use Rattle.pbn_records.specs.Pieces.{is_between}
+use Rattle.pbn_pieces.specs.Pieces.{is_between}
 use Rattle.pbn_records.specs.declared.used.Used.TheVariants as used
 use Rattle.pbn_records.specs.Tags.{Valued}
 use Rattle.pbn_records.specs.Values.{Values}

@@ -1,8 +1,8 @@
 -- Where a reader is in a text.
 use Rattle.std.specs.Prelude.{◌≡◌, ◌≤◌, ◌<◌, ℕ, ◌-◌, List, length}
 use Rattle.std.specs.List.{AllByRecursion}
-use Rattle.pbn_records.specs.Pieces.{Piece, Joins}
-use Rattle.pbn_records.specs.Told.{Uncut}
+use Rattle.pbn_pieces.specs.Pieces.{Piece, Joins}
+use Rattle.pbn_pieces.specs.Told.{Uncut}
 use Rattle.pbn_records.specs.declared.state.State.{State}
 use Rattle.pbn_records.specs.Tags.{Placed, marks_from, bad_from}
 use Rattle.pbn_records.specs.Kept.{Walk, Knows, all_games}

@@ -1,6 +1,5 @@
 pub mod At
 pub mod Boards
-pub mod Cutting
 pub mod DealValue
 pub mod Each
 pub mod Faults
@@ -9,11 +8,8 @@ pub mod GameBefore
 pub mod InOrder
 pub mod InText
 pub mod Kept
-pub mod Kinds
 pub mod MarkValue
-pub mod Pieces
 pub mod Reads
 pub mod Shown
 pub mod Tags
-pub mod Told
 pub mod Values

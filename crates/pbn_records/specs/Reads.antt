@@ -1,6 +1,6 @@
 -- What is read from a PBN text (PBN 2.1, in this project's profile): its boards, or why none are.
 use Rattle.std.specs.Prelude.{◌≡◌, ℕ, ◌-◌, ◌<◌, ◌≤◌, true, ◌⊎◌, List, [], Some, None, length, slice_get}
-use Rattle.pbn_records.specs.Pieces.{Piece, Joins}
+use Rattle.pbn_pieces.specs.Pieces.{Piece, Joins}
 use Rattle.pbn_records.specs.declared.fault.Fault.{Fault}
 use Rattle.pbn_records.specs.declared.fault.Fault.TheVariants as kind
 use Rattle.pbn_records.specs.declared.deals_error.DealsError.{DealsError}

@@ -9,8 +9,8 @@ ghost use Rattle.pbn_records.specs.Each.{KnowsFirst, IsUnknown, HasFirst};
 use crate::board_set::BoardSet;
 use crate::deals_error::DealsError;
 use crate::known_boards::KnownBoards;
-use crate::pieces::Pieces;
 use crate::state::State;
+use pbn_pieces::Pieces;
 use std::alloc::Global;
 
 /// Reads the boards from 1 to `boards`. Only the set takes memory: what is wrong with a text is said without.

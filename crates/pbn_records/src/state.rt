@@ -3,15 +3,15 @@ ghost use Rattle.pbn_records.specs.Tags.{Named, used_of, tag_in};
 ghost use Rattle.pbn_records.specs.Kept.{Walk, end_of, step, add_to};
 ghost use Rattle.pbn_records.specs.Values.{no_values};
 ghost use Rattle.pbn_records.specs.At.{IsAt, EndsInFault, EndsInBadTag, walk_on};
-ghost use Rattle.pbn_records.specs.declared.piece.Found.TheVariants as found_as;
+ghost use Rattle.pbn_pieces.specs.declared.piece.Found.TheVariants as found_as;
 
 use crate::deals_error::DealsError;
 use crate::game::UsedTags;
 use crate::known::add_game;
 use crate::known_boards::KnownBoards;
-use crate::piece::Found;
 use crate::tag_at::TagAt;
 use crate::used::Used;
+use pbn_pieces::Found;
 use std::alloc::Global;
 
 /// Where a reader is in a text: the game that it is in, the values of the game before, and the boards of the games so

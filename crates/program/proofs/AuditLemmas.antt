@@ -8,7 +8,7 @@ use Rattle.session_book.specs.Audit.{audit_rows}
 use Rattle.session_book.specs.Journal.{replay}
 use Rattle.session_book.specs.declared.audit.AuditRow.{AuditRow}
 use Rattle.session_state.specs.SessionState.{SessionState}
-use Rattle.session_state.specs.declared.entry.Entry.{Entry}
+use Rattle.session_state.specs.session_commands.declared.entry.Entry.{Entry}
 use Rattle.wire.specs.AuditText.{audit_text, audit_refusal_text}
 use Rattle.wire.specs.Request.{meaning}
 use Rattle.wire.specs.declared.audit_range.AuditRange.{AuditRange}

@@ -5,10 +5,10 @@ use Rattle.script_lines.specs.Lines.{lines_of}
 use Rattle.published_view.specs.Reply.{reply_of}
 use Rattle.session_book.specs.declared.answer.Answer.{Answer}
 use Rattle.session_book.specs.declared.answer.Answer.TheVariants.{Refused}
-use Rattle.session_state.specs.declared.actor.Actor.TheVariants.{User}
-use Rattle.session_state.specs.declared.command.Command.{Command}
-use Rattle.session_state.specs.declared.entry.Entry.{Entry}
-use Rattle.session_state.specs.declared.refusal.Refusal.TheVariants as refusal
+use Rattle.session_state.specs.session_commands.declared.actor.Actor.TheVariants.{User}
+use Rattle.session_state.specs.session_commands.declared.command.Command.{Command}
+use Rattle.session_state.specs.session_commands.declared.entry.Entry.{Entry}
+use Rattle.session_state.specs.session_commands.declared.refusal.Refusal.TheVariants as refusal
 use Rattle.session_book.specs.Journal.{replay, refusal_after}
 use Rattle.session_book.specs.Run.{Progress, run, first_number, last_number}
 use Rattle.session_state.specs.SessionState.{SessionState}

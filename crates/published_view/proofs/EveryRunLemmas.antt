@@ -7,7 +7,7 @@ use Rattle.disclosure_rules.specs.Seating.{IsSeatedAt}
 use Rattle.denials.specs.declared.denial.Denial.{Denial}
 use Rattle.session_book.specs.session_state.OwnNumbers.{KeepsOwn}
 use Rattle.session_book.specs.session_state.SessionState.{SessionState, viewer_of}
-use Rattle.session_state.specs.declared.entry.Entry.{Entry}
+use Rattle.session_state.specs.session_commands.declared.entry.Entry.{Entry}
 use Rattle.session_opening.specs.Opening.{opening_of}
 use Rattle.session_opening.specs.declared.config.Config.{Config}
 use Rattle.session_book.specs.Exposure.{SomeAllowed}

@@ -5,10 +5,10 @@ use Rattle.std.specs.List.{fold}
 use Rattle.std.proofs.Math.Seq.{take-append_seam, take-suc}
 use Rattle.std.proofs.lemmas.List.{length-append}
 use Rattle.std.proofs.lemmas.Option.{slice_get_within, get_or_from_slice_get}
-use Rattle.session_state.specs.declared.actor.Actor.TheVariants.{User}
-use Rattle.session_state.specs.declared.command.Command.{Command}
-use Rattle.session_state.specs.declared.entry.Entry.{Entry}
-use Rattle.session_state.specs.declared.refusal.Refusal.{Refusal}
+use Rattle.session_state.specs.session_commands.declared.actor.Actor.TheVariants.{User}
+use Rattle.session_state.specs.session_commands.declared.command.Command.{Command}
+use Rattle.session_state.specs.session_commands.declared.entry.Entry.{Entry}
+use Rattle.session_state.specs.session_commands.declared.refusal.Refusal.{Refusal}
 use Rattle.session_state.specs.SessionState.{SessionState}
 use Rattle.published_view.specs.session_book.Journal.{Ledger, state_of, entry_of, refusal_after}
 use Rattle.published_view.specs.session_book.Run.{Progress, answered, step, run, Runs}

@@ -2,8 +2,8 @@
 use Rattle.std.proofs.Common.{◌≡◌, ℕ, Bool, List, [], ◌∷◌, ◌++◌, refl, sym, ap, ◌∙◌, append_assoc}
 use mathlib.Core.List.{IsPrefix}
 use Rattle.session_state.specs.SessionState.{SessionState}
-use Rattle.session_state.specs.declared.command.Command.{Command}
-use Rattle.session_state.specs.declared.entry.Entry.{Entry}
+use Rattle.session_state.specs.session_commands.declared.command.Command.{Command}
+use Rattle.session_state.specs.session_commands.declared.entry.Entry.{Entry}
 use Rattle.published_view.specs.session_book.Run.{Progress, Runs}
 use Rattle.published_view.specs.Keeping.{GoesOn}
 use Rattle.published_view.proofs.GrowthLemmas.{runs_extend}

@@ -5,7 +5,7 @@ use Rattle.std.proofs.lemmas.List.{length-append}
 use Rattle.session_book.specs.session_state.Apply.{apply}
 use Rattle.session_book.specs.session_state.Readers.{digest_of}
 use Rattle.session_book.specs.session_state.SessionState.{SessionState}
-use Rattle.session_state.specs.declared.entry.Entry.{Entry}
+use Rattle.session_state.specs.session_commands.declared.entry.Entry.{Entry}
 use Rattle.session_book.proofs.JournalLemmas.{replayed_more}
 use Rattle.published_view.specs.View.{Seen, StandsFor, seen_after, most_versions, digest_after, reply_after}
 use Rattle.published_view.specs.Reply.{reply_of}

@@ -5,10 +5,10 @@ use Rattle.std.specs.List.{fold}
 use Rattle.std.proofs.lemmas.Bool.{cases_eq}
 use Rattle.std.proofs.lemmas.List.{length-append}
 use Rattle.session_book.specs.session_state.SessionState.{SessionState}
-use Rattle.session_state.specs.declared.actor.Actor.TheVariants.{User, Solver}
-use Rattle.session_state.specs.declared.command.Command.{Command}
-use Rattle.session_state.specs.declared.entry.Entry.{Entry}
-use Rattle.session_state.specs.declared.refusal.Refusal.{Refusal}
+use Rattle.session_state.specs.session_commands.declared.actor.Actor.TheVariants.{User, Solver}
+use Rattle.session_state.specs.session_commands.declared.command.Command.{Command}
+use Rattle.session_state.specs.session_commands.declared.entry.Entry.{Entry}
+use Rattle.session_state.specs.session_commands.declared.refusal.Refusal.{Refusal}
 use Rattle.session_book.specs.declared.answer.Answer.{Answer}
 use Rattle.session_book.specs.declared.answer.Answer.TheVariants.{Accepted, Refused}
 use Rattle.session_book.specs.Journal.{IsAccepted, refusal_after}

@@ -1,6 +1,6 @@
 -- A view beside a book.
 use Rattle.std.specs.Prelude.{◌≡◌, ◌≤◌, List, take, length}
-use Rattle.session_state.specs.declared.entry.Entry.{Entry}
+use Rattle.session_state.specs.session_commands.declared.entry.Entry.{Entry}
 use Rattle.session_state.specs.SessionState.{SessionState}
 use Rattle.published_view.specs.session_book.Journal.{IsAccepted}
 use Rattle.published_view.specs.session_book.Replay.{replay}

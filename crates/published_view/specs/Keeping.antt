@@ -4,8 +4,8 @@ use mathlib.Core.List.{IsPrefix}
 use Rattle.rbac.specs.Authorization.{HasPermission}
 use Rattle.session_roles.specs.declared.operation.Operation.TheVariants.{Audit}
 use Rattle.session_state.specs.SessionState.{SessionState}
-use Rattle.session_state.specs.declared.command.Command.{Command}
-use Rattle.session_state.specs.declared.entry.Entry.{Entry}
+use Rattle.session_state.specs.session_commands.declared.command.Command.{Command}
+use Rattle.session_state.specs.session_commands.declared.entry.Entry.{Entry}
 use Rattle.published_view.specs.session_book.Audit.{audit_rows}
 use Rattle.published_view.specs.session_book.declared.audit.AuditError.TheVariants.{NotPermitted}
 use Rattle.published_view.specs.session_book.Journal.{replay}

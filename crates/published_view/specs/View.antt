@@ -5,7 +5,7 @@ use Rattle.session_book.specs.session_state.SessionState.{SessionState, session_
 use Rattle.session_book.specs.session_state.Apply.{apply}
 use Rattle.session_book.specs.session_state.Readers.{digest_of}
 use Rattle.user_names.specs.declared.digest.Digest.{Digest}
-use Rattle.session_state.specs.declared.entry.Entry.{Entry}
+use Rattle.session_state.specs.session_commands.declared.entry.Entry.{Entry}
 use Rattle.session_book.specs.Replay.{replay}
 use Rattle.session_queries.specs.declared.query.Query.{Query}
 use Rattle.session_queries.specs.declared.reply.Reply.{Reply}

@@ -41,7 +41,7 @@ pub struct NoEntry;
 pub trait Keeper: Drop {
     ghost use Rattle.std.specs.Prelude.{List};
     ghost use Rattle.session_state.specs.SessionState.{SessionState};
-    ghost use Rattle.session_state.specs.declared.entry.Entry.{Entry};
+    ghost use Rattle.session_state.specs.session_commands.declared.entry.Entry.{Entry};
 
     ghost opening: { Self → SessionState };
 

@@ -8,7 +8,7 @@ ghost use Rattle.disclosure_rules.specs.Policy.{first_rule};
 ghost use Rattle.disclosure_rules.specs.Seating.{IsSeatedAt};
 ghost use Rattle.denials.specs.declared.denial.Denial.{Denial};
 ghost use Rattle.session_book.specs.session_state.SessionState.{SessionState, viewer_of};
-ghost use Rattle.session_state.specs.declared.entry.Entry.{Entry};
+ghost use Rattle.session_state.specs.session_commands.declared.entry.Entry.{Entry};
 ghost use Rattle.session_opening.specs.Opening.{opening_of};
 ghost use Rattle.session_opening.specs.declared.config.Config.{Config};
 ghost use Rattle.session_book.specs.Exposure.{SomeAllowed};

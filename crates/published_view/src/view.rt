@@ -1,7 +1,7 @@
 ghost use Rattle.std.specs.Prelude.{◌≡◌, ℕ, ◌+◌, List, [], ◌∷◌, ◌++◌, None, IfOk, IfErr, min};
 ghost use Rattle.disclosure_rules.specs.Policy.{first_rule};
 ghost use Rattle.session_book.specs.session_state.SessionState.{SessionState, viewer_of};
-ghost use Rattle.session_state.specs.declared.entry.Entry.{Entry};
+ghost use Rattle.session_state.specs.session_commands.declared.entry.Entry.{Entry};
 ghost use Rattle.session_book.specs.session_state.Readers.{digest_of};
 ghost use Rattle.session_queries.specs.Query.{fact_of};
 ghost use Rattle.published_view.specs.Reply.{before_answer, body_of, reply_of};

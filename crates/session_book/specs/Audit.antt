@@ -1,7 +1,7 @@
 -- The audit: which entries of the journal it shows.
 use Rattle.std.specs.Prelude.{ℕ, ◌+◌, ◌-◌, List, [], ◌∷◌, take, drop}
 use Rattle.session_book.specs.declared.audit.AuditRow.{AuditRow}
-use Rattle.session_state.specs.declared.entry.Entry.{Entry}
+use Rattle.session_state.specs.session_commands.declared.entry.Entry.{Entry}
 
 -- entries with their numbers, of which the first is given
 abbrev pub numbered_from : ℕ → List Entry → List AuditRow

@@ -11,12 +11,12 @@ ghost use Rattle.session_book.specs.ExposureTable.{user_at};
 ghost use Rattle.session_book.specs.Journal.{IsAccepted, MayFollow, refusal_at, state_of, entry_of};
 ghost use Rattle.session_state.specs.Refusal.{most_entries};
 ghost use Rattle.session_book.specs.Run.{Runs, IsTried, stops, answer_of, first_number, last_number, most_commands};
-ghost use Rattle.session_state.specs.declared.actor.Actor.TheVariants.{Solver};
-ghost use Rattle.session_state.specs.declared.command.Command.{Command};
-ghost use Rattle.session_state.specs.declared.command.Command.TheVariants.{Solved, Analysed};
+ghost use Rattle.session_state.specs.session_commands.declared.actor.Actor.TheVariants.{Solver};
+ghost use Rattle.session_state.specs.session_commands.declared.command.Command.{Command};
+ghost use Rattle.session_state.specs.session_commands.declared.command.Command.TheVariants.{Solved, Analysed};
 ghost use Rattle.session_book.specs.declared.answer.Answer.{Answer};
-ghost use Rattle.session_state.specs.declared.entry.Entry.{Entry};
-ghost use Rattle.session_state.specs.declared.refusal.Refusal.TheVariants.{OutOfMemory};
+ghost use Rattle.session_state.specs.session_commands.declared.entry.Entry.{Entry};
+ghost use Rattle.session_state.specs.session_commands.declared.refusal.Refusal.TheVariants.{OutOfMemory};
 
 use crate::answer::Answer;
 use crate::audit::{AuditError, AuditRows, rows_of};

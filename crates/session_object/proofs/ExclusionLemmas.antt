@@ -2,7 +2,7 @@
 use Rattle.std.proofs.Common.{◌≡◌, ◌≢◌, ℕ, true, List, Option, None, refl, sym, ap, subst, ◌∙◌, arith}
 use Rattle.std.proofs.lemmas.Option.{same_Some}
 use Rattle.serde_json.specs.Data.{Data}
-use Rattle.pbn_records.proofs.CutLemmas.{cut_once}
+use Rattle.pbn_pieces.proofs.CutLemmas.{cut_once}
 use Rattle.pbn_records.specs.Tags.{without_mark}
 use Rattle.pbn_records.specs.Boards.{first_game}
 use Rattle.pbn_records.specs.Reads.{start_of, values_from, IsFault, IsFirstFault, IsLeastMissing}

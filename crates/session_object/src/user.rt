@@ -14,9 +14,8 @@ use json_fields::{digest_of, has_only, name_at, pair_of, place_of, role_of};
 use serde_json::Value;
 use session_opening::{NewUser, NewUsers, RoleList};
 use session_roles::Role;
-use session_state::Digest;
 use std::alloc::Global;
-use user_names::Name;
+use user_names::{Digest, Name};
 
 fn roles_in(alloc: Global, list: &[Value]) -> Result<Vec<Role>, SessionFault>
     ensures roles { IfOk result (λ roles. each role_of (items_view list.now) ≡ Some roles.items) }

@@ -1,3 +1,4 @@
+pub use Rattle.session_state.specs as session_state
 pub mod Content
 pub mod Facts
 pub mod Shown

@@ -20,3 +20,4 @@ pub use push::push_found;
 pub use query::Query;
 pub use reply::Reply;
 pub use results::shown_results;
+pub use session_state::{Play, Seated};

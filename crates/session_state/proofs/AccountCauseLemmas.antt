@@ -28,10 +28,10 @@ use Rattle.rbac.proofs.ListLemmas.{decides_any}
 use Rattle.rbac.proofs.RefusalLemmas.{decides_there}
 use Rattle.rbac.proofs.ReviewLemmas.{decides_is_broken, either_way}
 use Rattle.session_roles.proofs.SeparationLemmas.{none_found}
-use Rattle.session_state.specs.declared.command.Command.TheVariants.{AddUser, Assign, Deassign, AddInheritance, DeleteInheritance}
+use Rattle.session_commands.specs.declared.command.Command.TheVariants.{AddUser, Assign, Deassign, AddInheritance, DeleteInheritance}
 use Rattle.user_names.specs.declared.digest.Digest.{Digest}
-use Rattle.session_state.specs.declared.refusal.Refusal.{Refusal}
-use Rattle.session_state.specs.declared.refusal.Refusal.TheVariants.{BadName, UserExists, TooManyUsers, AlreadyAssigned, Separation, NotAssigned, Cycle, AlreadyThere, NotThere}
+use Rattle.session_commands.specs.declared.refusal.Refusal.{Refusal}
+use Rattle.session_commands.specs.declared.refusal.Refusal.TheVariants.{BadName, UserExists, TooManyUsers, AlreadyAssigned, Separation, NotAssigned, Cycle, AlreadyThere, NotThere}
 use Rattle.session_state.specs.Accounts.{has_account, is_assigned, first_broken, has_pair}
 use Rattle.session_state.specs.Refusal.{first_of, hindrance_of, needed_causes}
 use Rattle.session_state.specs.SessionState.{SessionState}

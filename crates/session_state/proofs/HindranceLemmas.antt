@@ -8,13 +8,13 @@ use Rattle.session_state.specs.cards.declared.card.Card.{Card}
 use Rattle.session_state.specs.movement.Schedule.{is_scheduled}
 use Rattle.session_state.specs.scoring.declared.outcome.Outcome.{Outcome}
 use Rattle.session_state.specs.disclosure_rules.Seating.{some_that}
-use Rattle.session_state.specs.declared.command.Command.{Command}
-use Rattle.session_state.specs.declared.command.Command.TheVariants.{Enter, NextRound}
-use Rattle.session_state.specs.declared.refusal.Refusal.{Refusal}
-use Rattle.session_state.specs.declared.refusal.Refusal.TheVariants.{NoSuchUser, NoSuchCell, NoSuchBoard, WrongPhase, RoundNotStarted, BadResult, AlreadyLive, NoMoreRounds}
+use Rattle.session_commands.specs.declared.command.Command.{Command}
+use Rattle.session_commands.specs.declared.command.Command.TheVariants.{Enter, NextRound}
+use Rattle.session_commands.specs.declared.refusal.Refusal.{Refusal}
+use Rattle.session_commands.specs.declared.refusal.Refusal.TheVariants.{NoSuchUser, NoSuchCell, NoSuchBoard, WrongPhase, RoundNotStarted, BadResult, AlreadyLive, NoMoreRounds}
 use Rattle.session_state.specs.Accounts.{has_account}
-use Rattle.session_state.specs.CellState.{has_result}
-use Rattle.session_state.specs.Command.{phases_of, user_of, cell_of, board_of, is_among}
+use Rattle.session_commands.specs.CellState.{has_result}
+use Rattle.session_commands.specs.Command.{phases_of, user_of, cell_of, board_of, is_among}
 use Rattle.session_state.specs.Refusal.{first_of, is_board, is_bad_result, is_early, own_causes, hindrance_of}
 use Rattle.session_state.specs.SessionState.{SessionState, cell_at}
 

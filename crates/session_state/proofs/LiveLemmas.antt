@@ -7,10 +7,10 @@ use Rattle.session_state.specs.movement.declared.cell.Cell.{Cell}
 use Rattle.session_state.specs.disclosure_rules.LiveCells.{tables_at, is_live, with_live, without_live}
 use Rattle.session_state.specs.disclosure_rules.Numbers.{has_number, numbers_that}
 use Rattle.session_state.proofs.disclosure_rules_lemmas.NumbersLemmas.{has_number-numbers_that}
-use Rattle.session_state.specs.declared.cell_state.CellState.{CellState}
-use Rattle.session_state.specs.declared.cell_state.CellState.TheVariants.{Empty, Entered, Confirmed, Ruled}
+use Rattle.session_commands.specs.declared.cell_state.CellState.{CellState}
+use Rattle.session_commands.specs.declared.cell_state.CellState.TheVariants.{Empty, Entered, Confirmed, Ruled}
 use Rattle.session_state.specs.solver_results.PlayAnswer.{PlayedDeal}
-use Rattle.session_state.specs.CellState.{has_result, with_costs}
+use Rattle.session_commands.specs.CellState.{has_result, with_costs}
 use Rattle.session_state.specs.SessionState.{most_cells, place_of, IsPlaced, AreLive}
 
 -- nothing is live where nothing is known

@@ -21,18 +21,18 @@ use Rattle.session_state.specs.scoring.declared.outcome.Outcome.TheVariants.{Pas
 use Rattle.session_state.proofs.scoring_lemmas.OutcomeLemmas.{same_outcome_decides}
 use Rattle.session_state.specs.solver_results.PlayAnswer.{PlayedDeal}
 use Rattle.session_state.specs.Apply.{apply, effect, confirmed}
-use Rattle.session_state.specs.CellState.{has_result, is_contract_of, same_play, is_played_as, is_counted, with_costs}
+use Rattle.session_commands.specs.CellState.{has_result, is_contract_of, same_play, is_played_as, is_counted, with_costs}
 use Rattle.session_state.specs.OwnNumbers.{IsHandsOf, IsCostsOf, IsCounting, TellsOwn, KeepsOwn}
 use Rattle.session_state.specs.Refusal.{first_of, hindrance_of}
 use Rattle.session_state.specs.SessionState.{SessionState, cell_at, table_at, same_hands, is_dealt, place_of, IsPlaced}
-use Rattle.session_state.specs.declared.cell_state.CellState.{CellState}
-use Rattle.session_state.specs.declared.cell_state.CellState.TheVariants.{Empty, Entered, Confirmed, Ruled}
-use Rattle.session_state.specs.declared.command.Command.{Command}
-use Rattle.session_state.specs.declared.command.Command.TheVariants.{Enter, Confirm, Correct, Rule, Void, Hold, Release, Seat, Unseat, NextRound, Close, Finalise, AddUser, Assign, Deassign, AddInheritance, DeleteInheritance, Solved, Analysed}
+use Rattle.session_commands.specs.declared.cell_state.CellState.{CellState}
+use Rattle.session_commands.specs.declared.cell_state.CellState.TheVariants.{Empty, Entered, Confirmed, Ruled}
+use Rattle.session_commands.specs.declared.command.Command.{Command}
+use Rattle.session_commands.specs.declared.command.Command.TheVariants.{Enter, Confirm, Correct, Rule, Void, Hold, Release, Seat, Unseat, NextRound, Close, Finalise, AddUser, Assign, Deassign, AddInheritance, DeleteInheritance, Solved, Analysed}
 use Rattle.user_names.specs.declared.digest.Digest.{Digest}
-use Rattle.session_state.specs.declared.entry.Entry.{Entry}
-use Rattle.session_state.specs.declared.refusal.Refusal.{Refusal}
-use Rattle.session_state.specs.declared.refusal.Refusal.TheVariants.{NotLive, StrangeDeal, StrangePlay, AlreadySolved}
+use Rattle.session_commands.specs.declared.entry.Entry.{Entry}
+use Rattle.session_commands.specs.declared.refusal.Refusal.{Refusal}
+use Rattle.session_commands.specs.declared.refusal.Refusal.TheVariants.{NotLive, StrangeDeal, StrangePlay, AlreadySolved}
 use Rattle.session_state.specs.declared.seated.Seated.{Seated}
 use Rattle.session_state.proofs.HindranceLemmas.{rest_none, not_met, cell_unhindered, own_unhindered}
 use Rattle.session_state.proofs.LiveLemmas.{own_place}

@@ -8,17 +8,17 @@ use Rattle.rbac.specs.Authorization.{HasPermission, IsValid, has_permission}
 use Rattle.rbac.specs.RoleData.{RoleData, assign_user, deassign_user, add_inheritance, delete_inheritance}
 use Rattle.session_roles.specs.declared.separation_set.SeparationSet.{SeparationSet}
 use Rattle.rbac.proofs.LawLemmas.{permission_exact}
-use Rattle.session_state.specs.declared.command.Command.{Command}
-use Rattle.session_state.specs.declared.command.Command.TheVariants.{Enter, Confirm, Correct, Rule, Void, Hold, Release, Seat, Unseat, NextRound, Close, Finalise, AddUser, Assign, Deassign, AddInheritance, DeleteInheritance, Solved, Analysed}
-use Rattle.session_state.specs.declared.refusal.Refusal.{Refusal}
-use Rattle.session_state.specs.declared.refusal.Refusal.TheVariants.{NotPermitted, NoSuchUser, NoSuchCell, NoSuchBoard, WrongPhase, RoundNotStarted, BadResult, AlreadyLive, NothingEntered, Mismatch, Spoiled, NotLive, BadRuling, AlreadyHeld, NotHeld, NoSuchPair, WrongDirection, NotContestant, AlreadySeated, SeatTaken, NotSeated, NoMoreRounds, NotAllLive, BadName, UserExists, TooManyUsers, AlreadyAssigned, Separation, NotAssigned, StillSeated, LastAdministrator, Cycle, AlreadyThere, NotThere, StrangeDeal, AlreadySolved, StrangePlay, JournalFull}
+use Rattle.session_commands.specs.declared.command.Command.{Command}
+use Rattle.session_commands.specs.declared.command.Command.TheVariants.{Enter, Confirm, Correct, Rule, Void, Hold, Release, Seat, Unseat, NextRound, Close, Finalise, AddUser, Assign, Deassign, AddInheritance, DeleteInheritance, Solved, Analysed}
+use Rattle.session_commands.specs.declared.refusal.Refusal.{Refusal}
+use Rattle.session_commands.specs.declared.refusal.Refusal.TheVariants.{NotPermitted, NoSuchUser, NoSuchCell, NoSuchBoard, WrongPhase, RoundNotStarted, BadResult, AlreadyLive, NothingEntered, Mismatch, Spoiled, NotLive, BadRuling, AlreadyHeld, NotHeld, NoSuchPair, WrongDirection, NotContestant, AlreadySeated, SeatTaken, NotSeated, NoMoreRounds, NotAllLive, BadName, UserExists, TooManyUsers, AlreadyAssigned, Separation, NotAssigned, StillSeated, LastAdministrator, Cycle, AlreadyThere, NotThere, StrangeDeal, AlreadySolved, StrangePlay, JournalFull}
 use Rattle.session_state.specs.Accounts.{first_broken}
-use Rattle.session_state.specs.Command.{operation_of, is_told_by_table}
-use Rattle.session_state.specs.declared.actor.Actor.{Actor}
-use Rattle.session_state.specs.declared.actor.Actor.TheVariants.{User, Solver}
+use Rattle.session_commands.specs.Command.{operation_of, is_told_by_table}
+use Rattle.session_commands.specs.declared.actor.Actor.{Actor}
+use Rattle.session_commands.specs.declared.actor.Actor.TheVariants.{User, Solver}
 use Rattle.session_roles.specs.declared.operation.Operation.{Operation}
 use Rattle.session_state.specs.disclosure_rules.Seating.{some_that}
-use Rattle.session_state.specs.StatelessRefusal.{spoiled, is_out_of_memory}
+use Rattle.session_commands.specs.Refusal.{spoiled, is_out_of_memory}
 use Rattle.session_state.specs.Refusal.{is_permitted, IsPermitted, first_of, needed_causes, own_causes, hindrances, causes, hindrance_of, refusal_of, most_entries}
 use Rattle.session_state.specs.SessionState.{SessionState}
 

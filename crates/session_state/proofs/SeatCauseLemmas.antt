@@ -5,9 +5,9 @@ use Rattle.std.specs.Bool.{then_some}
 use Rattle.table_terms.specs.declared.pair.Pair.{Pair}
 use Rattle.table_terms.specs.declared.place.Place.{Place}
 use Rattle.session_roles.specs.declared.role.Role.TheVariants.{Contestant}
-use Rattle.session_state.specs.declared.command.Command.TheVariants as command
-use Rattle.session_state.specs.declared.refusal.Refusal.{Refusal}
-use Rattle.session_state.specs.declared.refusal.Refusal.TheVariants.{NoSuchPair, WrongDirection, NotContestant, AlreadySeated, SeatTaken}
+use Rattle.session_commands.specs.declared.command.Command.TheVariants as command
+use Rattle.session_commands.specs.declared.refusal.Refusal.{Refusal}
+use Rattle.session_commands.specs.declared.refusal.Refusal.TheVariants.{NoSuchPair, WrongDirection, NotContestant, AlreadySeated, SeatTaken}
 use Rattle.session_state.specs.Accounts.{has_account, is_authorized_for}
 use Rattle.session_state.specs.Refusal.{hindrance_of}
 use Rattle.session_state.specs.Seats.{is_pair, is_of_side, has_seat, is_taken, AreSeated}

@@ -7,15 +7,15 @@ use Rattle.session_state.specs.disclosure_rules.declared.phase.Phase.TheVariants
 use Rattle.session_state.specs.disclosure_rules.declared.public.Public.{Public}
 use Rattle.session_state.specs.disclosure_rules.LiveCells.{with_live, without_live}
 use Rattle.session_state.specs.disclosure_rules.Numbers.{with_number, without_number}
-use Rattle.session_state.specs.declared.command.Command.{Command}
-use Rattle.session_state.specs.declared.command.Command.TheVariants.{Enter, Confirm, Correct, Rule, Void, Hold, Release}
-use Rattle.session_state.specs.declared.command.Command.TheVariants.{Seat, Unseat, NextRound, Close, Finalise}
-use Rattle.session_state.specs.declared.command.Command.TheVariants.{AddUser, Assign, Deassign, AddInheritance}
-use Rattle.session_state.specs.declared.command.Command.TheVariants.{DeleteInheritance, Solved, Analysed}
-use Rattle.session_state.specs.declared.cell_state.CellState.{CellState}
-use Rattle.session_state.specs.declared.cell_state.CellState.TheVariants.{Empty, Entered, Confirmed, Ruled}
-use Rattle.session_state.specs.declared.entry.Entry.{Entry}
-use Rattle.session_state.specs.CellState.{with_costs}
+use Rattle.session_commands.specs.declared.command.Command.{Command}
+use Rattle.session_commands.specs.declared.command.Command.TheVariants.{Enter, Confirm, Correct, Rule, Void, Hold, Release}
+use Rattle.session_commands.specs.declared.command.Command.TheVariants.{Seat, Unseat, NextRound, Close, Finalise}
+use Rattle.session_commands.specs.declared.command.Command.TheVariants.{AddUser, Assign, Deassign, AddInheritance}
+use Rattle.session_commands.specs.declared.command.Command.TheVariants.{DeleteInheritance, Solved, Analysed}
+use Rattle.session_commands.specs.declared.cell_state.CellState.{CellState}
+use Rattle.session_commands.specs.declared.cell_state.CellState.TheVariants.{Empty, Entered, Confirmed, Ruled}
+use Rattle.session_commands.specs.declared.entry.Entry.{Entry}
+use Rattle.session_commands.specs.CellState.{with_costs}
 use Rattle.session_state.specs.Refusal.{hindrance_of}
 use Rattle.session_state.specs.Seats.{without_seat}
 use Rattle.session_state.specs.SessionState.{SessionState, cell_at, with_cell}

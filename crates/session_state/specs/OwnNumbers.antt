@@ -7,9 +7,9 @@ use Rattle.session_state.specs.movement.declared.cell.Cell.{Cell}
 use Rattle.session_state.specs.scoring.declared.outcome.Outcome.{Outcome}
 use Rattle.session_state.specs.scoring.declared.outcome.Outcome.TheVariants.{Played}
 use Rattle.session_state.specs.solver_results.PlayAnswer.{PlayedDeal}
-use Rattle.session_state.specs.declared.cell_state.CellState.TheVariants.{Confirmed}
-use Rattle.session_state.specs.declared.command.Command.{Command}
-use Rattle.session_state.specs.declared.command.Command.TheVariants.{Solved, Analysed}
+use Rattle.session_commands.specs.declared.cell_state.CellState.TheVariants.{Confirmed}
+use Rattle.session_commands.specs.declared.command.Command.{Command}
+use Rattle.session_commands.specs.declared.command.Command.TheVariants.{Solved, Analysed}
 use Rattle.session_state.specs.SessionState.{SessionState, cell_at, table_at, IsPlaced}
 
 -- the hands are those of the board

@@ -22,10 +22,10 @@ use Rattle.user_names.specs.declared.digest.Digest.{Digest}
 use Rattle.user_names.specs.contracts.digest.Digest as the_digest
 use Rattle.session_state.specs.declared.seated.Seated.{Seated}
 use Rattle.session_state.specs.contracts.seated.Seated as the_seated
-use Rattle.session_state.specs.declared.cell_state.CellState.{CellState}
-use Rattle.session_state.specs.declared.cell_state.CellState.TheVariants.{Empty}
-use Rattle.session_state.specs.contracts.cell_state.CellState as the_cell_state
-use Rattle.session_state.specs.CellState.{has_result}
+use Rattle.session_commands.specs.declared.cell_state.CellState.{CellState}
+use Rattle.session_commands.specs.declared.cell_state.CellState.TheVariants.{Empty}
+use Rattle.session_commands.specs.contracts.cell_state.CellState as the_cell_state
+use Rattle.session_commands.specs.CellState.{has_result}
 
 -- the users with their roles and the role hierarchy, the digest of each user's token in the order of the accounts,
 -- where users sit, what every member may see, what is known of each cell, and of board 1, 2, .. the hands, and the

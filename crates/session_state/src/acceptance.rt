@@ -2,18 +2,16 @@
 ghost use Rattle.std.specs.Prelude.{◌≡◌, not, IfSome, IfNone};
 ghost use Rattle.session_state.specs.disclosure_rules.Seating.{some_that};
 ghost use Rattle.session_state.specs.Accounts.{has_account};
-ghost use Rattle.session_state.specs.Command.{cell_of, board_of};
+ghost use Rattle.session_commands.specs.Command.{cell_of, board_of};
 ghost use Rattle.rbac.specs.Authorization.{has_permission};
 ghost use Rattle.session_state.specs.Refusal.{first_of, own_causes, is_permitted, hindrance_of, refusal_of};
 ghost use Rattle.session_state.specs.SessionState.{IsPlaced, IsKeptBoard};
 
-use crate::actor::Actor;
 use crate::causes::{accounts, first_of, progress, results, seats, solved};
-use crate::command::Command;
-use crate::refusal::Refusal;
 use crate::schedule::{awaits_round, misses_board, misses_cell};
 use crate::state::State;
 use disclosure_rules::{Cell, Seat};
+use session_commands::{Actor, Command, Refusal};
 use session_roles::Operation;
 use user_names::Name;
 

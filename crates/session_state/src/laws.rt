@@ -6,15 +6,15 @@ ghost use Rattle.rbac.specs.Authorization.{IsValid};
 ghost use Rattle.session_state.specs.disclosure_rules.declared.public.Public.{Public};
 ghost use Rattle.session_state.specs.disclosure_rules.LiveCells.{is_live};
 ghost use Rattle.session_state.specs.Apply.{apply};
-ghost use Rattle.session_state.specs.Command.{cell_of};
+ghost use Rattle.session_commands.specs.Command.{cell_of};
 ghost use Rattle.session_state.specs.OwnNumbers.{TellsOwn, KeepsOwn};
 ghost use Rattle.session_state.specs.Parts.{part_of, IsSameBut};
 ghost use Rattle.session_state.specs.Refusal.{hindrance_of, refusal_of, are_all_live, IsPermitted};
 ghost use Rattle.session_state.specs.SessionState.{SessionState, cell_at, IsPlaced};
-ghost use Rattle.session_state.specs.declared.actor.Actor.{Actor};
-ghost use Rattle.session_state.specs.declared.entry.Entry.{Entry};
-ghost use Rattle.session_state.specs.declared.command.Command.{Command};
-ghost use Rattle.session_state.specs.declared.refusal.Refusal.TheVariants.{NotPermitted};
+ghost use Rattle.session_commands.specs.declared.actor.Actor.{Actor};
+ghost use Rattle.session_commands.specs.declared.entry.Entry.{Entry};
+ghost use Rattle.session_commands.specs.declared.command.Command.{Command};
+ghost use Rattle.session_commands.specs.declared.refusal.Refusal.TheVariants.{NotPermitted};
 
 /// A command is refused as not permitted just where who gives it may not: a user who is authorized for no role that holds the
 /// permission for its operation (CheckAccess of INCITS 359-2012), a user who gives what is the solver's, and the solver

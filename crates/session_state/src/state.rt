@@ -7,11 +7,11 @@ ghost use Rattle.session_state.specs.disclosure_rules.Policy.{first_rule};
 ghost use Rattle.session_state.specs.Accounts.{has_account};
 ghost use Rattle.session_state.specs.Seats.{is_taken, AreSeated};
 ghost use Rattle.session_state.specs.Apply.{apply, effect};
-ghost use Rattle.session_state.specs.CellState.{has_result};
-ghost use Rattle.session_state.specs.Command.{cell_of, board_of};
+ghost use Rattle.session_commands.specs.CellState.{has_result};
+ghost use Rattle.session_commands.specs.Command.{cell_of, board_of};
 ghost use Rattle.session_state.specs.Refusal.{hindrance_of, refusal_of};
 ghost use Rattle.session_state.specs.SessionState.{authorized_of, seat_of, viewer_of, cell_at, table_at, is_dealt, with_cell, place_of, most_cells, IsPlaced, IsKeptBoard, AreLive};
-ghost use Rattle.session_state.specs.declared.cell_state.CellState.TheVariants.{Empty};
+ghost use Rattle.session_commands.specs.declared.cell_state.CellState.TheVariants.{Empty};
 
 mod accounts;
 mod progress;
@@ -21,17 +21,14 @@ mod seats;
 mod solved;
 
 use crate::acceptance::{hindrance, refusal};
-use crate::actor::Actor;
-use crate::cell_state::CellState;
-use crate::command::Command;
-use crate::entry::Entry;
-use crate::refusal::Refusal;
-use crate::room::{filled, with_room};
 use crate::seated::Seated;
 use disclosure_rules::{Cell, Fact, Marks, Movement, Public, Rule, Seat, Viewer, decide};
 use rbac::{Account, Roles};
+use session_commands::room::{filled, with_room};
+use session_commands::{
+    Actor, CellState, Command, DdTable, Deal, Entry, Outcome, Play, PlayCosts, Refusal,
+};
 use session_roles::{Operation, RoleSet};
-use solver_results::{DdTable, Deal, Outcome, Play, PlayCosts};
 use std::alloc::{AllocError, Global};
 use std::marker::Model;
 use user_names::{Digest, Name};

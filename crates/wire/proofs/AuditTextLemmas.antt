@@ -3,8 +3,8 @@ use Rattle.std.proofs.Common.{◌≡◌, ℕ, List, [], ◌∷◌, ◌||◌, map
 use Rattle.serde_json.specs.View.{items_of}
 use Rattle.serde_json.specs.Written.{has_float, items_have_float}
 use Rattle.session_book.specs.declared.audit.AuditRow.{AuditRow}
-use Rattle.session_state.specs.declared.actor.Actor.{Actor}
-use Rattle.session_state.specs.declared.actor.Actor.TheVariants.{User, Solver}
+use Rattle.session_commands.specs.declared.actor.Actor.{Actor}
+use Rattle.session_commands.specs.declared.actor.Actor.TheVariants.{User, Solver}
 use Rattle.wire.specs.AuditText.{actor_data, row_data, audit_data}
 
 no_float_in_an_actor : (actor : Actor) → has_float (actor_data actor) ≡ false

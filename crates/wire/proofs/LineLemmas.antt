@@ -6,7 +6,7 @@ use Rattle.std.proofs.lemmas.Str.{utf8_valid_len-IsUtf8}
 use Rattle.serde_json.specs.Data.{Data}
 use Rattle.serde_json.specs.Read.{read}
 use Rattle.serde_json.specs.Find.{as_object}
-use Rattle.session_state.specs.declared.command.Command.{Command}
+use Rattle.session_commands.specs.declared.command.Command.{Command}
 use Rattle.query_object.specs.session_queries.declared.query.Query.{Query}
 use Rattle.json_fields.proofs.FormLemmas.{is_most, most_is}
 use Rattle.wire.specs.declared.audit_range.AuditRange.{AuditRange}

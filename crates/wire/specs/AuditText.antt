@@ -9,13 +9,13 @@ use Rattle.serde_json.specs.Written.{compact_text}
 use Rattle.session_roles.specs.declared.role.Role.{Role}
 use Rattle.session_roles.specs.Role.{role_name}
 use Rattle.session_book.specs.declared.audit.AuditRow.{AuditRow}
-use Rattle.session_state.specs.declared.actor.Actor.{Actor}
-use Rattle.session_state.specs.declared.actor.Actor.TheVariants.{User, Solver}
-use Rattle.session_state.specs.declared.command.Command.{Command}
-use Rattle.session_state.specs.declared.command.Command.TheVariants.{Enter, Confirm, Correct, Rule, Void, Hold, Release}
-use Rattle.session_state.specs.declared.command.Command.TheVariants.{Seat, Unseat, NextRound, Close, Finalise}
-use Rattle.session_state.specs.declared.command.Command.TheVariants.{AddUser, Assign, Deassign, AddInheritance}
-use Rattle.session_state.specs.declared.command.Command.TheVariants.{DeleteInheritance, Solved, Analysed}
+use Rattle.session_commands.specs.declared.actor.Actor.{Actor}
+use Rattle.session_commands.specs.declared.actor.Actor.TheVariants.{User, Solver}
+use Rattle.session_commands.specs.declared.command.Command.{Command}
+use Rattle.session_commands.specs.declared.command.Command.TheVariants.{Enter, Confirm, Correct, Rule, Void, Hold, Release}
+use Rattle.session_commands.specs.declared.command.Command.TheVariants.{Seat, Unseat, NextRound, Close, Finalise}
+use Rattle.session_commands.specs.declared.command.Command.TheVariants.{AddUser, Assign, Deassign, AddInheritance}
+use Rattle.session_commands.specs.declared.command.Command.TheVariants.{DeleteInheritance, Solved, Analysed}
 
 -- how a command is called, as a message has it
 abbrev pub command_word : Command → List ℕ

@@ -2,7 +2,7 @@
 use Rattle.std.specs.Prelude.{◌≡◌, ◌≢◌, ◌⊎◌, ℕ, ◌≤◌, List, [], ◌∷◌, length, count_by, All, true, is_some, IsSome, codes, Option, Some, None, option_and_then}
 use Rattle.serde_json.specs.Data.{Data, Items}
 use Rattle.serde_json.specs.Find.{get, as_array}
-use Rattle.session_state.specs.declared.command.Command.{Command}
+use Rattle.session_commands.specs.declared.command.Command.{Command}
 use Rattle.query_object.specs.session_queries.declared.query.Query.{Query}
 use Rattle.wire.specs.declared.audit_range.AuditRange.{AuditRange}
 use Rattle.wire.specs.declared.source.Source.{Source}

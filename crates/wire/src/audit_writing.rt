@@ -8,7 +8,7 @@ ghost use Rattle.wire.specs.AuditText.{actor_data, command_word, target, row_dat
 use json_fields::{ArrayWriter, ObjectWriter, array_value, string_value};
 use serde_json::{Value, push};
 use session_book::{AuditRow, AuditRows};
-use session_state::{Actor, Command};
+use session_commands::{Actor, Command};
 use std::alloc::{AllocError, Global};
 
 /// The text of an audit's rows, where the journal has this version.

@@ -9,7 +9,7 @@ ghost use Rattle.wire.specs.declared.request.Request.{Request};
 ghost use Rattle.wire.specs.declared.request.RequestBody.TheVariants as body;
 ghost use Rattle.wire.specs.declared.source.Source.{Source};
 ghost use Rattle.wire.specs.declared.source.Source.TheVariants.{Script, Connection};
-ghost use Rattle.session_state.specs.declared.command.Command.{Command};
+ghost use Rattle.session_commands.specs.declared.command.Command.{Command};
 ghost use Rattle.json_fields.specs.Object.{IsObject};
 ghost use Rattle.wire.specs.Grammar.{IsMessage, IsUnknownRequest, IsQuery, IsBatch, IsAudit, IsGreeting, IsNoRequest};
 ghost use Rattle.wire.specs.Request.{most_message_bytes, meaning, IsSaid};

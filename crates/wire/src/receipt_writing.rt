@@ -8,7 +8,7 @@ ghost use Rattle.wire.specs.ReceiptText.{refusal_name, about, refusal_text, answ
 use json_fields::{ObjectWriter, array_value};
 use serde_json::{Value, push};
 use session_book::{Answer, Submission};
-use session_state::Refusal;
+use session_commands::Refusal;
 use std::alloc::{AllocError, Global};
 
 /// The text of the receipt for a batch after which the journal has this version.

@@ -3,13 +3,13 @@ ghost use Rattle.std.specs.Prelude.{◌≡◌};
 ghost use Rattle.rbac.specs.RoleData.{after};
 ghost use Rattle.session_state.specs.Accounts.{seats_a_stranger};
 ghost use Rattle.session_state.specs.Refusal.{first_of, own_causes, needed_causes};
-ghost use Rattle.session_state.specs.declared.command.Command.TheVariants.{AddUser, Assign, Deassign, AddInheritance};
-ghost use Rattle.session_state.specs.declared.command.Command.TheVariants.{DeleteInheritance};
+ghost use Rattle.session_commands.specs.declared.command.Command.TheVariants.{AddUser, Assign, Deassign, AddInheritance};
+ghost use Rattle.session_commands.specs.declared.command.Command.TheVariants.{DeleteInheritance};
 
 use crate::causes::first_of;
-use crate::refusal::Refusal;
 use crate::state::State;
 use rbac::{Change, Roles, is_user_name};
+use session_commands::Refusal;
 use session_roles::Role;
 use user_names::{Digest, Name};
 

@@ -1,11 +1,11 @@
 //! Why a command on a held board, a round or a phase is refused.
 ghost use Rattle.std.specs.Prelude.{◌≡◌};
 ghost use Rattle.session_state.specs.Refusal.{first_of, are_all_live, own_causes};
-ghost use Rattle.session_state.specs.declared.command.Command.TheVariants.{Hold, Release, NextRound, Close, Finalise};
+ghost use Rattle.session_commands.specs.declared.command.Command.TheVariants.{Hold, Release, NextRound, Close, Finalise};
 
-use crate::refusal::Refusal;
 use crate::state::State;
 use disclosure_rules::Public;
+use session_commands::Refusal;
 
 pub fn hold_cause(state: &State, board: u8) -> Option<Refusal>
     ensures { result ≡ first_of (own_causes state.now (Hold board)) }

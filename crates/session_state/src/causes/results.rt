@@ -2,13 +2,12 @@
 ghost use Rattle.std.specs.Prelude.{◌≡◌, ℕ};
 ghost use Rattle.session_state.specs.Refusal.{first_of, is_bad_result, is_bad_ruling, own_causes};
 ghost use Rattle.session_state.specs.SessionState.{SessionState, IsPlaced};
-ghost use Rattle.session_state.specs.declared.command.Command.TheVariants.{Enter, Confirm, Correct, Rule, Void};
+ghost use Rattle.session_commands.specs.declared.command.Command.TheVariants.{Enter, Confirm, Correct, Rule, Void};
 
 use crate::causes::first_of;
-use crate::refusal::Refusal;
 use crate::state::State;
 use disclosure_rules::Cell;
-use solver_results::{Outcome, Play};
+use session_commands::{Outcome, Play, Refusal};
 
 pub fn enter_cause(state: &State, cell: Cell, outcome: Outcome, play: &Play) -> Option<Refusal>
     requires { IsPlaced cell }

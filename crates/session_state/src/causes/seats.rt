@@ -2,12 +2,12 @@
 ghost use Rattle.std.specs.Prelude.{◌≡◌};
 ghost use Rattle.session_state.specs.Refusal.{first_of, own_causes};
 ghost use Rattle.session_state.specs.Seats.{is_pair, is_of_side, is_taken};
-ghost use Rattle.session_state.specs.declared.command.Command.TheVariants as command;
+ghost use Rattle.session_commands.specs.declared.command.Command.TheVariants as command;
 
 use crate::causes::first_of;
-use crate::refusal::Refusal;
 use crate::state::State;
 use disclosure_rules::{Movement, Seat};
+use session_commands::Refusal;
 use session_roles::Role;
 use table_terms::{Pair, Place, Side};
 use user_names::Name;

@@ -2,13 +2,12 @@
 ghost use Rattle.std.specs.Prelude.{◌≡◌};
 ghost use Rattle.session_state.specs.Refusal.{first_of, own_causes};
 ghost use Rattle.session_state.specs.SessionState.{IsKeptBoard, IsPlaced};
-ghost use Rattle.session_state.specs.declared.command.Command.TheVariants.{Solved, Analysed};
+ghost use Rattle.session_commands.specs.declared.command.Command.TheVariants.{Solved, Analysed};
 
 use crate::causes::first_of;
-use crate::refusal::Refusal;
 use crate::state::State;
 use disclosure_rules::Cell;
-use solver_results::{DdTable, PlayCosts};
+use session_commands::{DdTable, PlayCosts, Refusal};
 
 pub fn solved_cause(state: &State, board: u8, table: &DdTable) -> Option<Refusal>
     requires { IsKeptBoard board }

@@ -2,12 +2,12 @@
 ghost use Rattle.std.specs.Prelude.{◌≡◌, None};
 ghost use Rattle.session_state.specs.Apply.{effect};
 ghost use Rattle.session_state.specs.Refusal.{hindrance_of};
-ghost use Rattle.session_state.specs.declared.command.Command.TheVariants.{AddUser, Assign, Deassign, AddInheritance};
-ghost use Rattle.session_state.specs.declared.command.Command.TheVariants.{DeleteInheritance};
+ghost use Rattle.session_commands.specs.declared.command.Command.TheVariants.{AddUser, Assign, Deassign, AddInheritance};
+ghost use Rattle.session_commands.specs.declared.command.Command.TheVariants.{DeleteInheritance};
 
-use crate::room::push_within;
 use crate::state::State;
 use rbac::Roles;
+use session_commands::room::push_within;
 use session_roles::Role;
 use user_names::{Digest, Name};
 

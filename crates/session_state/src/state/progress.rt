@@ -3,7 +3,7 @@ ghost use Rattle.std.specs.Prelude.{◌≡◌, None};
 ghost use Rattle.session_state.specs.Apply.{effect};
 ghost use Rattle.session_state.specs.Refusal.{hindrance_of};
 ghost use Rattle.session_state.specs.SessionState.{IsKeptBoard};
-ghost use Rattle.session_state.specs.declared.command.Command.TheVariants.{Hold, Release, NextRound, Close, Finalise};
+ghost use Rattle.session_commands.specs.declared.command.Command.TheVariants.{Hold, Release, NextRound, Close, Finalise};
 
 use crate::state::State;
 use disclosure_rules::Phase;

@@ -1,15 +1,14 @@
 //! What the commands on results do to a state.
 ghost use Rattle.std.specs.Prelude.{◌≡◌, None, true};
 ghost use Rattle.session_state.specs.Apply.{effect, with_result, without_result};
-ghost use Rattle.session_state.specs.CellState.{has_result};
+ghost use Rattle.session_commands.specs.CellState.{has_result};
 ghost use Rattle.session_state.specs.Refusal.{hindrance_of};
 ghost use Rattle.session_state.specs.SessionState.{IsPlaced};
-ghost use Rattle.session_state.specs.declared.command.Command.TheVariants.{Enter, Confirm, Correct, Rule, Void};
+ghost use Rattle.session_commands.specs.declared.command.Command.TheVariants.{Enter, Confirm, Correct, Rule, Void};
 
-use crate::cell_state::CellState;
 use crate::state::{State, place_of};
 use disclosure_rules::Cell;
-use solver_results::{Outcome, Play};
+use session_commands::{CellState, Outcome, Play};
 
 impl State {
     // Sets what is entered.

@@ -7,13 +7,13 @@ ghost use Rattle.session_state.specs.Accounts.{is_authorized_for, seats_a_strang
 ghost use Rattle.session_state.specs.Apply.{effect};
 ghost use Rattle.session_state.specs.Refusal.{hindrance_of};
 ghost use Rattle.session_state.specs.Seats.{has_seat};
-ghost use Rattle.session_state.specs.declared.command.Command.TheVariants as command;
+ghost use Rattle.session_commands.specs.declared.command.Command.TheVariants as command;
 
-use crate::room::push_within;
 use crate::seated::Seated;
 use crate::state::State;
 use disclosure_rules::Seat;
 use rbac::{Change, Roles};
+use session_commands::room::push_within;
 use session_roles::{Role, RoleSet};
 use user_names::Name;
 

@@ -3,11 +3,11 @@ ghost use Rattle.std.specs.Prelude.{◌≡◌, None};
 ghost use Rattle.session_state.specs.Apply.{effect};
 ghost use Rattle.session_state.specs.Refusal.{hindrance_of};
 ghost use Rattle.session_state.specs.SessionState.{IsPlaced, IsKeptBoard};
-ghost use Rattle.session_state.specs.declared.command.Command.TheVariants.{Solved, Analysed};
+ghost use Rattle.session_commands.specs.declared.command.Command.TheVariants.{Solved, Analysed};
 
 use crate::state::{State, place_of};
 use disclosure_rules::Cell;
-use solver_results::{DdTable, PlayCosts};
+use session_commands::{DdTable, PlayCosts};
 
 impl State {
     // Keeps a board's table.

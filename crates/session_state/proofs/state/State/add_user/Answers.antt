@@ -7,7 +7,7 @@ use Rattle.session_state.specs.Apply.{effect}
 use Rattle.session_state.specs.Refusal.{hindrance_of}
 use Rattle.session_state.specs.Seats.{AreSeated}
 use Rattle.session_state.specs.contracts.state.State.{the_view}
-use Rattle.session_state.specs.declared.command.Command.TheVariants.{AddUser}
+use Rattle.session_commands.specs.declared.command.Command.TheVariants.{AddUser}
 use Rattle.rbac.specs.Account.{most_users}
 use Rattle.session_state.proofs.AccountCauseLemmas.{room_for_user, user_is_added}
 use Rattle.session_state.proofs.SeatLemmas.{seated_added}

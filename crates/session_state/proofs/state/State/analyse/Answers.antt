@@ -1,6 +1,6 @@
 use Rattle.std.proofs.Common.{◌≡◌, ◌<◌, length, sym, ap, ◌∙◌, subst, arith}
 use Rattle.std.specs.Prelude.{slice_set}
-use Rattle.session_state.specs.CellState.{has_result, with_costs}
+use Rattle.session_commands.specs.CellState.{has_result, with_costs}
 use Rattle.session_state.specs.SessionState.{cell_at, place_of, with_cell, AreLive}
 use Rattle.session_state.specs.contracts.state.State.{the_view}
 use Rattle.session_state.proofs.LiveLemmas.{same_live, costs_live}

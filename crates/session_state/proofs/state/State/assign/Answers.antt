@@ -6,7 +6,7 @@ use Rattle.session_state.specs.Apply.{effect}
 use Rattle.session_state.specs.Refusal.{hindrance_of}
 use Rattle.session_state.specs.Seats.{AreSeated}
 use Rattle.session_state.specs.contracts.state.State.{the_view}
-use Rattle.session_state.specs.declared.command.Command.TheVariants.{Assign}
+use Rattle.session_commands.specs.declared.command.Command.TheVariants.{Assign}
 use Rattle.rbac.proofs.AccountLemmas.{length_changed}
 use Rattle.session_state.proofs.AccountCauseLemmas.{role_is_assigned}
 use Rattle.session_state.proofs.SeatLemmas.{seated_changed}

@@ -4,7 +4,7 @@ use Rattle.session_state.specs.Apply.{effect}
 use Rattle.session_state.specs.Refusal.{hindrance_of}
 use Rattle.session_state.specs.Seats.{AreSeated}
 use Rattle.session_state.specs.contracts.state.State.{the_view}
-use Rattle.session_state.specs.declared.command.Command.TheVariants.{DeleteInheritance}
+use Rattle.session_commands.specs.declared.command.Command.TheVariants.{DeleteInheritance}
 use Rattle.session_state.proofs.AccountCauseLemmas.{pair_is_deleted}
 use Rattle.session_state.proofs.SeatLemmas.{still_seated}
 use Rattle.session_state.proofs.state.State.delete_inheritance.Goals as goal

@@ -1,9 +1,9 @@
 use Rattle.std.proofs.Common.{◌≡◌, ◌<◌, false, length, refl, sym, ap, ◌∙◌, subst, arith}
 use Rattle.std.specs.Prelude.{slice_set}
-use Rattle.session_state.specs.declared.cell_state.CellState.TheVariants.{Entered}
-use Rattle.session_state.specs.declared.command.Command.TheVariants.{Enter}
+use Rattle.session_commands.specs.declared.cell_state.CellState.TheVariants.{Entered}
+use Rattle.session_commands.specs.declared.command.Command.TheVariants.{Enter}
 use Rattle.session_state.specs.contracts.state.State.{the_view}
-use Rattle.session_state.specs.CellState.{has_result}
+use Rattle.session_commands.specs.CellState.{has_result}
 use Rattle.session_state.specs.Refusal.{hindrance_of}
 use Rattle.session_state.specs.SessionState.{cell_at, place_of, AreLive}
 use Rattle.session_state.proofs.HindranceLemmas.{entry_is_free}

@@ -1,7 +1,7 @@
 use Rattle.std.proofs.Common.{ap, ◌∙◌, arith}
 use Rattle.session_state.specs.Refusal.{hindrance_of}
 use Rattle.session_state.specs.contracts.state.State.{the_view}
-use Rattle.session_state.specs.declared.command.Command.TheVariants.{NextRound}
+use Rattle.session_commands.specs.declared.command.Command.TheVariants.{NextRound}
 use Rattle.session_state.proofs.HindranceLemmas.{round_is_played}
 use Rattle.session_state.proofs.state.State.next_round.Goals as goal
 

@@ -3,7 +3,7 @@ use Rattle.std.proofs.lemmas.List.{length_push}
 use Rattle.session_state.specs.Refusal.{hindrance_of}
 use Rattle.session_state.specs.Seats.{AreSeated}
 use Rattle.session_state.specs.contracts.state.State.{the_view}
-use Rattle.session_state.specs.declared.command.Command.TheVariants as command
+use Rattle.session_commands.specs.declared.command.Command.TheVariants as command
 use Rattle.session_state.specs.declared.seated.Seated.{Seated}
 use Rattle.session_state.proofs.SeatLemmas.{seats_are_few}
 use Rattle.session_state.proofs.SeatCauseLemmas.{seats_still_apart}

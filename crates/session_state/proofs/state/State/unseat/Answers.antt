@@ -5,7 +5,7 @@ use Rattle.rbac.specs.Account.{same_name}
 use Rattle.session_state.specs.Apply.{effect}
 use Rattle.session_state.specs.Seats.{without_seat, AreSeated}
 use Rattle.session_state.specs.contracts.state.State.{the_view}
-use Rattle.session_state.specs.declared.command.Command.TheVariants as command
+use Rattle.session_commands.specs.declared.command.Command.TheVariants as command
 use Rattle.session_state.specs.declared.seated.Seated.{Seated}
 use Rattle.session_state.proofs.SeatLemmas.{one_less_sits}
 use Rattle.session_state.proofs.state.State.unseat.Goals as goal

@@ -3,7 +3,7 @@ use Rattle.std.specs.Prelude.{slice_set}
 use Rattle.session_state.specs.disclosure_rules.LiveCells.{without_live}
 use Rattle.session_state.specs.Apply.{without_result}
 use Rattle.session_state.specs.contracts.state.State.{the_view}
-use Rattle.session_state.specs.declared.cell_state.CellState.TheVariants.{Empty}
+use Rattle.session_commands.specs.declared.cell_state.CellState.TheVariants.{Empty}
 use Rattle.session_state.specs.SessionState.{place_of, AreLive}
 use Rattle.session_state.proofs.LiveLemmas.{cleared_live}
 use Rattle.session_state.proofs.state.State.void.Goals as goal

@@ -1,0 +1,4 @@
+pub mod Cutting
+pub mod Kinds
+pub mod Pieces
+pub mod Told

@@ -1,0 +1,172 @@
+-- What each command needs before it is tried: a permission, a phase, and the user, the cell or the board that it is about.
+-- One line for each command, in the order of the commands.
+--
+-- own: the commands and what they need are this project's.
+use Rattle.std.specs.Prelude.{ℕ, Bool, true, false, Option, Some, None, is_none, List, [], ◌∷◌}
+use Rattle.std.specs.List.{list_any}
+use Rattle.disclosure_rules.specs.movement.declared.cell.Cell.{Cell}
+use Rattle.session_roles.specs.declared.operation.Operation.{Operation}
+use Rattle.session_roles.specs.declared.operation.Operation.TheVariants as operation
+use Rattle.disclosure_rules.specs.declared.phase.Phase.{Phase}
+use Rattle.disclosure_rules.specs.declared.phase.Phase.TheVariants.{Running, Closed, Final}
+use Rattle.session_commands.specs.declared.command.Command.{Command}
+use Rattle.session_commands.specs.declared.command.Command.TheVariants.{Enter, Confirm, Correct, Rule, Void, Hold, Release}
+use Rattle.session_commands.specs.declared.command.Command.TheVariants.{Seat, Unseat, NextRound, Close, Finalise}
+use Rattle.session_commands.specs.declared.command.Command.TheVariants.{AddUser, Assign, Deassign, AddInheritance}
+use Rattle.session_commands.specs.declared.command.Command.TheVariants.{DeleteInheritance, Solved, Analysed}
+
+-- the operation for which a user needs the permission; the solver's commands have none
+abbrev pub operation_of : Command → Option Operation
+operation_of (Enter table board outcome play) = Some operation.Enter
+operation_of (Confirm table board outcome) = Some operation.Confirm
+operation_of (Correct table board outcome play) = Some operation.Correct
+operation_of (Rule table board north_south east_west reason) = Some operation.Rule
+operation_of (Void table board) = Some operation.Void
+operation_of (Hold board) = Some operation.Hold
+operation_of (Release board) = Some operation.Release
+operation_of (Seat name pair place) = Some operation.Seat
+operation_of (Unseat name) = Some operation.Unseat
+operation_of NextRound = Some operation.NextRound
+operation_of Close = Some operation.Close
+operation_of Finalise = Some operation.Finalise
+operation_of (AddUser name digest) = Some operation.AddUser
+operation_of (Assign name role) = Some operation.Assign
+operation_of (Deassign name role) = Some operation.Deassign
+operation_of (AddInheritance senior junior) = Some operation.AddInheritance
+operation_of (DeleteInheritance senior junior) = Some operation.DeleteInheritance
+operation_of (Solved board table) = None
+operation_of (Analysed table board costs) = None
+
+-- whether it is one of the solver's
+abbrev pub is_solvers : Command → Bool
+is_solvers command = is_none (operation_of command)
+
+-- every phase
+abbrev pub any_phase : List Phase
+any_phase = Running ∷ Closed ∷ Final ∷ []
+
+-- the phases in which it is taken
+abbrev pub phases_of : Command → List Phase
+phases_of (Enter table board outcome play) = Running ∷ []
+phases_of (Confirm table board outcome) = Running ∷ []
+phases_of (Correct table board outcome play) = Running ∷ Closed ∷ []
+phases_of (Rule table board north_south east_west reason) = Running ∷ Closed ∷ []
+phases_of (Void table board) = Running ∷ Closed ∷ []
+phases_of (Hold board) = Running ∷ Closed ∷ []
+phases_of (Release board) = any_phase
+phases_of (Seat name pair place) = Running ∷ []
+phases_of (Unseat name) = any_phase
+phases_of NextRound = Running ∷ []
+phases_of Close = Running ∷ []
+phases_of Finalise = Closed ∷ []
+phases_of (AddUser name digest) = any_phase
+phases_of (Assign name role) = any_phase
+phases_of (Deassign name role) = any_phase
+phases_of (AddInheritance senior junior) = any_phase
+phases_of (DeleteInheritance senior junior) = any_phase
+phases_of (Solved board table) = any_phase
+phases_of (Analysed table board costs) = any_phase
+
+-- the user that it is about, who must have an account
+abbrev pub user_of : Command → Option (List ℕ)
+user_of (Enter table board outcome play) = None
+user_of (Confirm table board outcome) = None
+user_of (Correct table board outcome play) = None
+user_of (Rule table board north_south east_west reason) = None
+user_of (Void table board) = None
+user_of (Hold board) = None
+user_of (Release board) = None
+user_of (Seat name pair place) = Some name
+user_of (Unseat name) = Some name
+user_of NextRound = None
+user_of Close = None
+user_of Finalise = None
+user_of (AddUser name digest) = None
+user_of (Assign name role) = Some name
+user_of (Deassign name role) = Some name
+user_of (AddInheritance senior junior) = None
+user_of (DeleteInheritance senior junior) = None
+user_of (Solved board table) = None
+user_of (Analysed table board costs) = None
+
+-- the table and the board that it is about, which must be scheduled
+abbrev pub cell_of : Command → Option Cell
+cell_of (Enter table board outcome play) = Some (record { table = table; board = board })
+cell_of (Confirm table board outcome) = Some (record { table = table; board = board })
+cell_of (Correct table board outcome play) = Some (record { table = table; board = board })
+cell_of (Rule table board north_south east_west reason) = Some (record { table = table; board = board })
+cell_of (Void table board) = Some (record { table = table; board = board })
+cell_of (Hold board) = None
+cell_of (Release board) = None
+cell_of (Seat name pair place) = None
+cell_of (Unseat name) = None
+cell_of NextRound = None
+cell_of Close = None
+cell_of Finalise = None
+cell_of (AddUser name digest) = None
+cell_of (Assign name role) = None
+cell_of (Deassign name role) = None
+cell_of (AddInheritance senior junior) = None
+cell_of (DeleteInheritance senior junior) = None
+cell_of (Solved board table) = None
+cell_of (Analysed table board costs) = Some (record { table = table; board = board })
+
+-- the board that it is about as a whole, which must be one of the session
+abbrev pub board_of : Command → Option ℕ
+board_of (Enter table board outcome play) = None
+board_of (Confirm table board outcome) = None
+board_of (Correct table board outcome play) = None
+board_of (Rule table board north_south east_west reason) = None
+board_of (Void table board) = None
+board_of (Hold board) = Some board
+board_of (Release board) = Some board
+board_of (Seat name pair place) = None
+board_of (Unseat name) = None
+board_of NextRound = None
+board_of Close = None
+board_of Finalise = None
+board_of (AddUser name digest) = None
+board_of (Assign name role) = None
+board_of (Deassign name role) = None
+board_of (AddInheritance senior junior) = None
+board_of (DeleteInheritance senior junior) = None
+board_of (Solved board table) = Some board
+board_of (Analysed table board costs) = None
+
+-- whether it tells a result that was played: a spoiled table may not
+abbrev pub is_told_by_table : Command → Bool
+is_told_by_table (Enter table board outcome play) = true
+is_told_by_table (Confirm table board outcome) = true
+is_told_by_table (Correct table board outcome play) = false
+is_told_by_table (Rule table board north_south east_west reason) = false
+is_told_by_table (Void table board) = false
+is_told_by_table (Hold board) = false
+is_told_by_table (Release board) = false
+is_told_by_table (Seat name pair place) = false
+is_told_by_table (Unseat name) = false
+is_told_by_table NextRound = false
+is_told_by_table Close = false
+is_told_by_table Finalise = false
+is_told_by_table (AddUser name digest) = false
+is_told_by_table (Assign name role) = false
+is_told_by_table (Deassign name role) = false
+is_told_by_table (AddInheritance senior junior) = false
+is_told_by_table (DeleteInheritance senior junior) = false
+is_told_by_table (Solved board table) = false
+is_told_by_table (Analysed table board costs) = false
+
+-- whether two phases are one
+abbrev pub same_phase : Phase → Phase → Bool
+same_phase Running Running = true
+same_phase Running Closed = false
+same_phase Running Final = false
+same_phase Closed Running = false
+same_phase Closed Closed = true
+same_phase Closed Final = false
+same_phase Final Running = false
+same_phase Final Closed = false
+same_phase Final Final = true
+
+-- whether a phase is among these
+abbrev pub is_among : List Phase → Phase → Bool
+is_among phases phase = list_any (same_phase phase) phases

@@ -1,0 +1,236 @@
+use crate::refusal::Refusal;
+use disclosure_rules::{Cell, Phase};
+use session_roles::{Operation, Role};
+use solver_results::{DdTable, Outcome, Play, PlayCosts};
+use table_terms::{Pair, Place};
+use user_names::{Digest, Name};
+
+/// What a user wants done, or what the solver found.
+#[derive(Clone, Copy)]
+pub enum Command {
+    /// Enters how a board ended at a table, and the cards as they were played, in place of what was entered before.
+    Enter {
+        table: u8,
+        board: u8,
+        outcome: Outcome,
+        play: Play,
+    },
+    /// Confirms what is entered of a board at a table.
+    Confirm {
+        table: u8,
+        board: u8,
+        outcome: Outcome,
+    },
+    /// Puts a corrected outcome and play in place of a result (Law 79C).
+    Correct {
+        table: u8,
+        board: u8,
+        outcome: Outcome,
+        play: Play,
+    },
+    /// Gives an adjusted score (Law 12C2): a percentage of a top for each side, and the number of a reason.
+    Rule {
+        table: u8,
+        board: u8,
+        north_south: u8,
+        east_west: u8,
+        reason: u8,
+    },
+    /// Takes a result away.
+    Void {
+        table: u8,
+        board: u8,
+    },
+    /// Withholds a board from everybody but the directors.
+    Hold {
+        board: u8,
+    },
+    /// Withholds a board no longer.
+    Release {
+        board: u8,
+    },
+    /// Seats a user in a pair, at one of its two places.
+    Seat {
+        name: Name,
+        pair: Pair,
+        place: Place,
+    },
+    /// Takes a user's seat away.
+    Unseat {
+        name: Name,
+    },
+    /// Starts the next round.
+    NextRound,
+    /// Ends play: from then on results are only corrected (Law 79C).
+    Close,
+    /// Ends corrections.
+    Finalise,
+    /// Adds an account with no role, and the digest of what its user signs in with (AddUser of INCITS 359-2012).
+    AddUser {
+        name: Name,
+        digest: Digest,
+    },
+    /// Assigns a role to a user (AssignUser).
+    Assign {
+        name: Name,
+        role: Role,
+    },
+    /// Takes an assigned role from a user (DeassignUser).
+    Deassign {
+        name: Name,
+        role: Role,
+    },
+    /// Lets the senior role inherit the junior one (AddInheritance).
+    AddInheritance {
+        senior: Role,
+        junior: Role,
+    },
+    /// Deletes an inheritance pair (DeleteInheritance).
+    DeleteInheritance {
+        senior: Role,
+        junior: Role,
+    },
+    /// Tells a board's double-dummy table: a command of the solver's.
+    Solved {
+        board: u8,
+        table: DdTable,
+    },
+    /// Tells what each card cost that was played of a board at a table: a command of the solver's.
+    Analysed {
+        table: u8,
+        board: u8,
+        costs: PlayCosts,
+    },
+}
+
+impl Command {
+    ghost use Rattle.std.specs.Prelude.{◌≡◌};
+    ghost use Rattle.session_commands.specs.Command.{operation_of, is_solvers, phases_of, user_of, cell_of, board_of};
+    ghost use Rattle.session_commands.specs.Command.{is_told_by_table, is_among};
+    ghost use Rattle.session_commands.specs.Refusal.{spoiled};
+
+    /// The operation for which a user needs the permission; the solver's commands have none.
+    pub fn operation(&self) -> Option<Operation>
+        ensures { result ≡ operation_of self.now }
+    {
+        let operation = match self {
+            Command::Enter { .. } => Operation::Enter,
+            Command::Confirm { .. } => Operation::Confirm,
+            Command::Correct { .. } => Operation::Correct,
+            Command::Rule { .. } => Operation::Rule,
+            Command::Void { .. } => Operation::Void,
+            Command::Hold { .. } => Operation::Hold,
+            Command::Release { .. } => Operation::Release,
+            Command::Seat { .. } => Operation::Seat,
+            Command::Unseat { .. } => Operation::Unseat,
+            Command::NextRound => Operation::NextRound,
+            Command::Close => Operation::Close,
+            Command::Finalise => Operation::Finalise,
+            Command::AddUser { .. } => Operation::AddUser,
+            Command::Assign { .. } => Operation::Assign,
+            Command::Deassign { .. } => Operation::Deassign,
+            Command::AddInheritance { .. } => Operation::AddInheritance,
+            Command::DeleteInheritance { .. } => Operation::DeleteInheritance,
+            Command::Solved { .. } | Command::Analysed { .. } => return None,
+        };
+        Some(operation)
+    }
+
+    /// Whether it is one of the solver's.
+    pub fn is_solvers(&self) -> bool
+        ensures { result ≡ is_solvers self.now }
+    {
+        matches!(self, Command::Solved { .. } | Command::Analysed { .. })
+    }
+
+    /// The phases in which it is taken.
+    pub fn phases(&self) -> &'static [Phase]
+        ensures { result.now ≡ phases_of self.now }
+    {
+        match self {
+            Command::Enter { .. }
+            | Command::Confirm { .. }
+            | Command::Seat { .. }
+            | Command::NextRound
+            | Command::Close => &[Phase::Running],
+            Command::Correct { .. }
+            | Command::Rule { .. }
+            | Command::Void { .. }
+            | Command::Hold { .. } => &[Phase::Running, Phase::Closed],
+            Command::Finalise => &[Phase::Closed],
+            Command::Release { .. }
+            | Command::Unseat { .. }
+            | Command::AddUser { .. }
+            | Command::Assign { .. }
+            | Command::Deassign { .. }
+            | Command::AddInheritance { .. }
+            | Command::DeleteInheritance { .. }
+            | Command::Solved { .. }
+            | Command::Analysed { .. } => &[Phase::Running, Phase::Closed, Phase::Final],
+        }
+    }
+
+    /// Whether it is taken in a phase.
+    pub fn is_taken_in(&self, phase: Phase) -> bool
+        ensures { result ≡ is_among (phases_of self.now) phase }
+    {
+        self.phases().contains(&phase)
+    }
+
+    /// The user that it is about, who must have an account.
+    pub fn user(&self) -> Option<Name>
+        ensures { result ≡ user_of self.now }
+    {
+        match *self {
+            Command::Seat { name, .. }
+            | Command::Unseat { name }
+            | Command::Assign { name, .. }
+            | Command::Deassign { name, .. } => Some(name),
+            _ => None,
+        }
+    }
+
+    /// The table and the board that it is about, if it is about a table.
+    pub fn cell(&self) -> Option<Cell>
+        ensures { result ≡ cell_of self.now }
+    {
+        match *self {
+            Command::Enter { table, board, .. }
+            | Command::Confirm { table, board, .. }
+            | Command::Correct { table, board, .. }
+            | Command::Rule { table, board, .. }
+            | Command::Void { table, board }
+            | Command::Analysed { table, board, .. } => Some(Cell { table, board }),
+            _ => None,
+        }
+    }
+
+    /// The board that it is about, if it is about a board as a whole.
+    pub fn board(&self) -> Option<u8>
+        ensures { result ≡ board_of self.now }
+    {
+        match *self {
+            Command::Hold { board } | Command::Release { board } | Command::Solved { board, .. } =>
+                Some(board),
+            _ => None,
+        }
+    }
+
+    /// Whether it tells a result that was played.
+    pub fn is_told_by_table(&self) -> bool
+        ensures { result ≡ is_told_by_table self.now }
+    {
+        matches!(self, Command::Enter { .. } | Command::Confirm { .. })
+    }
+
+    /// Why it is refused for a user who sits at its cell and was shown something of its board, if there is one.
+    pub fn spoiled(&self, spoiler: Option<Name>) -> Option<Refusal>
+        ensures { result ≡ spoiled self.now spoiler }
+    {
+        if self.is_told_by_table() {
+            spoiler.map(Refusal::Spoiled)
+        } else {
+            None
+        }
+    }
+}

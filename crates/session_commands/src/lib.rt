@@ -1,0 +1,16 @@
+//! The commands of a session: what scorers, directors and the solver give, why one is refused, and what is known of a cell.
+#![tactic(auto)]
+
+mod actor;
+mod cell_state;
+mod command;
+mod entry;
+mod refusal;
+pub mod room;
+
+pub use actor::Actor;
+pub use cell_state::CellState;
+pub use command::Command;
+pub use entry::Entry;
+pub use refusal::Refusal;
+pub use solver_results::{Costs, DdTable, Deal, Outcome, Play, PlayAnswer, PlayCosts};
