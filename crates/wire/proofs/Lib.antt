@@ -1,7 +1,10 @@
 pub mod AuditLemmas
 pub mod AuditTextLemmas
 pub mod LineLemmas
+pub mod ListLemmas
+pub mod MemberLemmas
 pub mod QueryLemmas
 pub mod ReceiptLemmas
 pub mod RequestLemmas
 pub mod SourceLemmas
+pub mod TableLemmas

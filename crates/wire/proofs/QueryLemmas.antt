@@ -1,6 +1,6 @@
 -- The request for a query, by its parts.
 use Rattle.std.proofs.Common.{◌≡◌, ℕ, List, Option, Some, None, Ok, Err, refl, sym, ap, subst, ◌∙◌}
-use Rattle.query_object.specs.session_queries.declared.query.Query.{Query}
+use Rattle.session_queries.specs.declared.query.Query.{Query}
 use Rattle.json_fields.specs.Form.{applied}
 use Rattle.json_fields.specs.Reading.{wanted, Gives}
 use Rattle.json_fields.specs.declared.request_fault.RequestFault.{RequestFault}

@@ -4,7 +4,7 @@ use Rattle.std.specs.Prelude.{count_by}
 use Rattle.serde_json.specs.Data.{Data, Items}
 use Rattle.serde_json.specs.Find.{get, as_str, as_array}
 use Rattle.session_commands.specs.declared.command.Command.{Command}
-use Rattle.query_object.specs.session_queries.declared.query.Query.{Query}
+use Rattle.session_queries.specs.declared.query.Query.{Query}
 use Rattle.wire.specs.declared.request.Request.{Request}
 use Rattle.wire.specs.declared.request.RequestBody.{RequestBody}
 use Rattle.wire.specs.declared.request.RequestBody.TheVariants as body
@@ -18,7 +18,7 @@ use Rattle.json_fields.specs.Form.{applied, has_only, words, formed, HasForm, Ha
 use Rattle.json_fields.specs.Field.{text}
 use Rattle.json_fields.specs.Message.{since}
 use Rattle.command_object.specs.Command.{command_of, has_unknown, commands_in, IsCommand}
-use Rattle.query_object.specs.Query.{queries, asking, query_called}
+use Rattle.wire.specs.Query.{queries, asking, query_called}
 use Rattle.wire.specs.Audit.{audit_range, auditing, an_audit, audit_of}
 use Rattle.wire.specs.Greeting.{a_greeting, greeting}
 use Rattle.wire.specs.Request.{a_query, query_of, query_by, doing, few_commands_in, a_batch, batch_of, batch_by, greeting_by, one_of, request_of, HasFew, IsNoGreeting, IsSaid}
@@ -30,7 +30,7 @@ use Rattle.json_fields.proofs.FormLemmas.{AgreesForm, form_agrees, with_agrees, 
 use Rattle.json_fields.proofs.MemberLemmas.{since_agrees}
 use Rattle.json_fields.proofs.TableLemmas.{is_among, is_word, none_among, among_none, by_word_read, by_word_reads}
 use Rattle.command_object.proofs.TableLemmas.{command_read, command_reads, all_known}
-use Rattle.query_object.proofs.TableLemmas.{queries_agree}
+use Rattle.wire.proofs.TableLemmas.{queries_agree}
 
 wanted_read : {A : Type 0} (o : Option A) (y : A) → wanted o ≡ Ok y → o ≡ Some y
 wanted_read None y h = absurd (cc)

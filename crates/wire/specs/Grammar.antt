@@ -3,7 +3,7 @@ use Rattle.std.specs.Prelude.{◌≡◌, ◌≢◌, ◌⊎◌, ℕ, ◌≤◌, L
 use Rattle.serde_json.specs.Data.{Data, Items}
 use Rattle.serde_json.specs.Find.{get, as_array}
 use Rattle.session_commands.specs.declared.command.Command.{Command}
-use Rattle.query_object.specs.session_queries.declared.query.Query.{Query}
+use Rattle.session_queries.specs.declared.query.Query.{Query}
 use Rattle.wire.specs.declared.audit_range.AuditRange.{AuditRange}
 use Rattle.wire.specs.declared.source.Source.{Source}
 use Rattle.wire.specs.declared.source.Source.TheVariants.{Script, Connection}
@@ -12,7 +12,7 @@ use Rattle.json_fields.specs.Field.{text_at}
 use Rattle.json_fields.specs.Message.{since}
 use Rattle.json_fields.specs.Object.{IsObject}
 use Rattle.command_object.specs.Command.{has_unknown, IsCommand}
-use Rattle.query_object.specs.Query.{queries, asking}
+use Rattle.wire.specs.Query.{queries, asking}
 use Rattle.wire.specs.Request.{most_message_bytes, doing}
 use Rattle.wire.specs.Audit.{audit_range, auditing}
 use Rattle.wire.specs.Greeting.{greeting, a_greeting}

@@ -1,4 +1,7 @@
 pub mod Source
+pub mod Optional
+pub mod List
+pub mod Query
 pub mod Audit
 pub mod Greeting
 pub mod Request

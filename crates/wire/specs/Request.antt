@@ -9,7 +9,7 @@ use Rattle.serde_json.specs.Read.{read}
 use Rattle.serde_json.specs.Find.{get, as_str, as_array, as_object}
 use Rattle.session_book.specs.Run.{most_commands}
 use Rattle.session_commands.specs.declared.command.Command.{Command}
-use Rattle.query_object.specs.session_queries.declared.query.Query.{Query}
+use Rattle.session_queries.specs.declared.query.Query.{Query}
 use Rattle.wire.specs.declared.request.Request.{Request}
 use Rattle.wire.specs.declared.request.RequestBody.{RequestBody}
 use Rattle.wire.specs.declared.request.RequestBody.TheVariants as body
@@ -20,7 +20,7 @@ use Rattle.json_fields.specs.declared.request_fault.RequestFault.TheVariants.{To
 use Rattle.json_fields.specs.Reading.{wanted}
 use Rattle.json_fields.specs.Form.{applied, has_only, formed, is_word_of, item_count}
 use Rattle.json_fields.specs.Message.{since}
-use Rattle.query_object.specs.Query.{queries, query_called}
+use Rattle.wire.specs.Query.{queries, query_called}
 use Rattle.command_object.specs.Command.{has_unknown, commands_in}
 use Rattle.wire.specs.Audit.{audit_of}
 use Rattle.wire.specs.Greeting.{greeting}

@@ -3,7 +3,7 @@
 ghost use Rattle.std.specs.Prelude.{◌≡◌, ◌↔◌, ◌+◌, ◌<◌, ◌≤◌, ℕ, List, Option, None, Ok, Err, length, take};
 ghost use Rattle.serde_json.specs.Data.{Data};
 ghost use Rattle.json_fields.specs.declared.request_fault.RequestFault.TheVariants.{TooLong, Malformed, UnknownRequest, BadField};
-ghost use Rattle.query_object.specs.session_queries.declared.query.Query.{Query};
+ghost use Rattle.session_queries.specs.declared.query.Query.{Query};
 ghost use Rattle.wire.specs.declared.audit_range.AuditRange.{AuditRange};
 ghost use Rattle.wire.specs.declared.request.Request.{Request};
 ghost use Rattle.wire.specs.declared.request.RequestBody.TheVariants as body;

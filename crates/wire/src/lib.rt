@@ -9,6 +9,8 @@ mod connection_fault;
 mod fault_writing;
 mod greeting_reading;
 pub mod laws;
+mod list_reading;
+mod query_reading;
 mod reading;
 mod receipt_writing;
 mod request;

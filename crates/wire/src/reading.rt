@@ -8,11 +8,11 @@ ghost use Rattle.wire.specs.Request.{query_of, query_by, batch_of, batch_by, gre
 
 use crate::audit_reading::audit_of;
 use crate::greeting_reading::greeting_of;
+use crate::query_reading::{is_query_word, query_called};
 use crate::request::{Request, RequestBody};
 use crate::source::{Source, said_user};
 use command_object::{commands_in, has_unknown};
 use json_fields::{RequestFault, has_only, since_of};
-use query_object::{is_query_word, query_called};
 use serde_json::Value;
 use session_book::Book;
 use std::alloc::Global;

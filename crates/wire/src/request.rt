@@ -1,7 +1,7 @@
 use crate::audit_range::AuditRange;
 use crate::token::Token;
 use command_object::Commands;
-use query_object::Query;
+use session_queries::Query;
 use user_names::Name;
 
 /// What a message asks for or wants done, and for whom.

@@ -5,8 +5,8 @@ ghost use Rattle.serde_json.specs.Find.{get};
 ghost use Rattle.serde_json.specs.View.{view};
 ghost use Rattle.json_fields.specs.Reading.{wanted, Gives};
 ghost use Rattle.json_fields.specs.declared.request_fault.RequestFault.TheVariants.{OutOfMemory};
-ghost use Rattle.query_object.specs.List.{filter, from, limit};
-ghost use Rattle.query_object.specs.Query.{query_called, IsFiltered};
+ghost use Rattle.wire.specs.List.{filter, from, limit};
+ghost use Rattle.wire.specs.Query.{query_called, IsFiltered};
 
 use json_fields::{FilterFault, RequestFault, has_only, read_filter, small_number_at};
 use query_filter::Filter;

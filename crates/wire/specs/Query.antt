@@ -6,7 +6,7 @@ use Rattle.session_queries.specs.declared.query.Query.{Query}
 use Rattle.session_queries.specs.declared.query.Query.TheVariants as query
 use Rattle.json_fields.specs.Form.{Form, form, ◌with◌, by_word}
 use Rattle.json_fields.specs.Message.{table, board}
-use Rattle.query_object.specs.List.{filter, from, limit}
+use Rattle.wire.specs.List.{filter, from, limit}
 
 -- the cell of a table and a board
 abbrev pub cell : ℕ → ℕ → Cell

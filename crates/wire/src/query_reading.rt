@@ -5,9 +5,9 @@ ghost use Rattle.serde_json.specs.View.{view};
 ghost use Rattle.json_fields.specs.Form.{by_word, is_word_of};
 ghost use Rattle.json_fields.specs.Reading.{wanted, Gives};
 ghost use Rattle.json_fields.specs.declared.request_fault.RequestFault.TheVariants.{OutOfMemory};
-ghost use Rattle.query_object.specs.Query.{asking, queries, query_called, IsFiltered};
+ghost use Rattle.wire.specs.Query.{asking, queries, query_called, IsFiltered};
 
-use crate::list::list_query;
+use crate::list_reading::list_query;
 use json_fields::{RequestFault, board_of, has_only, is_one_of, table_of};
 use movement::Cell;
 use serde_json::Value;
@@ -15,7 +15,7 @@ use session_queries::Query;
 use std::alloc::Global;
 
 /// Whether a query is called so.
-pub fn is_query_word(word: &str) -> bool
+pub(crate) fn is_query_word(word: &str) -> bool
     ensures { result ≡ is_word_of queries word.now }
 {
     is_one_of(
@@ -127,7 +127,7 @@ fn reason_query(value: &Value) -> Option<Query>
 
 /// The query of a word. Memory is refused only of a list by a filter, and only where each of its members is as it
 /// should be.
-pub fn query_called(alloc: Global, word: &str, value: &Value) -> Result<Query, RequestFault>
+pub(crate) fn query_called(alloc: Global, word: &str, value: &Value) -> Result<Query, RequestFault>
     ensures query { Gives result (wanted (query_called word.now (view value.now))) }
     ensures memory { result ≡ Err OutOfMemory → IsSomeAnd (query_called word.now (view value.now)) IsFiltered }
 {

@@ -5,7 +5,7 @@ use Rattle.query_filter.specs.Formula.{Formula}
 use Rattle.json_fields.specs.Filter.{filter_of}
 use Rattle.json_fields.specs.Form.{Member}
 use Rattle.json_fields.specs.Field.{number, small, numbered}
-use Rattle.query_object.specs.Optional.{optional}
+use Rattle.wire.specs.Optional.{optional}
 
 -- the filter that stands there
 abbrev pub filter_at : Option Data → Option (Option Formula)

@@ -7,7 +7,7 @@ use Rattle.json_fields.specs.Form.{applied}
 use Rattle.json_fields.specs.Reading.{wanted, Gives}
 use Rattle.json_fields.specs.declared.request_fault.RequestFault.{RequestFault}
 use Rattle.json_fields.specs.declared.request_fault.RequestFault.TheVariants.{TooLong, Malformed, UnknownRequest, BadField, OutOfMemory}
-use Rattle.query_object.specs.Query.{IsFiltered}
+use Rattle.wire.specs.Query.{IsFiltered}
 
 -- the list that is made of its members, where no other stands beside them
 abbrev pub made : Bool → Option (Option Formula) → Option ℕ → Option ℕ → Option Query

@@ -1,8 +1,8 @@
 use Rattle.std.proofs.Common.{◌≡◌, Err, sym, ap}
 use Rattle.std.proofs.lemmas.Result.{err_from_is_err_and}
 use Rattle.json_fields.specs.declared.request_fault.RequestFault.TheVariants.{OutOfMemory}
-use Rattle.query_object.proofs.ListLemmas.{list_made, list_without_filter, list_filtered}
-use Rattle.query_object.proofs.list.list_query.Goals as goal
+use Rattle.wire.proofs.ListLemmas.{list_made, list_without_filter, list_filtered}
+use Rattle.wire.proofs.list_reading.list_query.Goals as goal
 
 pub returns-in_err-filter-clause-query : goal.returns-in_err-filter-clause-query
 returns-in_err-filter-clause-query c =

@@ -1,10 +1,10 @@
 -- What is read by each form of the table of queries is what it is.
 use Rattle.json_fields.specs.Message.{table, board}
-use Rattle.query_object.specs.List.{filter, from, limit}
-use Rattle.query_object.specs.Query.{queries}
+use Rattle.wire.specs.List.{filter, from, limit}
+use Rattle.wire.specs.Query.{queries}
 use Rattle.json_fields.proofs.FormLemmas.{form_agrees, with_agrees, numbered_agrees}
 use Rattle.json_fields.proofs.TableLemmas.{AllAgree}
-use Rattle.query_object.proofs.MemberLemmas.{filter_agrees, from_agrees, limit_agrees}
+use Rattle.wire.proofs.MemberLemmas.{filter_agrees, from_agrees, limit_agrees}
 
 pub queries_agree : AllAgree queries
 queries_agree = (

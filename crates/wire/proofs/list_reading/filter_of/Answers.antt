@@ -2,10 +2,10 @@ use Rattle.std.proofs.Common.{None, Err, IsSome, IsSomeAnd, subst}
 use Rattle.serde_json.specs.View.{view}
 use Rattle.json_fields.specs.Filter.{filter_of}
 use Rattle.json_fields.specs.FilterReading.{Reads}
-use Rattle.query_object.specs.Optional.{read_or}
-use Rattle.query_object.specs.List.{filter_at}
-use Rattle.query_object.proofs.ListLemmas.{filter_stands}
-use Rattle.query_object.proofs.list.filter_of.Goals as goal
+use Rattle.wire.specs.Optional.{read_or}
+use Rattle.wire.specs.List.{filter_at}
+use Rattle.wire.proofs.ListLemmas.{filter_stands}
+use Rattle.wire.proofs.list_reading.filter_of.Goals as goal
 
 pub returns-in-Err-OutOfMemory-clause-memory : goal.returns-in-Err-OutOfMemory-clause-memory
 returns-in-Err-OutOfMemory-clause-memory c =
