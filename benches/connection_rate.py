@@ -1,10 +1,10 @@
 #!/usr/bin/env python3
 """Says how many queries a second one client of `bridge_server serve` gets answered, over one connection, one after another.
 
-    /usr/bin/python3 benches/connection_rate.py [PROGRAM] [ECHO] [SECONDS]
+    /usr/bin/python3 benches/connection_rate.py [PROGRAM] [SECONDS]
 
-Python's standard library is enough. Beside it stands the same client at `websocket_echo`, which answers each text with the same
-text over the same library: what that gets is what the client, the system and the library allow at most.
+Python's standard library is enough. Each rate stands beside that of a message that is no request, measured just after it on the same
+connection: it is refused before anything is looked up, so it is the least that a message can cost over the same socket and library.
 """
 import pathlib
 import socket
@@ -18,14 +18,13 @@ sys.path.insert(0, str(pathlib.Path(__file__).resolve().parent.parent / "tests")
 from write_stored_runs import BOARDS, USERS, text_of  # noqa: E402
 
 PROGRAM = sys.argv[1] if len(sys.argv) > 1 else "crates/bridge_server/out/bridge_server"
-ECHO = sys.argv[2] if len(sys.argv) > 2 else "crates/websocket_echo/out/websocket_echo"
-SECONDS = float(sys.argv[3]) if len(sys.argv) > 3 else 3.0
+SECONDS = float(sys.argv[2]) if len(sys.argv) > 2 else 3.0
 QUESTIONS = [
     ("one board", {"ask": "board", "board": 1}),
     ("the status", {"ask": "status"}),
     ("the list of boards", {"ask": "list"}),
-    ("what is no request", {}),
 ]
+NO_REQUEST = {}
 HANDSHAKE = ("GET / HTTP/1.1\r\nHost: 127.0.0.1\r\nUpgrade: websocket\r\nConnection: Upgrade\r\n"
              "Sec-WebSocket-Key: dGhlIHNhbXBsZSBub25jZQ==\r\nSec-WebSocket-Version: 13\r\n\r\n").encode()
 
@@ -91,17 +90,17 @@ def connected(port):
     return stream
 
 
-def measure(words, port, hello, what):
-    """Starts a program that serves one client, greets it with this text, if any, and measures each question."""
+def measure(words, port, hello):
+    """Starts a program that serves one client, greets it with this text, and measures each question."""
     program = subprocess.Popen(words)
     with connected(port) as stream:
-        if hello:
-            stream.sendall(frame(hello))
-            answer(stream)
+        stream.sendall(frame(hello))
+        answer(stream)
         for name, question in QUESTIONS:
-            print(f"{rate(stream, text_of(question)):10.0f} a second: {name}, {what}")
+            asked, least = rate(stream, text_of(question)), rate(stream, text_of(NO_REQUEST))
+            print(f"{asked:10.0f} a second: {name}; {least:.0f} of what is no request, {100 * asked / least:.0f} in 100 of that")
     if program.wait(timeout=10):
-        raise SystemExit(f"{what} ended with status {program.returncode}")
+        raise SystemExit(f"the server ended with status {program.returncode}")
 
 
 def main():
@@ -112,9 +111,7 @@ def main():
         port = free_port()
         words = [PROGRAM, "serve", "--session", str(session), "--deals", str(deals), "--port", str(port),
                  "--displays", "1", "--connections", "1"]
-        measure(words, port, '{"hello":"d","token":"abc"}', "the server")
-    port = free_port()
-    measure([ECHO, str(port), "1"], port, None, "the echo")
+        measure(words, port, '{"hello":"d","token":"abc"}')
 
 
 main()
