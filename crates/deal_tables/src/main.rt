@@ -1,19 +1,25 @@
-//! Double-dummy numbers of deals, of endings and of plays, a line each, to compare: a deal's twenty numbers, the tricks that
-//! North and South take from an ending, or what each card of a play costs.
+//! Double-dummy numbers of deals, of endings and of plays, a line each, to compare: a deal's twenty numbers, the tricks
+//! that North and South take from an ending, or what each card of a play costs.
 #![tactic(auto)]
 
 mod line;
+mod workers;
 
 use cards::{Deal, Position};
-use double_dummy::{Budget, CostsError, DdTable, costs, solve, table};
+use double_dummy::{Budget, Costs, CostsError, DdTable, costs, solve, table};
 use line::{Line, read_line};
 use scoring::{Contract, Doubling, Level};
-use std::io::{BufRead, BufReader};
+use solver_pool::Done;
+use std::alloc::Global;
+use std::io::{BufRead, BufReader, Read};
 use std::{env, io};
 use table_terms::{Place, Strain};
+use workers::{share_deals, table_in};
 
 // More visits than any line takes.
 const VISITS: u64 = 1_000_000_000_000;
+
+const MOST_WORKERS: usize = 16;
 
 // What the program's words ask for.
 #[derive(Clone, Copy)]
@@ -24,84 +30,203 @@ struct Asked {
     counts: bool,
     // The visits that a line may take.
     visits: u64,
+    // The workers that solve the deals once all lines are read, if any do.
+    workers: usize,
 }
 
-/// With the word `endings` each line is an ending, with `numbers` no visits are printed, and with a number a line that takes more visits
-/// is not solved.
+// What a line asks for.
+#[derive(Clone, Copy)]
+enum Answer {
+    // The numbers of a deal.
+    Table(DdTable),
+    // The tricks that North and South take from an ending.
+    Tricks(u8),
+    // What the cards of a play cost.
+    Costs(Costs),
+    // The first card of a play that is not legal, from 1.
+    NotLegal(usize),
+}
+
+/// With the word `endings` each line is an ending, with `numbers` no visits are printed, and with a number a line that
+/// takes more visits is not solved. With `workers=4` so many workers in threads, 16 at most, solve the deals once all
+/// lines are read, and no visits are printed.
 fn main(rt: HostRuntime) -> io::Result<()> {
+    let asked = read_words(&rt)?;
+    if asked.workers == 0 {
+        return solve_input(&rt, &asked);
+    }
+    let text = read_text(&rt)?;
+    let found = share_deals(&rt, text.as_str(), asked.workers, asked.visits)?;
+    solve_lines(&rt, text.as_bytes(), &asked, found.as_slice())
+}
+
+fn read_words(rt: &HostRuntime) -> io::Result<Asked> {
     let mut asked = Asked {
         endings: false,
         counts: true,
         visits: VISITS,
+        workers: 0,
     };
-    for word in env::args(&rt)? {
+    for word in env::args(rt)? {
         hear(&mut asked, word.as_str());
     }
-    solve_lines(&rt, BufReader::new(rt.alloc(), rt.reader())?, &asked)
+    Ok(asked)
 }
 
-// Prints what each line asks for, and says of which lines nothing is printed.
-fn solve_lines<R: BufRead + Drop>(rt: &HostRuntime, reader: R, asked: &Asked) -> io::Result<()> {
+fn hear(asked: &mut Asked, word: &str) {
+    asked.endings |= word == "endings";
+    asked.counts &= word != "numbers";
+    asked.visits = word.parse::<u64>().unwrap_or(asked.visits);
+    if let Some(workers) = word.strip_prefix("workers=") {
+        asked.workers = workers.parse::<usize>().unwrap_or(0).min(MOST_WORKERS);
+    }
+}
+
+// All lines.
+fn read_text(rt: &HostRuntime) -> io::Result<String> {
+    let mut text = String::new(rt.alloc());
+    rt.reader().read_to_string(&mut text)?;
+    Ok(text)
+}
+
+// Answers each line as it is read.
+fn solve_input(rt: &HostRuntime, asked: &Asked) -> io::Result<()> {
+    solve_lines(rt, BufReader::new(rt.alloc(), rt.reader())?, asked, &[])
+}
+
+// Answers each line.
+fn solve_lines<R: BufRead + Drop>(
+    rt: &HostRuntime,
+    reader: R,
+    asked: &Asked,
+    found: &[Done],
+) -> io::Result<()> {
     let mut number = 0u64;
     for line in reader.lines(rt.alloc()) {
-        let line = line?;
         number = number.saturating_add(1);
-        let text = line.as_str();
-        if text.is_empty() || text.starts_with('#') {
-            continue;
-        }
-        if !solve_line(rt, text, asked)? {
-            eprintln!(rt; "line {number} is not solved")?;
-        }
+        solve_line(rt, number, line?.as_str(), asked, found)?;
     }
     Ok(())
 }
 
-fn hear(asked: &mut Asked, word: &str) {
-    if word == "endings" {
-        asked.endings = true;
-    } else if word == "numbers" {
-        asked.counts = false;
-    } else if let Ok(visits) = word.parse::<u64>() {
-        asked.visits = visits;
+// Prints a line with what it asks for, or says that it is not solved.
+fn solve_line(
+    rt: &HostRuntime,
+    number: u64,
+    text: &str,
+    asked: &Asked,
+    found: &[Done],
+) -> io::Result<()> {
+    if text.is_empty() || text.starts_with('#') {
+        return Ok(());
+    }
+    let mut budget = Budget::new(asked.visits);
+    let Some(answer) = answer_of(rt.alloc(), text, asked, found, &mut budget) else {
+        return eprintln!(rt; "line {number} is not solved");
+    };
+    print!(rt; "{text}\t")?;
+    print_answer(rt, &answer)?;
+    if !asked.counts || asked.workers > 0 {
+        return println!(rt; "");
+    }
+    let visits = asked.visits.saturating_sub(budget.left());
+    println!(rt; "\t{visits}")
+}
+
+// What a line asks for: a deal, the word `costs` before a play, or an ending.
+fn answer_of(
+    alloc: Global,
+    text: &str,
+    asked: &Asked,
+    found: &[Done],
+    budget: &mut Budget,
+) -> Option<Answer> {
+    if asked.endings {
+        return tricks_of(alloc, text, budget);
+    }
+    if let Ok(deal) = text.parse::<Deal>() {
+        return table_of(alloc, deal, asked, found, budget);
+    }
+    match text.strip_prefix("costs ") {
+        Some(play) => costs_of(alloc, play, budget),
+        None => tricks_of(alloc, text, budget),
     }
 }
 
-// Prints a line and what it asks for, if it is solved.
-fn solve_line(rt: &HostRuntime, text: &str, asked: &Asked) -> io::Result<bool> {
-    let mut budget = Budget::new(asked.visits);
-    let solved = if asked.endings {
-        solve_ending(rt, text, &mut budget)
-    } else if let Ok(deal) = text.parse::<Deal>() {
-        solve_deal(rt, text, deal, &mut budget)
-    } else if let Some(play) = text.strip_prefix("costs ") {
-        solve_play(rt, play, &mut budget)
+// A deal's table, as a worker found it where workers were asked for.
+fn table_of(
+    alloc: Global,
+    deal: Deal,
+    asked: &Asked,
+    found: &[Done],
+    budget: &mut Budget,
+) -> Option<Answer> {
+    let numbers = if asked.workers == 0 {
+        table(alloc, deal, budget).ok()?
     } else {
-        solve_ending(rt, text, &mut budget)
+        found.iter().find_map(|done| table_in(done, deal))?
     };
-    if !solved? {
-        return Ok(false);
+    Some(Answer::Table(numbers))
+}
+
+// The tricks of an ending: the hands, the strain, the leader, and the cards on the table.
+fn tricks_of(alloc: Global, text: &str, budget: &mut Budget) -> Option<Answer> {
+    let position = read_ending(alloc, text)?;
+    let tricks = solve(alloc, &position, budget).ok()?;
+    Some(Answer::Tricks(tricks))
+}
+
+fn read_ending(alloc: Global, text: &str) -> Option<Position> {
+    let line = read_line(alloc, text)?;
+    let [north, east, south, west] = line.hands;
+    let cards = line.cards.as_slice();
+    Position::new(north, east, south, west, line.strain, line.player, cards).ok()
+}
+
+// What the cards of a play cost: the hands, the strain, declarer, and the cards.
+fn costs_of(alloc: Global, text: &str, budget: &mut Budget) -> Option<Answer> {
+    let line = read_line(alloc, text)?;
+    costs_in(alloc, &line, budget)
+}
+
+fn costs_in(alloc: Global, line: &Line, budget: &mut Budget) -> Option<Answer> {
+    let [north, east, south, west] = line.hands;
+    let deal = Deal::new(north, east, south, west).ok()?;
+    let contract = contract_of(line)?;
+    match costs(alloc, deal, contract, line.cards.as_slice(), budget) {
+        Ok(numbers) => Some(Answer::Costs(numbers)),
+        Err(CostsError::NotAPlay(number)) => Some(Answer::NotLegal(number)),
+        Err(_) => None,
     }
-    if asked.counts {
-        let visits = asked.visits.saturating_sub(budget.left());
-        print!(rt; "\t{visits}")?;
+}
+
+// A contract at the strain of a line.
+fn contract_of(line: &Line) -> Option<Contract> {
+    Some(Contract {
+        level: Level::new(1)?,
+        strain: line.strain,
+        declarer: line.player,
+        doubling: Doubling::Undoubled,
+    })
+}
+
+fn print_answer(rt: &HostRuntime, answer: &Answer) -> io::Result<()> {
+    match answer {
+        Answer::Table(numbers) => print_table(rt, numbers),
+        Answer::Tricks(tricks) => print!(rt; "{tricks}"),
+        Answer::Costs(numbers) => print_numbers(rt, "", numbers.as_slice()),
+        Answer::NotLegal(number) => print!(rt; "card {number} is not legal"),
     }
-    println!(rt; "")?;
-    Ok(true)
 }
 
 // The twenty numbers of a deal, by declarer N, E, S, W.
-fn solve_deal(rt: &HostRuntime, text: &str, deal: Deal, budget: &mut Budget) -> io::Result<bool> {
-    let Ok(numbers) = table(rt.alloc(), deal, budget) else {
-        return Ok(false);
-    };
-    print!(rt; "{text}")?;
-    let mut before = "\t";
+fn print_table(rt: &HostRuntime, numbers: &DdTable) -> io::Result<()> {
+    let mut before = "";
     for declarer in [Place::North, Place::East, Place::South, Place::West] {
-        print_numbers(rt, before, &by_strain(&numbers, declarer))?;
+        print_numbers(rt, before, &by_strain(numbers, declarer))?;
         before = " ";
     }
-    Ok(true)
+    Ok(())
 }
 
 // A declarer's numbers in spades, hearts, diamonds, clubs and no trump.
@@ -113,67 +238,6 @@ fn by_strain(numbers: &DdTable, declarer: Place) -> [u8; 5] {
         numbers.tricks(Strain::Clubs, declarer),
         numbers.tricks(Strain::NoTrump, declarer),
     ]
-}
-
-// The tricks that North and South take from an ending: the hands, the strain, the leader, and the cards on the table.
-fn solve_ending(rt: &HostRuntime, text: &str, budget: &mut Budget) -> io::Result<bool> {
-    let Some(line) = read_line(rt.alloc(), text) else {
-        return Ok(false);
-    };
-    let Some(position) = ending(&line) else {
-        return Ok(false);
-    };
-    let Ok(tricks) = solve(rt.alloc(), &position, budget) else {
-        return Ok(false);
-    };
-    print!(rt; "{text}\t{tricks}")?;
-    Ok(true)
-}
-
-fn ending(line: &Line) -> Option<Position> {
-    Position::new(
-        line.north,
-        line.east,
-        line.south,
-        line.west,
-        line.strain,
-        line.player,
-        line.cards.as_slice(),
-    )
-    .ok()
-}
-
-// What the cards of a play cost, or the first that is not legal: the hands, the strain, declarer, and the cards.
-fn solve_play(rt: &HostRuntime, text: &str, budget: &mut Budget) -> io::Result<bool> {
-    let Some(line) = read_line(rt.alloc(), text) else {
-        return Ok(false);
-    };
-    let Some((deal, contract)) = contract_of(&line) else {
-        return Ok(false);
-    };
-    match costs(rt.alloc(), deal, contract, line.cards.as_slice(), budget) {
-        Ok(numbers) => {
-            print!(rt; "costs {text}\t")?;
-            print_numbers(rt, "", numbers.as_slice())?;
-        }
-        Err(CostsError::NotAPlay(number)) => print!(rt;
-            "costs {text}\tcard {number} is not legal"
-        )?,
-        Err(_) => return Ok(false),
-    }
-    Ok(true)
-}
-
-// The deal of a line, and a contract at its strain.
-fn contract_of(line: &Line) -> Option<(Deal, Contract)> {
-    let deal = Deal::new(line.north, line.east, line.south, line.west).ok()?;
-    let contract = Contract {
-        level: Level::new(1)?,
-        strain: line.strain,
-        declarer: line.player,
-        doubling: Doubling::Undoubled,
-    };
-    Some((deal, contract))
 }
 
 // Prints numbers with commas between them, and this before the first.

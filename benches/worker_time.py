@@ -1,10 +1,10 @@
 #!/usr/bin/env python3
-"""Times solve_boards on the same random deals with 1, 2 and 4 workers, in turns: the seconds from start to end, how many times
+"""Times deal_tables on the same random deals with 1, 2 and 4 workers, in turns: the seconds from start to end, how many times
 faster that is than one worker, the processor seconds of all threads, how many of them the machine gave in a second, and the
 greatest size in memory. The numbers must be the same whatever the number of workers. Other work on the machine slows more
 workers more than one: then the processor seconds tell what the work cost, and those a second how much of the machine was left.
 
-    benches/solve_boards.py crates/solve_boards/out/solve_boards 36 3      # 36 deals, three runs of each
+    benches/worker_time.py crates/deal_tables/out/deal_tables 36 3      # 36 deals, three runs of each
 """
 
 import os
@@ -18,7 +18,7 @@ def run(program, workers, deals):
     """The output of one run, its seconds, its processor seconds, and its greatest size in memory in MB."""
     started = time.monotonic()
     with tempfile.TemporaryFile() as answers:
-        child = subprocess.Popen([program, str(workers)], stdin=open(deals), stdout=answers)
+        child = subprocess.Popen([program, f"workers={workers}"], stdin=open(deals), stdout=answers)
         _, status, usage = os.wait4(child.pid, 0)
         seconds = time.monotonic() - started
         if status:
