@@ -145,6 +145,21 @@ again("another_deal_of_a_board", "DealConflict(104)", 2)
 row("one_board", f'[Board "1"]\n{DEAL}\n', "MissingBoard(2)", 2)
 again("empty", "MissingBoard(1)", 2)
 
+# A deal is written from any player on, the cards of a suit in any order and in either case, and printed from North on, each
+# suit from the ace down.
+FROM_ANY = (
+    ("E:.AKQJT98765432.. ..AKQJT98765432. ...AKQJT98765432 AKQJT98765432...", SUITS),
+    ("W:...23456789tjqka akqjt98765432... .AKQJT98765432.. ..AKQJT98765432.", SUITS),
+    ("E:.63.AKQ987.A9732 A8654.KQ5.T.QJT6 J973.J98742.3.K4 KQT2.AT.J6542.85",
+     "N:KQT2.AT.J6542.85 .63.AKQ987.A9732 A8654.KQ5.T.QJT6 J973.J98742.3.K4"),
+    ("N:QAK.tJ.56789.324 jt98765432.qka.. .98765432.tjqka. ..243.56789tjqka",
+     "N:AKQ.JT.98765.432 JT98765432.AKQ.. .98765432.AKQJT. ..432.AKQJT98765"),
+)
+row("deals_from_any_player", "".join(f'[Board "{board}"]\n[Deal "{text}"]\n\n' for board, (text, _) in enumerate(FROM_ANY, 1)),
+    [line(board, wanted) for board, (_, wanted) in enumerate(FROM_ANY, 1)], 4)
+row("14_and_12_cards", '[Board "1"]\n[Deal "N:AKQJT98765432.2.. .AKQJT9876543.. ..AKQJT98765432. ...AKQJT98765432"]\n', "BadDeal(12)")
+row("a_suit_twice", '[Board "1"]\n[Deal "N:AKQJT98765432... AKQJT98765432... ..AKQJT98765432. ...AKQJT98765432"]\n', "BadDeal(12)")
+
 # What other programs wrote: `deal` numbers no board, so its text is also read with a number before each deal.
 dealer = (data / "dealer.pbn").read_text()
 WORDS = {"None": "none", "NS": "ns", "EW": "ew", "All": "both"}
