@@ -1,9 +1,7 @@
-//! What scores earn in matchpoints (Law 78A), and how pairs rank.
+//! What scores earn in matchpoints (Law 78A).
 
-use scoring::{Standing, matchpoints, rank_order};
-use std::cmp::Ordering;
-use std::test::Fail;
-use table_terms::{Pair, Side};
+use scoring::matchpoints;
+use std::alloc::Global;
 
 /// Scores, and the units that they earn. Of the last three boards two tables have each score, and beat all that stand before
 /// them.
@@ -36,50 +34,20 @@ static BOARDS: [(&[i32], &[u32]); 7] = [
     ),
 ];
 
-/// Side, number, earned and tops: each standing ranks right before the next.
-static ORDER: [(Side, u8, u64, u64); 11] = [
-    (
-        Side::EastWest,
-        9,
-        18446744073709551615,
-        18446744073709551615,
-    ),
-    (
-        Side::EastWest,
-        9,
-        18446744073709551614,
-        18446744073709551615,
-    ),
-    (Side::EastWest, 2, 2, 3),
-    (Side::NorthSouth, 3, 1, 2),
-    (Side::NorthSouth, 4, 1, 2),
-    (Side::NorthSouth, 4, 2, 4),
-    (Side::EastWest, 1, 1, 2),
-    (Side::NorthSouth, 1, 0, 5),
-    (Side::NorthSouth, 1, 0, 0),
-    (Side::NorthSouth, 1, 7, 0),
-    (Side::EastWest, 1, 3, 0),
-];
-
-fn standing((side, number, earned, tops): (Side, u8, u64, u64)) -> Standing {
-    Standing {
-        pair: Pair { side, number },
-        earned,
-        tops,
+/// Whether the scores of a board, which are 64 at most, earn these units.
+fn earn(alloc: Global, scores: &[i32], units: &[u32]) -> bool {
+    if scores.len() > 64 {
+        return false;
+    }
+    match matchpoints(alloc, scores) {
+        Ok(earned) => earned.as_slice() == units,
+        Err(_) => false,
     }
 }
 
-/// No board here has more than 64 scores.
 #[test]
-fn boards_in_matchpoints_and_pairs_in_their_order(rt: HostRuntime) -> Result<(), Fail> {
+fn boards_are_scored_in_matchpoints(rt: HostRuntime) {
     for (scores, units) in &BOARDS {
-        assert!(rt; scores.len() <= 64);
-        let earned = matchpoints(rt.alloc(), scores)?;
-        assert!(rt; earned.as_slice() == *units);
+        assert!(rt; earn(rt.alloc(), scores, units));
     }
-    for i in 1..ORDER.len() {
-        let order = rank_order(standing(ORDER[i - 1]), standing(ORDER[i]));
-        assert!(rt; order == Ordering::Less);
-    }
-    Ok(())
 }

@@ -1,92 +1,110 @@
-//! Two workers work beside one another: one of them finishes the second job while the first job waits at the gate.
+//! Two workers work beside one another: one of them finishes the second job while the first waits at the gate. They wait for
+//! each job, pass the gate, tell the gate, and send the result.
 
-use super::{SUITS, SUITS_FROM_EAST, gives, table_work, take_unsolved};
-use crossbeam_channel::{Receiver, Sender, unbounded};
-use solver_pool::{Done, Gate, Job, Pool, run_worker};
+use super::{channels, table_work};
+use crossbeam_channel::{Receiver, Sender};
+use solver_pool::{Done, Gate, Job, Work, run_worker};
 use std::alloc::Global;
 use std::sync::Wait;
-use std::sync::atomic::{AtomicBool, Ordering};
-use std::test::Fail;
+use std::sync::atomic::{AtomicBool, AtomicU32, Ordering};
 use std::thread;
 use std::thread::Threads;
 use std::time::{Clock, Duration};
 
-/// Holds the first job until the second is done, for at most a thousand turns of a millisecond.
+/// Two workers without visits, and their gate. It holds job 1 until job 2 is done, for at most a thousand turns
+/// of a millisecond. Job 2 is done once the gate is told of it, where the gate was passed before with as many jobs, and no
+/// more than the result of job 3 was sent by then.
 #[derive(Drop)]
-struct HoldsFirst<'a, R: Clock> {
-    clock: &'a R,
+struct HoldsFirst<'a, R: Wait + Clock> {
+    rt: &'a R,
+    alloc: Global,
+    jobs: &'a Receiver<Job>,
+    from_workers: &'a Sender<Done>,
+    results: &'a Receiver<Done>,
+    passed: AtomicU32,
+    told: AtomicU32,
     second_is_done: AtomicBool,
     first_saw_it: AtomicBool,
 }
 
-impl<R: Clock> HoldsFirst<'_, R> {
+impl<R: Wait + Clock> HoldsFirst<'_, R> {
+    fn work(&self) {
+        run_worker(self.rt, self.alloc, self, self.jobs, self.from_workers, 0);
+    }
+
     fn awaits_second(&self) -> bool {
         for _ in 0..1_000 {
             if self.second_is_done.load(Ordering::SeqCst) {
                 return true;
             }
-            thread::sleep(self.clock, Duration::from_millis(1));
+            thread::sleep(self.rt, Duration::from_millis(1));
         }
         false
     }
+
+    /// Whether job 1 was held until job 2 was done, and three jobs passed the gate, told it and were answered.
+    fn is_satisfied(&self) -> bool {
+        self.first_saw_it.load(Ordering::SeqCst)
+            && self.passed.load(Ordering::SeqCst) == 3
+            && self.told.load(Ordering::SeqCst) == 3
+            && self.results.len() == 3
+    }
 }
 
-impl<R: Clock> Gate for HoldsFirst<'_, R> {
+impl<R: Wait + Clock> Gate for HoldsFirst<'_, R> {
     fn pass(&self, job: u32) {
+        self.passed.fetch_add(1, Ordering::SeqCst);
         if job == 1 && self.awaits_second() {
             self.first_saw_it.store(true, Ordering::SeqCst);
         }
     }
 
     fn done(&self, job: u32) {
-        if job == 2 {
+        let told = self.told.fetch_add(1, Ordering::SeqCst);
+        let is_in_turn = told < self.passed.load(Ordering::SeqCst) && self.results.len() <= 1;
+        if job == 2 && is_in_turn {
             self.second_is_done.store(true, Ordering::SeqCst);
         }
     }
 }
 
-/// Whether the second job is done while the first waits, where there are two workers. Each has a visit for a job.
-fn second_is_first<R: Threads + Wait + Clock + Sync>(
-    rt: &R,
-    alloc: Global,
-    jobs: &Receiver<Job>,
-    from_workers: &Sender<Done>,
-) -> bool {
-    let gate = HoldsFirst {
-        clock: rt,
-        second_is_done: AtomicBool::new(false),
-        first_saw_it: AtomicBool::new(false),
-    };
-    let work = || run_worker(rt, alloc, &gate, jobs, from_workers, 1);
-    thread::join(rt, work, work);
-    gate.first_saw_it.load(Ordering::SeqCst)
-}
-
-/// Whether the pool gives the table of a board the board's number, and its job can be sent to a worker.
-fn gives_board(
-    rt: &impl Wait,
-    pool: &mut Pool,
-    to_worker: &Sender<Job>,
-    board: u8,
-    deal: &str,
-) -> bool {
-    match table_work(board, deal) {
-        Ok(work) => gives(rt, pool, to_worker, u32::from(board), &work),
-        Err(_) => false,
+/// Sends jobs 3, 1 and 2 of this work, each after a while.
+fn send_slowly(rt: &(impl Wait + Clock), to_workers: Sender<Job>, work: &Work) {
+    for number in [3, 1, 2] {
+        thread::sleep(rt, Duration::from_millis(20));
+        let work = *work;
+        let _ = to_workers.send(rt, Job { number, work });
     }
 }
 
-/// The pool takes both results.
+/// Whether job 2 is done while job 1 waits. The first worker has each job but the last to itself, and waits for it: the
+/// other one sends the jobs, and then works too.
+fn work_beside<R: Threads + Wait + Clock + Sync>(rt: &R, alloc: Global) -> Option<bool> {
+    let work = table_work()?;
+    let ((to_workers, jobs), (from_workers, results)) = channels(alloc)?;
+    let workers = HoldsFirst {
+        rt,
+        alloc,
+        jobs: &jobs,
+        from_workers: &from_workers,
+        results: &results,
+        passed: AtomicU32::new(0),
+        told: AtomicU32::new(0),
+        second_is_done: AtomicBool::new(false),
+        first_saw_it: AtomicBool::new(false),
+    };
+    thread::join(
+        rt,
+        || workers.work(),
+        || {
+            send_slowly(rt, to_workers, &work);
+            workers.work();
+        },
+    );
+    Some(workers.is_satisfied())
+}
+
 #[test]
-fn the_second_job_is_done_while_the_first_waits(rt: HostRuntime) -> Result<(), Fail> {
-    let mut pool = Pool::new(rt.alloc())?;
-    let (to_workers, jobs) = unbounded::<Job, Global>(rt.alloc())?;
-    assert!(rt; gives_board(&rt, &mut pool, &to_workers, 1, SUITS));
-    assert!(rt; gives_board(&rt, &mut pool, &to_workers, 2, SUITS_FROM_EAST));
-    drop(to_workers);
-    let (from_workers, results) = unbounded::<Done, Global>(rt.alloc())?;
-    assert!(rt; second_is_first(&rt, rt.alloc(), &jobs, &from_workers));
-    drop(from_workers);
-    assert!(rt; take_unsolved(&rt, &mut pool, &results) == (2, true));
-    Ok(())
+fn the_second_job_is_done_while_the_first_waits(rt: HostRuntime) {
+    assert!(rt; work_beside(&rt, rt.alloc()) == Some(true));
 }

@@ -1,176 +1,160 @@
 //! What a worker finds.
 
-use super::{SUITS, gives, results_of, table_work, take_unsolved};
-use cards::{Deal, Position};
-use crossbeam_channel::{Receiver, Sender, unbounded};
+use super::{SUITS, results_of, table_work};
+use cards::{Card, Deal, Position, Rank};
+use crossbeam_channel::Receiver;
 use double_dummy::{Budget, PlayAnswer, SolveError, solve};
 use movement::Cell;
 use scoring::{Contract, Doubling, Level};
-use solver_pool::{Done, Found, Job, Pool, Work, solve_job};
+use solver_pool::{Done, Found, Work};
 use solver_results::Play;
 use std::alloc::Global;
 use std::sync::Wait;
-use table_terms::{Place, Strain};
+use table_terms::{Place, Strain, Suit};
 
-/// A trick with this second card.
-fn trick(second: &str) -> Option<Play> {
-    let cards = [
-        "S2".parse().ok()?,
-        second.parse().ok()?,
-        "C2".parse().ok()?,
-        "SA".parse().ok()?,
-    ];
-    Play::new(&cards)
+const fn two(suit: Suit) -> Card {
+    Card {
+        suit,
+        rank: Rank::Two,
+    }
 }
 
 /// North's two of spades and East's two of hearts have changed hands.
 const CHANGED: &str = "N:AKQJT9876543.2.. 2.AKQJT9876543.. ..AKQJT98765432. ...AKQJT98765432";
 
-/// The costs of a trick with this second card, of that deal in one no trump by North.
-fn costs_work(second: &str) -> Option<Work> {
+/// The costs of a trick whose second card is the two of this suit, of that deal in one no trump by North.
+fn costs_work(second: Suit) -> Option<Work> {
     let contract = Contract {
         level: Level::new(1)?,
         strain: Strain::NoTrump,
         declarer: Place::North,
         doubling: Doubling::Undoubled,
     };
+    let ace = Card {
+        suit: Suit::Spades,
+        rank: Rank::Ace,
+    };
+    let play = Play::new(&[two(Suit::Spades), two(second), two(Suit::Clubs), ace])?;
     Some(Work::Costs {
         cell: Cell { table: 1, board: 2 },
         deal: CHANGED.parse::<Deal>().ok()?,
         contract,
-        play: trick(second)?,
+        play,
     })
 }
 
-/// What a worker finds for the only job of a pool, which has the number 1.
-fn found_by_worker(rt: &impl Wait, alloc: Global, work: Option<Work>) -> Option<Found> {
-    let work = work?;
-    let Ok(mut pool) = Pool::new(alloc) else {
-        return None;
-    };
-    let Ok((to_worker, jobs)) = unbounded::<Job, Global>(alloc) else {
-        return None;
-    };
-    if !gives(rt, &mut pool, &to_worker, 1, &work) {
-        return None;
-    }
-    drop(to_worker);
-    match results_of(rt, alloc, &jobs, 1_000_000) {
-        Ok(results) => found_first(rt, &results),
+/// What a worker finds that has a job of this work, and so many visits.
+fn found(rt: &impl Wait, alloc: Global, work: &Work, visits: u64) -> Option<Found> {
+    found_first(rt, &results_of(rt, alloc, work, 1, visits)?)
+}
+
+fn found_first(rt: &impl Wait, results: &Receiver<Done>) -> Option<Found> {
+    match results.recv(rt) {
+        Ok(done) => Some(done.into_found()),
         Err(_) => None,
     }
 }
 
-/// What the first result says, which is of the job with the number 1.
-fn found_first(rt: &impl Wait, results: &Receiver<Done>) -> Option<Found> {
-    match results.recv(rt) {
-        Ok(done) if done.job().number == 1 => Some(done.into_found()),
-        _ => None,
-    }
-}
-
-/// The tricks of North and South, and those of East and West, with each trump: who has the trumps takes all tricks;
-/// without trumps who leads does, declarer's left.
-const LONG_SUITS: &[(Strain, u8, u8)] = &[
-    (Strain::Spades, 13, 0),
-    (Strain::Hearts, 0, 13),
-    (Strain::Diamonds, 13, 0),
-    (Strain::Clubs, 0, 13),
-    (Strain::NoTrump, 0, 0),
+/// North's tricks with each trump: who has the trumps takes all tricks; without trumps who leads does, East.
+static NORTHS: [(Strain, u8); 5] = [
+    (Strain::Spades, 13),
+    (Strain::Hearts, 0),
+    (Strain::Diamonds, 13),
+    (Strain::Clubs, 0),
+    (Strain::NoTrump, 0),
 ];
 
-/// Whether a table was found, and each player takes the tricks of long suits.
+/// Whether a table was found in which North takes the tricks of long suits.
 fn is_of_long_suits(found: &Option<Found>) -> bool {
     let Some(Found::Table(table)) = found else {
         return false;
     };
-    for &(strain, north_south, east_west) in LONG_SUITS {
-        if table.tricks(strain, Place::North) != north_south
-            || table.tricks(strain, Place::East) != east_west
-            || table.tricks(strain, Place::South) != north_south
-            || table.tricks(strain, Place::West) != east_west
-        {
+    for &(strain, tricks) in &NORTHS {
+        if table.tricks(strain, Place::North) != tricks {
             return false;
         }
     }
     true
 }
 
-/// Whether these costs of a play were found.
-fn are_costs(found: &Option<Found>, costs: &[u8]) -> bool {
+fn finds_table(rt: &impl Wait, alloc: Global) -> bool {
+    match table_work() {
+        Some(work) => is_of_long_suits(&found(rt, alloc, &work, MANY)),
+        None => false,
+    }
+}
+
+/// Whether these costs of a play were found, or this card was named that is not legal.
+fn is_answered(found: &Option<Found>, costs: &[u8], illegal: usize) -> bool {
     let Some(Found::Costs(found)) = found else {
         return false;
     };
     match found.answer() {
         PlayAnswer::Costs(numbers) => numbers.as_slice() == costs,
-        _ => false,
+        PlayAnswer::NotAPlay(number) => number == illegal,
     }
 }
 
-/// What is found of the costs of a trick with this second card, without a visit.
-fn found_unpaid(alloc: Global, second: &str) -> Option<Found> {
-    let work = costs_work(second)?;
-    Some(solve_job(alloc, Job { number: 1, work }, 0).into_found())
-}
+/// The second card of a trick, how many visits a worker has, and what it answers: what each card costs, or the number of the
+/// card that is not legal; without both, that the visits are too few.
+type Row = (Suit, u64, &'static [u8], usize);
 
-/// Whether the second card was named, and the start of that play isn't solved without a visit.
-fn names_second(alloc: Global, found: &Option<Found>) -> bool {
-    let Some(Found::Costs(costs)) = found else {
+/// East leads the two of spades, and gives away eleven tricks by it. Without a visit nothing is solved, but a card that is
+/// not legal is named.
+static PLAYS: [Row; 3] = [
+    (Suit::Diamonds, MANY, &[11, 0, 0, 0], 0),
+    (Suit::Diamonds, 0, &[], 0),
+    (Suit::Hearts, 0, &[], 2),
+];
+
+fn is_answer(rt: &impl Wait, alloc: Global, row: &Row) -> bool {
+    let &(second, visits, costs, illegal) = row;
+    let Some(work) = costs_work(second) else {
         return false;
     };
-    let position = Position::start(costs.deal(), Strain::NoTrump, Place::North);
-    let unsolved = solve(alloc, &position, &mut Budget::new(0));
-    matches!(costs.answer(), PlayAnswer::NotAPlay(2))
-        && matches!(unsolved, Err(SolveError::OutOfBudget))
+    let found = found(rt, alloc, &work, visits);
+    match found {
+        Some(Found::OutOfBudget) => costs.is_empty() && illegal == 0,
+        _ => is_answered(&found, costs, illegal),
+    }
 }
 
-/// In one no trump by North, East leads the two of spades, and gives away eleven tricks by it. Without a visit nothing is
-/// solved, but a card that is not legal is named.
-#[test]
-fn finds_tables_and_costs_and_names_illegal_cards(rt: HostRuntime) {
-    let alloc = rt.alloc();
-    let table = found_by_worker(&rt, alloc, table_work(1, SUITS).ok());
-    assert!(rt; is_of_long_suits(&table));
-    let costs = found_by_worker(&rt, alloc, costs_work("D2"));
-    assert!(rt; are_costs(&costs, &[11, 0, 0, 0]));
-    assert!(rt; matches!(found_unpaid(alloc, "D2"), Some(Found::OutOfBudget)));
-    assert!(rt; names_second(alloc, &found_unpaid(alloc, "H2")));
-}
-
-/// Whether the pool gives three jobs. They are sent to a worker as far as there is room.
-fn sends_three(rt: &impl Wait, pool: &mut Pool, to_worker: &Sender<Job>) -> bool {
+/// Whether the opening lead of whole suits isn't solved without a visit.
+fn is_unsolved(alloc: Global) -> bool {
     let Ok(deal) = SUITS.parse::<Deal>() else {
         return false;
     };
-    for board in 1u8..4 {
-        let Ok(job) = pool.add(Work::Table { board, deal }) else {
-            return false;
-        };
-        let _ = to_worker.send(rt, job);
-    }
-    true
+    let position = Position::start(deal, Strain::NoTrump, Place::North);
+    let solved = solve(alloc, &position, &mut Budget::new(0));
+    matches!(solved, Err(SolveError::OutOfBudget))
 }
 
-/// Whether two of three results come at least, and the pool takes each; or a channel has no room to begin.
-fn loses_one_at_most(rt: &impl Wait, alloc: Global, pool: &mut Pool) -> bool {
-    let Ok((to_worker, jobs)) = unbounded::<Job, Global>(alloc) else {
-        return true;
+const MANY: u64 = 1_000_000;
+
+#[test]
+fn finds_tables_and_costs_and_names_illegal_cards(rt: HostRuntime) {
+    let alloc = rt.alloc();
+    assert!(rt; finds_table(&rt, alloc));
+    for play in &PLAYS {
+        assert!(rt; is_answer(&rt, alloc, play));
+    }
+    assert!(rt; is_unsolved(alloc));
+}
+
+/// Whether two results come at least of three jobs; or a channel has no room to begin.
+fn loses_one_at_most(rt: &impl Wait, alloc: Global) -> bool {
+    let Some(work) = table_work() else {
+        return false;
     };
-    let sent = sends_three(rt, pool, &to_worker);
-    drop(to_worker);
-    let Ok(results) = results_of(rt, alloc, &jobs, 0) else {
-        return sent;
-    };
-    let (came, all) = take_unsolved(rt, pool, &results);
-    sent && all && came >= 2
+    match results_of(rt, alloc, &work, 3, 0) {
+        Some(results) => results.len() >= 2,
+        None => true,
+    }
 }
 
 /// Holds whichever growth is refused: where there is room to begin, one of three jobs or results is lost at most, and the
 /// worker goes on.
 #[test]
 fn loses_no_more_than_one_result(rt: HostRuntime) {
-    let Ok(mut pool) = Pool::new(rt.alloc()) else {
-        return;
-    };
-    assert!(rt; loses_one_at_most(&rt, rt.alloc(), &mut pool));
+    assert!(rt; loses_one_at_most(&rt, rt.alloc()));
 }
