@@ -1,1 +1,5 @@
+pub mod BoundLemmas
+pub mod ClaimLemmas
 pub mod PlayedLemmas
+pub mod RunLemmas
+pub mod SearchLemmas

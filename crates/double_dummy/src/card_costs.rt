@@ -7,9 +7,10 @@ ghost use Rattle.double_dummy.specs.Played.{IsPlayed};
 ghost use Rattle.double_dummy.specs.declared.error.CostsError.TheVariants.{NotAPlay, OutOfBudget};
 ghost use Rattle.double_dummy_laws.specs.DoubleDummy.{double_dummy, cost_list, first_illegal};
 
-use crate::error::CostsError;
+use crate::asking::value;
+use crate::budget::Budget;
+use crate::error::{CostsError, SolveError};
 use cards::{Card, Deal, Position};
-use double_dummy_search::{Budget, BudgetSpent, value};
 use position_patterns::{DealPatterns, Holders, Memory};
 use scoring::Contract;
 use solver_results::Costs;
@@ -178,7 +179,7 @@ fn play_card(
     patterns: &DealPatterns,
     memory: &mut Memory,
     budget: &mut Budget,
-) -> Result<Played, BudgetSpent>
+) -> Result<Played, SolveError>
     requires legal { set.contains (legal position.now) card ≡ true }
     requires dealt { IsLeftOf patterns.now.whole position.now.hands }
     requires valid { IsPosition position.now }
@@ -190,7 +191,7 @@ fn play_card(
 {
     let next = position.after(card);
     let Ok(tricks) = value(&next, before, patterns, memory, budget) else {
-        return Err(BudgetSpent);
+        return Err(SolveError::OutOfBudget);
     };
     let with_card = position.point(card) + tricks;
     let cost = match position.trick().turn(position.leader()).side() {

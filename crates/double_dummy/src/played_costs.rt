@@ -1,13 +1,13 @@
 ghost use Rattle.std.specs.Prelude.{◌≡◌, ◌≢◌, ◌≤◌, ℕ, [], Some, None, Err, IfOk, IfErr, OnErr};
 ghost use Rattle.cards.specs.Play.{start};
 ghost use Rattle.solver_results.specs.PlayAnswer.{answer_of};
-ghost use Rattle.double_dummy_search.specs.declared.error.SolveError.TheVariants.{OutOfBudget};
+ghost use Rattle.double_dummy.specs.declared.error.SolveError.TheVariants.{OutOfBudget};
 ghost use Rattle.double_dummy_laws.specs.DoubleDummy.{first_illegal};
 
+use crate::budget::Budget;
 use crate::card_costs::costs_from;
-use crate::error::CostsError;
+use crate::error::{CostsError, SolveError};
 use cards::Deal;
-use double_dummy_search::{Budget, SolveError};
 use scoring::Contract;
 use solver_results::{Play, PlayAnswer, PlayCosts};
 use std::alloc::Global;

@@ -1,6 +1,6 @@
 use Rattle.std.proofs.Common.{◌≡◌, ◌∙◌, ap, sym, refl, Some, None}
 use Rattle.double_dummy_laws.specs.DoubleDummy.{first_illegal}
-use Rattle.double_dummy_search.proofs.BoundLemmas.{deal_cards}
+use Rattle.double_dummy.proofs.BoundLemmas.{deal_cards}
 use Rattle.double_dummy.proofs.card_costs.costs_from.Goals as goal
 
 pub returns-in-Some-clause-not_a_play : goal.returns-in-Some-clause-not_a_play

@@ -1,0 +1,141 @@
+use Rattle.std.proofs.Common.{◌∙◌, ◌-◌, ap, sym, subst, arith, refl, not}
+use Rattle.std.proofs.lemmas.Bool.{and_parts, true≢false}
+use Rattle.double_dummy.proofs.search.+search.Goals as goal
+use Rattle.position_patterns.proofs.SetLemmas.{in_difference}
+use Rattle.cards.specs.Play.{cards_left, legal}
+use Rattle.double_dummy.proofs.BoundLemmas.{too_many}
+use Rattle.position_patterns.proofs.RemainderLemmas.{left_without}
+use Rattle.double_dummy.proofs.SearchLemmas.{fewer_untried, found_decided, found_next, found_refused, known_more, nothing_left, other_bool, refused_step, same_bool, some_in}
+use Rattle.position_patterns.proofs.SetLemmas.{in_first, in_second}
+use Rattle.position_patterns.specs.Remainder.{IsLeftOf}
+use Rattle.double_dummy_laws.proofs.CountLemmas.{fewer_after}
+use Rattle.double_dummy_laws.specs.Found.{IsFound}
+
+pub explore-returns-then-is_empty-clause-found : goal.explore-returns-then-is_empty-clause-found
+explore-returns-then-is_empty-clause-found t c =
+    nothing_left c.args.position.now c.args.target c.new.result c.requires.target (sym c.legal_cards-playable.ensures
+    ∙ c.is_empty.ensures.0 c.if-is_empty.true)
+
+pub explore-search-requires : goal.explore-search-requires
+explore-search-requires t c =
+    let fewer = fewer_after c.args.position.now c.in-Some.card
+    (c.loop-card.invariant.untried c.in-Some.card c.in-Some.ensures.some) in
+    let same = ap cards_left c.after-next.ensures in
+    let d = c.decreases in (
+      omega (arith, fewer, same, d),
+      subst (λ q. IsLeftOf c.args.patterns.now.whole q.hands) (sym c.after-next.ensures)
+          (left_without c.args.patterns.now.whole c.args.position.now.hands c.in-Some.card c.requires.left),
+    )
+
+pub explore-returns-then-found-wanted-clause-found : goal.explore-returns-then-found-wanted-clause-found
+explore-returns-then-found-wanted-clause-found t c =
+    let p = c.args.position.now in
+    let found = subst (λ b. IsFound c.after-next.result (c.args.target - c.point.result) c.in-Ok-search.found.known b)
+    (same_bool _ _ c.if-found-wanted.true) c.in-Ok-search.ensures.found in
+    found_decided p c.args.target c.in-Some.card c.in-Ok-search.found.known c.union-decisive.result c.wants-wanted.result
+    (c.loop-card.invariant.untried c.in-Some.card c.in-Some.ensures.some)
+    (λ ownership. known_more ownership _ _ _ _ _ (in_second _ _ _ c.union-decisive.ensures)
+    (c.decisive.ensures ownership))
+    (in_first _ _ _ c.union-decisive.ensures)
+    c.wants-wanted.ensures
+    (found_next p c.after-next.result c.args.target _ c.point.result c.in-Some.card _ _ c.after-next.ensures
+    c.point.ensures.point refl found)
+
+pub explore-loop-card-smaller : goal.explore-loop-card-smaller
+explore-loop-card-smaller t c =
+    fewer_untried c.loop-card.untried c.difference-untried.result c.run_of-run.result c.in-Some.card
+    c.in-Some.ensures.some c.run_of-run.ensures.itself (in_difference _ _ _ c.difference-untried.ensures)
+
+pub explore-loop-card-preserved : goal.explore-loop-card-preserved
+explore-loop-card-preserved t c = record {
+  untried = λ card rest. c.loop-card.invariant.untried card
+      (and_parts _ _ (sym (in_difference _ _ _ c.difference-untried.ensures card) ∙ rest)).0;
+  spent = omega (arith, c.search.ensures.spent, c.loop-card.invariant.spent);
+  refused =
+      let p = c.args.position.now in
+      let found = subst (λ b. IsFound c.after-next.result (c.args.target - c.point.result) c.in-Ok-search.found.known b)
+      (other_bool _ _ c.if-found-wanted.false) c.in-Ok-search.ensures.found in
+      refused_step p c.args.target c.loop-card.untried c.difference-untried.result c.loop-card.known
+      c.learnt-known.result c.in-Ok-search.found.known c.union-decisive.result c.run_of-run.result
+      c.in-Some.card (not c.wants-wanted.result) c.loop-card.invariant.refused
+      (c.loop-card.invariant.untried c.in-Some.card c.in-Some.ensures.some)
+      (found_next p c.after-next.result c.args.target _ c.point.result c.in-Some.card _ _ c.after-next.ensures
+      c.point.ensures.point refl found)
+      (λ ownership. known_more ownership _ _ _ _ _ (in_second _ _ _ c.union-decisive.ensures)
+      (c.decisive.ensures ownership))
+      c.run_of-run.ensures.run c.run_of-run.ensures.itself
+      (in_first _ _ _ c.union-decisive.ensures)
+      c.learnt-known.ensures.known c.learnt-known.ensures.decisive c.learnt-known.ensures.run
+      (in_difference _ _ _ c.difference-untried.ensures);
+}
+
+pub explore-returns-clause-found : goal.explore-returns-clause-found
+explore-returns-clause-found t c =
+    let some = some_in (legal c.args.position.now)
+    (λ e. true≢false (sym (c.is_empty.ensures.1 (c.legal_cards-playable.ensures ∙ e)) ∙ c.if-is_empty.false)) in
+    found_refused c.args.position.now c.args.target c.loop-card.untried c.loop-card.known _ some.0 some.1
+    c.in_default-best.ensures.none c.loop-card.invariant.refused
+
+pub search-returns-then-tricks_left-target-clause-found : goal.search-returns-then-tricks_left-target-clause-found
+search-returns-then-tricks_left-target-clause-found t c =
+    let few = c.if-tricks_left-target.true in
+    let count = c.tricks_left-tricks_left.ensures.quarter in
+    too_many c.args.position.now c.args.target _ (omega arith)
+
+pub search-store-requires-clause-found : goal.search-store-requires-clause-found
+search-store-requires-clause-found t c = c.in-Ok.ensures.found
+
+pub explore-best-requires-clause-others : goal.explore-best-requires-clause-others
+explore-best-requires-clause-others t c = c.others-others.ensures
+
+pub explore-best-requires-clause-playable : goal.explore-best-requires-clause-playable
+explore-best-requires-clause-playable t c = c.legal_cards-playable.ensures
+
+pub explore-best-requires-clause-untried : goal.explore-best-requires-clause-untried
+explore-best-requires-clause-untried t c = c.loop-card.invariant.untried
+
+pub explore-after-next-requires : goal.explore-after-next-requires
+explore-after-next-requires t c = c.loop-card.invariant.untried c.in-Some.card c.in-Some.ensures.some
+
+pub explore-run_of-run-requires-clause-others : goal.explore-run_of-run-requires-clause-others
+explore-run_of-run-requires-clause-others t c = c.others-others.ensures
+
+pub explore-run_of-run-requires-clause-playable : goal.explore-run_of-run-requires-clause-playable
+explore-run_of-run-requires-clause-playable t c = c.legal_cards-playable.ensures
+
+pub explore-run_of-run-requires-clause-legal : goal.explore-run_of-run-requires-clause-legal
+explore-run_of-run-requires-clause-legal t c = c.loop-card.invariant.untried c.in-Some.card c.in-Some.ensures.some
+
+pub search-find-requires-clause-same : goal.search-find-requires-clause-same
+search-find-requires-clause-same t c = c.of-holders.ensures.hands
+
+pub search-find-requires-clause-pattern : goal.search-find-requires-clause-pattern
+search-find-requires-clause-pattern t c = c.pattern-pattern.ensures
+
+pub search-store-requires-clause-same : goal.search-store-requires-clause-same
+search-store-requires-clause-same t c = c.of-holders.ensures.hands
+
+pub search-store-requires-clause-apart : goal.search-store-requires-clause-apart
+search-store-requires-clause-apart t c = c.of-holders.ensures.apart
+
+pub search-store-requires-clause-pattern : goal.search-store-requires-clause-pattern
+search-store-requires-clause-pattern t c = c.pattern-pattern.ensures
+
+pub explore-returns-in_default-search-clause-err : goal.explore-returns-in_default-search-clause-err
+explore-returns-in_default-search-clause-err t c = c.in_default-search.ensures.err
+
+pub search-pattern-pattern-requires : goal.search-pattern-pattern-requires
+search-pattern-pattern-requires t c =
+    subst (IsLeftOf c.args.patterns.now.whole) (sym c.of-holders.ensures.hands) c.requires
+
+pub search-returns-then-ne-clause-found : goal.search-returns-then-ne-clause-found
+search-returns-then-ne-clause-found t c = c.explore.ensures.found
+
+pub search-returns-in-Some-clause-found : goal.search-returns-in-Some-clause-found
+search-returns-in-Some-clause-found t c = c.in-Some.ensures
+
+pub search-returns-in_default-explore-clause-err : goal.search-returns-in_default-explore-clause-err
+search-returns-in_default-explore-clause-err t c = c.in_default-explore.ensures.err
+
+pub search-returns-clause-found : goal.search-returns-clause-found
+search-returns-clause-found t c = c.in-Ok.ensures.found

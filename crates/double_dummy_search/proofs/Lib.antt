@@ -1,4 +1,0 @@
-pub mod BoundLemmas
-pub mod ClaimLemmas
-pub mod RunLemmas
-pub mod SearchLemmas
