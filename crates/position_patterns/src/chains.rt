@@ -1,26 +1,16 @@
 use crate::pattern::Entry;
 use crate::sketch::{Block, NONE, SLOTS, Slot};
-use std::alloc::{AllocError, Global};
 use table_terms::{Place, Strain};
 
 /// Chains of blocks whose slots point at entries of which the lengths, leader and strain have one hash: where each chain
 /// begins, and all blocks.
 #[derive(Drop)]
 pub struct Chains {
-    heads: Vec<u32>,
+    pub heads: Vec<u32>,
     pub blocks: Vec<Block>,
 }
 
 impl Chains {
-    /// So many empty chains, and room for so many blocks.
-    pub fn new(alloc: Global, room: usize, chains: usize) -> Result<Chains, AllocError> {
-        let heads = Vec::from_elem(alloc, NONE, chains)?;
-        Ok(Chains {
-            heads,
-            blocks: Vec::with_capacity(alloc, room)?,
-        })
-    }
-
     /// Empties the chains.
     pub fn clear(&mut self) {
         self.blocks.clear();

@@ -2,7 +2,7 @@ ghost use Rattle.cards.specs.Play.{IsApart, is_of};
 ghost use Rattle.position_patterns.specs.Remainder.{IsLeftOf, IsPartOf, IsTrueRemainder, all_held};
 ghost use Rattle.position_patterns.specs.Tops.{IsPatternOf, pattern_of};
 ghost use Rattle.double_dummy_laws.specs.Pattern.{holding};
-ghost use Rattle.std.specs.Prelude.{◌≡◌, ◌<◌, All, IfOk, OnOk, IsTrue, length};
+ghost use Rattle.std.specs.Prelude.{◌≡◌, ◌<◌, All, IfOk, IsTrue, length};
 ghost use Rattle.std.specs.FinSet as set;
 ghost use Rattle.table_terms.specs.declared.suit.Suit.{Suit};
 ghost use Rattle.std.proofs.Props.{props};
@@ -64,19 +64,6 @@ fn is_same(a: Hand, b: Hand) -> bool
     a == b
 }
 
-/// Adds whatever may be left of a suit of the deal.
-fn add_suit(slots: &mut Vec<Remainder>, whole: &Holders, suit: Suit) -> Result<(), AllocError>
-    requires apart { IsApart whole.now }
-    requires slots { All (IsTrueRemainder whole.now) slots.old.items }
-    ensures { OnOk result (All (IsTrueRemainder whole.now) slots.new.items) }
-{
-    'masks: for mask in 0..8192u16 {
-        let part = whole.part(masked(suit, mask));
-        slots.push(whole.remainder(&part, suit))?;
-    }
-    Ok(())
-}
-
 impl DealPatterns {
     /// The patterns of the deal.
     pub fn new(alloc: Global, whole: &Holders) -> Result<DealPatterns, AllocError>
@@ -84,8 +71,11 @@ impl DealPatterns {
         ensures { IfOk result (λ patterns. IsLeftOf patterns.whole whole.now) }
     {
         let mut slots = Vec::new(alloc);
-        'suits: for number in 0..4u8 {
-            add_suit(&mut slots, whole, Suit::from_number(number))?;
+        // whatever may be left of a suit: a mask of its thirteen cards
+        'masks: for number in 0..32768u16 {
+            let suit = Suit::from_number((number / 8192) as u8);
+            let part = whole.part(masked(suit, number % 8192));
+            slots.push(whole.remainder(&part, suit))?;
         }
         Ok(DealPatterns {
             whole: *whole,

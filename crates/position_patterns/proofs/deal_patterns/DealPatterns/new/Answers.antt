@@ -1,16 +1,20 @@
+use Rattle.position_patterns.proofs.KeptLemmas.{all_added}
 use Rattle.position_patterns.proofs.deal_patterns.DealPatterns.new.Goals as goal
+use Rattle.position_patterns.specs.Remainder.{IsTrueRemainder}
 
-pub add_suit-requires-clause-apart : goal.add_suit-requires-clause-apart
-add_suit-requires-clause-apart c = c.requires
+pub remainder-requires : goal.remainder-requires
+remainder-requires c = record {
+  apart = c.requires;
+  part = c.part-part.ensures.part;
+}
 
-pub add_suit-requires-clause-slots : goal.add_suit-requires-clause-slots
-add_suit-requires-clause-slots c = c.suits.invariant
-
-pub suits-preserved : goal.suits-preserved
-suits-preserved c = c.in_ok-add_suit.ensures
+pub masks-preserved : goal.masks-preserved
+masks-preserved c =
+    all_added (IsTrueRemainder c.args.whole.now) _ _ c.remainder.result c.in_ok-push.ensures.items c.masks.invariant
+    c.remainder.ensures
 
 pub invariant_of-result : goal.invariant_of-result
-invariant_of-result c = record { true_slots = c.suits.invariant }
+invariant_of-result c = record { true_slots = c.masks.invariant }
 
 pub returns : goal.returns
 returns c = record {

@@ -1,6 +1,0 @@
-use Rattle.std.proofs.Common.{All}
-use Rattle.position_patterns.proofs.deal_patterns.add_suit.Given as goal
-use Rattle.position_patterns.specs.Remainder.{IsTrueRemainder}
-
-abbrev pub invariant-masks : goal.invariant-masks
-invariant-masks l = All (IsTrueRemainder l.whole) l.slots.items
