@@ -21,9 +21,13 @@ impl FromStr for Pair {
     ghost from_str_gives = { ReadsPair };
 
     fn from_str(text: &str) -> Result<Pair, NotAPair> {
-        let (side, digits) = read_side(text).ok_or(NotAPair)?;
-        let number = read_number(digits).ok_or(NotAPair)?;
-        Ok(Pair { side, number })
+        let Some((side, digits)) = read_side(text) else {
+            return Err(NotAPair);
+        };
+        match read_number(digits) {
+            Some(number) => Ok(Pair { side, number }),
+            None => Err(NotAPair),
+        }
     }
 }
 
@@ -35,8 +39,10 @@ fn read_side(text: &str) -> Option<(Side, &str)>
     if let Some(rest) = text.strip_prefix("NS") {
         return Some((Side::NorthSouth, rest));
     }
-    let rest = text.strip_prefix("EW")?;
-    Some((Side::EastWest, rest))
+    match text.strip_prefix("EW") {
+        Some(rest) => Some((Side::EastWest, rest)),
+        None => None,
+    }
 }
 
 /// A number from 1 to 255, without leading zeros.
