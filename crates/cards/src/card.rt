@@ -41,8 +41,12 @@ impl FromStr for Card {
         let [suit, rank] = text.as_bytes() else {
             return Err(NotACard);
         };
-        let suit = Suit::from_letter(char::from(*suit)).ok_or(NotACard)?;
-        let rank = Rank::from_letter(char::from(*rank)).ok_or(NotACard)?;
+        let Some(suit) = Suit::from_letter(char::from(*suit)) else {
+            return Err(NotACard);
+        };
+        let Some(rank) = Rank::from_letter(char::from(*rank)) else {
+            return Err(NotACard);
+        };
         Ok(Card { suit, rank })
     }
 }

@@ -74,14 +74,30 @@ fn read_hands(text: &str) -> Option<FourHands>
         IsDealText (clockwise_from read.first read.own read.left read.opposite read.right) text.now) }
     ensures none { IfNone result ((hands : Hands) → ¬ IsDealText hands text.now) }
 {
-    let (first, rest) = read_first(text)?;
-    let (own, left, opposite, right) = in_four(rest, ' ')?;
+    let Some((first, rest)) = read_first(text) else {
+        return None;
+    };
+    let Some((own, left, opposite, right)) = in_four(rest, ' ') else {
+        return None;
+    };
+    let Some(own) = read_hand(own) else {
+        return None;
+    };
+    let Some(left) = read_hand(left) else {
+        return None;
+    };
+    let Some(opposite) = read_hand(opposite) else {
+        return None;
+    };
+    let Some(right) = read_hand(right) else {
+        return None;
+    };
     Some(FourHands {
         first,
-        own: read_hand(own)?,
-        left: read_hand(left)?,
-        opposite: read_hand(opposite)?,
-        right: read_hand(right)?,
+        own,
+        left,
+        opposite,
+        right,
     })
 }
 
@@ -90,10 +106,14 @@ fn read_first(text: &str) -> Option<(Place, &str)>
     ensures first { IfSome result (λ read. text.now ≡ place_letter read.0 ∷ codes ":" ++ read.1.now) }
     ensures none { IfNone result ((place : Place) (rest : List ℕ) → text.now ≢ place_letter place ∷ codes ":" ++ rest) }
 {
-    let (letter, rest) = text.split_once(':')?;
+    let Some((letter, rest)) = text.split_once(':') else {
+        return None;
+    };
     let [letter] = letter.as_bytes() else {
         return None;
     };
-    let place = Place::from_letter(char::from(*letter))?;
-    Some((place, rest))
+    match Place::from_letter(char::from(*letter)) {
+        Some(place) => Some((place, rest)),
+        None => None,
+    }
 }

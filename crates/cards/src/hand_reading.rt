@@ -34,11 +34,21 @@ pub(crate) fn read_hand(text: &str) -> Option<Hand>
     ensures hand { IfSome result (λ hand. IsHandText hand text.now) }
     ensures none { IfNone result ((cards : Cards) → ¬ IsHandText cards text.now) }
 {
-    let (spades, hearts, diamonds, clubs) = in_four(text, '.')?;
-    let spades = read_holding(Suit::Spades, spades)?;
-    let hearts = read_holding(Suit::Hearts, hearts)?;
-    let diamonds = read_holding(Suit::Diamonds, diamonds)?;
-    let clubs = read_holding(Suit::Clubs, clubs)?;
+    let Some((spades, hearts, diamonds, clubs)) = in_four(text, '.') else {
+        return None;
+    };
+    let Some(spades) = read_holding(Suit::Spades, spades) else {
+        return None;
+    };
+    let Some(hearts) = read_holding(Suit::Hearts, hearts) else {
+        return None;
+    };
+    let Some(diamonds) = read_holding(Suit::Diamonds, diamonds) else {
+        return None;
+    };
+    let Some(clubs) = read_holding(Suit::Clubs, clubs) else {
+        return None;
+    };
     Some(spades.union(hearts).union(diamonds).union(clubs))
 }
 
@@ -50,7 +60,9 @@ fn read_holding(suit: Suit, letters: &str) -> Option<Hand>
 {
     let mut hand = Hand::new();
     for letter in letters.as_bytes() {
-        let rank = Rank::from_letter(char::from(letter.to_ascii_uppercase()))?;
+        let Some(rank) = Rank::from_letter(char::from(letter.to_ascii_uppercase())) else {
+            return None;
+        };
         let card = Card { suit, rank };
         if hand.contains(card) {
             return None;

@@ -20,8 +20,8 @@ impl fmt::Display for Holding {
     fn fmt<W: fmt::Write>(&self, f: &mut fmt::Formatter<W>) -> fmt::Result {
         let hand = self.hand;
         let suit = self.suit;
-        for rank in Rank::DOWN {
-            if hand.contains(Card { suit, rank }) {
+        for rank in &Rank::DOWN {
+            if hand.contains(Card { suit, rank: *rank }) {
                 f.write_char(rank.letter())?;
             }
         }

@@ -8,8 +8,14 @@ pub fn in_four(text: &str, mark: char) -> Option<(&str, &str, &str, &str)>
     ensures parts { IfSome result (λ parts. JoinsFour mark text.now parts.0.now parts.1.now parts.2.now parts.3.now) }
     ensures none { IfNone result ((one two three four : List ℕ) → ¬ JoinsFour mark text.now one two three four) }
 {
-    let (one, rest) = text.split_once(mark)?;
-    let (two, rest) = rest.split_once(mark)?;
-    let (three, four) = rest.split_once(mark)?;
+    let Some((one, rest)) = text.split_once(mark) else {
+        return None;
+    };
+    let Some((two, rest)) = rest.split_once(mark) else {
+        return None;
+    };
+    let Some((three, four)) = rest.split_once(mark) else {
+        return None;
+    };
     Some((one, two, three, four))
 }

@@ -13,22 +13,21 @@ loop-letter-init c = record {
   only = λ card held. absurd (true≢false (sym held ∙ ap (λ hand. set.contains hand card) c.new-hand.ensures ∙ set.contains-empty card_cmp card));
 }
 
-pub returns-in_err-rank-clause-none : goal.returns-in_err-rank-clause-none
-returns-in_err-rank-clause-none c =
+pub returns-in_default-clause-none : goal.returns-in_default-clause-none
+returns-in_default-clause-none c = λ cards h.
     let letters = c.as_bytes-letter-items.result.now in
     let within : c.loop-letter.letter-index < length letters = omega arith in
-    rw c.from_residual.ensures
-    (λ cards h. names_none cards c.args.suit letters c.loop-letter.letter-index within
-    (λ rank e. c.in_err-rank.ensures.none rank (e ∙ sym (c.from.ensures ∙ c.to_ascii_uppercase.ensures.value)))
-    (subst (λ text. IsHoldingText cards c.args.suit text) (sym c.as_bytes-letter-items.ensures.value) h))
+    names_none cards c.args.suit letters c.loop-letter.letter-index within
+    (λ rank e. c.in_default.ensures.none rank (e ∙ sym (c.from.ensures ∙ c.to_ascii_uppercase.ensures.value)))
+    (subst (λ text. IsHoldingText cards c.args.suit text) (sym c.as_bytes-letter-items.ensures.value) h)
 
 pub returns-then-contains-clause-none : goal.returns-then-contains-clause-none
 returns-then-contains-clause-none c = λ cards h.
     let letters = c.as_bytes-letter-items.result.now in
     let within : c.loop-letter.letter-index < length letters = omega arith in
-    named_twice cards c.loop-letter.hand c.args.suit letters c.loop-letter.letter-index c.in_ok-rank.rank within
+    named_twice cards c.loop-letter.hand c.args.suit letters c.loop-letter.letter-index c.in-Some.rank within
     c.loop-letter.invariant.held
-    (sym (c.in_ok-rank.ensures.found ∙ c.from.ensures ∙ c.to_ascii_uppercase.ensures.value))
+    (sym (c.in-Some.ensures.found ∙ c.from.ensures ∙ c.to_ascii_uppercase.ensures.value))
     (sym c.contains.ensures ∙ c.if-contains.true)
     (subst (λ text. IsHoldingText cards c.args.suit text) (sym c.as_bytes-letter-items.ensures.value) h)
 
@@ -37,11 +36,11 @@ loop-letter-preserved c =
     let letters = c.as_bytes-letter-items.result.now in
     let i = c.loop-letter.letter-index in
     let within : i < length letters = omega arith in
-    let more = holding_more c.loop-letter.hand c.args.suit (take i letters) (get_or letters i 0) c.in_ok-rank.rank
+    let more = holding_more c.loop-letter.hand c.args.suit (take i letters) (get_or letters i 0) c.in-Some.rank
     c.loop-letter.invariant.held
-    (sym (c.in_ok-rank.ensures.found ∙ c.from.ensures ∙ c.to_ascii_uppercase.ensures.value))
+    (sym (c.in-Some.ensures.found ∙ c.from.ensures ∙ c.to_ascii_uppercase.ensures.value))
     (sym c.contains.ensures ∙ c.if-contains.false) in
     record {
       held = rw (c.insert.ensures, take_more letters i 0 within) more;
-      only = rw c.insert.ensures (only_more c.loop-letter.hand (record { suit = c.args.suit; rank = c.in_ok-rank.rank }) c.loop-letter.invariant.only);
+      only = rw c.insert.ensures (only_more c.loop-letter.hand (record { suit = c.args.suit; rank = c.in-Some.rank }) c.loop-letter.invariant.only);
     }
