@@ -5,7 +5,7 @@ ghost use Rattle.cards.specs.declared.rank.Rank.{Rank};
 use std::fmt;
 
 /// A card's rank in its suit (Law 1): the ace is the highest, the two the lowest.
-#[derive(Clone, Copy, PartialEq, Eq, PartialOrd, Ord)]
+#[derive(Clone, Copy, PartialEq, Eq)]
 pub enum Rank {
     Two,
     Three,
