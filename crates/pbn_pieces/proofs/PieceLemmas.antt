@@ -1,7 +1,7 @@
 -- How the pieces that a reader tells of are those of the text.
 use Rattle.std.proofs.lemmas.List.{take_all}
 use Rattle.std.proofs.Common.{suc, ◌≤◌, ◌-◌, take, drop, get_or, length, subst, ◌≡◌, ◌≢◌, ℕ, Bool, true, false, List, [], ◌∷◌, refl, sym, ap, ◌∙◌, arith}
-use Rattle.std.specs.Prelude.{◌==◌, ◌&&◌, Option, Some, None}
+use Rattle.std.specs.Prelude.{◌==◌, ◌&&◌, Option, Some, None, MatchOption, IfSome, IfNone}
 use Rattle.std.proofs.lemmas.Bool.{ne_eqb}
 use Rattle.pbn_pieces.specs.Pieces.{Piece, LineComment, EscapeLine, Plain, is_other_than, is_space, BlankLine, starts_line}
 use Rattle.pbn_pieces.specs.Cutting.{split, after_byte, closing, line_end, blank_before, blank_line, comment_at, quoted_at, tag_at, tagged_at, piece_at, or_piece, first_piece}
@@ -36,6 +36,17 @@ blank_of text spaces more rest return s e = ap (λ (s : List ℕ × List ℕ). b
 
 pub no_blank_of : (text spaces more : List ℕ) → (spaces, more) ≡ split is_space text → line_end more ≡ None → blank_line text ≡ None
 no_blank_of text spaces more s e = ap (λ (s : List ℕ × List ℕ). blank_before s.0 (line_end s.1)) (sym s) ∙ ap (blank_before spaces) e
+
+module _ {A : Type 0} where
+  -- what is known of an answer, read where there is one
+  pub some_of : (found : Option A) (N : Type 0) (P Q : A → Type 0) → ((x : A) → P x → Q x) → MatchOption found N P → IfSome found Q
+  some_of None N P Q f cases = tt
+  some_of (Some x) N P Q f cases = f x cases
+
+  -- and where there is none
+  pub none_of : (found : Option A) (N M : Type 0) (P : A → Type 0) → (N → M) → MatchOption found N P → IfNone found M
+  none_of None N M P f cases = f cases
+  none_of (Some x) N M P f cases = tt
 
 -- the computed first piece may stand there
 first_cuts : (starting : Bool) (text : List ℕ) (seen : Found) (rest : List ℕ) (piece : Piece) →

@@ -116,9 +116,10 @@ fn blank_line(text: &[u8]) -> Option<&[u8]>
     if let Some(rest) = after_byte(b'\n', rest) {
         return Some(rest);
     }
-    let rest = after_byte(b'\r', rest)?;
-    let rest = after_byte(b'\n', rest)?;
-    Some(rest)
+    match after_byte(b'\r', rest) {
+        Some(rest) => after_byte(b'\n', rest),
+        None => None,
+    }
 }
 
 fn after_comment(after: &[u8]) -> &[u8]

@@ -48,7 +48,9 @@ impl<'t> Pieces<'t> {
         ensures piece { IfSome result (λ found. Takes self.old found self.new) }
         ensures none { IfNone result (self.old.rest ≡ []) }
     {
-        let (found, rest) = next_piece(self.rest, self.starting, &mut self.unclosed)?;
+        let Some((found, rest)) = next_piece(self.rest, self.starting, &mut self.unclosed) else {
+            return None;
+        };
         self.starting = found.ends_line();
         self.rest = rest;
         Some(found)

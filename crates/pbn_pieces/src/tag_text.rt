@@ -42,14 +42,22 @@ pub(crate) fn tag(bytes: &[u8]) -> Option<(&[u8], &[u8], &[u8])>
         (λ found. (tag : Tag) × (tag_at bytes.now ≡ Some (tag, found.2.now)) × (tag.name ≡ found.0.now)
         × (tag.value ≡ found.1.now)) }
 {
-    let (_, rest) = split_off(Kind::Blanks, bytes);
-    let (name, rest) = name(rest)?;
-    let (_, rest) = split_off(Kind::Blanks, rest);
-    let rest = after_byte(b'"', rest)?;
-    let (value, rest) = quoted(rest)?;
-    let (_, rest) = split_off(Kind::Blanks, rest);
-    let rest = after_byte(b']', rest)?;
-    Some((name, value, rest))
+    let rest = split_off(Kind::Blanks, bytes).1;
+    let Some((name, rest)) = name(rest) else {
+        return None;
+    };
+    let rest = split_off(Kind::Blanks, rest).1;
+    let Some(rest) = after_byte(b'"', rest) else {
+        return None;
+    };
+    let Some((value, rest)) = quoted(rest) else {
+        return None;
+    };
+    let rest = split_off(Kind::Blanks, rest).1;
+    match after_byte(b']', rest) {
+        Some(rest) => Some((name, value, rest)),
+        None => None,
+    }
 }
 
 fn name(bytes: &[u8]) -> Option<(&[u8], &[u8])>
