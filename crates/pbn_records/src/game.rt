@@ -52,16 +52,19 @@ impl<'t> UsedTags<'t> {
         }
     }
 
-    /// Takes the value of the game before where a tag's own is `#`.
-    pub(crate) fn inherit(&mut self, before: &UsedTags<'t>)
-        ensures { (used : Used) →
-            shown (tag_of self.new used)
-            ≡ inheriting (shown (tag_of before.now used)) (shown (tag_of self.old used)) }
+    /// Ends the game: its tags become those of the game before, whose value each takes where its own is `#`.
+    pub(crate) fn end(&mut self, before: &mut UsedTags<'t>)
+        ensures ended { (used : Used) →
+            shown (tag_of before.new used)
+            ≡ inheriting (shown (tag_of before.old used)) (shown (tag_of self.old used)) }
+        ensures none { (used : Used) → tag_of self.new used ≡ None }
     {
         inherit(&mut self.board, &before.board);
         inherit(&mut self.dealer, &before.dealer);
         inherit(&mut self.vulnerable, &before.vulnerable);
         inherit(&mut self.deal, &before.deal);
+        *before = *self;
+        *self = UsedTags::new();
     }
 }
 

@@ -45,11 +45,14 @@ impl KnownBoards {
     }
 
     /// The boards in the order of reading, unless memory for them was refused.
-    pub(crate) fn in_order(self) -> Option<IndexMap<u8, Board>>
-        ensures { IfSome result (λ boards. (number : ℕ) → get nat_eq boards number ≡ in_place self.places number) }
+    pub(crate) fn in_order(&self) -> Option<&IndexMap<u8, Board>>
+        ensures { IfSome result (λ boards. (number : ℕ) →
+            get nat_eq boards.now number ≡ in_place self.now.places number) }
     {
-        let KnownBoards { in_order, .. } = self;
-        in_order
+        match &self.in_order {
+            Some(boards) => Some(boards),
+            None => None,
+        }
     }
 }
 

@@ -25,7 +25,7 @@ pub fn read_deals(alloc: Global, text: &[u8], boards: u8) -> Result<BoardSet, De
     if let Some(number) = unknown_board(&known, boards) {
         return Err(DealsError::MissingBoard(number));
     }
-    match board_set(alloc, known, boards) {
+    match board_set(alloc, &known, boards) {
         Some(set) => Ok(set),
         None => Err(DealsError::OutOfMemory),
     }
@@ -85,9 +85,9 @@ fn unknown_board(known: &KnownBoards, boards: u8) -> Option<u8>
 }
 
 /// The boards from 1, each of which is known, unless memory for them was refused.
-fn board_set(alloc: Global, known: KnownBoards, boards: u8) -> Option<BoardSet>
-    requires { KnowsFirst known boards }
-    ensures { IfSome result (HasFirst known boards) }
+fn board_set(alloc: Global, known: &KnownBoards, boards: u8) -> Option<BoardSet>
+    requires { KnowsFirst known.now boards }
+    ensures { IfSome result (HasFirst known.now boards) }
 {
     let Some(read) = known.in_order() else {
         return None;

@@ -50,9 +50,7 @@ impl<'t> State<'t> {
         if !self.started {
             return Ok(());
         }
-        self.tags.inherit(&self.before);
-        self.before = self.tags;
-        self.tags = UsedTags::new();
+        self.tags.end(&mut self.before);
         self.started = false;
         add_game(&mut self.known, &self.before, self.boards)
     }

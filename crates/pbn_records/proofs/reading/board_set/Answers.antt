@@ -9,10 +9,10 @@ loop-index-preserved c =
     let board = c.in-Some-get.board.now in
     let next : suc index ≡ index + 1 = omega arith in
     let is = sym (c.in-Some.ensures (index + 1)) ∙ sym c.in-Some-get.ensures.value in
-    let first = pushed c.args.known index c.loop-index.row.items board is c.loop-index.invariant.first in
+    let first = pushed c.args.known.now index c.loop-index.row.items board is c.loop-index.invariant.first in
     record {
-      first = subst (λ row. HasFirst c.args.known (index + 1) row) (sym c.push_reserved.ensures.items)
-          (subst (λ boards. HasFirst c.args.known boards (c.loop-index.row.items ++ board ∷ [])) next first);
+      first = subst (λ row. HasFirst c.args.known.now (index + 1) row) (sym c.push_reserved.ensures.items)
+          (subst (λ boards. HasFirst c.args.known.now boards (c.loop-index.row.items ++ board ∷ [])) next first);
       counted = omega (arith, c.push_reserved.ensures.len, c.loop-index.invariant.counted);
       room = omega (arith, c.push_reserved.ensures.capacity, c.loop-index.invariant.room);
     }

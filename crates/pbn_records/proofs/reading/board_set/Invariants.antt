@@ -4,7 +4,7 @@ use Rattle.pbn_records.proofs.reading.board_set.Given as goal
 
 abbrev pub invariant-loop-index : goal.invariant-loop-index
 invariant-loop-index l = record {
-  first : HasFirst l.fn.known l.index l.row.items;
+  first : HasFirst l.known l.index l.row.items;
   counted : vec_len l.row ≡ l.index;
-  room : l.fn.boards ≤ vec_capacity l.row;
+  room : l.boards ≤ vec_capacity l.row;
 }

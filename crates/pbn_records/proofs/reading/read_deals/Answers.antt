@@ -8,5 +8,5 @@ pub returns-in-Some-board_set-clause-set : goal.returns-in-Some-board_set-clause
 returns-in-Some-board_set-clause-set c =
     reads_of _ _ c.in-Ok.state _ c.in-Ok.ensures.read c.in_default.ensures.none c.in-Some-board_set.ensures
 
-pub returns-in-None-clause-refused : goal.returns-in-None-clause-refused
-returns-in-None-clause-refused c = readable _ _ c.in-Ok.state c.in-Ok.ensures.read c.in_default.ensures.none
+pub returns-clause-refused : goal.returns-clause-refused
+returns-clause-refused c = readable _ _ c.in-Ok.state c.in-Ok.ensures.read c.in_default.ensures.none

@@ -10,15 +10,15 @@ returns-clause-ended c =
     let new : State = record {
       boards = c.args.self.now.boards;
       started = false;
-      tags = c.new-self.result;
-      before = c.inherit.new.self;
+      tags = c.end.new.self;
+      before = c.end.new.before;
       known = c.add_game.new.known;
     } in
     ok_of c.add_game.result
     (λ known faultless walk at.
-    end_at old new walk (values_read c.inherit.new.self) refl refl c.new-self.ensures (λ used. refl)
+    end_at old new walk (values_read c.end.new.before) refl refl c.end.ensures.none (λ used. refl)
     (sym at.started ∙ c.if-not-self.false)
-    (values_at old walk (values_read c.inherit.new.self) at (λ used. ap as_read (c.inherit.ensures used)))
+    (values_at old walk (values_read c.end.new.before) at (λ used. ap as_read (c.end.ensures.ended used)))
     known faultless at)
     c.add_game.ensures.known c.add_game.ensures.faultless
 
@@ -26,7 +26,7 @@ pub returns-clause-fault : goal.returns-clause-fault
 returns-clause-fault c =
     err_of c.add_game.result
     (λ error faults walk at.
-    end_fault c.args.self.now walk (values_read c.inherit.new.self) error
-    (values_at c.args.self.now walk (values_read c.inherit.new.self) at (λ used. ap as_read (c.inherit.ensures used)))
+    end_fault c.args.self.now walk (values_read c.end.new.before) error
+    (values_at c.args.self.now walk (values_read c.end.new.before) at (λ used. ap as_read (c.end.ensures.ended used)))
     (sym at.started ∙ c.if-not-self.false) (faults walk.done at.known))
     c.add_game.ensures.fault
