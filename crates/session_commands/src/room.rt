@@ -29,10 +29,8 @@ pub fn filled<T: Copy>(alloc: Global, item: T, count: usize) -> Result<Vec<T>, A
     ensures items { IfOk result (λ copies. copies.items ≡ replicate count item) }
     ensures len { IfOk result (λ copies. vec_len copies ≡ count) }
 {
-    let mut copies = Vec::with_capacity(alloc, count)?;
-    for _place in 0..count {
-        push_within(&mut copies, item);
-    }
+    let mut copies = Vec::new(alloc);
+    copies.resize(count, item)?;
     Ok(copies)
 }
 
