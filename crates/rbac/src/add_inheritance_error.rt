@@ -1,13 +1,21 @@
 use session_roles::SeparationSet;
+use std::fmt;
 use thiserror::Error;
 
 /// Why an inheritance pair is not added.
 #[derive(Clone, Copy, Debug, Error)]
 pub enum AddInheritanceError {
-    #[error("the junior role inherits the senior one")]
+    /// The junior role inherits the senior one.
     Cycle,
-    #[error("the pair is there already")]
+    /// The pair is there already.
     AlreadyThere,
-    #[error("a user would be authorized for both roles of {0}")]
+    /// A user would be authorized for both roles of this set.
     Separation(SeparationSet),
+}
+
+/// As it is called here.
+impl fmt::Display for AddInheritanceError {
+    fn fmt<W: fmt::Write>(&self, f: &mut fmt::Formatter<W>) -> fmt::Result {
+        fmt::Debug::fmt(self, f)
+    }
 }

@@ -1,13 +1,21 @@
 use session_roles::SeparationSet;
+use std::fmt;
 use thiserror::Error;
 
 /// Why a role is not assigned to a user.
 #[derive(Clone, Copy, Debug, Error)]
 pub enum AssignError {
-    #[error("there is no such user")]
+    /// There is no such user.
     NoSuchUser,
-    #[error("the role is assigned to the user already")]
+    /// The role is assigned to the user already.
     AlreadyAssigned,
-    #[error("a user would be authorized for both roles of {0}")]
+    /// A user would be authorized for both roles of this set.
     Separation(SeparationSet),
+}
+
+/// As it is called here.
+impl fmt::Display for AssignError {
+    fn fmt<W: fmt::Write>(&self, f: &mut fmt::Formatter<W>) -> fmt::Result {
+        fmt::Debug::fmt(self, f)
+    }
 }

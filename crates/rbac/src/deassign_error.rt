@@ -4,15 +4,15 @@ use thiserror::Error;
 /// Why an assigned role is not taken away.
 #[derive(Clone, Copy, Debug, Error)]
 pub enum DeassignError {
+    /// There is no such user.
     NoSuchUser,
+    /// The role is not assigned to the user.
     NotAssigned,
 }
 
+/// As it is called here.
 impl fmt::Display for DeassignError {
     fn fmt<W: fmt::Write>(&self, f: &mut fmt::Formatter<W>) -> fmt::Result {
-        f.write_str(match self {
-            DeassignError::NoSuchUser => "there is no such user",
-            DeassignError::NotAssigned => "the role is not assigned to the user",
-        })
+        fmt::Debug::fmt(self, f)
     }
 }

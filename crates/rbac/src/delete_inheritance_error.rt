@@ -1,8 +1,16 @@
+use std::fmt;
 use thiserror::Error;
 
 /// Why an inheritance pair is not deleted.
 #[derive(Clone, Copy, Debug, Error)]
 pub enum DeleteInheritanceError {
-    #[error("the pair is not there")]
+    /// The pair is not there.
     NotThere,
+}
+
+/// As it is called here.
+impl fmt::Display for DeleteInheritanceError {
+    fn fmt<W: fmt::Write>(&self, f: &mut fmt::Formatter<W>) -> fmt::Result {
+        fmt::Debug::fmt(self, f)
+    }
 }

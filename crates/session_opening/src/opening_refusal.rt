@@ -5,45 +5,33 @@ use thiserror::Error;
 /// Why a session isn't opened, in the order in which the causes are looked at: first user by user, then of all users.
 #[derive(Clone, Copy, Debug, Error)]
 pub enum OpeningRefusal {
+    /// A name has 1 to 32 letters, digits, `-` and `_`.
     BadName,
+    /// There is a user of this name.
     UserExists,
+    /// There are more than 256 users.
     TooManyUsers,
+    /// A role is assigned to a user twice.
     AlreadyAssigned,
+    /// A user would be authorized for both roles of this set.
     Separation(SeparationSet),
+    /// The section has no such pair.
     NoSuchPair,
+    /// The pair doesn't sit in this direction.
     WrongDirection,
+    /// A user has a seat and isn't authorized for Contestant.
     NotContestant,
+    /// Another user has the seat.
     SeatTaken,
+    /// Nobody is authorized for Administrator.
     LastAdministrator,
+    /// Out of memory.
     OutOfMemory,
 }
 
-impl OpeningRefusal {
-    // What is said of it; where it names something, what is said beside the name.
-    fn text(&self) -> &'static str {
-        match self {
-            OpeningRefusal::BadName => "a name has 1 to 32 letters, digits, `-` and `_`",
-            OpeningRefusal::UserExists => "there is a user of this name",
-            OpeningRefusal::TooManyUsers => "there are more than 256 users",
-            OpeningRefusal::AlreadyAssigned => "a role is assigned to a user twice",
-            OpeningRefusal::Separation(_) => "a user would be authorized for both roles of",
-            OpeningRefusal::NoSuchPair => "the section has no such pair",
-            OpeningRefusal::WrongDirection => "the pair doesn't sit in this direction",
-            OpeningRefusal::NotContestant =>
-                "a user has a seat and isn't authorized for Contestant",
-            OpeningRefusal::SeatTaken => "another user has the seat",
-            OpeningRefusal::LastAdministrator => "nobody is authorized for Administrator",
-            OpeningRefusal::OutOfMemory => "out of memory",
-        }
-    }
-}
-
+/// As it is called here.
 impl fmt::Display for OpeningRefusal {
     fn fmt<W: fmt::Write>(&self, f: &mut fmt::Formatter<W>) -> fmt::Result {
-        let text = self.text();
-        match self {
-            OpeningRefusal::Separation(set) => write!(f, "{text} {set}"),
-            _ => f.write_str(text),
-        }
+        fmt::Debug::fmt(self, f)
     }
 }
