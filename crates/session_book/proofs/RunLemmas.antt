@@ -106,3 +106,14 @@ module _ (opening : SessionState) (before : List Entry) (actor : List ℕ) (trie
       subst (λ b. P b after cause) (sym stops_here) (subst (λ entries. P true entries cause) (sym same) (subst (λ other. P true journal other) (sym memory)
       (runs_stopped opening before actor tried command (record { journal = journal; answers = answers })
       (subst (λ b. Runs b opening before actor tried (record { journal = journal; answers = answers })) goes_on ran) accepted)))
+
+-- a batch that is run so is run so, however its parts are named
+pub runs_so : (stopped stops_now : Bool) (opening same_opening : SessionState) (before : List Entry) (actor : List ℕ) (tried tried_now : List Command) (journal : List Entry) (answers answers_now : List Answer) →
+    stopped ≡ stops_now → opening ≡ same_opening → tried ≡ tried_now → answers ≡ answers_now →
+    Runs stopped opening before actor tried (record { journal = journal; answers = answers }) →
+    Runs stops_now same_opening before actor tried_now (record { journal = journal; answers = answers_now })
+runs_so stopped stops_now opening same_opening before actor tried tried_now journal answers answers_now stopping opened same answered ran =
+    subst (λ answers. Runs stops_now same_opening before actor tried_now (record { journal = journal; answers = answers })) answered
+    (subst (λ tried. Runs stops_now same_opening before actor tried (record { journal = journal; answers = answers })) same
+    (subst (λ opening. Runs stops_now opening before actor tried (record { journal = journal; answers = answers })) opened
+    (subst (λ stopped. Runs stopped opening before actor tried (record { journal = journal; answers = answers })) stopping ran)))
