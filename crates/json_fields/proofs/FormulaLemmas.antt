@@ -1,17 +1,22 @@
 -- What a value's one member, and what the elements of a list say of the whole.
-use Rattle.std.proofs.Common.{◌≡◌, ℕ, zero, suc, get_or, drop, ◌+◌, ◌-◌, ◌<◌, ◌≤◌, max, List, [], ◌∷◌, ◌++◌, length, Bool, true, false, cond, nat_le, ◌&&◌, if◌then◌else◌, codes, Option, Some, None, IsSome, is_none, Err, option_map, option_and_then, refl, ap, sym, subst, ◌∙◌, arith}
+use Rattle.std.proofs.Common.{◌≡◌, ℕ, zero, suc, get_or, drop, ◌+◌, ◌-◌, ◌<◌, ◌≤◌, max, List, [], ◌∷◌, ◌++◌, length, Bool, true, false, cond, nat_le, ◌&&◌, codes, Option, Some, None, IsSome, is_some, Err, option_map, option_and_then, refl, ap, sym, subst, ◌∙◌, arith}
 use Rattle.std.proofs.lemmas.Grind.{common_steps}
 use Rattle.std.proofs.lemmas.Option.{same_Some}
-use Rattle.serde_json.specs.Data.{Data, null, boolean, number, string, array, object, Items, no_items, item, Members, no_members, member}
+use Rattle.serde_json.specs.Data.{Data, null, boolean, number, string, array, object, Items, no_items, item, no_members, member}
 use Rattle.serde_json.specs.Find.{as_array}
 use Rattle.serde_json.specs.View.{view, items_view}
 use Rattle.serde_json.specs.declared.value.Value.{Value}
+use Rattle.std.specs.Str.{bytes_eq}
+use Rattle.std.proofs.lemmas.Bool.{false_from_ne_true}
+use Rattle.std.proofs.lemmas.Slice.Eq.{bytes_eq-Decides}
 use Rattle.json_fields.proofs.ListLemmas.{item_count_of}
 use Rattle.json_fields.specs.Form.{item_count}
 use Rattle.query_filter.proofs.LimitLemmas.{left_after_first}
 use Rattle.query_filter.specs.declared.condition.Condition.{Condition}
 use Rattle.query_filter.specs.Formula.{Formula, Is, Not, And, Or, Formulas, no_formula, formula_then, formula, formulas}
 use Rattle.query_filter.specs.Limits.{depth, deepest, atoms, atoms_of_all, is_list_within, all_have_lists_within, most_depth, most_atoms, most_members, member_count, has_lists_within, is_within_limits, left_after, left_after_all}
+use Rattle.query_filter.specs.declared.atom.Atom.{Atom}
+use Rattle.json_fields.specs.Atom.{atom_called}
 use Rattle.json_fields.specs.Filter.{first_and_others, formula_of, formula_called, formulas_in, formulas_of, within_limits}
 use Rattle.json_fields.specs.declared.filter_fault.FilterFault.{FilterFault}
 use Rattle.json_fields.specs.declared.filter_fault.FilterFault.TheVariants.{BadField, OutOfMemory}
@@ -199,6 +204,48 @@ pub some_deeper : (deep : ℕ) (o : Option Formulas) → 1 ≤ deep → option_a
 some_deeper deep None h e = refl
 some_deeper deep (Some fs) h e = rw (deeper (deepest fs) deep h (refused (nat_le (deepest fs) (deep - 1)) fs e)) refl
 
+-- ---- by a member's name
+
+differs : (a b : List ℕ) → (a ≡ b → ⊥) → bytes_eq a b ≡ false
+differs a b other = false_from_ne_true (bytes_eq a b) (λ e. other ((bytes_eq-Decides a b).0 e))
+
+-- a list of formulas, a contrary and an atom, each as its name says
+pub each_called : (name : List ℕ) (d : Data) (fs : Formulas) → name ≡ codes "and" → formulas_in d ≡ Some fs
+    → formula_called name d ≡ Some (And fs)
+each_called name d fs is read = rw is (ap (option_map And) read)
+
+pub some_called : (name : List ℕ) (d : Data) (fs : Formulas) → name ≡ codes "or" → formulas_in d ≡ Some fs
+    → formula_called name d ≡ Some (Or fs)
+some_called name d fs is read = rw is (ap (option_map Or) read)
+
+pub contrary_called : (name : List ℕ) (d : Data) (f : Formula) → name ≡ codes "not" → formula_of d ≡ Some f
+    → formula_called name d ≡ Some (Not f)
+contrary_called name d f is read = rw is (ap (option_map Not) read)
+
+pub atom_named : (name : List ℕ) (d : Data) (read : Option Atom) → (name ≡ codes "and" → ⊥) → (name ≡ codes "or" → ⊥)
+    → (name ≡ codes "not" → ⊥) → read ≡ atom_called name d → formula_called name d ≡ option_map Is read
+atom_named name d read not_and not_or not_not is =
+    rw (differs name (codes "and") not_and, differs name (codes "or") not_or, differs name (codes "not") not_not, is) refl
+
+-- where what a member's name says isn't read, the member isn't
+pub each_fails : (deep : ℕ) (name : List ℕ) (d : Data) (fault : FilterFault) → 1 ≤ deep → name ≡ codes "and"
+    → Fails fault (option_and_then (none_deeper (deep - 1)) (formulas_in d))
+    → Fails fault (option_and_then (not_deeper deep) (formula_called name d))
+each_fails deep name d BadField h is e = rw is (each_deeper deep (formulas_in d) h e)
+each_fails deep name d OutOfMemory h is e = tt
+
+pub some_fails : (deep : ℕ) (name : List ℕ) (d : Data) (fault : FilterFault) → 1 ≤ deep → name ≡ codes "or"
+    → Fails fault (option_and_then (none_deeper (deep - 1)) (formulas_in d))
+    → Fails fault (option_and_then (not_deeper deep) (formula_called name d))
+some_fails deep name d BadField h is e = rw is (some_deeper deep (formulas_in d) h e)
+some_fails deep name d OutOfMemory h is e = tt
+
+pub contrary_fails : (deep : ℕ) (name : List ℕ) (d : Data) (fault : FilterFault) → 1 ≤ deep → name ≡ codes "not"
+    → Fails fault (option_and_then (not_deeper (deep - 1)) (formula_of d))
+    → Fails fault (option_and_then (not_deeper deep) (formula_called name d))
+contrary_fails deep name d BadField h is e = rw is (contrary_deeper deep (formula_of d) h e)
+contrary_fails deep name d OutOfMemory h is e = tt
+
 -- ---- lists, element by element
 
 -- what conditions that were read say, before what others do
@@ -288,6 +335,11 @@ pub unchecked : (o : Option Formula) → option_and_then (left_after most_depth 
 unchecked None h = refl
 unchecked (Some f) h = rw (refused (is_within_limits f) (most_atoms - atoms f) h) refl
 
+pub none_left : (o : Option Formula) (r : Option ℕ) → r ≡ option_and_then (left_after most_depth most_atoms) o → is_some r ≡ false
+    → option_and_then within_limits o ≡ None
+none_left o None is h = unchecked o (sym is)
+none_left o (Some left) is h = absurd (cc)
+
 passed : {A B : Type 0} (b : Bool) (x : A) (y : B) (z : A) → cond b (Some x) None ≡ Some z → IsSome (cond b (Some y) None)
 passed true x y z h = refl
 passed false x y z h = absurd (cc)
@@ -297,7 +349,7 @@ pub checked : (o : Option Formula) (left : ℕ) → option_and_then (left_after 
 checked None left h = absurd (cc)
 checked (Some f) left h = passed (is_within_limits f) (most_atoms - atoms f) f left h
 
-some_left : (o : Option Formula) (r : Option ℕ) → r ≡ option_and_then (left_after most_depth most_atoms) o → is_none r ≡ false
+some_left : (o : Option Formula) (r : Option ℕ) → r ≡ option_and_then (left_after most_depth most_atoms) o → is_some r ≡ true
     → IsSome (option_and_then within_limits o)
 some_left o None is h = absurd (cc)
 some_left o (Some left) is h = checked o left (sym is)
@@ -313,6 +365,6 @@ too_deep (Some f) h =
 
 -- a fault after the check
 pub fault_reads : (o : Option Formula) (r : Option ℕ) (fault : FilterFault) → r ≡ option_and_then (left_after most_depth most_atoms) o
-    → is_none r ≡ false → Fails fault (option_and_then (not_deeper most_depth) o) → Reads (Err fault) (option_and_then within_limits o)
+    → is_some r ≡ true → Fails fault (option_and_then (not_deeper most_depth) o) → Reads (Err fault) (option_and_then within_limits o)
 fault_reads o r BadField is some h = too_deep o h
 fault_reads o r OutOfMemory is some h = some_left o r is some

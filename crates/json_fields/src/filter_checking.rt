@@ -14,7 +14,6 @@ use serde_json::Value;
 // How many atoms may still follow the formula that a value is, where so many might stand. The value is looked at no
 // deeper than a filter may go.
 #[cycle(checking)]
-#[tactic(auto, using(crate::proofs::FormulaLemmas::formula_of_sole, crate::proofs::FormulaLemmas::none_left_at_no_depth))]
 pub(crate) fn atoms_left(value: &Value, depth: u8, atoms: u8) -> Option<u8>
     ensures { result ≡ option_and_then (left_after depth atoms) (formula_of (view value.now)) }
 {
@@ -28,7 +27,6 @@ pub(crate) fn atoms_left(value: &Value, depth: u8, atoms: u8) -> Option<u8>
 }
 
 #[cycle(checking)]
-#[tactic(auto, using(crate::proofs::FormulaLemmas::left_after_contrary, crate::proofs::FormulaLemmas::left_after_each, crate::proofs::FormulaLemmas::left_after_some))]
 fn atoms_left_of_member(name: &str, value: &Value, depth: u8, atoms: u8) -> Option<u8>
     requires { 1 ≤ depth }
     ensures { result ≡ option_and_then (left_after depth atoms) (formula_called name.now (view value.now)) }
@@ -45,7 +43,6 @@ fn atoms_left_of_member(name: &str, value: &Value, depth: u8, atoms: u8) -> Opti
 }
 
 #[cycle(checking)]
-#[tactic(auto, using(crate::proofs::FormulaLemmas::formulas_in_array))]
 fn atoms_left_of_list(value: &Value, depth: u8, atoms: u8) -> Option<u8>
     ensures { result ≡ option_and_then (left_after_list depth atoms) (formulas_in (view value.now)) }
 {
@@ -56,7 +53,6 @@ fn atoms_left_of_list(value: &Value, depth: u8, atoms: u8) -> Option<u8>
 }
 
 #[cycle(checking)]
-#[tactic(auto, using(crate::proofs::FormulaLemmas::left_after_values))]
 fn atoms_left_of_items(list: &[Value], depth: u8, atoms: u8) -> Option<u8>
     ensures { result ≡ option_and_then (left_after_list depth atoms) (formulas_of (items_view list.now)) }
 {

@@ -15,7 +15,6 @@ use serde_json::Value;
 use std::alloc::Global;
 
 /// The filter that a message's value is.
-#[tactic(auto, using(crate::proofs::FormulaLemmas::unchecked, crate::proofs::FormulaLemmas::fault_reads))]
 pub fn read_filter(alloc: Global, value: &Value) -> Result<Filter, FilterFault>
     ensures { Reads result (filter_of (view value.now)) }
 {
@@ -29,7 +28,6 @@ pub fn read_filter(alloc: Global, value: &Value) -> Result<Filter, FilterFault>
 }
 
 #[cycle(reading)]
-#[tactic(auto, using(crate::proofs::FormulaLemmas::formula_of_sole, crate::proofs::FormulaLemmas::none_at_no_depth))]
 fn condition_of(alloc: Global, value: &Value, depth: u8) -> Result<Condition, FilterFault>
     ensures ok { IfOk result (λ condition. formula_of (view value.now) ≡ Some (formula condition)) }
     ensures fault { IfErr result (λ fault. Fails fault (option_and_then (not_deeper depth) (formula_of (view value.now)))) }
@@ -44,7 +42,6 @@ fn condition_of(alloc: Global, value: &Value, depth: u8) -> Result<Condition, Fi
 }
 
 #[cycle(reading)]
-#[tactic(auto, using(crate::proofs::FormulaLemmas::contrary_deeper, crate::proofs::FormulaLemmas::each_deeper, crate::proofs::FormulaLemmas::some_deeper))]
 fn condition_called(
     alloc: Global,
     name: &str,
@@ -70,7 +67,6 @@ fn condition_called(
 }
 
 #[cycle(reading)]
-#[tactic(auto, using(crate::proofs::FormulaLemmas::formulas_in_array))]
 fn conditions_in(alloc: Global, value: &Value, depth: u8) -> Result<Vec<Condition>, FilterFault>
     ensures ok { IfOk result (λ members. formulas_in (view value.now) ≡ Some (formulas members.items)) }
     ensures fault { IfErr result (λ fault. Fails fault (option_and_then (none_deeper depth) (formulas_in (view value.now)))) }
@@ -82,7 +78,6 @@ fn conditions_in(alloc: Global, value: &Value, depth: u8) -> Result<Vec<Conditio
 }
 
 #[cycle(reading)]
-#[tactic(auto, using(crate::proofs::FormulaLemmas::value_fails, crate::proofs::FormulaLemmas::all_kept))]
 fn conditions_of(alloc: Global, list: &[Value], depth: u8) -> Result<Vec<Condition>, FilterFault>
     ensures ok { IfOk result (λ members. formulas_of (items_view list.now) ≡ Some (formulas members.items)) }
     ensures fault { IfErr result (λ fault. Fails fault (option_and_then (none_deeper depth) (formulas_of (items_view list.now)))) }

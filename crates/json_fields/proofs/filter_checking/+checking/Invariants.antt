@@ -1,4 +1,4 @@
-use Rattle.std.proofs.Common.{◌≡◌, ℕ, ◌+◌, ◌*◌, drop, option_and_then}
+use Rattle.std.proofs.Common.{◌≡◌, ◌+◌, ◌*◌, drop, option_and_then}
 use Rattle.serde_json.specs.View.{items_view}
 use Rattle.query_filter.specs.Limits.{left_after_all}
 use Rattle.json_fields.specs.Filter.{formulas_of}
