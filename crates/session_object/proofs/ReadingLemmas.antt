@@ -1,10 +1,14 @@
 -- What is read from a session object's text, and why it is refused.
-use Rattle.std.proofs.Common.{◌≡◌, ◌≤◌, ◌==◌, ℕ, true, is_some, List, length, Option, Some, Result, Ok, Err, IfOk, IfErr, IsUtf8, refl, sym, ap, subst, ◌∙◌, arith}
+use Rattle.std.proofs.Common.{◌≡◌, ◌<◌, ◌≤◌, ◌==◌, ℕ, zero, suc, true, is_some, List, [], ◌∷◌, length, get_or, drop, append-nil, Option, Some, None, Result, Ok, Err, IfOk, IfErr, IsUtf8, refl, sym, ap, subst, ◌∙◌, arith}
 use Rattle.std.proofs.lemmas.Str.{utf8_valid_len-IsUtf8}
 use Rattle.std.proofs.lemmas.Option.{same_Some}
 use Rattle.serde_json.specs.Data.{Data}
 use Rattle.serde_json.specs.Read.{read}
 use Rattle.serde_json.specs.Find.{as_object}
+use Rattle.serde_json.specs.View.{view, items_view}
+use Rattle.serde_json.specs.declared.value.Value.{Value}
+use Rattle.json_fields.specs.Form.{first_then, each}
+use Rattle.json_fields.proofs.ListLemmas.{with_front}
 use Rattle.user_names.specs.First.{IsFirst}
 use Rattle.movement.specs.Movement.{Section, boards_of}
 use Rattle.movement.specs.Refusal.{Refuses, number_of}
@@ -21,6 +25,44 @@ use Rattle.session_object.specs.declared.session_fault.SessionFault.TheVariants.
 use Rattle.session_object.specs.Session.{Session, session_of, IsSession}
 use Rattle.session_object.specs.Reading.{section_of, IsAllowed, ReadsObject, HasNoBoards, IsRefusedObject, most_bytes, Reads, IsObjectText, IsRefused, session_of_parts, fault_of_deals, Fails}
 use Rattle.session_object.proofs.SessionLemmas.{session_read, session_reads, one_session}
+
+-- ---- the elements of a list
+
+-- where an element isn't read, those from it on aren't
+none_from : {A : Type 0} (read : Data → Option A) (values : List Value) (i : ℕ) (v : Value) → i < length values → v ≡ get_or values i v
+    → read (view v) ≡ None → each read (items_view (drop i values)) ≡ None
+none_from read [] i v below is none = absurd (omega arith)
+none_from read (w ∷ values) zero v below is none =
+    ap (λ o. first_then o (each read (items_view values))) (sym (ap (λ (x : Value). read (view x)) is) ∙ none)
+none_from read (w ∷ values) (suc i) v below is none = none_from read values i v (omega arith) is none
+
+-- nor is the list
+pub each_fails : {A : Type 0} (read : Data → Option A) (front : List A) (values : List Value) (i : ℕ) (v : Value) (fault : SessionFault)
+    → with_front front (each read (items_view (drop i values))) ≡ each read (items_view values)
+    → i < length values → v ≡ get_or values i v → Fails fault (read (view v)) → Fails fault (each read (items_view values))
+each_fails read front values i v TooLong kept below is fails = fails
+each_fails read front values i v Malformed kept below is fails = fails
+each_fails read front values i v BadField kept below is fails = sym kept ∙ ap (with_front front) (none_from read values i v below is fails)
+each_fails read front values i v (Movement error) kept below is fails = fails
+each_fails read front values i v (Deals error) kept below is fails = fails
+each_fails read front values i v OutOfMemory kept below is fails = tt
+
+-- past the last element there is nothing to read
+past_end : {A : Type 0} (read : Data → Option A) (values : List Value) (i : ℕ) → length values ≤ i
+    → each read (items_view (drop i values)) ≡ Some []
+past_end read [] zero end = refl
+past_end read [] (suc i) end = refl
+past_end read (w ∷ values) zero end = absurd (omega arith)
+past_end read (w ∷ values) (suc i) end = past_end read values i (omega arith)
+
+-- what was read is then the whole list
+pub each_end : {A : Type 0} (read : Data → Option A) (front : List A) (values : List Value) (i : ℕ)
+    → with_front front (each read (items_view (drop i values))) ≡ each read (items_view values) → length values ≤ i
+    → each read (items_view values) ≡ Some front
+each_end read front values i kept end =
+    sym kept ∙ (ap (with_front front) (past_end read values i end) ∙ ap Some (append-nil front))
+
+-- ---- objects
 
 module _ (given : Option (List ℕ)) (d : Data) where
   -- a member is wrong, or memory was refused
