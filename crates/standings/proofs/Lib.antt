@@ -1,3 +1,4 @@
+pub mod EachLemmas
 pub mod EarningLemmas
 pub mod OrderLemmas
 pub mod PairLemmas
