@@ -2,7 +2,12 @@
 //! clients over WebSockets.
 #![tactic(auto)]
 
-use server_program::run_program;
+mod calling;
+mod files;
+mod serving;
+mod session_server;
+
+use crate::calling::run_program;
 use std::process::ExitCode;
 
 fn main(rt: HostRuntime) -> ExitCode {

@@ -1,10 +1,14 @@
-//! The words that the results server's program is called with.
+//! The words that the results server's program is called with, and how it ends where nothing is run by them.
 #![tactic(auto)]
 
+mod called;
 mod command_line;
 pub mod laws;
 mod reading;
+mod statuses;
 mod words;
 
+pub use called::called_with;
 pub use reading::read_words;
+pub use statuses::status_of_words;
 pub use words::{Serving, Words};

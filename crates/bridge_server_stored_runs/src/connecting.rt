@@ -11,7 +11,7 @@ use std::sync::Wait;
 use wire::fault_text;
 
 /// Answers each line after the first. A session that isn't opened ends this.
-pub fn answer_connections<R: Wait + AllocGlobal, O: Write>(
+pub(crate) fn answer_connections<R: Wait + AllocGlobal, O: Write>(
     rt: &R,
     text: &str,
     writer: &mut O,

@@ -2,12 +2,11 @@
 
 ghost use Rattle.std.specs.Prelude.{◌≡◌, ◌≢◌, []};
 ghost use Rattle.std.specs.Io.KnownBytes.{Appends};
-ghost use Rattle.server_program.specs.Status.{IsStatus};
+ghost use Rattle.program.specs.Status.{IsStatus};
 
 use crate::files::read_file;
 use crate::session_server::SessionServer;
-use crate::statuses::status_of;
-use program::{Fault, Keeper, PlainKeeper, open_session};
+use program::{Fault, Keeper, PlainKeeper, open_session, status_of_fault};
 use server_words::Serving;
 use std::io::{Read, Write};
 use std::net::{Net, OpenListener};
@@ -28,7 +27,7 @@ pub(crate) fn status_of_serving<R: Files + Net + Clock + Wait + AllocGlobal, E: 
 {
     match serve(rt, serving) {
         Ok(()) => 0,
-        Err(fault) => status_of(fault, errors),
+        Err(fault) => status_of_fault(fault, errors),
     }
 }
 

@@ -1,42 +1,24 @@
-//! The statuses with which the program ends, and what it says then.
+//! The words that the program is called with, and how it ends where nothing is run by them.
 
 ghost use Rattle.std.specs.Prelude.{◌≡◌, ◌≢◌, ◌⊎◌, []};
 ghost use Rattle.std.specs.Io.KnownBytes.{Appends};
 ghost use Rattle.clap.specs.Words.{kind_of};
-ghost use Rattle.server_program.specs.Status.{IsStatus, status_of};
 
 use clap::Error;
 use clap::error::ErrorKind;
-use program::Fault;
 use script_lines::write_text;
 use std::alloc::Global;
 use std::io::Write;
 
-/// The status after a fault. One of the session is named.
-pub(crate) fn status_of<E: Write>(fault: Fault, errors: &mut E) -> u8
-    ensures status { result ≡ status_of fault }
-    ensures silent { result ≢ 1 → Appends (E.contents errors.old) (E.contents errors.new) [] }
-{
-    match fault {
-        Fault::Session(_) | Fault::Opening(_) => {
-            // Where it can't be written, the status still tells.
-            let _unwritten = writeln!(errors, "bridge_server: {fault}");
-            1
-        }
-        Fault::Input | Fault::Output => 3,
-        Fault::OutOfMemory => 4,
-    }
-}
-
-/// The status after words by which nothing is run: bad ones, which `clap` explains, or a request for help, which it gives.
-pub(crate) fn status_of_words<W: Write, E: Write>(
+/// The status after words by which nothing is run: 2 after bad ones, which `clap` explains, 0 after a request for help, which it
+/// gives, 3 where help can't be written, and 4 where there is no memory.
+pub fn status_of_words<W: Write, E: Write>(
     alloc: Global,
     error: &Error,
     writer: &mut W,
     errors: &mut E,
 ) -> u8
-    ensures statuses { IsStatus result }
-    ensures named { result ≢ 1 }
+    ensures statuses { (result ≡ 0) ⊎ (result ≡ 2) ⊎ (result ≡ 3) ⊎ (result ≡ 4) }
     ensures unwritten { result ≡ 2 → Appends (W.contents writer.old) (W.contents writer.new) [] }
     ensures silent { result ≢ 2 → Appends (E.contents errors.old) (E.contents errors.new) [] }
     ensures memory { kind_of error.now ≡ ErrorKind.OutOfMemory → result ≡ 4 }

@@ -19,7 +19,7 @@ use user_names::Name;
 use wire::{AuditRange, Request, RequestBody, Source, read_request, receipt_text};
 
 /// Answers each line after the first. A session that isn't opened, or a line that can't be answered, ends this.
-pub fn answer_beside_solver<O: Write>(
+pub(crate) fn answer_beside_solver<O: Write>(
     alloc: Global,
     text: &str,
     writer: &mut O,

@@ -1,7 +1,7 @@
 use Rattle.std.proofs.Common.{◌≡◌, arith}
 use Rattle.std.specs.Prelude.{map, string_bytes}
-use Rattle.server_program.proofs.CallingLemmas.{nothing_ran, not_shown}
-use Rattle.server_program.proofs.calling.run_words.Goals as goal
+use Rattle.bridge_server.proofs.CallingLemmas.{nothing_ran, not_shown}
+use Rattle.bridge_server.proofs.calling.run_words.Goals as goal
 
 pub returns-in-Err-clause-understood : goal.returns-in-Err-clause-understood
 returns-in-Err-clause-understood g c = λ asks is.

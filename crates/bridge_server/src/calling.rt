@@ -8,14 +8,11 @@ ghost use Rattle.program.specs.Writes.{IsDone, EndsWith};
 ghost use Rattle.server_words.specs.Words.{AsksFor};
 ghost use Rattle.server_words.specs.declared.words.Words.TheVariants.{Script, Serve};
 ghost use Rattle.server_words.specs.declared.words.Serving.{Serving};
-ghost use Rattle.server_program.specs.Status.{IsStatus, status_of};
+ghost use Rattle.program.specs.Status.{IsStatus, status_of};
 
 use crate::serving::status_of_serving;
-use crate::statuses::{status_of, status_of_words};
-use program::run_script;
-use server_words::{Words, read_words};
-use std::alloc::{AllocError, Global};
-use std::env;
+use program::status_of_script;
+use server_words::{Words, called_with, read_words, status_of_words};
 use std::io::{self, BufReader, Read, Write};
 use std::net::Net;
 use std::rt::{Files, Runtime};
@@ -23,7 +20,7 @@ use std::sync::Wait;
 use std::time::Clock;
 
 /// Runs the program with these words, its name first, and answers the status with which it ends.
-pub fn run_words<R: Files + Net + Clock + Wait + AllocGlobal, I: Read, W: Write, E: Write>(
+pub(crate) fn run_words<R: Files + Net + Clock + Wait + AllocGlobal, I: Read, W: Write, E: Write>(
     rt: &R,
     words: &[String],
     reader: &mut I,
@@ -60,39 +57,8 @@ pub fn run_words<R: Files + Net + Clock + Wait + AllocGlobal, I: Read, W: Write,
     }
 }
 
-// The status after a script.
-fn status_of_script<I: Read, W: Write, E: Write>(
-    alloc: Global,
-    reader: &mut I,
-    writer: &mut W,
-    errors: &mut E,
-) -> u8
-    ensures statuses { IsStatus result }
-    ensures silent { result ≢ 1 → Appends (E.contents errors.old) (E.contents errors.new) [] }
-    ensures understood { result ≢ 2 }
-    ensures refused { result ≡ 1 →
-        IfSome (I.remaining reader.old) (λ input. (fault : Fault)
-        × (status_of fault ≡ 1)
-        × EndsWith fault input (I.remaining reader.new) (W.contents writer.old) (W.contents writer.new)) }
-    ensures answered { result ≡ 0 →
-        IfSome (I.remaining reader.old) (λ input.
-        IsDone input (I.remaining reader.new) (W.contents writer.old) (W.contents writer.new)) }
-    ensures failed { result ≡ 3 →
-        IfSome (I.remaining reader.old) (λ input.
-        EndsWith Input input (I.remaining reader.new) (W.contents writer.old) (W.contents writer.new)
-        ⊎ EndsWith Output input (I.remaining reader.new) (W.contents writer.old) (W.contents writer.new)) }
-    ensures no_memory { result ≡ 4 →
-        IfSome (I.remaining reader.old) (λ input.
-        EndsWith OutOfMemory input (I.remaining reader.new) (W.contents writer.old) (W.contents writer.new)) }
-{
-    match run_script(alloc, reader, writer) {
-        Ok(()) => 0,
-        Err(fault) => status_of(fault, errors),
-    }
-}
-
 /// Hands over the words that the program was called with, and its standard streams but the one for errors.
-pub fn run_program<R: Runtime + Net + Wait + AllocGlobal, E: Write>(rt: &R, errors: &mut E) -> u8
+pub(crate) fn run_program<R: Runtime + Net + Wait + AllocGlobal, E: Write>(rt: &R, errors: &mut E) -> u8
     ensures { IsStatus result }
 {
     let Ok(words) = called_with(rt) else {
@@ -108,22 +74,4 @@ pub fn run_program<R: Runtime + Net + Wait + AllocGlobal, E: Write>(rt: &R, erro
         &mut io::writer(rt),
         errors,
     )
-}
-
-// The words that the program was called with, its name first. Where one is no text there are none, and they aren't understood.
-fn called_with<R: Runtime + AllocGlobal>(rt: &R) -> Result<Vec<String>, AllocError> {
-    match env::args(rt) {
-        Ok(words) => listed(rt.alloc(), words),
-        Err(error) if error.kind() == io::ErrorKind::OutOfMemory => Err(AllocError),
-        Err(_) => Ok(Vec::new(rt.alloc())),
-    }
-}
-
-// The words one after another.
-fn listed(alloc: Global, words: env::Args) -> Result<Vec<String>, AllocError> {
-    let mut all = Vec::new(alloc);
-    for word in words {
-        all.push(word)?;
-    }
-    Ok(all)
 }

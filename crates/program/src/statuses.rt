@@ -1,0 +1,61 @@
+//! The statuses with which the program ends after a script, or where no session is opened.
+
+ghost use Rattle.std.specs.Prelude.{◌≡◌, ◌≢◌, ◌⊎◌, [], IfSome};
+ghost use Rattle.std.specs.Io.KnownBytes.{Appends};
+ghost use Rattle.program.specs.declared.fault.Fault.TheVariants.{Input, Output, OutOfMemory};
+ghost use Rattle.program.specs.declared.fault.Fault.{Fault};
+ghost use Rattle.program.specs.Status.{IsStatus, status_of};
+ghost use Rattle.program.specs.Writes.{IsDone, EndsWith};
+
+use crate::fault::Fault;
+use crate::script::run_script;
+use std::alloc::Global;
+use std::io::{Read, Write};
+
+/// Runs a script and answers the status after it: 0 where it was answered whole, 1 where its first line opens no session, which is
+/// named on the place for errors, 3 where something couldn't be read or written, 4 where there was no memory.
+pub fn status_of_script<I: Read, W: Write, E: Write>(
+    alloc: Global,
+    reader: &mut I,
+    writer: &mut W,
+    errors: &mut E,
+) -> u8
+    ensures statuses { IsStatus result }
+    ensures silent { result ≢ 1 → Appends (E.contents errors.old) (E.contents errors.new) [] }
+    ensures understood { result ≢ 2 }
+    ensures refused { result ≡ 1 →
+        IfSome (I.remaining reader.old) (λ input. (fault : Fault)
+        × (status_of fault ≡ 1)
+        × EndsWith fault input (I.remaining reader.new) (W.contents writer.old) (W.contents writer.new)) }
+    ensures answered { result ≡ 0 →
+        IfSome (I.remaining reader.old) (λ input.
+        IsDone input (I.remaining reader.new) (W.contents writer.old) (W.contents writer.new)) }
+    ensures failed { result ≡ 3 →
+        IfSome (I.remaining reader.old) (λ input.
+        EndsWith Input input (I.remaining reader.new) (W.contents writer.old) (W.contents writer.new)
+        ⊎ EndsWith Output input (I.remaining reader.new) (W.contents writer.old) (W.contents writer.new)) }
+    ensures no_memory { result ≡ 4 →
+        IfSome (I.remaining reader.old) (λ input.
+        EndsWith OutOfMemory input (I.remaining reader.new) (W.contents writer.old) (W.contents writer.new)) }
+{
+    match run_script(alloc, reader, writer) {
+        Ok(()) => 0,
+        Err(fault) => status_of_fault(fault, errors),
+    }
+}
+
+/// The status after a fault. One of the session is named.
+pub fn status_of_fault<E: Write>(fault: Fault, errors: &mut E) -> u8
+    ensures status { result ≡ status_of fault }
+    ensures silent { result ≢ 1 → Appends (E.contents errors.old) (E.contents errors.new) [] }
+{
+    match fault {
+        Fault::Session(_) | Fault::Opening(_) => {
+            // Where it can't be written, the status still tells.
+            let _unwritten = writeln!(errors, "bridge_server: {fault}");
+            1
+        }
+        Fault::Input | Fault::Output => 3,
+        Fault::OutOfMemory => 4,
+    }
+}
