@@ -69,6 +69,8 @@ def first_connection(run):
     run.fails({"as": "d", "audit": {"from": 1, "limit": 10}}, "BadField")
     run.fails({"as": "n1", "hello": "n1", "token": "abc"}, "BadField")
     run.fails({"hello": "n1"}, "BadField")
+    run.fails({"hello": "n1", "since": 0, "token": "abc"}, "BadField")
+    run.fails({"hello": 5, "token": "abc"}, "BadField")
     run.fails({"hello": "n1", "token": 1}, "BadField")
     run.fails({"hello": "n" * 33, "token": "abc"}, "BadField")
     run.fails({"ask": "list", "filter": {"and": [{"made": True}] * 33}}, "BadField")

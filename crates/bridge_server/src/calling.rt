@@ -58,7 +58,10 @@ pub(crate) fn run_words<R: Files + Net + Clock + Wait + AllocGlobal, I: Read, W:
 }
 
 /// Hands over the words that the program was called with, and its standard streams but the one for errors.
-pub(crate) fn run_program<R: Runtime + Net + Wait + AllocGlobal, E: Write>(rt: &R, errors: &mut E) -> u8
+pub(crate) fn run_program<R: Runtime + Net + Wait + AllocGlobal, E: Write>(
+    rt: &R,
+    errors: &mut E,
+) -> u8
     ensures { IsStatus result }
 {
     let Ok(words) = called_with(rt) else {

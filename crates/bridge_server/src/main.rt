@@ -6,6 +6,8 @@ mod calling;
 mod files;
 mod serving;
 mod session_server;
+#[cfg(test)]
+mod tests;
 
 use crate::calling::run_program;
 use std::process::ExitCode;

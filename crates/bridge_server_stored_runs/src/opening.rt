@@ -22,12 +22,7 @@ fn line_of(alloc: Global, object: &str) -> Result<Vec<u8>, AllocError> {
     let script = format!(in alloc; "{object}\n{MESSAGE}\n")?;
     let mut answers = Vec::new(alloc);
     let mut errors = Vec::new(alloc);
-    let status = status_of_script(
-        alloc,
-        &mut script.as_bytes(),
-        &mut answers,
-        &mut errors,
-    );
+    let status = status_of_script(alloc, &mut script.as_bytes(), &mut answers, &mut errors);
     joined(alloc, status, errors.as_slice(), answers.as_slice())
 }
 

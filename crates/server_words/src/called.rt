@@ -1,9 +1,8 @@
 //! The words, as the system has them.
 
 use std::alloc::{AllocError, Global};
-use std::env;
-use std::io;
 use std::rt::Runtime;
+use std::{env, io};
 
 /// The words that the program was called with, its name first. Where one is no text there are none, and they aren't understood.
 pub fn called_with<R: Runtime + AllocGlobal>(rt: &R) -> Result<Vec<String>, AllocError> {

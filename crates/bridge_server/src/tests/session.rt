@@ -3,15 +3,15 @@
 use std::alloc::{AllocError, Global};
 
 /// Its session object, with its users and boards.
-pub const SESSION: &str =
+pub(super) const SESSION: &str =
     r#"{"budget":0,"pbn":"[Board \"1\"]\n[Deal \"N:AKQJT98765432... .AKQJT98765432.. ..AKQJT98765432. ...AKQJT98765432\"]\n\n[Board \"2\"]\n[Deal \"E:AKQJT98765432... .AKQJT98765432.. ..AKQJT98765432. ...AKQJT98765432\"]\n\n[Board \"3\"]\n[Deal \"S:AKQJT98765432... .AKQJT98765432.. ..AKQJT98765432. ...AKQJT98765432\"]\n\n","per_set":1,"rounds":3,"tables":3,"users":[{"digest":"ba7816bf8f01cfea414140de5dae2223b00361a396177a9cb410ff61f20015ad","name":"a","roles":["Administrator"]},{"digest":"ba7816bf8f01cfea414140de5dae2223b00361a396177a9cb410ff61f20015ad","name":"d","roles":["Director"]},{"digest":"ba7816bf8f01cfea414140de5dae2223b00361a396177a9cb410ff61f20015ad","name":"d2","roles":["Director"]},{"digest":"ba7816bf8f01cfea414140de5dae2223b00361a396177a9cb410ff61f20015ad","name":"k","roles":["Scorer"]},{"digest":"ba7816bf8f01cfea414140de5dae2223b00361a396177a9cb410ff61f20015ad","name":"s","roles":["Spectator"]},{"digest":"ba7816bf8f01cfea414140de5dae2223b00361a396177a9cb410ff61f20015ad","name":"n1","pair":"NS1","place":"N","roles":["Contestant"]},{"digest":"ba7816bf8f01cfea414140de5dae2223b00361a396177a9cb410ff61f20015ad","name":"n2","pair":"NS2","place":"N","roles":["Contestant"]}]}"#;
 
 /// Its session object without its boards.
-pub const SESSION_ALONE: &str =
+pub(super) const SESSION_ALONE: &str =
     r#"{"budget":0,"per_set":1,"rounds":3,"tables":3,"users":[{"digest":"ba7816bf8f01cfea414140de5dae2223b00361a396177a9cb410ff61f20015ad","name":"a","roles":["Administrator"]},{"digest":"ba7816bf8f01cfea414140de5dae2223b00361a396177a9cb410ff61f20015ad","name":"d","roles":["Director"]},{"digest":"ba7816bf8f01cfea414140de5dae2223b00361a396177a9cb410ff61f20015ad","name":"d2","roles":["Director"]},{"digest":"ba7816bf8f01cfea414140de5dae2223b00361a396177a9cb410ff61f20015ad","name":"k","roles":["Scorer"]},{"digest":"ba7816bf8f01cfea414140de5dae2223b00361a396177a9cb410ff61f20015ad","name":"s","roles":["Spectator"]},{"digest":"ba7816bf8f01cfea414140de5dae2223b00361a396177a9cb410ff61f20015ad","name":"n1","pair":"NS1","place":"N","roles":["Contestant"]},{"digest":"ba7816bf8f01cfea414140de5dae2223b00361a396177a9cb410ff61f20015ad","name":"n2","pair":"NS2","place":"N","roles":["Contestant"]}]}"#;
 
 /// Its boards, on each of which each player has a whole suit.
-pub const DEALS: &str = r#"[Board "1"]
+pub(super) const DEALS: &str = r#"[Board "1"]
 [Deal "N:AKQJT98765432... .AKQJT98765432.. ..AKQJT98765432. ...AKQJT98765432"]
 
 [Board "2"]
@@ -21,11 +21,10 @@ pub const DEALS: &str = r#"[Board "1"]
 [Deal "S:AKQJT98765432... .AKQJT98765432.. ..AKQJT98765432. ...AKQJT98765432"]
 "#;
 
-/// The text with as many blanks after it as make it so long.
-pub fn filled(alloc: Global, text: &str, length: usize) -> Result<String, AllocError> {
-    let mut filled = String::from_str(alloc, text)?;
-    for _ in text.len()..length {
-        filled.push(' ')?;
-    }
-    Ok(filled)
+/// A script of the session object, with as many blanks after it as make it so long, and of what follows it.
+pub(super) fn script_of(alloc: Global, length: usize, rest: &str) -> Result<Vec<u8>, AllocError> {
+    let mut script = Vec::from_slice(alloc, SESSION.as_bytes())?;
+    script.resize(length, b' ')?;
+    script.extend_from_slice(rest.as_bytes())?;
+    Ok(script)
 }

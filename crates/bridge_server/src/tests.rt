@@ -1,0 +1,9 @@
+mod calling;
+mod client;
+mod devices;
+mod endings;
+mod names;
+mod running;
+mod serving;
+mod session;
+mod words;

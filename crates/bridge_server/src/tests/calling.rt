@@ -1,0 +1,210 @@
+//! The program as it is called: its words, its streams and its statuses.
+
+use super::devices::FailingWriter;
+use super::running::{Ending, ends, status_of};
+use super::session::{SESSION, SESSION_ALONE, script_of};
+use crate::calling::run_program;
+use std::io::{self, ErrorKind};
+use std::net::Net;
+use std::rt::Files;
+use std::sync::Wait;
+use std::test::Fail;
+use std::time::Clock;
+
+const MISSING: Ending = (2, "", "error: the following required arguments were");
+
+const BAD_VALUE: Ending = (2, "", "error: invalid value ");
+
+const HELP: Ending = (
+    0,
+    "Serves a session of duplicate bridge while it is played\n\nUsage: bridge_server",
+    "",
+);
+
+const SCRIPT_HELP: Ending = (
+    0,
+    "Answers a script on standard input, line by line\n\nUsage: bridge_server script",
+    "",
+);
+
+const SERVE_HELP: Ending = (
+    0,
+    "Serves clients over WebSockets on 127.0.0.1\n\nUsage: bridge_server serve",
+    "",
+);
+
+const MALFORMED: Ending = (1, "", "bridge_server: Malformed\n");
+
+// Something can't be read.
+const FAULT: Ending = (3, "", "");
+
+// Words by which nothing is run, and how the program ends: they aren't understood, they ask for help, or their files
+// are no session.
+static WORDS: &[(&str, Ending)] = &[
+    ("", (2, "", "error: 'bridge_server' requires a subcommand")),
+    ("Script", (2, "", "error: unrecognized subcommand 'Script'")),
+    (
+        "scripts",
+        (2, "", "error: unrecognized subcommand 'scripts'"),
+    ),
+    ("-script", (2, "", "error: unexpected argument '-s'")),
+    (
+        "script script",
+        (2, "", "error: unexpected argument 'script'"),
+    ),
+    (
+        "script again",
+        (2, "", "error: unexpected argument 'again'"),
+    ),
+    ("serve", MISSING),
+    ("serve --session s --deals d", MISSING),
+    ("serve --session s --port 1", MISSING),
+    ("serve --deals d --port 1", MISSING),
+    ("serve --session s --deals d --port 0", BAD_VALUE),
+    ("serve --session s --deals d --port 65536", BAD_VALUE),
+    ("serve --session s --deals d --port ws", BAD_VALUE),
+    (
+        "serve --session s --deals d --port 1 --displays 0",
+        BAD_VALUE,
+    ),
+    (
+        "serve --session s --deals d --port 1 --displays 33",
+        BAD_VALUE,
+    ),
+    (
+        "serve --session s --deals d --port 1 --workers 17",
+        BAD_VALUE,
+    ),
+    (
+        "serve --session s --deals d --port 1 --connections 1000001",
+        BAD_VALUE,
+    ),
+    (
+        "serve --session s --deals d --port 1 --connections -1",
+        (2, "", "error: unexpected argument '-1'"),
+    ),
+    (
+        "serve --session s --deals d --port 1 --port 2",
+        (2, "", "error: the argument '--port"),
+    ),
+    (
+        "serve --session s --deals d --port 1 --host h",
+        (2, "", "error: unexpected argument '--host'"),
+    ),
+    (
+        "serve --session s --deals d --port 1 again",
+        (2, "", "error: unexpected argument 'again'"),
+    ),
+    (
+        "serve --session --deals d --port 1",
+        (2, "", "error: a value is required for '--session"),
+    ),
+    ("--help", HELP),
+    ("-h", HELP),
+    ("help", HELP),
+    ("help serve", SERVE_HELP),
+    ("serve --help", SERVE_HELP),
+    ("serve -h", SERVE_HELP),
+    ("script -h", SCRIPT_HELP),
+    // There is no such file, or it is a folder, or too long. Both files are read before either is judged.
+    ("serve --session /nothing --deals /nothing --port 1", FAULT),
+    ("serve --session / --deals /dev/null --port 1", FAULT),
+    (
+        "serve --session /dev/zero --deals /dev/null --port 1",
+        FAULT,
+    ),
+    ("serve --session /dev/null --deals /nothing --port 1", FAULT),
+    (
+        "serve --session /dev/null --deals /dev/null --port 1",
+        MALFORMED,
+    ),
+];
+
+#[test]
+fn ends_by_its_words(rt: HostRuntime) {
+    for (line, ending) in WORDS {
+        assert!(rt; ends(&rt, line, &mut SESSION.as_bytes(), ending), "{line}");
+    }
+}
+
+// A message after a session.
+const ASKED: &str = "\n{\"as\":\"d\",\"ask\":\"board\",\"board\":4}\n";
+
+const AFTER_CR: &str = "\r\n{\"as\":\"d\",\"ask\":\"board\",\"board\":4}\n";
+
+const ANSWERED: Ending = (0, "{\"error\":\"NoSuchBoard\",\"version\":0}\n", "");
+
+const NOTHING: Ending = (0, "", "");
+
+// What follows the session object, which blanks make so long, in a script, and how the program ends.
+static SCRIPTS: &[(usize, &str, Ending)] = &[
+    (SESSION.len(), ASKED, ANSWERED),
+    // A session without a message.
+    (SESSION.len(), "", NOTHING),
+    (SESSION.len(), "\n", NOTHING),
+    (SESSION.len(), "\n\n", NOTHING),
+    // A CR before the LF is no byte of the object.
+    (1_048_576, ASKED, ANSWERED),
+    (1_048_576, AFTER_CR, ANSWERED),
+    (1_048_577, ASKED, (1, "", "bridge_server: TooLong\n")),
+];
+
+// Scripts whose first line is no session object, which is named on standard error. An empty input, and an empty first
+// line, are an empty one.
+static NO_SESSIONS: &[(&str, Ending)] = &[
+    ("", MALFORMED),
+    ("\n", MALFORMED),
+    ("\r\n", MALFORMED),
+    ("\n{}\n", MALFORMED),
+    ("{\"budget\":0", MALFORMED),
+    // Its deals are nowhere.
+    (SESSION_ALONE, (1, "", "bridge_server: BadField\n")),
+];
+
+#[test]
+fn ends_by_its_script(rt: HostRuntime) -> Result<(), Fail> {
+    for (length, rest, ending) in SCRIPTS {
+        let script = script_of(rt.alloc(), *length, rest)?;
+        assert!(rt;
+            ends(&rt, "script", &mut script.as_slice(), ending),
+            "{length} {rest:?}"
+        );
+    }
+    for (script, ending) in NO_SESSIONS {
+        assert!(rt;
+            ends(&rt, "script", &mut script.as_bytes(), ending),
+            "{script:?}"
+        );
+    }
+    Ok(())
+}
+
+// Whether a word, which leaves its script alone, ends so over writers that fail after seven bytes: the status, and
+// how much is written and said.
+fn ends_in_little_room<R: Files + Net + Clock + Wait + AllocGlobal>(
+    rt: &R,
+    word: &str,
+    (status, written, said): (u8, usize, usize),
+) -> bool {
+    let mut writer = FailingWriter::new(rt.alloc(), 7, ErrorKind::BrokenPipe);
+    let mut errors = FailingWriter::new(rt.alloc(), 7, ErrorKind::BrokenPipe);
+    status_of(rt, word, &mut io::empty(), &mut writer, &mut errors) == status
+        && writer.held.len() == written
+        && errors.held.len() == said
+}
+
+/// What is said of words can't be written: of bad ones the status tells all the same, and help that isn't given is a
+/// fault.
+#[test]
+fn ends_with_the_status_of_words_that_nobody_hears_of(rt: HostRuntime) {
+    assert!(rt; ends_in_little_room(&rt, "again", (2, 0, 7)));
+    assert!(rt; ends_in_little_room(&rt, "help", (3, 7, 0)));
+}
+
+/// A test is called with words that the program doesn't understand.
+#[test]
+fn hands_over_the_words_that_it_was_called_with(rt: HostRuntime) {
+    let mut errors = Vec::new(rt.alloc());
+    assert!(rt; run_program(&rt, &mut errors) == 2);
+    assert!(rt; errors.starts_with(b"error: "));
+}

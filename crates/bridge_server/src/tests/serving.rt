@@ -1,0 +1,242 @@
+//! Clients that are served.
+
+use super::client::{ACCEPTED, Client, HANDSHAKE, is_served};
+use super::running::{Ending, ends};
+use super::session::{DEALS, SESSION, SESSION_ALONE};
+use std::alloc::{AllocError, Global};
+use std::net::{Ipv4Addr, Net, OpenListener, TcpListener};
+use std::rt::Files;
+use std::sync::Wait;
+use std::test::Fail;
+use std::time::Clock;
+use std::{fs, io, thread};
+
+// Each turn is what is sent, and what is heard then. A frame's first byte says that it is a whole text (`\x81`), a
+// whole binary message (`\x82`), a close (`\x88`), a ping (`\x89`) or a pong (`\x8a`). Its length follows, and then
+// in what is sent a mask, which has zeros alone but for one text.
+static CLIENTS: &[Client] = &[
+    (
+        "a player who signs in with a masked text, and asks for a board",
+        &[
+            (HANDSHAKE, ACCEPTED),
+            (
+                b"\x81\x9c\x05\x05\x05\x05~'m`iij'?'k4')'qjn`k'?'dgf'x",
+                b"\x81\x0e{\"hello\":\"n1\"}",
+            ),
+            (
+                b"\x81\x99\0\0\0\0{\"ask\":\"board\",\"board\":1}",
+                b"\x81\x64{\"denied\":{\"board\":1,\"rule\":5,\"table\":1,\"why\":\"your pair has still to play this board\"},\"version\":0}",
+            ),
+            (b"\x88\x80\0\0\0\0", b"\x88\0"),
+        ],
+    ),
+    ("one that leaves at once", &[]),
+    (
+        "one whose request is no handshake",
+        &[(b"GET / HTTP/1.1\r\n\r\n", b"")],
+    ),
+    (
+        "one whose request is none, and who goes on",
+        &[(b"hello\r\n\r\n\x81\x84\0\0\0\0late", b"")],
+    ),
+    (
+        "one that says nothing after the handshake",
+        &[(HANDSHAKE, ACCEPTED)],
+    ),
+    (
+        "one that signs in, and leaves in the middle of a frame",
+        &[
+            (HANDSHAKE, ACCEPTED),
+            (
+                b"\x81\x9c\0\0\0\0{\"hello\":\"n1\",\"token\":\"abc\"}",
+                b"\x81\x0e{\"hello\":\"n1\"}",
+            ),
+            (b"\x81\x8a\0\0\0\0{\"ask", b""),
+        ],
+    ),
+    (
+        "one where nobody is signed in, also not by a binary message, which is malformed",
+        &[
+            (HANDSHAKE, ACCEPTED),
+            (
+                b"\x81\x99\0\0\0\0{\"ask\":\"board\",\"board\":1}",
+                b"\x81\x17{\"error\":\"NotSignedIn\"}",
+            ),
+            (
+                b"\x82\x9c\0\0\0\0{\"hello\":\"n1\",\"token\":\"abc\"}",
+                b"\x81\x15{\"error\":\"Malformed\"}",
+            ),
+            (
+                b"\x81\x99\0\0\0\0{\"ask\":\"board\",\"board\":1}",
+                b"\x81\x17{\"error\":\"NotSignedIn\"}",
+            ),
+            (b"\x88\x80\0\0\0\0", b"\x88\0"),
+        ],
+    ),
+    (
+        "a director who holds a board, and then a player",
+        &[
+            (HANDSHAKE, ACCEPTED),
+            (
+                b"\x81\x9b\0\0\0\0{\"hello\":\"d\",\"token\":\"abc\"}",
+                b"\x81\x0d{\"hello\":\"d\"}",
+            ),
+            (
+                b"\x81\xa1\0\0\0\0{\"do\":[{\"board\":1,\"cmd\":\"Hold\"}]}",
+                b"\x81\x31{\"answers\":[\"ok\"],\"first\":1,\"last\":1,\"version\":1}",
+            ),
+            (
+                b"\x81\x9c\0\0\0\0{\"hello\":\"n1\",\"token\":\"abc\"}",
+                b"\x81\x0e{\"hello\":\"n1\"}",
+            ),
+            (
+                b"\x81\x99\0\0\0\0{\"ask\":\"board\",\"board\":1}",
+                b"\x81\x4f{\"denied\":{\"board\":1,\"rule\":4,\"table\":0,\"why\":\"the board is held\"},\"version\":1}",
+            ),
+            (b"\x88\x80\0\0\0\0", b"\x88\0"),
+        ],
+    ),
+    (
+        "one whose ping, empty text and close are answered, and nothing after them",
+        &[
+            (HANDSHAKE, ACCEPTED),
+            (
+                b"\x89\x81\0\0\0\0p\x81\x80\0\0\0\0\x88\x82\0\0\0\0\x03\xe8\x81\x84\0\0\0\0late",
+                b"\x8a\x01p\x81\x15{\"error\":\"Malformed\"}\x88\x02\x03\xe8",
+            ),
+        ],
+    ),
+    // Each of these is told by which rule its connection ends, and a text after it has no answer.
+    (
+        "one whose frame is unmasked",
+        &[
+            (HANDSHAKE, ACCEPTED),
+            (b"\x81\x01a\x81\x81\0\0\0\0b", b"\x88\x02\x03\xea"),
+        ],
+    ),
+    (
+        "one whose opcode is reserved",
+        &[
+            (HANDSHAKE, ACCEPTED),
+            (b"\x83\x80\0\0\0\0\x81\x81\0\0\0\0b", b"\x88\x02\x03\xea"),
+        ],
+    ),
+    (
+        "one whose text is no UTF-8",
+        &[
+            (HANDSHAKE, ACCEPTED),
+            (
+                b"\x81\x81\0\0\0\0\xff\x81\x81\0\0\0\0b",
+                b"\x88\x02\x03\xef",
+            ),
+        ],
+    ),
+    (
+        "one whose longest message is answered, and ends with one that is longer",
+        &[
+            (HANDSHAKE, ACCEPTED),
+            (b"\x81\xff\0\0\0\0\0\x01\0\x01\0\0\0\0", b""),
+            (&[b'a'; 65_537], b"\x81\x13{\"error\":\"TooLong\"}"),
+            (b"\x81\xff\0\0\0\0\0\x01\0\x02\0\0\0\0", b"\x88\x02\x03\xf1"),
+        ],
+    ),
+];
+
+// Words that serve, with the port that they serve at.
+fn at_port(alloc: Global, words: &str, port: u16) -> Result<String, AllocError> {
+    format!(in alloc; "{words} --port {port}")
+}
+
+// The files of the session, in the folder `out` of the one that the test is run in.
+static FILES: &[(&str, &str)] = &[
+    ("out/session", SESSION_ALONE),
+    ("out/with_deals", SESSION),
+    ("out/deals", DEALS),
+    ("out/no_deals", "{"),
+];
+
+fn write_files<R: Files>(rt: &R) -> io::Result<()> {
+    fs::create_dir_all(rt, "out")?;
+    for (path, text) in FILES {
+        fs::write(rt, *path, *text)?;
+    }
+    Ok(())
+}
+
+// Words by which nobody is served where another listens at the port, and how they end.
+static ENDINGS: &[(&str, Ending)] = &[
+    ("serve --session out/session --deals /nothing", (3, "", "")),
+    (
+        "serve --session out/session --deals /dev/null",
+        (1, "", "bridge_server: MissingBoard(1)\n"),
+    ),
+    (
+        "serve --session out/session --deals out/no_deals",
+        (1, "", "bridge_server: MissingBoard(1)\n"),
+    ),
+    (
+        "serve --session out/with_deals --deals out/deals",
+        (1, "", "bridge_server: BadField\n"),
+    ),
+    ("serve --session out/session --deals out/deals", (3, "", "")),
+];
+
+// Whether a row's words end so.
+fn ends_at<R: Files + Net + Clock + Wait + AllocGlobal>(
+    rt: &R,
+    port: u16,
+    (words, ending): &(&str, Ending),
+) -> bool {
+    match at_port(rt.alloc(), words, port) {
+        Ok(line) => ends(rt, line.as_str(), &mut io::empty(), ending),
+        Err(_) => false,
+    }
+}
+
+#[test]
+fn serves_nobody_where_another_listens(rt: HostRuntime) -> Result<(), Fail> {
+    write_files(&rt)?;
+    let listener = TcpListener::bind(&rt, (Ipv4Addr::LOCALHOST, 0))?;
+    let port = listener.local_addr()?.port();
+    for row in ENDINGS {
+        assert!(rt; ends_at(&rt, port, row), "{}", row.0);
+    }
+    Ok(())
+}
+
+// A port at which nothing listens.
+fn free_port<R: Net>(rt: &R) -> io::Result<u16> {
+    let listener = TcpListener::bind(rt, (Ipv4Addr::LOCALHOST, 0))?;
+    Ok(listener.local_addr()?.port())
+}
+
+// How many clients, one after another, are served so.
+fn served<R: Net + Clock>(rt: &R, port: u16) -> usize {
+    let mut count: usize = 0;
+    for client in CLIENTS {
+        if !is_served(rt, port, client) {
+            break;
+        }
+        count = count.saturating_add(1);
+    }
+    count
+}
+
+// Serves as many connections as there are clients.
+const WORDS: &str = "serve --session out/session --deals out/deals --connections 13";
+
+/// Where a client isn't served so, the test stops: the server would wait for another.
+#[test]
+fn serves_one_client_after_another(rt: HostRuntime) -> Result<(), Fail> {
+    write_files(&rt)?;
+    let port = free_port(&rt)?;
+    let line = at_port(rt.alloc(), WORDS, port)?;
+    let server_rt = rt.clone()?;
+    let server = thread::spawn(&rt, move || {
+        ends(&server_rt, line.as_str(), &mut io::empty(), &(0, "", ""))
+    })?;
+    let count = served(&rt, port);
+    assert!(rt; count == CLIENTS.len(), "client {count}, from 0");
+    assert!(rt; server.join(&rt));
+    Ok(())
+}

@@ -1,5 +1,0 @@
-mod endings;
-mod messages;
-mod objects;
-mod running;
-mod texts;

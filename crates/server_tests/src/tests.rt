@@ -1,4 +1,0 @@
-mod calling;
-mod running;
-mod serving;
-mod statuses;
