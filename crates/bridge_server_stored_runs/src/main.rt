@@ -34,11 +34,14 @@ fn run<R: Runtime + Wait + AllocGlobal, E: Write>(rt: &R, errors: &mut E) -> io:
     Ok(if answer_all(rt)? { status } else { 1 })
 }
 
-// The status after the words that the program was called with: that of `bridge_server` where they aren't understood.
+// The status after the words that the program was called with, if any: that of `bridge_server` where they aren't understood.
 fn status_of_call<R: Runtime + AllocGlobal, E: Write>(rt: &R, errors: &mut E) -> u8 {
     let Ok(words) = called_with(rt) else {
         return 4;
     };
+    if words.len() < 2 {
+        return 0;
+    }
     match read_words(rt.alloc(), words.as_slice()) {
         Ok(_) => 0,
         Err(error) => status_of_words(rt.alloc(), &error, &mut io::writer(rt), errors),
