@@ -5,7 +5,7 @@ ghost use Rattle.std.specs.Io.KnownBytes.{Consumes, Appends};
 ghost use Rattle.program.specs.declared.fault.Fault.{Fault};
 ghost use Rattle.program.specs.declared.fault.Fault.TheVariants.{Input, Output, OutOfMemory};
 ghost use Rattle.program.specs.Writes.{IsDone, EndsWith};
-ghost use Rattle.server_words.specs.Words.{AsksFor};
+ghost use Rattle.server_words.specs.Words.{AsksFor, IsMistaken};
 ghost use Rattle.server_words.specs.declared.words.Words.TheVariants.{Script, Serve};
 ghost use Rattle.server_words.specs.declared.words.Serving.{Serving};
 ghost use Rattle.program.specs.Status.{IsStatus, status_of};
@@ -30,6 +30,8 @@ pub(crate) fn run_words<R: Files + Net + Clock + Wait + AllocGlobal, I: Read, W:
     ensures statuses { IsStatus result }
     ensures unread { ¬ AsksFor (map string_bytes words.now) Script →
         Consumes (I.remaining reader.old) (I.remaining reader.new) [] }
+    ensures mistaken { IsMistaken (map string_bytes words.now) →
+        ((result ≡ 2) ⊎ (result ≡ 4)) × Appends (W.contents writer.old) (W.contents writer.new) [] }
     ensures unwritten { result ≡ 2 → Appends (W.contents writer.old) (W.contents writer.new) [] }
     ensures silent { result ≢ 1 → result ≢ 2 → Appends (E.contents errors.old) (E.contents errors.new) [] }
     ensures understood { AsksFor (map string_bytes words.now) Script → result ≢ 2 }

@@ -1,8 +1,5 @@
 mod calling;
 mod client;
-mod devices;
-mod endings;
-mod names;
 mod running;
 mod serving;
 mod session;

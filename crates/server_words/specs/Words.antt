@@ -1,7 +1,8 @@
 -- What the program's words ask for.
-use Rattle.std.specs.Prelude.{◌≡◌, ◌≤◌, List, [], Option, Some, codes, option_map}
+use Rattle.std.specs.Prelude.{◌≡◌, ◌≢◌, ◌≤◌, List, [], Option, Some, codes, option_map}
 use Rattle.std.specs.Option.{option_map_or}
-use Rattle.clap.specs.Words.{Kinds, Row, Text, fault_of, first_of, subcommand_of, subcommand_rows_of}
+use Rattle.clap.specs.Words.{IsAmong, Kinds, Row, Text, fault_of, first_of, subcommand_of, subcommand_rows_of}
+use Rattle.clap.specs.declared.error.kind.ErrorKind.TheVariants.{DisplayHelp, DisplayVersion}
 use Rattle.clap.specs.declared.parser.matches.ArgMatches.{ArgMatches}
 use Rattle.server_words.specs.CommandLine.{command_line, least_port, most_port, least_displays, most_displays, most_workers, most_connections}
 use Rattle.server_words.specs.declared.words.Words.{Words}
@@ -22,6 +23,14 @@ subcommand_in words = subcommand_of command_line words
 -- the kinds of fault that the words have, of which a request for help is one
 abbrev pub faults_in : List Text → Kinds
 faults_in words = fault_of command_line words
+
+-- the words don't ask for help, nor for the version
+abbrev pub AsksNoHelp : List Text → Type 0
+AsksNoHelp words = (¬ IsAmong DisplayHelp (faults_in words)) × (¬ IsAmong DisplayVersion (faults_in words))
+
+-- the words have a fault, which is no request for help
+abbrev pub IsMistaken : List Text → Type 0
+IsMistaken words = (faults_in words ≢ []) × AsksNoHelp words
 
 -- `clap` has no fault to find in the words, and names the subcommand that they name
 abbrev pub IsReadFrom : List Text → ArgMatches → Type 0

@@ -23,7 +23,7 @@ pub fn status_of_words<W: Write, E: Write>(
     ensures silent { result ≢ 2 → Appends (E.contents errors.old) (E.contents errors.new) [] }
     ensures memory { kind_of error.now ≡ ErrorKind.OutOfMemory → result ≡ 4 }
     ensures mistaken { kind_of error.now ≢ ErrorKind.DisplayHelp → kind_of error.now ≢ ErrorKind.DisplayVersion →
-        Appends (W.contents writer.old) (W.contents writer.new) [] }
+        ((result ≡ 2) ⊎ (result ≡ 4)) × Appends (W.contents writer.old) (W.contents writer.new) [] }
 {
     match error.kind() {
         ErrorKind::OutOfMemory => 4,
