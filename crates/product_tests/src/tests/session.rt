@@ -1,14 +1,14 @@
-//! A session of three tables with a scorer and a player, each of whom has the token `abc`.
+//! A session of three tables with an administrator, a scorer and a player, each of whom has the token `abc`.
 
 use std::alloc::{AllocError, Global};
 
 /// Its session object, with its boards, on each of which each player has a whole suit.
 pub(super) const SESSION: &str =
-    r#"{"budget":0,"pbn":"[Board \"1\"]\n[Deal \"N:AKQJT98765432... .AKQJT98765432.. ..AKQJT98765432. ...AKQJT98765432\"]\n\n[Board \"2\"]\n[Deal \"E:AKQJT98765432... .AKQJT98765432.. ..AKQJT98765432. ...AKQJT98765432\"]\n\n[Board \"3\"]\n[Deal \"S:AKQJT98765432... .AKQJT98765432.. ..AKQJT98765432. ...AKQJT98765432\"]\n\n","per_set":1,"rounds":3,"tables":3,"users":[{"digest":"ba7816bf8f01cfea414140de5dae2223b00361a396177a9cb410ff61f20015ad","name":"k","roles":["Scorer"]},{"digest":"ba7816bf8f01cfea414140de5dae2223b00361a396177a9cb410ff61f20015ad","name":"n2","pair":"NS2","place":"N","roles":["Contestant"]}]}"#;
+    r#"{"budget":0,"pbn":"[Board \"1\"]\n[Deal \"N:AKQJT98765432... .AKQJT98765432.. ..AKQJT98765432. ...AKQJT98765432\"]\n\n[Board \"2\"]\n[Deal \"E:AKQJT98765432... .AKQJT98765432.. ..AKQJT98765432. ...AKQJT98765432\"]\n\n[Board \"3\"]\n[Deal \"S:AKQJT98765432... .AKQJT98765432.. ..AKQJT98765432. ...AKQJT98765432\"]\n\n","per_set":1,"rounds":3,"tables":3,"users":[{"digest":"ba7816bf8f01cfea414140de5dae2223b00361a396177a9cb410ff61f20015ad","name":"a","roles":["Administrator"]},{"digest":"ba7816bf8f01cfea414140de5dae2223b00361a396177a9cb410ff61f20015ad","name":"k","roles":["Scorer"]},{"digest":"ba7816bf8f01cfea414140de5dae2223b00361a396177a9cb410ff61f20015ad","name":"n2","pair":"NS2","place":"N","roles":["Contestant"]}]}"#;
 
 /// Its session object without its boards.
 pub(super) const SESSION_ALONE: &str =
-    r#"{"budget":0,"per_set":1,"rounds":3,"tables":3,"users":[{"digest":"ba7816bf8f01cfea414140de5dae2223b00361a396177a9cb410ff61f20015ad","name":"k","roles":["Scorer"]},{"digest":"ba7816bf8f01cfea414140de5dae2223b00361a396177a9cb410ff61f20015ad","name":"n2","pair":"NS2","place":"N","roles":["Contestant"]}]}"#;
+    r#"{"budget":0,"per_set":1,"rounds":3,"tables":3,"users":[{"digest":"ba7816bf8f01cfea414140de5dae2223b00361a396177a9cb410ff61f20015ad","name":"a","roles":["Administrator"]},{"digest":"ba7816bf8f01cfea414140de5dae2223b00361a396177a9cb410ff61f20015ad","name":"k","roles":["Scorer"]},{"digest":"ba7816bf8f01cfea414140de5dae2223b00361a396177a9cb410ff61f20015ad","name":"n2","pair":"NS2","place":"N","roles":["Contestant"]}]}"#;
 
 /// A script of the session object, with as many blanks after it as make it so long, and of what follows it.
 pub(super) fn script_of(alloc: Global, length: usize, rest: &str) -> Result<Vec<u8>, AllocError> {
