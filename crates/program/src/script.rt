@@ -30,10 +30,7 @@ pub fn run_script<R: Read, W: Write>(
         EndsWith fault input (R.remaining reader.new) (W.contents writer.old) (W.contents writer.new))) }
 {
     match ScriptRun::open(alloc, reader) {
-        Ok(mut run) => {
-            let first = run.first;
-            run.respond_after(first, reader, writer)
-        }
+        Ok(mut run) => run.respond_to_rest(reader, writer),
         Err(fault) => Err(fault),
     }
 }
@@ -76,23 +73,22 @@ impl ScriptRun {
         }
     }
 
-    // Responds to the lines that come after one that ended so.
-    fn respond_after<R: Read, W: Write>(
+    // Responds to the lines that come after the first.
+    fn respond_to_rest<R: Read, W: Write>(
         &mut self,
-        end: LineEnd,
         reader: &mut R,
         writer: &mut W,
     ) -> Result<(), Fault>
         ensures done { (input before : Option (List ℕ)) →
-            StandsAfter end input before (R.remaining reader.old) (W.contents writer.old) self.old.keeper self.old.left →
+            StandsAfter self.old.first input before (R.remaining reader.old) (W.contents writer.old) self.old.keeper self.old.left →
             OnOk result
             (StandsAtEnd input before (R.remaining reader.new) (W.contents writer.new) self.new.keeper self.new.left) }
         ensures ends { (input : List ℕ) (before : Option (List ℕ)) →
-            StandsAfter end (Some input) before
+            StandsAfter self.old.first (Some input) before
             (R.remaining reader.old) (W.contents writer.old) self.old.keeper self.old.left →
             IfErr result (λ fault. EndsWith fault input (R.remaining reader.new) before (W.contents writer.new)) }
     {
-        let mut last = end;
+        let mut last = self.first;
         loop {
             match last {
                 LineEnd::EndOfInput => return Ok(()),

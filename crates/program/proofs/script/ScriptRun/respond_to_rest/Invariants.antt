@@ -1,11 +1,11 @@
 use Rattle.std.proofs.Common.{ℕ, List, ◌+◌}
 use Rattle.std.specs.Prelude.{Option}
 use Rattle.program.specs.Standing.{StandsAfter, line_feeds}
-use Rattle.program.proofs.script.ScriptRun.respond_after.Given as goal
+use Rattle.program.proofs.script.ScriptRun.respond_to_rest.Given as goal
 
 abbrev pub invariant-loop-last : goal.invariant-loop-last
 invariant-loop-last g l = (input before : Option (List ℕ)) →
-    StandsAfter l.fn.end input before (g.R.Read.remaining l.fn.reader) (g.W.Write.contents l.fn.writer) l.fn.self.keeper l.fn.self.left →
+    StandsAfter l.fn.self.first input before (g.R.Read.remaining l.fn.reader) (g.W.Write.contents l.fn.writer) l.fn.self.keeper l.fn.self.left →
     StandsAfter l.last input before (g.R.Read.remaining l.reader) (g.W.Write.contents l.writer) l.self.keeper l.self.left
 
 abbrev pub decreases-loop-last : goal.decreases-loop-last
