@@ -27,10 +27,10 @@ pub(crate) fn answer_beside_solver<O: Write>(
     let Some((object, lines)) = text.split_once('\n') else {
         return Ok(false);
     };
-    match Session::open(alloc, object) {
-        Some(mut session) => answer_lines(alloc, &mut session, lines, writer),
-        None => Ok(false),
-    }
+    let Some(mut session) = Session::open(alloc, object) else {
+        return Ok(false);
+    };
+    answer_lines(alloc, &mut session, lines, writer)
 }
 
 fn answer_lines<O: Write>(

@@ -80,7 +80,8 @@ impl ScriptRun {
         writer: &mut W,
     ) -> Result<(), Fault>
         ensures done { (input before : Option (List ℕ)) →
-            StandsAfter self.old.first input before (R.remaining reader.old) (W.contents writer.old) self.old.keeper self.old.left →
+            StandsAfter self.old.first input before
+            (R.remaining reader.old) (W.contents writer.old) self.old.keeper self.old.left →
             OnOk result
             (StandsAtEnd input before (R.remaining reader.new) (W.contents writer.new) self.new.keeper self.new.left) }
         ensures ends { (input : List ℕ) (before : Option (List ℕ)) →
