@@ -8,7 +8,7 @@ earlier `rt check` of it left them in their out/. The compiler says on standard 
 what is timed is the time between its lines, so nothing else should run beside it.
 
 - front: the files of the crate and of all below are read, and the crate is lowered; until the first module
-- own: the crate's modules. Of each function `Lts` is the borrow checker's part, `Proof` the proof, `Tie` what joins them
+- own: the crate's modules. Of each function `Lts` is the borrow checker's part (`Lts-NAME` of functions that call one another), `Proof` the proof, `Tie` what joins them
 - others: a library goes over each module that its public functions and types reach, and the second session is prepared
 - empty: the second session, which looks for contracts that no call can meet
 """
@@ -76,7 +76,7 @@ def main():
     for at, (seconds, it) in enumerate(lines):
         stages["front" if front else "own" if at <= last + 1 else "others" if at <= second else "empty"] += seconds
         front = front and not it.startswith("antt: cache")
-        done = re.match(r"antt: cache: Rattle-\w+-proofs\.(\S+)\.(\w+): artifact encoded", it)
+        done = re.match(r"antt: cache: Rattle-\w+-proofs\.(\S+)\.([\w-]+): artifact encoded", it)
         if done and at <= last + 1:
             kinds[done[2]] += seconds
             functions[done[1].replace(".Code", "")] += seconds
