@@ -4,7 +4,7 @@
     tests/refuse_growths.py crates/bridge_server/out/bridge_server <(tests/stored_runs.py desk) [COMMANDS]
     tests/refuse_growths.py crates/deal_tables/out/deal_tables LINES
     tests/refuse_growths.py crates/bridge_server_stored_runs/out/bridge_server_stored_runs solver
-    tests/refuse_growths.py crates/product_tests/out/product_tests_tests loses_no_more
+    tests/refuse_growths.py crates/rules_tests/out/rules_tests_tests loses_no_more
 
 Runs `bridge_server script` on the script, followed by so many more commands of its first director (none where no number is
 given), which hold and release board 1 in turn, in batches of 64: first with ample memory, and then with the Nth request for

@@ -1,5 +1,8 @@
 mod calling;
 mod client;
+mod devices;
+mod endings;
+mod names;
 mod running;
 mod serving;
 mod session;

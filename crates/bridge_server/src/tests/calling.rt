@@ -1,12 +1,14 @@
 //! The program as it is called: its words, its streams and its statuses.
 
+use super::devices::FailingWriter;
 use super::running::{Ending, ends, status_of};
-use super::session::SESSION;
+use super::session::{SESSION, SESSION_ALONE, script_of};
 use crate::calling::run_program;
-use std::io;
+use std::io::{self, ErrorKind};
 use std::net::Net;
 use std::rt::Files;
 use std::sync::Wait;
+use std::test::Fail;
 use std::time::Clock;
 
 const MISSING: Ending = (2, "", "error: the following required arguments were");
@@ -125,26 +127,78 @@ fn ends_by_its_words(rt: HostRuntime) {
     }
 }
 
-// Whether a word, which leaves its script alone, ends so over writers with room for seven bytes: the status, and how
-// much room is left where answers are written, and where is said what is wrong.
+// A message after a session.
+const ASKED: &str = "\n{\"as\":\"d\",\"ask\":\"board\",\"board\":4}\n";
+
+const AFTER_CR: &str = "\r\n{\"as\":\"d\",\"ask\":\"board\",\"board\":4}\n";
+
+const ANSWERED: Ending = (0, "{\"error\":\"NoSuchBoard\",\"version\":0}\n", "");
+
+const NOTHING: Ending = (0, "", "");
+
+// What follows the session object, which blanks make so long, in a script, and how the program ends.
+static SCRIPTS: &[(usize, &str, Ending)] = &[
+    (SESSION.len(), ASKED, ANSWERED),
+    // A session without a message.
+    (SESSION.len(), "", NOTHING),
+    (SESSION.len(), "\n", NOTHING),
+    (SESSION.len(), "\n\n", NOTHING),
+    // A CR before the LF is no byte of the object.
+    (1_048_576, ASKED, ANSWERED),
+    (1_048_576, AFTER_CR, ANSWERED),
+    (1_048_577, ASKED, (1, "", "bridge_server: TooLong\n")),
+];
+
+// Scripts whose first line is no session object, which is named on standard error. An empty input, and an empty first
+// line, are an empty one.
+static NO_SESSIONS: &[(&str, Ending)] = &[
+    ("", MALFORMED),
+    ("\n", MALFORMED),
+    ("\r\n", MALFORMED),
+    ("\n{}\n", MALFORMED),
+    ("{\"budget\":0", MALFORMED),
+    // Its deals are nowhere.
+    (SESSION_ALONE, (1, "", "bridge_server: BadField\n")),
+];
+
+#[test]
+fn ends_by_its_script(rt: HostRuntime) -> Result<(), Fail> {
+    for (length, rest, ending) in SCRIPTS {
+        let script = script_of(rt.alloc(), *length, rest)?;
+        assert!(rt;
+            ends(&rt, "script", &mut script.as_slice(), ending),
+            "{length} {rest:?}"
+        );
+    }
+    for (script, ending) in NO_SESSIONS {
+        assert!(rt;
+            ends(&rt, "script", &mut script.as_bytes(), ending),
+            "{script:?}"
+        );
+    }
+    Ok(())
+}
+
+// Whether a word, which leaves its script alone, ends so over writers that fail after seven bytes: the status, and
+// how much is written and said.
 fn ends_in_little_room<R: Files + Net + Clock + Wait + AllocGlobal>(
     rt: &R,
     word: &str,
-    (status, unwritten, unsaid): (u8, usize, usize),
+    (status, written, said): (u8, usize, usize),
 ) -> bool {
-    let (mut answers, mut faults) = ([0; 7], [0; 7]);
-    let (mut writer, mut errors): (&mut [u8], &mut [u8]) = (&mut answers, &mut faults);
+    let mut writer = FailingWriter::new(rt.alloc(), 7, ErrorKind::BrokenPipe);
+    let mut errors = FailingWriter::new(rt.alloc(), 7, ErrorKind::BrokenPipe);
     status_of(rt, word, &mut io::empty(), &mut writer, &mut errors) == status
-        && writer.len() == unwritten
-        && errors.len() == unsaid
+        && writer.held.len() == written
+        && errors.held.len() == said
 }
 
 /// What is said of words can't be written: of bad ones the status tells all the same, and help that isn't given is a
 /// fault.
 #[test]
 fn ends_with_the_status_of_words_that_nobody_hears_of(rt: HostRuntime) {
-    assert!(rt; ends_in_little_room(&rt, "again", (2, 7, 0)));
-    assert!(rt; ends_in_little_room(&rt, "help", (3, 0, 7)));
+    assert!(rt; ends_in_little_room(&rt, "again", (2, 0, 7)));
+    assert!(rt; ends_in_little_room(&rt, "help", (3, 7, 0)));
 }
 
 /// A test is called with words that the program doesn't understand.

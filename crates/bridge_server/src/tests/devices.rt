@@ -4,25 +4,6 @@ use std::alloc::Global;
 use std::cell::Cell;
 use std::io::{self, ErrorKind, Read, Write};
 
-/// A reader of these bytes that fails once, after so many of them, and then goes on.
-#[derive(Drop)]
-pub(super) struct FailingReader<'b> {
-    pub(super) bytes: &'b [u8],
-    pub(super) good: usize,
-}
-
-impl Read for FailingReader<'_> {
-    fn read(&mut self, buf: &mut [u8]) -> io::Result<usize> {
-        if self.good == 0 {
-            self.good = usize::MAX;
-            return Err(io::Error::from(ErrorKind::Interrupted));
-        }
-        let count = buf.len().min(self.good);
-        self.good = self.good.saturating_sub(count);
-        self.bytes.read(&mut buf[..count])
-    }
-}
-
 /// A writer that fails once so, where it has no more room, and then goes on.
 #[derive(Drop)]
 pub(super) struct FailingWriter {

@@ -1,12 +1,16 @@
 //! How a script ends whose reader or writer fails.
 
-use super::devices::{FailingReader, FailingWriter, Holding, Waiting, line_feeds};
+use super::devices::{FailingWriter, Holding, Waiting, line_feeds};
+use super::running::status_of;
 use super::session::{SESSION, script_of};
-use program::status_of_script;
-use std::alloc::Global;
 use std::cell::Cell;
 use std::io::{self, ErrorKind};
+use std::net::Net;
+use std::rt::Files;
+use std::sync::Wait;
 use std::test::Fail;
+use std::time::Clock;
+use test_devices::FailingReader;
 
 // Messages after the session's line, each of which has an answer. The last line has no LF.
 const MESSAGES: &str = "
@@ -34,23 +38,31 @@ fn after_lines(text: &[u8], lines: usize) -> &[u8] {
 
 // Whether the answers to the messages whose lines had ended are written, and no more, where a read fails after so
 // many bytes.
-fn answers_what_was_read(alloc: Global, script: &[u8], good: usize) -> bool {
+fn answers_what_was_read<R: Files + Net + Clock + Wait + AllocGlobal>(
+    rt: &R,
+    script: &[u8],
+    good: usize,
+) -> bool {
     let mut reader = FailingReader {
         bytes: script,
         good,
     };
-    let mut written = Vec::new(alloc);
-    let status = status_of_script(alloc, &mut reader, &mut written, &mut io::sink());
+    let mut written = Vec::new(rt.alloc());
+    let status = status_of(rt, "script", &mut reader, &mut written, &mut io::sink());
     let messages = line_feeds(script.get(..good).unwrap_or(script)).saturating_sub(1);
     let unwritten = ANSWERS.as_bytes().strip_prefix(written.as_slice());
     status == 3 && unwritten == Some(after_lines(ANSWERS.as_bytes(), messages))
 }
 
 // Whether so many bytes of the answers are written, where a write fails after them, and no line is read after it.
-fn writes_a_first_part(alloc: Global, script: &[u8], room: usize) -> bool {
+fn writes_a_first_part<R: Files + Net + Clock + Wait + AllocGlobal>(
+    rt: &R,
+    script: &[u8],
+    room: usize,
+) -> bool {
     let mut reader = script;
-    let mut writer = FailingWriter::new(alloc, room, ErrorKind::Interrupted);
-    let status = status_of_script(alloc, &mut reader, &mut writer, &mut io::sink());
+    let mut writer = FailingWriter::new(rt.alloc(), room, ErrorKind::Interrupted);
+    let status = status_of(rt, "script", &mut reader, &mut writer, &mut io::sink());
     let written = writer.held.as_slice();
     // The session's line is read, a line for each answer, and the one whose answer isn't written.
     let unread = after_lines(script, line_feeds(written).saturating_add(2));
@@ -64,13 +76,13 @@ fn ends_where_a_read_or_a_write_fails(rt: HostRuntime) -> Result<(), Fail> {
     let script = script_of(rt.alloc(), SESSION.len(), MESSAGES)?;
     for good in 0..=script.len() {
         assert!(rt;
-            answers_what_was_read(rt.alloc(), script.as_slice(), good),
+            answers_what_was_read(&rt, script.as_slice(), good),
             "read {good}"
         );
     }
     for room in 0..ANSWERS.len() {
         assert!(rt;
-            writes_a_first_part(rt.alloc(), script.as_slice(), room),
+            writes_a_first_part(&rt, script.as_slice(), room),
             "wrote {room}"
         );
     }
@@ -79,7 +91,12 @@ fn ends_where_a_read_or_a_write_fails(rt: HostRuntime) -> Result<(), Fail> {
 
 // Whether a script ends so, each line of which but the last is answered before the next is read, through a writer
 // that keeps its lines back until it is flushed, and has room for so many, which arrive.
-fn answers_in_turn(alloc: Global, script: &[u8], room: usize, status: u8) -> bool {
+fn answers_in_turn<R: Files + Net + Clock + Wait + AllocGlobal>(
+    rt: &R,
+    script: &[u8],
+    room: usize,
+    status: u8,
+) -> bool {
     let arrived = Cell::new(0usize);
     let mut reader = Waiting {
         script,
@@ -91,7 +108,7 @@ fn answers_in_turn(alloc: Global, script: &[u8], room: usize, status: u8) -> boo
         room,
         arrived: &arrived,
     };
-    status_of_script(alloc, &mut reader, &mut writer, &mut io::sink()) == status
+    status_of(rt, "script", &mut reader, &mut writer, &mut io::sink()) == status
         && arrived.get() == room
 }
 
@@ -100,7 +117,7 @@ fn passes_each_answer_on(rt: HostRuntime) -> Result<(), Fail> {
     let script = script_of(rt.alloc(), SESSION.len(), MESSAGES)?;
     for (room, status) in [(0, 3), (4, 3), (5, 0)] {
         assert!(rt;
-            answers_in_turn(rt.alloc(), script.as_slice(), room, status),
+            answers_in_turn(&rt, script.as_slice(), room, status),
             "{room} lines"
         );
     }

@@ -1,10 +1,10 @@
 //! Lines read from a reader that fails once, and texts written to a writer that stops once.
 
-use super::devices::FailingReader;
 use script_lines::{LineEnd, ReadFault, read_line, write_text};
 use std::alloc::Global;
 use std::io;
 use std::io::{ErrorKind, Read, Write};
+use test_devices::FailingReader;
 
 /// Whether the next line that is read, of which so many bytes are wanted, ends so and has this text.
 fn reads<R: Read>(

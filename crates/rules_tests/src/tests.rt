@@ -1,12 +1,7 @@
 mod boards;
-mod devices;
-mod endings;
 mod figures;
 mod lines;
-mod names;
 mod pool;
 mod ranking;
 mod scores;
-mod scripts;
-mod session;
 mod walked;
