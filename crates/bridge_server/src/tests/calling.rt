@@ -2,13 +2,12 @@
 
 use super::devices::FailingWriter;
 use super::running::{Ending, ends, status_of};
-use super::session::{SESSION, SESSION_ALONE, script_of};
+use super::session::{script_of, session, session_alone};
 use crate::calling::run_program;
 use std::io::{self, ErrorKind};
 use std::net::Net;
 use std::rt::Files;
 use std::sync::Wait;
-use std::test::Fail;
 use std::time::Clock;
 
 const MISSING: Ending = (2, "", "error: the following required arguments were");
@@ -34,6 +33,9 @@ const SERVE_HELP: Ending = (
 );
 
 const MALFORMED: Ending = (1, "", "bridge_server: Malformed\n");
+
+// The session's deals are nowhere.
+const WITHOUT_DEALS: Ending = (1, "", "bridge_server: BadField\n");
 
 // Something can't be read.
 const FAULT: Ending = (3, "", "");
@@ -123,7 +125,10 @@ static WORDS: &[(&str, Ending)] = &[
 #[test]
 fn ends_by_its_words(rt: HostRuntime) {
     for (line, ending) in WORDS {
-        assert!(rt; ends(&rt, line, &mut SESSION.as_bytes(), ending), "{line}");
+        assert!(rt;
+            ends(&rt, line, &mut session().as_bytes(), ending),
+            "{line}"
+        );
     }
 }
 
@@ -136,13 +141,13 @@ const ANSWERED: Ending = (0, "{\"error\":\"NoSuchBoard\",\"version\":0}\n", "");
 
 const NOTHING: Ending = (0, "", "");
 
-// What follows the session object, which blanks make so long, in a script, and how the program ends.
+// How long blanks make the session object, what follows it in a script, and how the program ends.
 static SCRIPTS: &[(usize, &str, Ending)] = &[
-    (SESSION.len(), ASKED, ANSWERED),
+    (0, ASKED, ANSWERED),
     // A session without a message.
-    (SESSION.len(), "", NOTHING),
-    (SESSION.len(), "\n", NOTHING),
-    (SESSION.len(), "\n\n", NOTHING),
+    (0, "", NOTHING),
+    (0, "\n", NOTHING),
+    (0, "\n\n", NOTHING),
     // A CR before the LF is no byte of the object.
     (1_048_576, ASKED, ANSWERED),
     (1_048_576, AFTER_CR, ANSWERED),
@@ -157,18 +162,23 @@ static NO_SESSIONS: &[(&str, Ending)] = &[
     ("\r\n", MALFORMED),
     ("\n{}\n", MALFORMED),
     ("{\"budget\":0", MALFORMED),
-    // Its deals are nowhere.
-    (SESSION_ALONE, (1, "", "bridge_server: BadField\n")),
 ];
 
+// Whether a row's script ends so.
+fn script_ends<R: Files + Net + Clock + Wait + AllocGlobal>(
+    rt: &R,
+    (length, rest, ending): &(usize, &str, Ending),
+) -> bool {
+    match script_of(rt.alloc(), *length, rest) {
+        Ok(script) => ends(rt, "script", &mut script.as_slice(), ending),
+        Err(_) => false,
+    }
+}
+
 #[test]
-fn ends_by_its_script(rt: HostRuntime) -> Result<(), Fail> {
-    for (length, rest, ending) in SCRIPTS {
-        let script = script_of(rt.alloc(), *length, rest)?;
-        assert!(rt;
-            ends(&rt, "script", &mut script.as_slice(), ending),
-            "{length} {rest:?}"
-        );
+fn ends_by_its_script(rt: HostRuntime) {
+    for row in SCRIPTS {
+        assert!(rt; script_ends(&rt, row), "{} {:?}", row.0, row.1);
     }
     for (script, ending) in NO_SESSIONS {
         assert!(rt;
@@ -176,7 +186,14 @@ fn ends_by_its_script(rt: HostRuntime) -> Result<(), Fail> {
             "{script:?}"
         );
     }
-    Ok(())
+    assert!(rt;
+        ends(
+            &rt,
+            "script",
+            &mut session_alone().as_bytes(),
+            &WITHOUT_DEALS
+        )
+    );
 }
 
 // Whether a word, which leaves its script alone, ends so over writers that fail after seven bytes: the status, and

@@ -6,15 +6,25 @@ use std::thread;
 use std::time::{Clock, Duration};
 
 /// The request of the standard's own example (1.2, 1.3).
-pub(super) const HANDSHAKE: &[u8] = b"GET / HTTP/1.1\r\nHost: 127.0.0.1\r\nUpgrade: websocket\r\n\
+const HANDSHAKE: &[u8] = b"GET / HTTP/1.1\r\nHost: 127.0.0.1\r\nUpgrade: websocket\r\n\
 Connection: Upgrade\r\nSec-WebSocket-Key: dGhlIHNhbXBsZSBub25jZQ==\r\nSec-WebSocket-Version: 13\r\n\r\n";
 
 /// Its answer.
-pub(super) const ACCEPTED: &[u8] = b"HTTP/1.1 101 Switching Protocols\r\nconnection: Upgrade\r\n\
+const ACCEPTED: &[u8] = b"HTTP/1.1 101 Switching Protocols\r\nconnection: Upgrade\r\n\
 upgrade: websocket\r\nsec-websocket-accept: s3pPLMBiTxaQ9kYGzzhZRbK+xOo=\r\n\r\n";
 
-/// What a client is, and what it sends and then hears, turn by turn. It hears no more after them.
-pub(super) type Client = (&'static str, &'static [(&'static [u8], &'static [u8])]);
+/// What a client sends, and then hears.
+pub(super) enum Turn {
+    /// The request of the handshake, and its answer.
+    ShakesHands,
+    /// A text of at most 125 bytes in a frame, under a mask of zeros, and such a text in a frame.
+    Says(&'static str, &'static str),
+    /// Bytes, and bytes.
+    Sends(&'static [u8], &'static [u8]),
+}
+
+/// What a client is, and its turns. It hears no more after them.
+pub(super) type Client = (&'static str, &'static [Turn]);
 
 /// Whether the server, which may still have to open its session, answers a client so.
 pub(super) fn is_served<R: Net + Clock>(rt: &R, port: u16, (_, turns): &Client) -> bool {
@@ -28,15 +38,35 @@ pub(super) fn is_served<R: Net + Clock>(rt: &R, port: u16, (_, turns): &Client) 
 }
 
 // Whether each turn is so, and then the server has no more to say.
-fn is_answered<S: Read + Write + OpenStream>(stream: &mut S, turns: &[(&[u8], &[u8])]) -> bool {
-    for (sent, heard) in turns {
-        if stream.write_all(sent).is_err() || !hears(stream, heard) {
+fn is_answered<S: Read + Write + OpenStream>(stream: &mut S, turns: &[Turn]) -> bool {
+    for turn in turns {
+        if !takes(stream, turn) {
             return false;
         }
     }
     // The server may be gone.
     let _told = stream.shutdown(Shutdown::Write);
     stream.read(&mut [0]).unwrap_or(0) == 0
+}
+
+// Whether a turn is so.
+fn takes<S: Read + Write>(stream: &mut S, turn: &Turn) -> bool {
+    match turn {
+        Turn::ShakesHands => is_heard(stream, HANDSHAKE, ACCEPTED),
+        Turn::Says(said, answer) => {
+            let said_length = said.len().min(125) as u8;
+            let length = answer.len().min(125) as u8;
+            is_heard(stream, &[0x81, 0x80 | said_length, 0, 0, 0, 0], b"")
+                && is_heard(stream, said.as_bytes(), &[0x81, length])
+                && hears(stream, answer.as_bytes())
+        }
+        Turn::Sends(sent, heard) => is_heard(stream, sent, heard),
+    }
+}
+
+// Whether bytes that are sent are answered by these.
+fn is_heard<S: Read + Write>(stream: &mut S, sent: &[u8], heard: &[u8]) -> bool {
+    stream.write_all(sent).is_ok() && hears(stream, heard)
 }
 
 // Whether these bytes come next.

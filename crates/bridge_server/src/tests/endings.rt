@@ -2,7 +2,8 @@
 
 use super::devices::{FailingWriter, Holding, Waiting, line_feeds};
 use super::running::status_of;
-use super::session::{SESSION, script_of};
+use super::session::script_of;
+use std::alloc::{AllocError, Global};
 use std::cell::Cell;
 use std::io::{self, ErrorKind};
 use std::net::Net;
@@ -20,14 +21,19 @@ const MESSAGES: &str = "
 {\"as\":\"n2\",\"ask\":\"board\",\"board\":2}
 {\"as\":\"zz\",\"ask\":\"board\",\"board\":2}";
 
+fn script_of_messages(alloc: Global) -> Result<Vec<u8>, AllocError> {
+    script_of(alloc, 0, MESSAGES)
+}
+
 // Their answers, a line each.
-const ANSWERS: &str =
+fn answers() -> &'static str {
     r#"{"denied":{"board":2,"rule":5,"table":2,"why":"your pair has still to play this board"},"version":0}
 {"error":"Malformed"}
 {"answers":["ok","ok"],"first":1,"last":2,"version":2}
 {"board":{"deal":"N:...AKQJT98765432 AKQJT98765432... .AKQJT98765432.. ..AKQJT98765432.","dealer":"E","number":2,"vul":"ns"},"version":2}
 {"denied":{"board":0,"rule":1,"table":0,"why":"no such account"},"version":2}
-"#;
+"#
+}
 
 // What follows so many lines of a text.
 fn after_lines(text: &[u8], lines: usize) -> &[u8] {
@@ -50,8 +56,9 @@ fn answers_what_was_read<R: Files + Net + Clock + Wait + AllocGlobal>(
     let mut written = Vec::new(rt.alloc());
     let status = status_of(rt, "script", &mut reader, &mut written, &mut io::sink());
     let messages = line_feeds(script.get(..good).unwrap_or(script)).saturating_sub(1);
-    let unwritten = ANSWERS.as_bytes().strip_prefix(written.as_slice());
-    status == 3 && unwritten == Some(after_lines(ANSWERS.as_bytes(), messages))
+    let answers = answers().as_bytes();
+    let unwritten = answers.strip_prefix(written.as_slice());
+    status == 3 && unwritten == Some(after_lines(answers, messages))
 }
 
 // Whether so many bytes of the answers are written, where a write fails after them, and no line is read after it.
@@ -66,21 +73,21 @@ fn writes_a_first_part<R: Files + Net + Clock + Wait + AllocGlobal>(
     let written = writer.held.as_slice();
     // The session's line is read, a line for each answer, and the one whose answer isn't written.
     let unread = after_lines(script, line_feeds(written).saturating_add(2));
-    status == 3 && ANSWERS.as_bytes().get(..room) == Some(written) && reader == unread
+    status == 3 && answers().as_bytes().get(..room) == Some(written) && reader == unread
 }
 
 /// A read or a write that failed isn't tried again, though it would succeed, and nothing is read after a write that
 /// failed.
 #[test]
 fn ends_where_a_read_or_a_write_fails(rt: HostRuntime) -> Result<(), Fail> {
-    let script = script_of(rt.alloc(), SESSION.len(), MESSAGES)?;
+    let script = script_of_messages(rt.alloc())?;
     for good in 0..=script.len() {
         assert!(rt;
             answers_what_was_read(&rt, script.as_slice(), good),
             "read {good}"
         );
     }
-    for room in 0..ANSWERS.len() {
+    for room in 0..answers().len() {
         assert!(rt;
             writes_a_first_part(&rt, script.as_slice(), room),
             "wrote {room}"
@@ -114,7 +121,7 @@ fn answers_in_turn<R: Files + Net + Clock + Wait + AllocGlobal>(
 
 #[test]
 fn passes_each_answer_on(rt: HostRuntime) -> Result<(), Fail> {
-    let script = script_of(rt.alloc(), SESSION.len(), MESSAGES)?;
+    let script = script_of_messages(rt.alloc())?;
     for (room, status) in [(0, 3), (4, 3), (5, 0)] {
         assert!(rt;
             answers_in_turn(&rt, script.as_slice(), room, status),

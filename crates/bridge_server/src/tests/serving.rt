@@ -1,8 +1,9 @@
 //! Clients that are served.
 
-use super::client::{ACCEPTED, Client, HANDSHAKE, is_served};
+use super::client::Turn::{Says, Sends, ShakesHands};
+use super::client::{Client, Turn, is_served};
 use super::running::{Ending, ends};
-use super::session::{DEALS, SESSION, SESSION_ALONE};
+use super::session::{deals, session, session_alone};
 use std::alloc::{AllocError, Global};
 use std::net::{Ipv4Addr, Net, OpenListener, TcpListener};
 use std::rt::Files;
@@ -11,96 +12,80 @@ use std::test::Fail;
 use std::time::Clock;
 use std::{fs, io, thread};
 
-// Each turn is what is sent, and what is heard then. A frame's first byte says that it is a whole text (`\x81`), a
-// whole binary message (`\x82`), a close (`\x88`), a ping (`\x89`) or a pong (`\x8a`). Its length follows, and then
-// in what is sent a mask, which has zeros alone but for one text.
+// A close without a reason, and its answer.
+const CLOSES: Turn = Sends(b"\x88\x80\0\0\0\0", b"\x88\0");
+
+// The first byte of a frame that is sent or heard as bytes says that it is a whole text (`\x81`), a whole binary message
+// (`\x82`), a close (`\x88`), a ping (`\x89`) or a pong (`\x8a`). Its length follows, and then in what is sent a mask.
 static CLIENTS: &[Client] = &[
     (
         "a player who signs in with a masked text, and asks for a board",
         &[
-            (HANDSHAKE, ACCEPTED),
-            (
+            ShakesHands,
+            Sends(
                 b"\x81\x9c\x05\x05\x05\x05~'m`iij'?'k4')'qjn`k'?'dgf'x",
                 b"\x81\x0e{\"hello\":\"n1\"}",
             ),
-            (
-                b"\x81\x99\0\0\0\0{\"ask\":\"board\",\"board\":1}",
-                b"\x81\x64{\"denied\":{\"board\":1,\"rule\":5,\"table\":1,\"why\":\"your pair has still to play this board\"},\"version\":0}",
+            Says(
+                r#"{"ask":"board","board":1}"#,
+                r#"{"denied":{"board":1,"rule":5,"table":1,"why":"your pair has still to play this board"},"version":0}"#,
             ),
-            (b"\x88\x80\0\0\0\0", b"\x88\0"),
+            CLOSES,
         ],
     ),
     ("one that leaves at once", &[]),
     (
         "one whose request is no handshake",
-        &[(b"GET / HTTP/1.1\r\n\r\n", b"")],
+        &[Sends(b"GET / HTTP/1.1\r\n\r\n", b"")],
     ),
     (
         "one whose request is none, and who goes on",
-        &[(b"hello\r\n\r\n\x81\x84\0\0\0\0late", b"")],
+        &[Sends(b"hello\r\n\r\n\x81\x84\0\0\0\0late", b"")],
     ),
-    (
-        "one that says nothing after the handshake",
-        &[(HANDSHAKE, ACCEPTED)],
-    ),
+    ("one that says nothing after the handshake", &[ShakesHands]),
     (
         "one that signs in, and leaves in the middle of a frame",
         &[
-            (HANDSHAKE, ACCEPTED),
-            (
-                b"\x81\x9c\0\0\0\0{\"hello\":\"n1\",\"token\":\"abc\"}",
-                b"\x81\x0e{\"hello\":\"n1\"}",
-            ),
-            (b"\x81\x8a\0\0\0\0{\"ask", b""),
+            ShakesHands,
+            Says(r#"{"hello":"n1","token":"abc"}"#, r#"{"hello":"n1"}"#),
+            Sends(b"\x81\x8a\0\0\0\0{\"ask", b""),
         ],
     ),
     (
         "one where nobody is signed in, also not by a binary message, which is malformed",
         &[
-            (HANDSHAKE, ACCEPTED),
-            (
-                b"\x81\x99\0\0\0\0{\"ask\":\"board\",\"board\":1}",
-                b"\x81\x17{\"error\":\"NotSignedIn\"}",
-            ),
-            (
+            ShakesHands,
+            Says(r#"{"ask":"board","board":1}"#, r#"{"error":"NotSignedIn"}"#),
+            Sends(
                 b"\x82\x9c\0\0\0\0{\"hello\":\"n1\",\"token\":\"abc\"}",
                 b"\x81\x15{\"error\":\"Malformed\"}",
             ),
-            (
-                b"\x81\x99\0\0\0\0{\"ask\":\"board\",\"board\":1}",
-                b"\x81\x17{\"error\":\"NotSignedIn\"}",
-            ),
-            (b"\x88\x80\0\0\0\0", b"\x88\0"),
+            Says(r#"{"ask":"board","board":1}"#, r#"{"error":"NotSignedIn"}"#),
+            CLOSES,
         ],
     ),
     (
         "a director who holds a board, and then a player",
         &[
-            (HANDSHAKE, ACCEPTED),
-            (
-                b"\x81\x9b\0\0\0\0{\"hello\":\"d\",\"token\":\"abc\"}",
-                b"\x81\x0d{\"hello\":\"d\"}",
+            ShakesHands,
+            Says(r#"{"hello":"d","token":"abc"}"#, r#"{"hello":"d"}"#),
+            Says(
+                r#"{"do":[{"board":1,"cmd":"Hold"}]}"#,
+                r#"{"answers":["ok"],"first":1,"last":1,"version":1}"#,
             ),
-            (
-                b"\x81\xa1\0\0\0\0{\"do\":[{\"board\":1,\"cmd\":\"Hold\"}]}",
-                b"\x81\x31{\"answers\":[\"ok\"],\"first\":1,\"last\":1,\"version\":1}",
+            Says(r#"{"hello":"n1","token":"abc"}"#, r#"{"hello":"n1"}"#),
+            Says(
+                r#"{"ask":"board","board":1}"#,
+                r#"{"denied":{"board":1,"rule":4,"table":0,"why":"the board is held"},"version":1}"#,
             ),
-            (
-                b"\x81\x9c\0\0\0\0{\"hello\":\"n1\",\"token\":\"abc\"}",
-                b"\x81\x0e{\"hello\":\"n1\"}",
-            ),
-            (
-                b"\x81\x99\0\0\0\0{\"ask\":\"board\",\"board\":1}",
-                b"\x81\x4f{\"denied\":{\"board\":1,\"rule\":4,\"table\":0,\"why\":\"the board is held\"},\"version\":1}",
-            ),
-            (b"\x88\x80\0\0\0\0", b"\x88\0"),
+            CLOSES,
         ],
     ),
     (
         "one whose ping, empty text and close are answered, and nothing after them",
         &[
-            (HANDSHAKE, ACCEPTED),
-            (
+            ShakesHands,
+            Sends(
                 b"\x89\x81\0\0\0\0p\x81\x80\0\0\0\0\x88\x82\0\0\0\0\x03\xe8\x81\x84\0\0\0\0late",
                 b"\x8a\x01p\x81\x15{\"error\":\"Malformed\"}\x88\x02\x03\xe8",
             ),
@@ -110,22 +95,22 @@ static CLIENTS: &[Client] = &[
     (
         "one whose frame is unmasked",
         &[
-            (HANDSHAKE, ACCEPTED),
-            (b"\x81\x01a\x81\x81\0\0\0\0b", b"\x88\x02\x03\xea"),
+            ShakesHands,
+            Sends(b"\x81\x01a\x81\x81\0\0\0\0b", b"\x88\x02\x03\xea"),
         ],
     ),
     (
         "one whose opcode is reserved",
         &[
-            (HANDSHAKE, ACCEPTED),
-            (b"\x83\x80\0\0\0\0\x81\x81\0\0\0\0b", b"\x88\x02\x03\xea"),
+            ShakesHands,
+            Sends(b"\x83\x80\0\0\0\0\x81\x81\0\0\0\0b", b"\x88\x02\x03\xea"),
         ],
     ),
     (
         "one whose text is no UTF-8",
         &[
-            (HANDSHAKE, ACCEPTED),
-            (
+            ShakesHands,
+            Sends(
                 b"\x81\x81\0\0\0\0\xff\x81\x81\0\0\0\0b",
                 b"\x88\x02\x03\xef",
             ),
@@ -134,10 +119,10 @@ static CLIENTS: &[Client] = &[
     (
         "one whose longest message is answered, and ends with one that is longer",
         &[
-            (HANDSHAKE, ACCEPTED),
-            (b"\x81\xff\0\0\0\0\0\x01\0\x01\0\0\0\0", b""),
-            (&[b'a'; 65_537], b"\x81\x13{\"error\":\"TooLong\"}"),
-            (b"\x81\xff\0\0\0\0\0\x01\0\x02\0\0\0\0", b"\x88\x02\x03\xf1"),
+            ShakesHands,
+            Sends(b"\x81\xff\0\0\0\0\0\x01\0\x01\0\0\0\0", b""),
+            Sends(&[b'a'; 65_537], b"\x81\x13{\"error\":\"TooLong\"}"),
+            Sends(b"\x81\xff\0\0\0\0\0\x01\0\x02\0\0\0\0", b"\x88\x02\x03\xf1"),
         ],
     ),
 ];
@@ -147,18 +132,17 @@ fn at_port(alloc: Global, words: &str, port: u16) -> Result<String, AllocError> 
     format!(in alloc; "{words} --port {port}")
 }
 
-// The files of the session, in the folder `out` of the one that the test is run in.
-static FILES: &[(&str, &str)] = &[
-    ("out/session", SESSION_ALONE),
-    ("out/with_deals", SESSION),
-    ("out/deals", DEALS),
-    ("out/no_deals", "{"),
-];
-
+// Writes the files of the session, in the folder `out` of the one that the test is run in.
 fn write_files<R: Files>(rt: &R) -> io::Result<()> {
+    let files = [
+        ("out/session", session_alone()),
+        ("out/with_deals", session()),
+        ("out/deals", deals()),
+        ("out/no_deals", "{"),
+    ];
     fs::create_dir_all(rt, "out")?;
-    for (path, text) in FILES {
-        fs::write(rt, *path, *text)?;
+    for (path, text) in files {
+        fs::write(rt, path, text)?;
     }
     Ok(())
 }
@@ -210,33 +194,37 @@ fn free_port<R: Net>(rt: &R) -> io::Result<u16> {
     Ok(listener.local_addr()?.port())
 }
 
-// How many clients, one after another, are served so.
-fn served<R: Net + Clock>(rt: &R, port: u16) -> usize {
-    let mut count: usize = 0;
+// Which client, of all that come one after another, isn't served so.
+fn unserved<R: Net + Clock>(rt: &R, port: u16) -> Option<&'static str> {
     for client in CLIENTS {
         if !is_served(rt, port, client) {
-            break;
+            return Some(client.0);
         }
-        count = count.saturating_add(1);
     }
-    count
+    None
 }
 
 // Serves as many connections as there are clients.
 const WORDS: &str = "serve --session out/session --deals out/deals --connections 13";
 
+// A port, and the words that serve there.
+fn server_words<R: Files + Net + AllocGlobal>(rt: &R) -> Result<(u16, String), Fail> {
+    write_files(rt)?;
+    let port = free_port(rt)?;
+    let line = at_port(rt.alloc(), WORDS, port)?;
+    Ok((port, line))
+}
+
 /// Where a client isn't served so, the test stops: the server would wait for another.
 #[test]
 fn serves_one_client_after_another(rt: HostRuntime) -> Result<(), Fail> {
-    write_files(&rt)?;
-    let port = free_port(&rt)?;
-    let line = at_port(rt.alloc(), WORDS, port)?;
+    let (port, line) = server_words(&rt)?;
     let server_rt = rt.clone()?;
     let server = thread::spawn(&rt, move || {
         ends(&server_rt, line.as_str(), &mut io::empty(), &(0, "", ""))
     })?;
-    let count = served(&rt, port);
-    assert!(rt; count == CLIENTS.len(), "client {count}, from 0");
+    let unserved = unserved(&rt, port);
+    assert!(rt; unserved.is_none(), "{unserved:?}");
     assert!(rt; server.join(&rt));
     Ok(())
 }
