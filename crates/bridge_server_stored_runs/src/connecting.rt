@@ -6,29 +6,31 @@ use json_fields::RequestFault;
 use published_view::{Keeper, PlainKeeper};
 use session_object::{SessionObject, read_session};
 use std::alloc::Global;
-use std::io::{self, Write};
+use std::io::Write;
 use std::sync::Wait;
 use wire::fault_text;
 
-/// Answers each line after the first. A session that isn't opened ends this.
+/// Answers each line after the first, and whether it could; a session that isn't opened has none.
 pub(crate) fn answer_connections<R: Wait + AllocGlobal, O: Write>(
     rt: &R,
     text: &str,
     writer: &mut O,
-) -> io::Result<bool> {
+) -> bool {
     let Some((object, messages)) = text.split_once('\n') else {
-        return Ok(false);
+        return false;
     };
     match opened(rt.alloc(), object) {
         Some(keeper) => answer_one_by_one(rt, keeper, messages, writer),
-        None => Ok(false),
+        None => false,
     }
 }
 
 // The session of an object, where it is one.
 fn opened(alloc: Global, object: &str) -> Option<PlainKeeper> {
-    let SessionObject { config, .. } = read_session(alloc, object.as_bytes(), None).ok()?;
-    PlainKeeper::open(alloc, config).ok()
+    match read_session(alloc, object.as_bytes(), None) {
+        Ok(SessionObject { config, .. }) => PlainKeeper::open(alloc, config).ok(),
+        Err(_) => None,
+    }
 }
 
 // Answers one connection after another.
@@ -37,13 +39,15 @@ fn answer_one_by_one<R: Wait + AllocGlobal, K: Keeper, O: Write>(
     keeper: K,
     text: &str,
     writer: &mut O,
-) -> io::Result<bool> {
+) -> bool {
     let mut connection = Connection::new(keeper);
     for messages in text.split_inclusive("\n\n") {
-        answer_messages(rt, &mut connection, messages, writer)?;
+        if !answer_messages(rt, &mut connection, messages, writer) {
+            return false;
+        }
         connection = Connection::new(connection.into_keeper());
     }
-    Ok(true)
+    true
 }
 
 fn answer_messages<R: Wait + AllocGlobal, K: Keeper, O: Write>(
@@ -51,25 +55,27 @@ fn answer_messages<R: Wait + AllocGlobal, K: Keeper, O: Write>(
     connection: &mut Connection<K>,
     messages: &str,
     writer: &mut O,
-) -> io::Result<()> {
+) -> bool {
     for message in messages.lines() {
-        if message.is_empty() {
-            writer.write_all(b"\n")?;
-        } else {
-            answer_message(rt, connection, message, writer)?;
+        if !answer_message(rt, connection, message, writer) {
+            return false;
         }
     }
-    Ok(())
+    true
 }
 
+// An empty line ends a connection, and has no answer.
 fn answer_message<R: Wait + AllocGlobal, K: Keeper, O: Write>(
     rt: &R,
     connection: &mut Connection<K>,
     message: &str,
     writer: &mut O,
-) -> io::Result<()> {
+) -> bool {
+    if message.is_empty() {
+        return writer.write_all(b"\n").is_ok();
+    }
     match connection.serve_message(rt, rt.alloc(), message.as_bytes()) {
-        Ok(text) => writeln!(writer, "{text}"),
-        Err(_) => writeln!(writer, "{}", fault_text(RequestFault::OutOfMemory)),
+        Ok(text) => writeln!(writer, "{text}").is_ok(),
+        Err(_) => writeln!(writer, "{}", fault_text(RequestFault::OutOfMemory)).is_ok(),
     }
 }

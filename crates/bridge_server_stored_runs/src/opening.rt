@@ -3,18 +3,26 @@
 
 use program::status_of_script;
 use std::alloc::{AllocError, Global};
-use std::io::{self, Write};
+use std::io::Write;
 
 /// A message that each session answers alike: no session has a board 0.
 const MESSAGE: &str = "{\"as\":\"a\",\"ask\":\"board\",\"board\":0}";
 
-/// Writes a line for each session object.
-pub(crate) fn open_all<O: Write>(alloc: Global, text: &str, writer: &mut O) -> io::Result<bool> {
+/// Writes a line for each session object, and whether it could.
+pub(crate) fn open_all<O: Write>(alloc: Global, text: &str, writer: &mut O) -> bool {
     for object in text.lines() {
-        let line = line_of(alloc, object)?;
-        writer.write_all(line.as_slice())?;
+        if !write_line(alloc, object, writer) {
+            return false;
+        }
     }
-    Ok(true)
+    true
+}
+
+fn write_line<O: Write>(alloc: Global, object: &str, writer: &mut O) -> bool {
+    match line_of(alloc, object) {
+        Ok(line) => writer.write_all(line.as_slice()).is_ok(),
+        Err(_) => false,
+    }
 }
 
 // The status with which a script ends, and what is written.

@@ -3,33 +3,30 @@
 
 use program::run_script;
 use std::alloc::{AllocError, Global};
-use std::io::{self, Write};
-use std::str;
+use std::io::Write;
 
-/// Writes the answer to the last of each line's messages. A script that isn't answered to its end ends this.
-pub(crate) fn answer_repeated<O: Write>(
-    alloc: Global,
-    text: &str,
-    writer: &mut O,
-) -> io::Result<bool> {
+/// Writes the answer to the last of each line's messages, and whether it could.
+pub(crate) fn answer_repeated<O: Write>(alloc: Global, text: &str, writer: &mut O) -> bool {
     let mut script = String::new(alloc);
     let mut ends = Vec::new(alloc);
+    if put_repeated(text, &mut script, &mut ends).is_err() {
+        return false;
+    }
+    let mut answers = Vec::new(alloc);
+    run_script(alloc, &mut script.as_bytes(), &mut answers).is_ok()
+        && write_ends(answers.as_slice(), ends.as_slice(), writer)
+}
+
+// Puts each line's message into a script as often as the line says, and after how many lines it ends.
+fn put_repeated(text: &str, script: &mut String, ends: &mut Vec<usize>) -> Result<(), AllocError> {
     let mut sent = 0usize;
     for line in text.lines() {
         let (times, message) = repeated(line);
-        repeat(&mut script, times, message)?;
+        repeat(script, times, message)?;
         sent = sent.saturating_add(times);
         ends.push(sent)?;
     }
-    let mut answers = Vec::new(alloc);
-    if run_script(alloc, &mut script.as_bytes(), &mut answers).is_err() {
-        return Ok(false);
-    }
-    let Ok(answers) = str::from_utf8(answers.as_slice()) else {
-        return Ok(false);
-    };
-    write_ends(answers, ends.as_slice(), writer)?;
-    Ok(true)
+    Ok(())
 }
 
 // How often a line's message is sent; a line without a number is sent once.
@@ -52,15 +49,14 @@ fn repeat(script: &mut String, times: usize, message: &str) -> Result<(), AllocE
     Ok(())
 }
 
-// Writes the answers to the lines of a script with these numbers, from 1; the first line has none.
-fn write_ends<O: Write>(answers: &str, ends: &[usize], writer: &mut O) -> io::Result<()> {
+// Writes the answers to the lines of a script with these numbers, from 1, and whether it could; the first line has none.
+fn write_ends<O: Write>(answers: &[u8], ends: &[usize], writer: &mut O) -> bool {
     let mut number = 1usize;
-    for answer in answers.split('\n') {
+    for answer in answers.split_inclusive(|byte| *byte == b'\n') {
         number = number.saturating_add(1);
-        if ends.contains(&number) {
-            writer.write_all(answer.as_bytes())?;
-            writer.write_all(b"\n")?;
+        if ends.contains(&number) && writer.write_all(answer).is_err() {
+            return false;
         }
     }
-    Ok(())
+    true
 }

@@ -14,21 +14,17 @@ use session_book::{Answer, Book, State};
 use session_object::{SessionObject, read_session};
 use session_state::{Command, Refusal};
 use std::alloc::Global;
-use std::io::{self, Write};
+use std::io::Write;
 use user_names::Name;
 use wire::{AuditRange, Request, RequestBody, Source, read_request, receipt_text};
 
-/// Answers each line after the first. A session that isn't opened, or a line that can't be answered, ends this.
-pub(crate) fn answer_beside_solver<O: Write>(
-    alloc: Global,
-    text: &str,
-    writer: &mut O,
-) -> io::Result<bool> {
+/// Answers each line after the first, and whether it could; a session that isn't opened has none.
+pub(crate) fn answer_beside_solver<O: Write>(alloc: Global, text: &str, writer: &mut O) -> bool {
     let Some((object, lines)) = text.split_once('\n') else {
-        return Ok(false);
+        return false;
     };
     let Some(mut session) = Session::open(alloc, object) else {
-        return Ok(false);
+        return false;
     };
     answer_lines(alloc, &mut session, lines, writer)
 }
@@ -38,14 +34,20 @@ fn answer_lines<O: Write>(
     session: &mut Session,
     lines: &str,
     writer: &mut O,
-) -> io::Result<bool> {
+) -> bool {
     for line in lines.lines() {
-        match session.respond(alloc, line) {
-            Some(answer) => writeln!(writer, "{answer}")?,
-            None => return Ok(false),
+        if !answer_line(alloc, session, line, writer) {
+            return false;
         }
     }
-    Ok(true)
+    true
+}
+
+fn answer_line<O: Write>(alloc: Global, session: &mut Session, line: &str, writer: &mut O) -> bool {
+    match session.respond(alloc, line) {
+        Some(answer) => writeln!(writer, "{answer}").is_ok(),
+        None => false,
+    }
 }
 
 /// A book and a view of it.
@@ -70,14 +72,14 @@ impl Session {
     /// The answer to a line.
     pub(crate) fn respond(&mut self, alloc: Global, line: &str) -> Option<String> {
         let text = if let Some(words) = line.strip_prefix("solve ") {
-            self.solve(alloc, words)?
+            self.solve(alloc, words)
         } else if let Some(words) = line.strip_prefix("analyse ") {
-            self.analyse(alloc, words)?
+            self.analyse(alloc, words)
         } else {
-            self.answer(alloc, line)?
+            self.answer(alloc, line)
         };
         self.catch_up();
-        Some(text)
+        text
     }
 
     // Has the view take in what it hasn't.
@@ -91,14 +93,18 @@ impl Session {
 
     // The book tries a table, as the solver tells it.
     fn solve(&mut self, alloc: Global, words: &str) -> Option<String> {
-        let (board, table) = table_told(alloc, self.book.state(), words)?;
-        answer_text(alloc, &self.book.submit_solved(board, table))
+        match table_told(alloc, self.book.state(), words) {
+            Some((board, table)) => answer_text(alloc, &self.book.submit_solved(board, table)),
+            None => None,
+        }
     }
 
     // The book tries what cards cost, as the solver tells it.
     fn analyse(&mut self, alloc: Global, words: &str) -> Option<String> {
-        let (cell, costs) = costs_told(alloc, self.book.state(), words)?;
-        answer_text(alloc, &self.book.submit_analysed(cell, costs))
+        match costs_told(alloc, self.book.state(), words) {
+            Some((cell, costs)) => answer_text(alloc, &self.book.submit_analysed(cell, costs)),
+            None => None,
+        }
     }
 
     // The answer to a query or to a batch.
@@ -156,14 +162,18 @@ impl Session {
 fn opened_book(alloc: Global, object: &str) -> Option<Book>
     ensures { IfSome result (λ book. book.journal ≡ []) }
 {
-    let opening = opening_state(alloc, object)?;
-    Book::open(alloc, opening).ok()
+    match opening_state(alloc, object) {
+        Some(opening) => Book::open(alloc, opening).ok(),
+        None => None,
+    }
 }
 
 // The state in which the session of an object opens, if it opens.
 fn opening_state(alloc: Global, object: &str) -> Option<State> {
-    let SessionObject { config, .. } = read_session(alloc, object.as_bytes(), None).ok()?;
-    config.open(alloc).ok()
+    match read_session(alloc, object.as_bytes(), None) {
+        Ok(SessionObject { config, .. }) => config.open(alloc).ok(),
+        Err(_) => None,
+    }
 }
 
 // What the solver is answered.

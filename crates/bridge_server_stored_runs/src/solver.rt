@@ -16,43 +16,80 @@ const VISITS: u64 = 100_000_000;
 
 /// A board, and the table that is told of it.
 pub(crate) fn table_told(alloc: Global, state: &State, words: &str) -> Option<(u8, DdTable)> {
-    let (board, deal) = words.split_once(" ")?;
-    let board = board.parse::<u8>().ok()?;
-    let deal = deal_of(state, deal)?;
-    let found = table(alloc, deal, &mut Budget::new(VISITS)).ok()?;
-    Some((board, found))
+    let Some((board, deal)) = number_in(words) else {
+        return None;
+    };
+    let Some(deal) = deal_of(state, deal) else {
+        return None;
+    };
+    match table(alloc, deal, &mut Budget::new(VISITS)) {
+        Ok(found) => Some((board, found)),
+        Err(_) => None,
+    }
 }
 
 /// A cell, and the costs that are told of it.
 pub(crate) fn costs_told(alloc: Global, state: &State, words: &str) -> Option<(Cell, PlayCosts)> {
-    let (at, words) = words.split_once(" ")?;
-    let (board, words) = words.split_once(" ")?;
-    let (deal, cards) = words.split_once(" ")?;
-    let cell = Cell {
-        table: at.parse::<u8>().ok()?,
-        board: board.parse::<u8>().ok()?,
+    let Some((table, words)) = number_in(words) else {
+        return None;
     };
-    let deal = deal_of(state, deal)?;
-    let play = play_of(alloc, cards)?;
-    let found = play_costs(alloc, deal, four_spades()?, &play, &mut Budget::new(VISITS));
-    Some((cell, found.ok()?))
+    let Some((board, words)) = number_in(words) else {
+        return None;
+    };
+    let Some((deal, cards)) = words.split_once(" ") else {
+        return None;
+    };
+    let Some(deal) = deal_of(state, deal) else {
+        return None;
+    };
+    let Some(play) = play_of(alloc, cards) else {
+        return None;
+    };
+    match costs_of(alloc, deal, &play) {
+        Some(found) => Some((Cell { table, board }, found)),
+        None => None,
+    }
+}
+
+// What the cards of a play cost in four spades by North.
+fn costs_of(alloc: Global, deal: Deal, play: &Play) -> Option<PlayCosts> {
+    let Some(contract) = four_spades() else {
+        return None;
+    };
+    play_costs(alloc, deal, contract, play, &mut Budget::new(VISITS)).ok()
+}
+
+// The number before the first blank, and what follows it.
+fn number_in(words: &str) -> Option<(u8, &str)> {
+    let Some((number, rest)) = words.split_once(" ") else {
+        return None;
+    };
+    match number.parse::<u8>() {
+        Ok(number) => Some((number, rest)),
+        Err(_) => None,
+    }
 }
 
 // The deal of a board of the session.
 fn deal_of(state: &State, word: &str) -> Option<Deal> {
-    let board = word.parse::<u8>().ok()?;
-    if board < 1 || board > state.public().movement.boards() {
-        return None;
+    match word.parse::<u8>() {
+        Ok(board) if board >= 1 && board <= state.public().movement.boards() => {
+            Some(state.deal(board))
+        }
+        _ => None,
     }
-    Some(state.deal(board))
 }
 
 // The cards of these words.
 fn play_of(alloc: Global, words: &str) -> Option<Play> {
     let mut cards = Vec::new(alloc);
     for word in words.split(" ") {
-        let card = word.parse::<Card>().ok()?;
-        cards.push(card).ok()?;
+        let Ok(card) = word.parse::<Card>() else {
+            return None;
+        };
+        if cards.push(card).is_err() {
+            return None;
+        }
     }
     Play::new(cards.as_slice())
 }
