@@ -1,6 +1,7 @@
 pub mod Card
 pub mod CardBits
 pub mod Cards
+pub mod DoubleDummy
 pub mod FourHands
 pub mod HandReading
 pub mod HandText

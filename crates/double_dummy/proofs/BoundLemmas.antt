@@ -14,7 +14,7 @@ use Rattle.std.specs.FinSet as set
 use Rattle.cards.specs.Play.{Position, after, cards_left, legal, point_of, table_after, to_play, trick_for, winner, IsUnderWay, IsPosition, start}
 use Rattle.double_dummy_laws.proofs.BestLemmas.{attained}
 use Rattle.double_dummy_laws.proofs.RenamingLemmas.{worth_in}
-use Rattle.double_dummy_laws.specs.DoubleDummy.{double_dummy, best, tricks}
+use Rattle.cards.specs.DoubleDummy.{double_dummy, best, tricks}
 use Rattle.double_dummy_laws.specs.Found.{IsFound}
 use Rattle.double_dummy_laws.specs.Renaming.{ArePlayed, Ownership, renamed}
 

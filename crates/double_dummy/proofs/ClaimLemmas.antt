@@ -12,7 +12,7 @@ use Rattle.double_dummy_laws.proofs.BestLemmas.{all_answer, one_answers}
 use Rattle.double_dummy_laws.proofs.EqualCardsLemmas.{IsClosed, IsWithin, names_swapped, off_table, renaming_swapped, renaming_within, swap, swap_first, table_swapped}
 use Rattle.double_dummy_laws.proofs.HandLemmas.{among_items, items_among, legal_follows, without_had}
 use Rattle.double_dummy_laws.proofs.RenamingLemmas.{legal_named, legal_old, names_without, played_after, turn_named, worth_in, worth_renamed}
-use Rattle.double_dummy_laws.specs.DoubleDummy.{best, tricks}
+use Rattle.cards.specs.DoubleDummy.{best, tricks}
 use Rattle.double_dummy_laws.specs.Found.{Claims, IsOwned, wanted}
 use Rattle.double_dummy_laws.specs.Known.{IsKnown, IsLike}
 use Rattle.double_dummy_laws.specs.Renaming.{HasNames, Ownership, renamed}

@@ -7,7 +7,7 @@ use Rattle.std.proofs.Math.Seq.{drop-cons}
 use Rattle.std.proofs.Math.ListN.{drop_of_length-le}
 use Rattle.cards.specs.declared.card.Card.{Card}
 use Rattle.cards.specs.Play.{Position, IsPosition, legal, after, cards_left, table_after}
-use Rattle.double_dummy_laws.specs.DoubleDummy.{double_dummy, first_illegal, cost, cost_list}
+use Rattle.cards.specs.DoubleDummy.{double_dummy, first_illegal, cost, cost_list}
 use Rattle.double_dummy_laws.proofs.NeighbourLemmas.{one_less_after}
 use Rattle.double_dummy.proofs.BoundLemmas.{tricks_bound, under_way_short}
 

@@ -23,7 +23,7 @@ use Rattle.double_dummy_laws.proofs.EqualCardsLemmas.{IsWithin}
 use Rattle.double_dummy_laws.proofs.HandLemmas.{items_among}
 use Rattle.double_dummy_laws.proofs.OwnershipLemmas.{owned_knowing, owned_tight, tight, tight_tight, tight_within}
 use Rattle.double_dummy_laws.proofs.RenamingLemmas.{legal_old, turn_named, worth_in}
-use Rattle.double_dummy_laws.specs.DoubleDummy.{best, tricks}
+use Rattle.cards.specs.DoubleDummy.{best, tricks}
 use Rattle.double_dummy_laws.specs.Found.{Claims, IsFound, IsOwned, wanted}
 use Rattle.double_dummy_laws.specs.Known.{IsKnown, IsLike, IsSettled}
 use Rattle.double_dummy_laws.specs.Renaming.{Ownership, knowing, renamed}

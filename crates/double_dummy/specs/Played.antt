@@ -3,7 +3,7 @@ use Rattle.std.specs.Prelude.{◌≡◌}
 use Rattle.cards.specs.declared.card.Card.{Card}
 use Rattle.cards.specs.Play.{Position, IsPosition, after}
 use Rattle.double_dummy.specs.declared.card_costs.Played.{Played}
-use Rattle.double_dummy_laws.specs.DoubleDummy.{double_dummy, cost}
+use Rattle.cards.specs.DoubleDummy.{double_dummy, cost}
 
 -- the position after the card, what it is worth, and what the card cost
 pub record IsPlayed (position : Position) (card : Card) (played : Played) : Type 0 where

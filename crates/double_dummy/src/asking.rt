@@ -1,7 +1,7 @@
 ghost use Rattle.std.specs.Prelude.{◌≡◌, ◌≤◌, IfOk, OnErr};
 ghost use Rattle.cards.specs.Play.{IsPosition};
 ghost use Rattle.position_patterns.specs.Remainder.{IsLeftOf};
-ghost use Rattle.double_dummy_laws.specs.DoubleDummy.{double_dummy};
+ghost use Rattle.cards.specs.DoubleDummy.{double_dummy};
 
 use crate::budget::Budget;
 use crate::error::SolveError;

@@ -5,7 +5,7 @@ ghost use Rattle.cards.specs.Play.{IsApart, IsPosition, start, legal, cards_left
 ghost use Rattle.position_patterns.specs.Remainder.{IsLeftOf};
 ghost use Rattle.double_dummy.specs.Played.{IsPlayed};
 ghost use Rattle.double_dummy.specs.declared.error.CostsError.TheVariants.{NotAPlay, OutOfBudget};
-ghost use Rattle.double_dummy_laws.specs.DoubleDummy.{double_dummy, cost_list, first_illegal};
+ghost use Rattle.cards.specs.DoubleDummy.{double_dummy, cost_list, first_illegal};
 
 use crate::asking::value;
 use crate::budget::Budget;

@@ -1,7 +1,7 @@
 ghost use Rattle.std.specs.Prelude.{◌≡◌, ◌<◌, ◌≤◌, Ok, Err, IfOk, IfErr, OnErr};
 ghost use Rattle.double_dummy.specs.declared.error.SolveError.TheVariants.{OutOfBudget};
 ghost use Rattle.position_patterns.specs.Remainder.{IsLeftOf};
-ghost use Rattle.double_dummy_laws.specs.DoubleDummy.{declarer_tricks, tricks_for};
+ghost use Rattle.cards.specs.DoubleDummy.{declarer_tricks, tricks_for};
 ghost use Rattle.solver_results.specs.DdTable.{IsTricksIn};
 
 use crate::asking::value;

@@ -2,7 +2,7 @@ ghost use Rattle.std.specs.Prelude.{◌≡◌, ◌≢◌, ◌≤◌, ℕ, [], So
 ghost use Rattle.cards.specs.Play.{start};
 ghost use Rattle.solver_results.specs.PlayAnswer.{answer_of};
 ghost use Rattle.double_dummy.specs.declared.error.SolveError.TheVariants.{OutOfBudget};
-ghost use Rattle.double_dummy_laws.specs.DoubleDummy.{first_illegal};
+ghost use Rattle.cards.specs.DoubleDummy.{first_illegal};
 
 use crate::budget::Budget;
 use crate::card_costs::costs_from;

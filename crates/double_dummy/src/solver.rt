@@ -1,7 +1,7 @@
 ghost use Rattle.std.specs.Prelude.{◌≡◌, ◌<◌, ◌≤◌, Ok, Err, IfOk, IfErr};
 ghost use Rattle.cards.specs.Play.{cards_left};
 ghost use Rattle.double_dummy.specs.declared.error.SolveError.TheVariants.{OutOfBudget};
-ghost use Rattle.double_dummy_laws.specs.DoubleDummy.{double_dummy};
+ghost use Rattle.cards.specs.DoubleDummy.{double_dummy};
 
 use crate::asking::value;
 use crate::budget::Budget;

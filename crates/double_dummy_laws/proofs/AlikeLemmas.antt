@@ -13,7 +13,7 @@ use Rattle.std.specs.FinSet as set
 use Rattle.cards.specs.Play.{Position, cards_left}
 use Rattle.double_dummy_laws.proofs.EqualCardsLemmas.{map_same, own_names, same_name}
 use Rattle.double_dummy_laws.proofs.OwnershipLemmas.{in_tight, owned_knowing, tight, tight_tight}
-use Rattle.double_dummy_laws.specs.DoubleDummy.{tricks}
+use Rattle.cards.specs.DoubleDummy.{tricks}
 use Rattle.double_dummy_laws.specs.Found.{IsFound, IsOwned, IsTight}
 use Rattle.double_dummy_laws.specs.Renaming.{ArePlayed, HasNames, IsRenaming, Ownership, knowing}
 use Rattle.cards.specs.Rank.{height}

@@ -5,7 +5,7 @@ use Rattle.std.proofs.lemmas.Bool.{cases_lt, le-leb, lt-leb, leb-true, leb-false
 use Rattle.cards.specs.declared.card.Card.{Card}
 use Rattle.table_terms.specs.declared.side.Side.{Side}
 use Rattle.table_terms.specs.declared.side.Side.TheVariants.{NorthSouth, EastWest}
-use Rattle.double_dummy_laws.specs.DoubleDummy.{best}
+use Rattle.cards.specs.DoubleDummy.{best}
 use Rattle.double_dummy_laws.specs.Found.{wanted}
 
 -- the card stands in the list

@@ -5,7 +5,7 @@ use Rattle.cards.specs.declared.card.Card.{Card}
 use Rattle.table_terms.specs.declared.side.Side.TheVariants.{NorthSouth, EastWest}
 use Rattle.table_terms.specs.Place.{side_of}
 use Rattle.cards.specs.Play.{Position, IsPosition, to_play, legal, after, cards_left}
-use Rattle.double_dummy_laws.specs.DoubleDummy.{best, tricks, double_dummy, worth}
+use Rattle.cards.specs.DoubleDummy.{best, tricks, double_dummy, worth}
 use Rattle.double_dummy_laws.proofs.BestLemmas.{same_best, north_south_bound, east_west_bound}
 use Rattle.double_dummy_laws.proofs.HandLemmas.{among_items, items_among}
 use Rattle.double_dummy_laws.proofs.NeighbourLemmas.{one_less_after}

@@ -20,7 +20,7 @@ use Rattle.double_dummy_laws.specs.Known.{IsLike}
 use Rattle.double_dummy_laws.proofs.OwnerLemmas.{owners_of, owned_position, every_card_known}
 use Rattle.double_dummy_laws.proofs.RenamingLemmas.{worth_in}
 use Rattle.double_dummy_laws.proofs.CountLemmas.{left_after}
-use Rattle.double_dummy_laws.specs.DoubleDummy.{worth}
+use Rattle.cards.specs.DoubleDummy.{worth}
 
 -- of two numbers, a third one that is neither and not between them is above both or below both
 same_side : (a b x : ℕ) → x ≢ a → x ≢ b → (a < x → x < b → ⊥) → (b < x → x < a → ⊥) →

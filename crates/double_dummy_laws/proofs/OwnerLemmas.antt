@@ -15,7 +15,7 @@ use Rattle.cards.specs.Play.{IsOut, IsPosition, IsUnderWay, Position, cards_left
 use Rattle.double_dummy_laws.proofs.AlikeLemmas.{found_value}
 use Rattle.double_dummy_laws.proofs.OwnershipLemmas.{owned_tight, tight, tight_tight}
 use Rattle.double_dummy_laws.proofs.PatternLemmas.{held_holder}
-use Rattle.double_dummy_laws.specs.DoubleDummy.{tricks}
+use Rattle.cards.specs.DoubleDummy.{tricks}
 use Rattle.double_dummy_laws.specs.Found.{IsFound, IsOwned}
 use Rattle.double_dummy_laws.specs.Pattern.{holder_of}
 use Rattle.double_dummy_laws.specs.Renaming.{AllKnown, ArePlayed, Ownership}

@@ -12,7 +12,7 @@ use Rattle.cards.specs.Play.{Position, after, is_of, leader_after, legal, legal_
 use Rattle.double_dummy_laws.proofs.BestLemmas.{same_best}
 use Rattle.double_dummy_laws.proofs.HandLemmas.{among_items, follows_legal, has_without, items_among, legal_follows, without_had}
 use Rattle.double_dummy_laws.proofs.WinnerLemmas.{winner_stays}
-use Rattle.double_dummy_laws.specs.DoubleDummy.{best, tricks}
+use Rattle.cards.specs.DoubleDummy.{best, tricks}
 use Rattle.double_dummy_laws.specs.Renaming.{AllKnown, ArePlayed, HasNames, IsPlayed, IsRenaming, Ownership, renamed}
 use Rattle.double_dummy_laws.specs.Known.{IsKnown, IsSettled}
 

@@ -8,7 +8,7 @@ use Rattle.table_terms.specs.declared.side.Side.TheVariants.{NorthSouth, EastWes
 use Rattle.cards.specs.Cards.{Cards}
 use Rattle.cards.specs.Hands.{Hands, hand_of}
 use Rattle.cards.specs.Play.{Position, cards_left}
-use Rattle.double_dummy_laws.specs.DoubleDummy.{tricks}
+use Rattle.cards.specs.DoubleDummy.{tricks}
 use Rattle.double_dummy_laws.specs.Neighbours.{IsInPlay}
 use Rattle.double_dummy_laws.specs.Renaming.{Ownership, IsRenaming, HasNames, renamed, ArePlayed, knowing}
 

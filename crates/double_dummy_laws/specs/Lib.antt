@@ -1,4 +1,3 @@
-pub mod DoubleDummy
 pub mod Found
 pub mod Known
 pub mod Neighbours

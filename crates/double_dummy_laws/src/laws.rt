@@ -9,7 +9,7 @@ ghost use Rattle.cards.specs.Cards.{Cards};
 ghost use Rattle.cards.specs.Hands.{Hands, hand_of};
 ghost use Rattle.table_terms.specs.Place.{side_of};
 ghost use Rattle.cards.specs.Play.{Position, IsPosition, IsApart, legal, to_play, cards_left};
-ghost use Rattle.double_dummy_laws.specs.DoubleDummy.{best, tricks, double_dummy, worth};
+ghost use Rattle.cards.specs.DoubleDummy.{best, tricks, double_dummy, worth};
 ghost use Rattle.double_dummy_laws.specs.Found.{IsFound};
 ghost use Rattle.double_dummy_laws.specs.Neighbours.{AreNeighbours, IsRun};
 ghost use Rattle.double_dummy_laws.specs.Pattern.{IsOfPattern, IsTop, holding};

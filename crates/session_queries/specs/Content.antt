@@ -5,7 +5,7 @@ use Rattle.cards.specs.declared.card.Card.{Card}
 use Rattle.table_terms.specs.declared.place.Place.TheVariants.{North, East, South, West}
 use Rattle.table_terms.specs.declared.strain.Strain.{Strain}
 use Rattle.table_terms.specs.declared.strain.Strain.TheVariants.{Spades, Hearts, Diamonds, Clubs, NoTrump}
-use Rattle.session_state.specs.solver_results.double_dummy_laws.DoubleDummy.{declarer_tricks}
+use Rattle.session_state.specs.cards.DoubleDummy.{declarer_tricks}
 use Rattle.movement.specs.declared.cell.Cell.{Cell}
 use Rattle.rbac.specs.declared.account.Account.{Account}
 use Rattle.rbac.specs.declared.inheritance.Inheritance.{Inheritance}

@@ -5,7 +5,7 @@ use Rattle.table_terms.specs.declared.place.Place.TheVariants.{North, East, Sout
 use Rattle.table_terms.specs.declared.strain.Strain.{Strain}
 use Rattle.solver_results.specs.cards.Hands.{Hands}
 use Rattle.solver_results.specs.declared.dd_table.DeclarerTricks.{DeclarerTricks}
-use Rattle.double_dummy_laws.specs.DoubleDummy.{declarer_tricks}
+use Rattle.cards.specs.DoubleDummy.{declarer_tricks}
 
 -- the number of a declarer
 abbrev pub tricks_of : DeclarerTricks → Place → ℕ

@@ -1,5 +1,4 @@
 pub use Rattle.cards.specs as cards
-pub use Rattle.double_dummy_laws.specs as double_dummy_laws
 pub use Rattle.scoring.specs as scoring
 pub mod CostPlaces
 pub mod DdTable

@@ -8,7 +8,7 @@ use Rattle.solver_results.specs.cards.Hands.{Hands, hands_code}
 use Rattle.solver_results.specs.cards.Play.{start}
 use Rattle.solver_results.specs.declared.play_answer.PlayAnswer.{PlayAnswer}
 use Rattle.solver_results.specs.declared.play_answer.PlayAnswer.TheVariants.{Costs, NotAPlay}
-use Rattle.double_dummy_laws.specs.DoubleDummy.{cost_list, first_illegal}
+use Rattle.cards.specs.DoubleDummy.{cost_list, first_illegal}
 use Rattle.scoring.specs.declared.contract.Contract.{Contract}
 
 -- a deal, its contract, and the cards that were played

@@ -1,6 +1,6 @@
 ghost use Rattle.std.specs.Prelude.{◌≡◌};
 ghost use Rattle.table_terms.specs.declared.strain.Strain.TheVariants.{Spades, Hearts, Diamonds, Clubs, NoTrump};
-ghost use Rattle.double_dummy_laws.specs.DoubleDummy.{declarer_tricks};
+ghost use Rattle.cards.specs.DoubleDummy.{declarer_tricks};
 ghost use Rattle.solver_results.specs.DdTable.{IsTricksIn, tricks_of};
 
 use cards::Deal;

@@ -4,7 +4,7 @@ use Rattle.std.proofs.lemmas.Bool.{leb-true, leb-false}
 use Rattle.double_dummy.proofs.BoundLemmas.{position_bound}
 use Rattle.double_dummy.proofs.asking.value.Goals as goal
 use Rattle.double_dummy_laws.proofs.OwnerLemmas.{found_valid}
-use Rattle.double_dummy_laws.specs.DoubleDummy.{double_dummy}
+use Rattle.cards.specs.DoubleDummy.{double_dummy}
 
 pub loop-low-init : goal.loop-low-init
 loop-low-init c =

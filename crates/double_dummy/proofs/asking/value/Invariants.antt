@@ -1,6 +1,6 @@
 use Rattle.std.proofs.Common.{◌≤◌, ◌-◌, ◌<◌}
 use Rattle.double_dummy.proofs.asking.value.Given as goal
-use Rattle.double_dummy_laws.specs.DoubleDummy.{double_dummy}
+use Rattle.cards.specs.DoubleDummy.{double_dummy}
 
 abbrev pub invariant-loop-low : goal.invariant-loop-low
 invariant-loop-low l = record {

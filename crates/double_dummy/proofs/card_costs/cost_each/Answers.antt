@@ -8,7 +8,7 @@ use Rattle.double_dummy.proofs.PlayedLemmas.{head_legal, past_card, from_card, o
 use Rattle.position_patterns.specs.Remainder.{IsLeftOf}
 use Rattle.double_dummy.proofs.card_costs.cost_each.Goals as goal
 use Rattle.double_dummy_laws.proofs.NeighbourLemmas.{one_less_after}
-use Rattle.double_dummy_laws.specs.DoubleDummy.{cost_list}
+use Rattle.cards.specs.DoubleDummy.{cost_list}
 
 none : Card
 none = record { suit = Spades; rank = Two }

@@ -2,7 +2,7 @@ use Rattle.std.proofs.Common.{◌≡◌, ◌+◌, ◌≤◌, suc, drop, length, 
 use Rattle.cards.specs.Play.{IsPosition, cards_left}
 use Rattle.position_patterns.specs.Remainder.{IsLeftOf}
 use Rattle.double_dummy.proofs.card_costs.cost_each.Given as goal
-use Rattle.double_dummy_laws.specs.DoubleDummy.{double_dummy, cost_list, first_illegal}
+use Rattle.cards.specs.DoubleDummy.{double_dummy, cost_list, first_illegal}
 
 abbrev pub invariant-loop-card : goal.invariant-loop-card
 invariant-loop-card l = record {

@@ -1,5 +1,5 @@
 use Rattle.std.proofs.Common.{◌≡◌, ◌∙◌, ap, sym, refl, Some, None}
-use Rattle.double_dummy_laws.specs.DoubleDummy.{first_illegal}
+use Rattle.cards.specs.DoubleDummy.{first_illegal}
 use Rattle.double_dummy.proofs.BoundLemmas.{deal_cards}
 use Rattle.double_dummy.proofs.card_costs.costs_from.Goals as goal
 

@@ -1,6 +1,6 @@
 use Rattle.std.proofs.Common.{◌∙◌, ap}
 use Rattle.double_dummy.proofs.dd_table.solve_declarer.Goals as goal
-use Rattle.double_dummy_laws.specs.DoubleDummy.{double_dummy, tricks_for}
+use Rattle.cards.specs.DoubleDummy.{double_dummy, tricks_for}
 
 pub returns-clause-tricks : goal.returns-clause-tricks
 returns-clause-tricks c =
