@@ -5,11 +5,11 @@ use std::net::{Ipv4Addr, Net, OpenStream, Shutdown, TcpStream};
 use std::thread;
 use std::time::{Clock, Duration};
 
-/// The request of the standard's own example (1.2, 1.3).
+// The request of the standard's own example (1.2, 1.3).
 const HANDSHAKE: &[u8] = b"GET / HTTP/1.1\r\nHost: 127.0.0.1\r\nUpgrade: websocket\r\n\
 Connection: Upgrade\r\nSec-WebSocket-Key: dGhlIHNhbXBsZSBub25jZQ==\r\nSec-WebSocket-Version: 13\r\n\r\n";
 
-/// Its answer.
+// Its answer.
 const ACCEPTED: &[u8] = b"HTTP/1.1 101 Switching Protocols\r\nconnection: Upgrade\r\n\
 upgrade: websocket\r\nsec-websocket-accept: s3pPLMBiTxaQ9kYGzzhZRbK+xOo=\r\n\r\n";
 

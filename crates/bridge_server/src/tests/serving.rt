@@ -207,8 +207,8 @@ fn unserved<R: Net + Clock>(rt: &R, port: u16) -> Option<&'static str> {
 // Serves as many connections as there are clients.
 const WORDS: &str = "serve --session out/session --deals out/deals --connections 13";
 
-// A port, and the words that serve there.
-fn server_words<R: Files + Net + AllocGlobal>(rt: &R) -> Result<(u16, String), Fail> {
+// A port at which nothing listens, and the words that serve there.
+fn port_and_line<R: Files + Net + AllocGlobal>(rt: &R) -> Result<(u16, String), Fail> {
     write_files(rt)?;
     let port = free_port(rt)?;
     let line = at_port(rt.alloc(), WORDS, port)?;
@@ -218,7 +218,7 @@ fn server_words<R: Files + Net + AllocGlobal>(rt: &R) -> Result<(u16, String), F
 /// Where a client isn't served so, the test stops: the server would wait for another.
 #[test]
 fn serves_one_client_after_another(rt: HostRuntime) -> Result<(), Fail> {
-    let (port, line) = server_words(&rt)?;
+    let (port, line) = port_and_line(&rt)?;
     let server_rt = rt.clone()?;
     let server = thread::spawn(&rt, move || {
         ends(&server_rt, line.as_str(), &mut io::empty(), &(0, "", ""))
