@@ -6,6 +6,7 @@ ghost use Rattle.movement.specs.Schedule.{is_scheduled};
 ghost use Rattle.session_book.specs.session_state.SessionState.{cell_at};
 ghost use Rattle.session_book.specs.session_state.Readers.{seats_in_order};
 ghost use Rattle.disclosure_rules.specs.declared.fact.Fact.TheVariants as fact;
+ghost use Rattle.standings.specs.Ranking.{most_results};
 ghost use Rattle.session_queries.specs.declared.body.Body.TheVariants as body;
 ghost use Rattle.session_queries.specs.declared.query.Query.TheVariants as query;
 ghost use Rattle.published_view.specs.Answers.{answer_from, traveller_by, list_by, ranking_by, board_earnings, all_earnings};
@@ -180,7 +181,7 @@ fn ranking(alloc: Global, state: &State, viewer: &Viewer) -> Result<Body, AllocE
 fn earnings_of(alloc: Global, state: &State, viewer: &Viewer) -> Result<Vec<Earning>, AllocError>
     ensures earnings { IfOk result (λ earnings.
         earnings.items ≡ all_earnings state.now.public.movement (shown state.now viewer.now)) }
-    ensures few { IfOk result (λ earnings. vec_len earnings ≤ 1024) }
+    ensures few { IfOk result (λ earnings. vec_len earnings ≤ most_results) }
 {
     let mut earnings = Vec::new(alloc);
     for before in 0..state.public().movement.boards() {

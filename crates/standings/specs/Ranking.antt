@@ -6,7 +6,7 @@ use Rattle.table_terms.specs.declared.pair.Pair.{Pair}
 use Rattle.table_terms.specs.declared.side.Side.{Side}
 use Rattle.table_terms.specs.declared.side.Side.TheVariants.{NorthSouth, EastWest}
 use Rattle.table_terms.specs.declared.vulnerability.Vulnerability.{Vulnerability}
-use Rattle.movement.specs.Movement.{Section}
+use Rattle.movement.specs.Movement.{Section, most_tables, most_boards}
 use Rattle.movement.specs.Schedule.{same_pair}
 use Rattle.scoring.specs.Law77.{ns_score_of}
 use Rattle.standings.specs.Units.{units_of_score}
@@ -17,6 +17,10 @@ use Rattle.standings.specs.declared.cell_result.CellResult.TheVariants.{Confirme
 use Rattle.standings.specs.declared.table_result.TableResult.{TableResult}
 use Rattle.standings.specs.declared.earning.Earning.{Earning}
 use Rattle.standings.specs.Traveller.{north_south_at, east_west_at, scores_of}
+
+-- how many results a session has at most: one at each table on each board
+abbrev pub most_results : ℕ
+most_results = most_tables * most_boards
 
 -- a top, the most units that a result can earn: two for each other result that was played (Law 78A)
 abbrev pub top_of : List ℤ → ℕ

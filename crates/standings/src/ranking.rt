@@ -1,7 +1,7 @@
 ghost use Rattle.std.specs.Prelude.{◌≡◌, ◌≤◌, ◌++◌, List, map, length, IfOk, OnOk};
 ghost use Rattle.std.specs.List.{range_with_len, insert};
 ghost use Rattle.table_terms.specs.declared.pair.Pair.{Pair};
-ghost use Rattle.standings.specs.Ranking.{earned_by, top_for, standing_of, pair_on, placed, ranked, ranking_of};
+ghost use Rattle.standings.specs.Ranking.{most_results, earned_by, top_for, standing_of, pair_on, placed, ranked, ranking_of};
 
 use crate::earning::Earning;
 use movement::Movement;
@@ -16,7 +16,7 @@ pub fn ranking_of(
     movement: Movement,
     earnings: &[Earning],
 ) -> Result<Vec<Standing>, AllocError>
-    requires few { length earnings.now ≤ 1024 }
+    requires few { length earnings.now ≤ most_results }
     ensures { IfOk result (λ standings. standings.items ≡ ranking_of movement earnings.now) }
 {
     let tables = movement.tables();
@@ -33,7 +33,7 @@ fn place_side(
     side: Side,
     tables: u8,
 ) -> Result<(), AllocError>
-    requires few { length earnings.now ≤ 1024 }
+    requires few { length earnings.now ≤ most_results }
     ensures { OnOk result ((others : List Pair) →
         standings.old.items ≡ ranked (map (standing_of earnings.now) others) →
         standings.new.items ≡ ranked (map (standing_of earnings.now)
@@ -52,7 +52,7 @@ fn place_side(
 /// How a pair stands by what all results earn.
 #[tactic(auto, unfolding(crate::specs::Ranking::standing_of))]
 fn standing_of(earnings: &[Earning], pair: Pair) -> Standing
-    requires { length earnings.now ≤ 1024 }
+    requires { length earnings.now ≤ most_results }
     ensures { result ≡ standing_of earnings.now pair }
 {
     let mut earned = 0;
