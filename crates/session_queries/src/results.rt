@@ -1,5 +1,5 @@
 ghost use Rattle.std.specs.Prelude.{◌≡◌, ◌≤◌, ◌+◌, [], ◌++◌, All, IfOk, OnOk, vec_len};
-ghost use Rattle.movement.specs.Movement.{IsCell};
+ghost use Rattle.movement.specs.Movement.{IsCell, most_tables};
 ghost use Rattle.session_state.specs.SessionState.{IsPlaced};
 ghost use Rattle.session_queries.specs.Reading.{shown_results};
 ghost use Rattle.session_queries.specs.Results.{allowed_at, allowed_result, allowed_results};
@@ -25,7 +25,7 @@ pub fn shown_results(
         results.items ≡ shown_results state.now.public.movement (shown state.now viewer.now) board) }
     ensures cells { IfOk result (λ results.
         All (λ found. IsCell state.now.public.movement found.cell) results.items) }
-    ensures few { IfOk result (λ results. vec_len results ≤ 16) }
+    ensures few { IfOk result (λ results. vec_len results ≤ most_tables) }
 {
     let results = allowed_results(alloc, state, viewer, board)?;
     Ok(results)
@@ -40,7 +40,7 @@ fn allowed_results(
 ) -> Result<Vec<TableResult>, AllocError>
     ensures results { IfOk result (λ results.
         results.items ≡ allowed_results state.now viewer.now board state.now.public.movement.tables) }
-    ensures few { IfOk result (λ results. vec_len results ≤ 16) }
+    ensures few { IfOk result (λ results. vec_len results ≤ most_tables) }
 {
     let tables = state.public().movement.tables();
     let mut results = Vec::with_capacity(alloc, tables as usize)?;

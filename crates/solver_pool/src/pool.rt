@@ -7,6 +7,7 @@ use crate::done::Done;
 use crate::job::Job;
 use crate::pool_error::{AddError, CollectError};
 use crate::work::Work;
+use movement::Movement;
 use std::alloc::{AllocError, Global};
 use std::marker::Model;
 
@@ -31,14 +32,12 @@ impl Pool {
     /// How many jobs a pool gives out at most.
     pub const MOST_JOBS: usize = 70_000;
 
-    // How many boards a session has at most: as many tables are asked for when it begins.
-    const MOST_BOARDS: usize = 64;
-
     /// No jobs, and room for those of a session's boards.
     pub fn new(alloc: Global) -> Result<Pool, AllocError>
         ensures { IfOk result (λ pool. pool ≡ []) }
     {
-        let collected = Vec::with_capacity(alloc, Pool::MOST_BOARDS)?;
+        // As many tables are asked for when a session begins.
+        let collected = Vec::with_capacity(alloc, Movement::MOST_BOARDS as usize)?;
         Ok(Pool { collected })
     }
 

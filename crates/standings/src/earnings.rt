@@ -1,5 +1,5 @@
 ghost use Rattle.std.specs.Prelude.{◌≡◌, ◌≤◌, ◌+◌, ◌*◌, ◌++◌, length, All, OnOk, vec_len};
-ghost use Rattle.movement.specs.Movement.{IsCell};
+ghost use Rattle.movement.specs.Movement.{IsCell, most_tables};
 ghost use Rattle.standings.specs.Ranking.{top_of, earned_north_south, earned_east_west, earning_of, earnings_of};
 
 use crate::cell_result::CellResult;
@@ -21,7 +21,7 @@ pub fn add_earnings(
     results: &[TableResult],
     earnings: &mut Vec<Earning>,
 ) -> Result<(), AllocError>
-    requires few { length results.now ≤ 16 }
+    requires few { length results.now ≤ most_tables }
     requires cells { All (λ found. IsCell movement found.cell) results.now }
     ensures earnings { OnOk result (earnings.new.items ≡
         earnings.old.items ++ earnings_of movement vulnerability results.now) }
@@ -41,7 +41,7 @@ fn earning_of(
     scores: &[i32],
     found: &TableResult,
 ) -> Earning
-    requires few { length scores.now ≤ 16 }
+    requires few { length scores.now ≤ most_tables }
     requires cell { IsCell movement found.now.cell }
     ensures { result ≡ earning_of movement vulnerability scores.now found.now }
 {
@@ -56,7 +56,7 @@ fn earning_of(
 
 /// What a result earns for North-South, in hundredths of a unit.
 fn earned_north_south(vulnerability: Vulnerability, scores: &[i32], found: &CellResult) -> u32
-    requires { length scores.now ≤ 16 }
+    requires { length scores.now ≤ most_tables }
     ensures { result ≡ earned_north_south vulnerability scores.now found.now }
 {
     match found {
@@ -69,7 +69,7 @@ fn earned_north_south(vulnerability: Vulnerability, scores: &[i32], found: &Cell
 
 /// What a result earns for East-West, in hundredths of a unit: of what was played, the rest of the top.
 fn earned_east_west(vulnerability: Vulnerability, scores: &[i32], found: &CellResult) -> u32
-    requires { length scores.now ≤ 16 }
+    requires { length scores.now ≤ most_tables }
     ensures { result ≡ earned_east_west vulnerability scores.now found.now }
 {
     match found {
@@ -85,7 +85,7 @@ fn earned_east_west(vulnerability: Vulnerability, scores: &[i32], found: &CellRe
 /// A percentage of a top, in hundredths of a unit.
 #[tactic(auto, using(crate::proofs::EarningLemmas::part_fits))]
 fn part_of_top(percentage: u8, scores: &[i32]) -> u32
-    requires { length scores.now ≤ 16 }
+    requires { length scores.now ≤ most_tables }
     ensures { result ≡ percentage * top_of scores.now }
 {
     u32::from(percentage) * top_of(scores)
@@ -93,7 +93,7 @@ fn part_of_top(percentage: u8, scores: &[i32]) -> u32
 
 /// The most units that a result can earn among so many that were played.
 fn top_of(scores: &[i32]) -> u32
-    requires { length scores.now ≤ 16 }
+    requires { length scores.now ≤ most_tables }
     ensures top { result ≡ top_of scores.now }
     ensures few { result ≤ 30 }
 {

@@ -1,5 +1,5 @@
 ghost use Rattle.std.specs.Prelude.{◌≡◌, ◌≤◌, length, All, IfOk, vec_len};
-ghost use Rattle.movement.specs.Movement.{IsCell};
+ghost use Rattle.movement.specs.Movement.{IsCell, most_tables};
 ghost use Rattle.standings.specs.declared.cell_result.CellResult.TheVariants.{Confirmed};
 ghost use Rattle.standings.specs.Traveller.{north_south_at, east_west_at, row_result, score_of, scores_of, traveller_row, traveller_rows};
 
@@ -22,7 +22,7 @@ pub fn traveller_rows(
     vulnerability: Vulnerability,
     results: &[TableResult],
 ) -> Result<Vec<TravellerRow>, AllocError>
-    requires few { length results.now ≤ 16 }
+    requires few { length results.now ≤ most_tables }
     requires cells { All (λ found. IsCell movement found.cell) results.now }
     ensures { IfOk result (λ rows. rows.items ≡ traveller_rows movement vulnerability results.now) }
 {
@@ -67,7 +67,7 @@ fn traveller_row(
     scores: &[i32],
     found: &TableResult,
 ) -> TravellerRow
-    requires few { length scores.now ≤ 16 }
+    requires few { length scores.now ≤ most_tables }
     requires cell { IsCell movement found.now.cell }
     ensures { result ≡ traveller_row movement vulnerability scores.now found.now }
 {
@@ -82,7 +82,7 @@ fn traveller_row(
 
 /// A result with its score and its units among the scores, or with its percentages.
 fn row_result(vulnerability: Vulnerability, scores: &[i32], found: &CellResult) -> RowResult
-    requires { length scores.now ≤ 16 }
+    requires { length scores.now ≤ most_tables }
     ensures { result ≡ row_result vulnerability scores.now found.now }
 {
     match found {
@@ -99,7 +99,7 @@ fn row_result(vulnerability: Vulnerability, scores: &[i32], found: &CellResult) 
 
 /// A result that was played, with its score and its units among the scores.
 fn played(vulnerability: Vulnerability, scores: &[i32], outcome: &Outcome) -> RowResult
-    requires { length scores.now ≤ 16 }
+    requires { length scores.now ≤ most_tables }
     ensures { result ≡ row_result vulnerability scores.now (Confirmed outcome.now) }
 {
     let score = ns_score(*outcome, vulnerability);

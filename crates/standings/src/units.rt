@@ -1,10 +1,11 @@
 ghost use Rattle.std.specs.Prelude.{◌≡◌, ◌≤◌, length, count_by, int_lt};
 ghost use Rattle.std.specs.Ordering.{int_eq};
+ghost use Rattle.movement.specs.Movement.{most_tables};
 ghost use Rattle.standings.specs.Units.{units_of_score};
 
 /// The units of each result that has this score, among the scores of a board.
 pub(crate) fn units_of_score(scores: &[i32], score: i32) -> u32
-    requires { length scores.now ≤ 16 }
+    requires { length scores.now ≤ most_tables }
     ensures units { result ≡ units_of_score scores.now score }
     ensures small { result ≤ 48 }
 {

@@ -6,7 +6,8 @@ use Rattle.json_fields.specs.Filter.{filter_of}
 use Rattle.json_fields.specs.Form.{Member}
 use Rattle.json_fields.proofs.FormLemmas.{Agrees, numbered_agrees, kept, both_true, is_most, most_is, means_read, means_reads}
 use Rattle.wire.specs.Optional.{read_or, IsOr, optional}
-use Rattle.wire.specs.List.{filter_at, IsFilter, filter_asked, filter, from, most_boards, limit_numbered, limit_asked, limit}
+use Rattle.movement.specs.Movement.{most_boards}
+use Rattle.wire.specs.List.{filter_at, IsFilter, filter_asked, filter, from, limit_numbered, limit_asked, limit}
 
 -- ---- members that may be left out
 

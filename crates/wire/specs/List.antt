@@ -1,6 +1,7 @@
 -- The members of a list of boards: which boards, from which number on, and how many of them. Each may be left out.
 use Rattle.std.specs.Prelude.{◌≡◌, ℕ, ◌≤◌, nat_le, ◌&&◌, if◌then◌else◌, codes, Option, Some, None, option_map, option_and_then}
 use Rattle.serde_json.specs.Data.{Data}
+use Rattle.movement.specs.Movement.{most_boards}
 use Rattle.query_filter.specs.Formula.{Formula}
 use Rattle.json_fields.specs.Filter.{filter_of}
 use Rattle.json_fields.specs.Form.{Member}
@@ -28,11 +29,7 @@ filter = optional None filter_asked
 abbrev pub from : Member ℕ
 from = optional 1 (numbered (codes "from"))
 
--- a list has at most 64 boards
-abbrev pub most_boards : ℕ
-most_boards = 64
-
--- a limit is 1 to 64
+-- a limit is 1 to as many boards as a section has at most
 abbrev pub limit_numbered : ℕ → Option ℕ
 limit_numbered n = if nat_le 1 n && nat_le n most_boards then Some n else None
 
@@ -46,6 +43,6 @@ pub record IsLimit (o : Option Data) (n : ℕ) : Type 0 where
 abbrev pub limit_asked : Member ℕ
 limit_asked = record { name = codes "limit"; value = λ o. option_and_then limit_numbered (small o); Is = IsLimit }
 
--- how many boards are listed at most: 64 where it is left out
+-- how many boards are listed at most: as many as a section has at most where it is left out
 abbrev pub limit : Member ℕ
 limit = optional most_boards limit_asked

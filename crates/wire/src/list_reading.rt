@@ -9,13 +9,11 @@ ghost use Rattle.wire.specs.List.{filter, from, limit};
 ghost use Rattle.wire.specs.Query.{query_called, IsFiltered};
 
 use json_fields::{FilterFault, RequestFault, has_only, read_filter, small_number_at};
+use movement::Movement;
 use query_filter::Filter;
 use serde_json::Value;
 use session_queries::Query;
 use std::alloc::Global;
-
-// The greatest limit, and the one where none is asked for.
-const MOST_BOARDS: u8 = 64;
 
 fn from_of(value: &Value) -> Option<u8>
     ensures { result ≡ from.value (get from.name (view value.now)) }
@@ -30,10 +28,10 @@ fn limit_of(value: &Value) -> Option<u8>
     ensures { result ≡ limit.value (get limit.name (view value.now)) }
 {
     if value.get("limit").is_none() {
-        return Some(MOST_BOARDS);
+        return Some(Movement::MOST_BOARDS);
     }
     let limit = small_number_at(value, "limit")?;
-    if 1 <= limit && limit <= MOST_BOARDS {
+    if 1 <= limit && limit <= Movement::MOST_BOARDS {
         Some(limit)
     } else {
         None
