@@ -1,5 +1,5 @@
-//! The results server's program. `bridge_server script` answers a script on standard input, line by line; `bridge_server serve` serves
-//! clients over WebSockets.
+//! The results server's program. `bridge_server script` answers a script on standard input, line by line;
+//! `bridge_server serve` serves clients over WebSockets.
 #![tactic(auto)]
 
 mod calling;

@@ -1,5 +1,5 @@
-//! Messages on connections. The text begins with a session object. Each line after it is a message on a connection; an empty line
-//! ends the connection, and on the next one nobody has signed in.
+//! Messages on connections. The text begins with a session object. Each line after it is a message on a connection; an
+//! empty line ends the connection, and on the next one nobody has signed in.
 
 use connections::Connection;
 use json_fields::RequestFault;

@@ -1,7 +1,8 @@
-//! The results server once more, for a stored run of words that it doesn't understand, and of many sessions. Called with words it
-//! first does what `bridge_server` does, and ends with that status. Standard input has parts, and each is an LF, a line with its
-//! name and then its text. Most parts are a whole script, which begins with a session object of its own; of four kinds that are
-//! none, the name says which it is. Where a part isn't answered to its end, whatever the cause, nothing follows, and the status is 1.
+//! The results server once more, for a stored run of words that it doesn't understand, and of many sessions. Called
+//! with words that aren't understood it first explains them as `bridge_server` does, and ends with that status.
+//! Standard input has parts, and each is an LF, a line with its name and then its text. Most parts are a whole script,
+//! which begins with a session object of its own; of four kinds that are none, the name says which it is. Where a part
+//! isn't answered to its end, whatever the cause, nothing follows, and the status is 1.
 #![tactic(auto)]
 
 mod connecting;
@@ -31,7 +32,8 @@ fn run<R: Runtime + Wait + AllocGlobal, E: Write>(rt: &R, errors: &mut E) -> u8 
     if answer_all(rt) { status } else { 1 }
 }
 
-// The status after the words that the program was called with, if any: that of `bridge_server` where they aren't understood.
+// The status after the words that the program was called with, if any: that of `bridge_server` where they aren't
+// understood.
 fn status_of_call<R: Runtime + AllocGlobal, E: Write>(rt: &R, errors: &mut E) -> u8 {
     let Ok(words) = called_with(rt) else {
         return 4;

@@ -1,5 +1,5 @@
-//! How a script ends that begins with a session object, for each line of a text. A line gets the status, and then what the program
-//! writes: why the session isn't opened, or its answer to a first message.
+//! How a script ends that begins with a session object, for each line of a text. A line gets the status, and then what
+//! the program writes: why the session isn't opened, or its answer to a first message.
 
 use program::status_of_script;
 use std::alloc::{AllocError, Global};

@@ -1,5 +1,5 @@
-//! A script with messages that are sent many times, to fill a journal. The text begins with a session object; each line after it has
-//! a number and a message that is sent so often, and what is written is the answer to the last of each.
+//! A script with messages that are sent many times, to fill a journal. The text begins with a session object; each line
+//! after it has a number and a message that is sent so often, and what is written is the answer to the last of each.
 
 use program::run_script;
 use std::alloc::{AllocError, Global};
@@ -49,7 +49,8 @@ fn repeat(script: &mut String, times: usize, message: &str) -> Result<(), AllocE
     Ok(())
 }
 
-// Writes the answers to the lines of a script with these numbers, from 1, and whether it could; the first line has none.
+// Writes the answers to the lines of a script with these numbers, from 1, and whether it could; the first line has
+// none.
 fn write_ends<O: Write>(answers: &[u8], ends: &[usize], writer: &mut O) -> bool {
     let mut number = 1usize;
     for answer in answers.split_inclusive(|byte| *byte == b'\n') {

@@ -1,7 +1,7 @@
-//! A session between whose messages a solver tells what it found. The text begins with a session object; each line after it is a
-//! message, or one of the solver's: `solve BOARD DEAL` tells the table of the deal of board DEAL as that of board BOARD, and
-//! `analyse TABLE BOARD DEAL CARD..` tells what these cards cost in four spades by North with the deal of board DEAL, as those of
-//! the table.
+//! A session between whose messages a solver tells what it found. The text begins with a session object; each line
+//! after it is a message, or one of the solver's: `solve BOARD DEAL` tells the table of the deal of board DEAL as that
+//! of board BOARD, and `analyse TABLE BOARD DEAL CARD..` tells what these cards cost in four spades by North with the
+//! deal of board DEAL, as those of the table.
 
 ghost use Rattle.std.specs.Prelude.{◌≡◌, ◌≤◌, [], length, IfSome};
 ghost use Rattle.session_book.specs.Run.{most_commands};

@@ -20,8 +20,8 @@ use wire::{
 };
 
 impl<K: Keeper> Connection<K> {
-    /// The text that answers a message. A batch or an audit may wait for others who submit. Where memory is refused, nobody has
-    /// signed in by the message; commands that were accepted stand where their receipt finds no memory.
+    /// The text that answers a message. A batch or an audit may wait for others who submit. Where memory is refused,
+    /// nobody has signed in by the message; commands that were accepted stand where their receipt finds no memory.
     #[tactic(auto, unfolding(crate::specs::Serving::Serves, crate::specs::Growing::Adds), using(crate::proofs::ServingLemmas::stays_itself, crate::proofs::GrowingLemmas::adds_itself))]
     pub fn serve_message<R: Wait>(
         &mut self,

@@ -1,6 +1,7 @@
-//! Double dummy: how many tricks a side takes when all four players play their best with all cards seen, of a position and of
-//! a deal, and what each card of a play cost. A search finds it that tries one card of each run of equal cards and remembers
-//! what it found out by the pattern of a position. Which card is tried first decides nothing but the time.
+//! Double dummy: how many tricks a side takes when all four players play their best with all cards seen, of a position
+//! and of a deal, and what each card of a play cost. A search finds it that tries one card of each run of equal cards
+//! and remembers what it found out by the pattern of a position. Which card is tried first decides nothing but the
+//! time.
 #![tactic(auto)]
 
 mod asking;

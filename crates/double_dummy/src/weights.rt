@@ -85,7 +85,8 @@ impl Weights {
         }
     }
 
-    /// What the second and the third card of a trick are worth that win it so far. Partner has not played where ours is 0.
+    /// What the second and the third card of a trick are worth that win it so far. Partner has not played where ours is
+    /// 0.
     fn winning(&mut self, led: Suit, ours: u8, theirs: u8) {
         let (safe, risky) = if ours > theirs {
             if ours > self.answer {
@@ -120,8 +121,8 @@ impl Weights {
         won.saturating_sub(high.rank.height() as u16)
     }
 
-    /// What a card promises as a lead: one that wins, or a low one to partner's, and not into the strength of the right-hand
-    /// opponent. It counts from 100, so that none is less than nothing.
+    /// What a card promises as a lead: one that wins, or a low one to partner's, and not into the strength of the
+    /// right-hand opponent. It counts from 100, so that none is less than nothing.
     fn lead(&self, card: Card) -> u16 {
         let suit = card.suit;
         let rank = card.rank.height() as u16;

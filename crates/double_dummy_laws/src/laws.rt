@@ -42,8 +42,8 @@ pub fn other_names()
         tricks left (renamed name position hands) ≡ tricks left position }
 {}
 
-/// Two legal cards of one suit with no card between them, in any hand or on the table, are worth the same, and so are all
-/// cards of a run of such neighbours.
+/// Two legal cards of one suit with no card between them, in any hand or on the table, are worth the same, and so are
+/// all cards of a run of such neighbours.
 pub fn equal_cards()
     ensures neighbours { (position : Position) (a b : Card) → IsPosition position → AreNeighbours position a b →
         worth position a ≡ worth position b }
@@ -51,9 +51,9 @@ pub fn equal_cards()
         IsRun position (card ∷ run) → All (λ other. worth position other ≡ worth position card) run }
 {}
 
-/// What was found out at the beginning of a trick, where no card mattered below so many top cards of each suit, holds of
-/// every position of the same leader and strain in which each player has as many cards of each suit and the same players
-/// hold those top cards.
+/// What was found out at the beginning of a trick, where no card mattered below so many top cards of each suit, holds
+/// of every position of the same leader and strain in which each player has as many cards of each suit and the same
+/// players hold those top cards.
 pub fn partition()
     ensures { (tops : Suit → ℕ) (position other : Position) (known more : Cards) (target : ℕ) (answer : Bool) →
         IsApart position.hands → IsApart other.hands → IsOfPattern tops position.hands other.hands →

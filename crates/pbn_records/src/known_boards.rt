@@ -7,8 +7,8 @@ use crate::board::Board;
 use indexmap::IndexMap;
 use std::alloc::Global;
 
-/// The boards of the games so far: each at its number, for which no memory is taken, and all in the order of reading, unless
-/// memory for that was refused.
+/// The boards of the games so far: each at its number, for which no memory is taken, and all in the order of reading,
+/// unless memory for that was refused.
 #[derive(Drop)]
 pub(crate) struct KnownBoards {
     places: [Option<Board>; 256],

@@ -6,8 +6,8 @@ ghost use Rattle.pbn_records.specs.FourParts.{kept_parts};
 use crate::number::board_number;
 use crate::parts::{FourParts, four_parts};
 
-/// A used tag of a game: the offset of its `[`, its value as written, the board's number that this is, and its four parts,
-/// where it is or has them. So a value is gone over once, where it stands, however many games take it by `#`.
+/// A used tag of a game: the offset of its `[`, its value as written, the board's number that this is, and its four
+/// parts, where it is or has them. So a value is gone over once, where it stands, however many games take it by `#`.
 #[derive(Clone, Copy)]
 pub(crate) struct TagAt<'t> {
     pub(crate) offset: usize,

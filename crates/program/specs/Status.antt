@@ -3,8 +3,9 @@ use Rattle.std.specs.Prelude.{◌≡◌, ℕ, ◌⊎◌}
 use Rattle.program.specs.declared.fault.Fault.{Fault}
 use Rattle.program.specs.declared.fault.Fault.TheVariants.{Session, Opening, Input, Output, OutOfMemory}
 
--- own: 0 where the script was answered whole, the clients were served or help was given, 1 where the session wasn't opened, 2
--- where the words aren't understood, 3 where something couldn't be read or written, 4 where there was no memory
+-- own: 0 where the script was answered whole, the clients were served or help was given, 1 where the session wasn't
+-- opened, 2 where the words aren't understood, 3 where something couldn't be read or written, 4 where there was no
+-- memory
 abbrev pub IsStatus : ℕ → Type 0
 IsStatus status = (status ≡ 0) ⊎ (status ≡ 1) ⊎ (status ≡ 2) ⊎ (status ≡ 3) ⊎ (status ≡ 4)
 

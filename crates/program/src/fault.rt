@@ -18,7 +18,8 @@ pub enum Fault {
     OutOfMemory,
 }
 
-/// What the user is told. A fault of the first line, and a cause not to open its session, are called as their crates call them.
+/// What the user is told. A fault of the first line, and a cause not to open its session, are called as their crates
+/// call them.
 impl fmt::Display for Fault {
     fn fmt<W: fmt::Write>(&self, f: &mut fmt::Formatter<W>) -> fmt::Result {
         match self {

@@ -44,7 +44,8 @@ pub(crate) fn respond<W: Write>(
     }
 }
 
-// Writes a line, and has the writer pass it on: one that held lines back would keep its reader waiting, and its fault hidden.
+// Writes a line, and has the writer pass it on: one that held lines back would keep its reader waiting, and its fault
+// hidden.
 fn send<W: Write>(writer: &mut W, line: &[u8]) -> Result<(), WriteFault>
     ensures whole { OnOk result (Appends (W.contents writer.old) (W.contents writer.new) line.now) }
     ensures part { OnErr result (WritesPart (W.contents writer.old) (W.contents writer.new) line.now) }

@@ -17,8 +17,8 @@ use wire::MOST_MESSAGE_BYTES;
 /// How many bytes a script has at most.
 pub const SCRIPT_LIMIT: usize = 1_073_741_824;
 
-/// Reads a script and responds to each message with a line, which is written before the next line is read. The first line
-/// opens the session.
+/// Reads a script and responds to each message with a line, which is written before the next line is read. The first
+/// line opens the session.
 pub fn run_script<R: Read, W: Write>(
     alloc: Global,
     reader: &mut R,
@@ -101,8 +101,8 @@ impl ScriptRun {
         }
     }
 
-    // Reads the next line, and responds to it unless it is empty. Of one that is too long for a message no more is kept than
-    // shows this.
+    // Reads the next line, and responds to it unless it is empty. Of one that is too long for a message no more is kept
+    // than shows this.
     fn respond_next<R: Read, W: Write>(
         &mut self,
         reader: &mut R,

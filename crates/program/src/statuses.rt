@@ -12,8 +12,9 @@ use crate::script::run_script;
 use std::alloc::Global;
 use std::io::{Read, Write};
 
-/// Runs a script and answers the status after it: 0 where it was answered whole, 1 where its first line opens no session, which is
-/// named on the place for errors, 3 where something couldn't be read or written, 4 where there was no memory.
+/// Runs a script and answers the status after it: 0 where it was answered whole, 1 where its first line opens no
+/// session, which is named on the place for errors, 3 where something couldn't be read or written, 4 where there was no
+/// memory.
 pub fn status_of_script<I: Read, W: Write, E: Write>(
     alloc: Global,
     reader: &mut I,

@@ -20,8 +20,8 @@ pub record GoesOn (opening : SessionState) (before : List Entry) (later_opening 
   pub same : later_opening ≡ opening
   pub begins : IsPrefix before later
 
--- a batch ran after some journal, whole or up to a command for which memory was refused, and this is its receipt; the journal
--- that came of it is the beginning of the one that is known now
+-- a batch ran after some journal, whole or up to a command for which memory was refused, and this is its receipt; the
+-- journal that came of it is the beginning of the one that is known now
 pub record IsReceiptOf (opening : SessionState) (actor : List ℕ) (batch : List Command) (receipt : BatchReceipt)
     (now : List Entry) : Type 0 where
   pub before : List Entry
@@ -33,8 +33,8 @@ pub record IsReceiptOf (opening : SessionState) (actor : List ℕ) (batch : List
   pub version : receipt.version ≡ length after
   pub begins : IsPrefix after now
 
--- nothing has joined the journal but what others add, and these commands of a user, which ran once, whole or up to a command for
--- which memory was refused
+-- nothing has joined the journal but what others add, and these commands of a user, which ran once, whole or up to a
+-- command for which memory was refused
 pub record RanOnce (Others : List Entry → List Entry → Type 0) (opening : SessionState) (before : List Entry)
     (actor : List ℕ) (batch : List Command) (now : List Entry) : Type 0 where
   pub first : List Entry

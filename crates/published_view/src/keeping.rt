@@ -50,8 +50,8 @@ pub trait Keeper: Drop {
     // What others may add to the journal while this one is asked: from this journal to that one.
     ghost others: { List Entry → List Entry → Type 0 };
 
-    /// Tries the commands of a user, one after another. It may wait for others who submit. Where memory is refused for the
-    /// answers, none is tried.
+    /// Tries the commands of a user, one after another. It may wait for others who submit. Where memory is refused for
+    /// the answers, none is tried.
     fn submit<R: Wait>(
         &mut self,
         rt: &R,
@@ -67,8 +67,8 @@ pub trait Keeper: Drop {
             (RanOnce others (opening self.new) (journal self.old) actor batch.now (journal self.new)) }
         ensures untried { OnErr result (others (journal self.old) (journal self.new)) };
 
-    /// The entries from a number on, at most so many, for a user who has the permission for the audit. It may wait for others
-    /// who submit.
+    /// The entries from a number on, at most so many, for a user who has the permission for the audit. It may wait for
+    /// others who submit.
     fn audit<R: Wait>(&mut self, rt: &R, actor: Name, from: usize, limit: usize) -> AuditReceipt
         ensures later { GoesOn (opening self.old) (journal self.old) (opening self.new) (journal self.new) }
         ensures accepted { IsAccepted (opening self.new) (journal self.new) }
@@ -89,7 +89,8 @@ pub trait Keeper: Drop {
             ≡ reply_of (replay (opening self.new) (journal self.new)) (length (journal self.new)) user query.now since) }
         ensures unchanged { others (journal self.old) (journal self.new) };
 
-    /// The digest of the token with which a user signs in, if there is such a user. It waits for nobody and takes no memory.
+    /// The digest of the token with which a user signs in, if there is such a user. It waits for nobody and takes no
+    /// memory.
     fn digest(&mut self, name: Name) -> Result<Option<Digest>, NoEntry>
         ensures later { GoesOn (opening self.old) (journal self.old) (opening self.new) (journal self.new) }
         ensures accepted { IsAccepted (opening self.new) (journal self.new) }

@@ -1,6 +1,6 @@
-//! The replies to queries, and a session as it is served. What a user is told of a state is read from what the policy lets that user
-//! see of it; a keeper holds the session's book beside the view that answers queries at the book's version, and says what a
-//! connection wants of one who keeps a session, whatever it is made of.
+//! The replies to queries, and a session as it is served. What a user is told of a state is read from what the policy
+//! lets that user see of it; a keeper holds the session's book beside the view that answers queries at the book's
+//! version, and says what a connection wants of one who keeps a session, whatever it is made of.
 #![tactic(auto)]
 
 mod bodies;

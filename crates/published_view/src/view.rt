@@ -71,8 +71,8 @@ impl View {
         self.state.digest(name)
     }
 
-    /// The reply to a user's query; the user wants no version older than `since`. It takes memory only for an answer that
-    /// nothing comes before.
+    /// The reply to a user's query; the user wants no version older than `since`. It takes memory only for an answer
+    /// that nothing comes before.
     #[tactic(auto, using(crate::proofs::StandingLemmas::stands_reply))]
     pub fn answer(
         &self,

@@ -9,8 +9,8 @@ use Rattle.query_filter.specs.contracts.atom.Atom as the_atom
 use Rattle.query_filter.specs.declared.atom.Atom.{Atom}
 use Rattle.query_filter.specs.Formula.{Formula, Is, Not, And, Or, Formulas, no_formula, formula_then}
 
--- an atom, or a number: 0 before the contrary of a formula, 1 before formulas of which each is to hold, 2 before formulas
--- of which some is, 3 for the end of a list, 4 before its first formula and the others
+-- an atom, or a number: 0 before the contrary of a formula, 1 before formulas of which each is to hold, 2 before
+-- formulas of which some is, 3 for the end of a list, 4 before its first formula and the others
 abbrev pub Sign : Type 0
 Sign = Atom ⊎ ℕ
 

@@ -1,4 +1,5 @@
--- Why a change is refused: the causes of each function in their order, of which the first that holds is answered (`IsFirst`).
+-- Why a change is refused: the causes of each function in their order, of which the first that holds is answered
+-- (`IsFirst`).
 use Rattle.std.specs.Prelude.{◌≡◌, ℕ, ◌+◌, false, List, length, Contains}
 use Rattle.session_roles.specs.declared.role.Role.{Role}
 use Rattle.rbac.specs.declared.add_user_error.AddUserError.{AddUserError}

@@ -1,4 +1,5 @@
-//! The JSON text of every reply to a query: what it tells of the users, boards and results, the status, and lists of them.
+//! The JSON text of every reply to a query: what it tells of the users, boards and results, the status, and lists of
+//! them.
 #![tactic(auto)]
 
 mod accounts_writing;

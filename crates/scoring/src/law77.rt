@@ -7,8 +7,8 @@ use crate::outcome::Outcome;
 use crate::tricks::Tricks;
 use table_terms::{Side, Strain, Vulnerability};
 
-/// What a contract scores for declarer's side, in points (Law 77); below 0, the opponents score. `vulnerable` is whether
-/// declarer's side is.
+/// What a contract scores for declarer's side, in points (Law 77); below 0, the opponents score. `vulnerable` is
+/// whether declarer's side is.
 pub fn score(contract: Contract, vulnerable: bool, tricks: Tricks) -> i32
     ensures value { result ≡ score_of contract vulnerable tricks }
     ensures least { neg_ℤ (pos 7600) ≤ℤ result }
@@ -23,7 +23,8 @@ pub fn score(contract: Contract, vulnerable: bool, tricks: Tricks) -> i32
     }
 }
 
-/// What a board scores for North-South, in points (Law 77): 0 if all four players passed. `vulnerability` is the board's.
+/// What a board scores for North-South, in points (Law 77): 0 if all four players passed. `vulnerability` is the
+/// board's.
 pub fn ns_score(outcome: Outcome, vulnerability: Vulnerability) -> i32
     ensures { result ≡ ns_score_of outcome vulnerability }
 {

@@ -5,8 +5,8 @@ ghost use Rattle.scoring.specs.Law78A.{units};
 use std::alloc::{AllocError, Global};
 
 /// The scoring units of each score of a board, in the order of the scores (Law 78A): two for each other score that it
-/// beats, one for each that it equals. The scores are those of one side. A copy is sorted, and each score looked up in it
-/// twice, so m scores cost about m log m steps. It takes memory for that copy and for the units.
+/// beats, one for each that it equals. The scores are those of one side. A copy is sorted, and each score looked up in
+/// it twice, so m scores cost about m log m steps. It takes memory for that copy and for the units.
 pub fn matchpoints(alloc: Global, scores: &[i32]) -> Result<Vec<u32>, AllocError>
     requires { length scores.now < 2 ^ 31 }
     ensures length { IfOk result (λ points. vec_len points ≡ length scores.now) }

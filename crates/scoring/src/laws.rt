@@ -85,8 +85,8 @@ pub fn units_of_a_board()
         sum points ≡ length scores * (length scores - 1) }
 {}
 
-/// No score gets more than a top, two units for each other score; what one side does not get of it, the other side gets,
-/// whose scores are the negatives.
+/// No score gets more than a top, two units for each other score; what one side does not get of it, the other side
+/// gets, whose scores are the negatives.
 pub fn sides_share_a_top()
     ensures { (scores : List ℤ) (i : ℕ) → i < length scores →
         units scores i + units (map neg_ℤ scores) i ≡ 2 * (length scores - 1) }

@@ -7,8 +7,8 @@ use crate::standing::Standing;
 use std::cmp::Ordering;
 use table_terms::Side;
 
-/// Which of two standings ranks first, `Less` if `a` does: the one that has earned the greater part of its tops, whoever
-/// has no tops last; then North-South, the smaller number, the smaller tops, the smaller earned.
+/// Which of two standings ranks first, `Less` if `a` does: the one that has earned the greater part of its tops,
+/// whoever has no tops last; then North-South, the smaller number, the smaller tops, the smaller earned.
 pub fn rank_order(a: Standing, b: Standing) -> Ordering
     ensures less { (result ≡ Ordering.Less) ↔ RanksBefore a b }
     ensures greater { (result ≡ Ordering.Greater) ↔ RanksBefore b a }

@@ -4,8 +4,8 @@ ghost use Rattle.std.specs.Prelude.{◌≡◌, ℕ, List, [], ◌∷◌, ◌++�
 ghost use Rattle.script_lines.specs.Lines.{pieces_of};
 ghost use Rattle.script_lines.specs.Reading.{IsUnbroken};
 
-/// A text is cut at each LF and nowhere else: it is its pieces, each followed by an LF, and what is left over, and no LF
-/// stands within any of them.
+/// A text is cut at each LF and nowhere else: it is its pieces, each followed by an LF, and what is left over, and no
+/// LF stands within any of them.
 #[tactic(auto, using(crate::proofs::LineLemmas::joins))]
 pub fn cut_at_each_line_feed()
     ensures whole { (text : List ℕ) →

@@ -1,8 +1,8 @@
 //! Lines read from any reader, and texts written to any writer, so that it is known what was read and written before a
 //! fault.
 //!
-//! Beside std's `BufRead::lines` and `Write::write_all` there are two differences: a call that is interrupted has failed
-//! and isn't tried again, and what was read or written before a fault is stated.
+//! Beside std's `BufRead::lines` and `Write::write_all` there are two differences: a call that is interrupted has
+//! failed and isn't tried again, and what was read or written before a fault is stated.
 #![tactic(auto)]
 
 pub mod laws;

@@ -28,9 +28,9 @@ impl fmt::Display for ReadFault {
     }
 }
 
-/// Reads the next line to its end, and keeps its first `most + 1` bytes in place of what was there: so many show whether it
-/// has more than `most`. `left` is how many bytes may still be read of the whole input. A read that fails is not tried
-/// again.
+/// Reads the next line to its end, and keeps its first `most + 1` bytes in place of what was there: so many show
+/// whether it has more than `most`. `left` is how many bytes may still be read of the whole input. A read that fails is
+/// not tried again.
 pub fn read_line<R: Read>(
     reader: &mut R,
     line: &mut Vec<u8>,
@@ -79,7 +79,8 @@ fn keep(line: &mut Vec<u8>, most: usize, byte: u8) -> Result<(), AllocFailed<u8>
     line.push(byte)
 }
 
-// Whether as many bytes are kept as may be: one more than are wanted of a line, since the last may be a CR before an LF.
+// Whether as many bytes are kept as may be: one more than are wanted of a line, since the last may be a CR before an
+// LF.
 fn is_full(line: &Vec<u8>, most: usize) -> bool
     ensures { result ≡ true ↔ most + 2 ≤ length line.now.items }
 {

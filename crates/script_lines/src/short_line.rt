@@ -8,8 +8,8 @@ use crate::line_end::LineEnd;
 use crate::reading::{ReadFault, drop_return, next_byte};
 use std::io::Read;
 
-/// Reads the next line as `read_line` does, if it has no more than `most` bytes; else there is none, and not more than so
-/// many bytes of it are kept.
+/// Reads the next line as `read_line` does, if it has no more than `most` bytes; else there is none, and not more than
+/// so many bytes of it are kept.
 pub fn read_short_line<R: Read>(
     reader: &mut R,
     line: &mut Vec<u8>,
@@ -43,8 +43,8 @@ pub fn read_short_line<R: Read>(
     }
 }
 
-// Whether a line that has as many bytes as it may have ends with this byte, which follows them: it does where the byte is
-// a CR before an LF.
+// Whether a line that has as many bytes as it may have ends with this byte, which follows them: it does where the byte
+// is a CR before an LF.
 fn end_of_full_line<R: Read>(
     byte: u8,
     reader: &mut R,

@@ -1,5 +1,5 @@
--- The program's command line, as `clap` reads it: a subcommand `script` with nothing after it, and a subcommand `serve` with
--- options, of which each has a value. `clap` adds its help.
+-- The program's command line, as `clap` reads it: a subcommand `script` with nothing after it, and a subcommand `serve`
+-- with options, of which each has a value. `clap` adds its help.
 use Rattle.std.specs.Prelude.{ℕ, ℤ, [], ◌∷◌, Some, true, pos, codes}
 use Rattle.clap.specs.Words.{App, Rule, Text, new_app, new_rule, with_rule, with_subcommand}
 use Rattle.clap.specs.declared.builder.value_parser.ValueParser.TheVariants.{Signed}

@@ -4,7 +4,8 @@ use std::alloc::{AllocError, Global};
 use std::rt::Runtime;
 use std::{env, io};
 
-/// The words that the program was called with, its name first. Where one is no text there are none, and they aren't understood.
+/// The words that the program was called with, its name first. Where one is no text there are none, and they aren't
+/// understood.
 pub fn called_with<R: Runtime + AllocGlobal>(rt: &R) -> Result<Vec<String>, AllocError> {
     match env::args(rt) {
         Ok(words) => listed(rt.alloc(), words),

@@ -37,7 +37,8 @@ fn add_script(alloc: Global, command: &mut Command<'_>) -> Result<(), AllocError
     add_subcommand(alloc, command, script)
 }
 
-// Adds the subcommand that serves clients. It is added whatever came of its options, so that it is moved on one way alone.
+// Adds the subcommand that serves clients. It is added whatever came of its options, so that it is moved on one way
+// alone.
 fn add_serve(alloc: Global, command: &mut Command<'_>) -> Result<(), AllocError>
     ensures { OnOk result (app_of command.new ≡ with_subcommand (app_of command.old) serve_line.top) }
 {
@@ -166,7 +167,8 @@ fn add_subcommand<'a>(
     put(command, made)
 }
 
-// Takes the command, of which `clap` makes the next one. Its many fields are moved in the functions above and here alone.
+// Takes the command, of which `clap` makes the next one. Its many fields are moved in the functions above and here
+// alone.
 fn taken<'a>(alloc: Global, command: &mut Command<'a>) -> Command<'a>
     ensures { result ≡ command.old }
 {

@@ -10,8 +10,8 @@ use script_lines::write_text;
 use std::alloc::Global;
 use std::io::Write;
 
-/// The status after words by which nothing is run: 2 after bad ones, which `clap` explains, 0 after a request for help, which it
-/// gives, 3 where help can't be written, and 4 where there is no memory.
+/// The status after words by which nothing is run: 2 after bad ones, which `clap` explains, 0 after a request for help,
+/// which it gives, 3 where help can't be written, and 4 where there is no memory.
 pub fn status_of_words<W: Write, E: Write>(
     alloc: Global,
     error: &Error,

@@ -14,8 +14,8 @@ is_noted table place board = has_number (slice_index_or table place []) board
 abbrev pub user_at : SessionState → ℕ → List ℕ
 user_at state place = slice_index_or (users_of state) place []
 
--- the table, after the policy was asked about some users and boards: a pair that was asked about is noted if it was, or if
--- the user is allowed the hands; the others are as they were
+-- the table, after the policy was asked about some users and boards: a pair that was asked about is noted if it was, or
+-- if the user is allowed the hands; the others are as they were
 abbrev pub IsAsked : SessionState → (ℕ → ℕ → Bool) → List (List ℕ) → List (List ℕ) → Type 0
 IsAsked state asked old new =
     (place board : ℕ) → 1 ≤ board → board ≤ most_boards →
@@ -34,8 +34,8 @@ first_boards place last p b = nat_eq p place && (nat_le 1 b && nat_le b last)
 abbrev pub first_users : ℕ → ℕ → ℕ → ℕ → Bool
 first_users place last p b = nat_lt p place && (nat_le 1 b && nat_le b last)
 
--- after a journal that leads to the state, a board of the session is noted for an account exactly where its user is exposed
--- to it, and nothing is noted where there is no account yet
+-- after a journal that leads to the state, a board of the session is noted for an account exactly where its user is
+-- exposed to it, and nothing is noted where there is no account yet
 pub record IsNoted (opening : SessionState) (journal : List Entry) (state : SessionState) (table : List (List ℕ))
     : Type 0 where
   pub noted : (place board : ℕ) → place < length (users_of state) → 1 ≤ board →

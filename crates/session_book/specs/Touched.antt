@@ -11,10 +11,11 @@ use Rattle.session_book.specs.declared.touched.Touched.{Touched}
 use Rattle.session_book.specs.declared.touched.Touched.TheVariants.{Nothing, Board, User, Everything}
 use Rattle.session_book.specs.ExposureTable.{user_at}
 
--- what each command touches: a result may complete its board, and a board that is released is shown again, to anybody; a user
--- who takes a seat, or is assigned a role, may see more of any board; so may everybody who has a role that inherits another. What
--- is entered, voided or held, a seat that is left, a role that is taken away, an inheritance that is deleted, a user with no
--- role yet, a round and a phase let nobody see more; nor do the solver's numbers, since no rule looks at what a fact says
+-- what each command touches: a result may complete its board, and a board that is released is shown again, to anybody;
+-- a user who takes a seat, or is assigned a role, may see more of any board; so may everybody who has a role that
+-- inherits another. What is entered, voided or held, a seat that is left, a role that is taken away, an inheritance
+-- that is deleted, a user with no role yet, a round and a phase let nobody see more; nor do the solver's numbers, since
+-- no rule looks at what a fact says
 abbrev pub touched_by : Command → Touched
 touched_by (Enter table board outcome play) = Nothing
 touched_by (Confirm table board outcome) = Board board
@@ -46,6 +47,8 @@ is_touched Everything user board = true
 -- whether it touches what the user at a place sees of a board, from 1 to the last
 abbrev pub is_touched_at : SessionState → Touched → ℕ → ℕ → ℕ → Bool
 is_touched_at state touched last p b = (nat_le 1 b && nat_le b last) && is_touched touched (user_at state p) b
+
+-- ---- for private clauses
 
 -- about what is touched, for the user at a place
 abbrev pub touched_at : SessionState → Touched → ℕ → ℕ → ℕ → ℕ → Bool

@@ -16,7 +16,8 @@ use std::alloc::{AllocError, Global};
 use std::marker::Model;
 use user_names::Name;
 
-/// Who was shown something of which board: clauses see, for the account at each place, the list of the boards, ascending.
+/// Who was shown something of which board: clauses see, for the account at each place, the list of the boards,
+/// ascending.
 #[derive(Drop)]
 pub struct Exposure {
     words: Vec<u64>,

@@ -10,9 +10,9 @@ ghost use Rattle.session_book.specs.Exposure.{SomeAllowed, is_exposed, result_ce
 ghost use Rattle.session_book.specs.Journal.{replay, IsAccepted};
 ghost use Rattle.session_book.specs.Touched.{touched_by, is_touched};
 
-/// No foreknowledge: where some secret fact of a board was allowed to a user after some first part of an accepted journal,
-/// the empty one included, no later entry enters or confirms a result of that board at a cell in one of whose pairs the
-/// user sits at that moment.
+/// No foreknowledge: where some secret fact of a board was allowed to a user after some first part of an accepted
+/// journal, the empty one included, no later entry enters or confirms a result of that board at a cell in one of whose
+/// pairs the user sits at that moment.
 pub fn no_foreknowledge()
     ensures { (opening : SessionState) (first later after : List Entry) (entry : Entry) (user : List ℕ) (board : ℕ)
         (cell : Cell) →
@@ -21,19 +21,19 @@ pub fn no_foreknowledge()
         ¬ IsSeatedAt (replay opening (first ++ later)).public (viewer_of (replay opening (first ++ later)) user) cell }
 {}
 
-/// An entry exposes nobody anew but whom it touches, and to nothing but what it touches: a new result or a release its board,
-/// for anybody; a seat or an assigned role any board, for its user; a new inheritance anything. So after each other command
-/// nobody has to be asked about, and after these nobody else.
+/// An entry exposes nobody anew but whom it touches, and to nothing but what it touches: a new result or a release its
+/// board, for anybody; a seat or an assigned role any board, for its user; a new inheritance anything. So after each
+/// other command nobody has to be asked about, and after these nobody else.
 pub fn only_the_touched_are_newly_exposed()
     ensures { (opening : SessionState) (journal : List Entry) (entry : Entry) (user : List ℕ) (board : ℕ) →
         1 ≤ board → board ≤ most_boards → is_touched (touched_by entry.command) user board ≡ false →
         is_exposed opening (journal ++ entry ∷ []) user board ≡ is_exposed opening journal user board }
 {}
 
-/// The solver's numbers are of the session's own deals, whose hands no entry changes. What an accepted journal tells is of its
-/// board's hands, and of the contract and the play of its cell's result at that moment; so is what is kept after any
-/// journal of a session that opens with nothing else. Since the types of tables and costs keep the numbers, each is the
-/// exhaustive one.
+/// The solver's numbers are of the session's own deals, whose hands no entry changes. What an accepted journal tells is
+/// of its board's hands, and of the contract and the play of its cell's result at that moment; so is what is kept after
+/// any journal of a session that opens with nothing else. Since the types of tables and costs keep the numbers, each is
+/// the exhaustive one.
 pub fn numbers_are_of_the_sessions_deals()
     ensures told { (opening : SessionState) (before after : List Entry) (entry : Entry) →
         IsAccepted opening (before ++ entry ∷ after) → TellsOwn (replay opening before) entry.command }

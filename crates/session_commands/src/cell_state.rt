@@ -20,8 +20,8 @@ pub enum CellState {
         /// What its cards cost, once they are counted.
         costs: Option<PlayCosts>,
     },
-    /// The director gave an adjusted score (Law 12C2), which is a result: the percentage of a top for each side, from 0 to
-    /// 100, and the number of the reason, from 1 to 99.
+    /// The director gave an adjusted score (Law 12C2), which is a result: the percentage of a top for each side, from 0
+    /// to 100, and the number of the reason, from 1 to 99.
     Ruled {
         north_south: u8,
         east_west: u8,

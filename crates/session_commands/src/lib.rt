@@ -1,4 +1,5 @@
-//! The commands of a session: what scorers, directors and the solver give, why one is refused, and what is known of a cell.
+//! The commands of a session: what scorers, directors and the solver give, why one is refused, and what is known of a
+//! cell.
 #![tactic(auto)]
 
 mod actor;

@@ -7,8 +7,8 @@ ghost use Rattle.session_opening.specs.OpeningRefusal.{opening_refusal};
 ghost use Rattle.session_opening.specs.declared.config.Config.{Config};
 ghost use Rattle.session_state.specs.OwnNumbers.{KeepsOwn};
 
-/// A session that opens has somebody who is authorized for Administrator, and nobody who is authorized for both roles of a
-/// separation set (static separation of duty of INCITS 359-2012).
+/// A session that opens has somebody who is authorized for Administrator, and nobody who is authorized for both roles
+/// of a separation set (static separation of duty of INCITS 359-2012).
 pub fn openings_are_sound()
     ensures separation { (config : Config) → opening_refusal config ≡ None → KeepsSeparation (opening_of config).roles }
     ensures administrator { (config : Config) → opening_refusal config ≡ None →

@@ -66,8 +66,8 @@ pub enum Body {
     Ranking {
         standings: Items<Standing>,
     },
-    /// The users with the roles that are assigned to them, and the pairs of the role hierarchy, each in the order in which
-    /// they were added.
+    /// The users with the roles that are assigned to them, and the pairs of the role hierarchy, each in the order in
+    /// which they were added.
     Accounts {
         users: Items<Account>,
         pairs: Items<Inheritance>,

@@ -9,9 +9,9 @@ ghost use Rattle.session_queries.specs.Numbers.{IsAnalysisOf, IsCountOf};
 ghost use Rattle.session_queries.specs.declared.card_costs.CardCosts.{CardCosts};
 ghost use Rattle.session_queries.specs.declared.card_costs.CardCosts.TheVariants.{Pending, NoCards};
 
-/// Each double-dummy number that a fact says is the exhaustive one: an analysis has the numbers of its board's hands, and costs
-/// are the answer for the board's hands, the contract of the cell's result and the cards as they were played. The state of
-/// every session keeps what this asks of it.
+/// Each double-dummy number that a fact says is the exhaustive one: an analysis has the numbers of its board's hands,
+/// and costs are the answer for the board's hands, the contract of the cell's result and the cards as they were played.
+/// The state of every session keeps what this asks of it.
 pub fn said_numbers_are_exhaustive()
     ensures analysis { (state : SessionState) (board : ℕ) (tricks : TrickTable) →
         KeepsOwn state → analysis_of state board ≡ Some tricks → IsAnalysisOf state board tricks }

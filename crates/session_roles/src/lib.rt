@@ -1,4 +1,5 @@
-//! The roles of a session (ANSI INCITS 359-2012): sets of them, what each may do, and which of them nobody has together.
+//! The roles of a session (ANSI INCITS 359-2012): sets of them, what each may do, and which of them nobody has
+//! together.
 #![tactic(auto)]
 
 mod operation;

@@ -1,5 +1,5 @@
--- Whose numbers the solver's are: a table is of its board's own hands, and costs are of their cell's own hands, contract and
--- play. What the numbers are follows, since the types of a table and of costs keep them.
+-- Whose numbers the solver's are: a table is of its board's own hands, and costs are of their cell's own hands,
+-- contract and play. What the numbers are follows, since the types of a table and of costs keep them.
 use Rattle.std.specs.Prelude.{◌≡◌, ℕ, ◌-◌, Some, None, List, slice_get}
 use Rattle.session_state.specs.cards.declared.card.Card.{Card}
 use Rattle.session_state.specs.cards.Hands.{Hands}
@@ -38,8 +38,8 @@ pub record TellsOwn (state : SessionState) (command : Command) : Type 0 where
   pub analysed : (table board : ℕ) (costs : PlayedDeal) → command ≡ Analysed table board costs →
       IsCounting state (record { table = table; board = board }) costs
 
--- each table that is kept is of its board's own hands, and the costs that are kept of a cell are of its own hands, contract and
--- play
+-- each table that is kept is of its board's own hands, and the costs that are kept of a cell are of its own hands,
+-- contract and play
 pub record KeepsOwn (state : SessionState) : Type 0 where
   pub tables : (board : ℕ) (table : Hands) → table_at state board ≡ Some table → IsHandsOf state.deals board table
   pub costs : (cell : Cell) (outcome : Outcome) (play : List Card) (costs : PlayedDeal) → IsPlaced cell →

@@ -1,4 +1,5 @@
--- What is found of a job. A table is seen as its deal, and costs as their deal, contract and play, since their types keep the numbers.
+-- What is found of a job. A table is seen as its deal, and costs as their deal, contract and play, since their types
+-- keep the numbers.
 use Rattle.std.specs.Prelude.{◌≡◌, refl}
 use Rattle.std.specs.Coded.{Coded, code_by, coded×}
 use Rattle.solver_pool.specs.contracts.found.Found as the_found
@@ -9,7 +10,8 @@ use Rattle.solver_pool.specs.declared.job.Job.{Job}
 use Rattle.solver_pool.specs.declared.work.Work.{Work}
 use Rattle.solver_pool.specs.declared.work.Work.TheVariants as work
 
--- the table of the work's deal, or the costs of its play with its deal and contract; or none, where visits or memory ran out
+-- the table of the work's deal, or the costs of its play with its deal and contract; or none, where visits or memory
+-- ran out
 abbrev pub IsFoundOf : Work → Found → Type 0
 IsFoundOf (work.Table board deal) (found.Table table) = table ≡ deal
 IsFoundOf (work.Table board deal) (found.Costs costs) = ⊥

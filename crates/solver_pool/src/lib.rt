@@ -1,4 +1,5 @@
-//! A pool of double-dummy jobs, which numbers them and notes whose result came, and the workers that solve them in threads.
+//! A pool of double-dummy jobs, which numbers them and notes whose result came, and the workers that solve them in
+//! threads.
 #![tactic(auto)]
 
 mod done;

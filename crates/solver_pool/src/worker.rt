@@ -11,8 +11,8 @@ use double_dummy::{Budget, SolveError, play_costs, table};
 use std::alloc::Global;
 use std::sync::Wait;
 
-/// Solves the jobs that come, each with so many visits, until no more can come or nobody is left to hear of them. A result
-/// for which the channel finds no memory is dropped.
+/// Solves the jobs that come, each with so many visits, until no more can come or nobody is left to hear of them. A
+/// result for which the channel finds no memory is dropped.
 pub fn run_worker(
     rt: &impl Wait,
     alloc: Global,

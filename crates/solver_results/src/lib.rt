@@ -1,5 +1,5 @@
-//! The cards of a board as they were played, and what a double-dummy solver finds: a deal's table, and what each card of a play
-//! costs. The types keep that the numbers are those of the definition, so who is handed one needs no solver.
+//! The cards of a board as they were played, and what a double-dummy solver finds: a deal's table, and what each card
+//! of a play costs. The types keep that the numbers are those of the definition, so who is handed one needs no solver.
 #![tactic(auto)]
 
 mod costs;

@@ -2,7 +2,8 @@
 use Rattle.std.specs.Prelude.{ℕ, ◌+◌, ◌-◌, ◌*◌, ℤ, List, count_by, int_lt}
 use Rattle.std.specs.Ordering.{int_eq}
 
--- two units for each score that this one beats, and one for each other that it equals; it stands among the scores itself
+-- two units for each score that this one beats, and one for each other that it equals; it stands among the scores
+-- itself
 abbrev pub units_of_score : List ℤ → ℤ → ℕ
 units_of_score scores score =
     2 * count_by (λ other. int_lt other score) scores + (count_by (λ other. int_eq other score) scores - 1)

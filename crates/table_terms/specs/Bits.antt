@@ -1,4 +1,5 @@
--- What stays where a list is filtered, and where a bit of a word is set or cleared: sets of cards and of numbers rest on it.
+-- What stays where a list is filtered, and where a bit of a word is set or cleared: sets of cards and of numbers rest
+-- on it.
 use Rattle.std.proofs.Common.{◌≡◌, ℕ, ◌*◌, ◌^◌, ◌<◌, ◌%◌, Bool, true, false, cond, List, [], ◌∷◌, refl, sym, ap, ◌∙◌, inl, inr}
 use Rattle.std.specs.Prelude.{nat_eq, filter, ◌||◌, ◌&&◌, not, bit_or, bit_and}
 use Rattle.std.specs.List.{list_any}

@@ -2,8 +2,8 @@
 use Rattle.std.specs.Prelude.{◌≡◌, ◌⊎◌, ℕ, zero, suc, List, Option}
 use Rattle.websocket_server.specs.Conversation.{ServesStream}
 
--- over streams whose bytes are known so, for a server that answers a text so, a binary message so, and so without memory, and
--- that is signed out so
+-- over streams whose bytes are known so, for a server that answers a text so, a binary message so, and so without
+-- memory, and that is signed out so
 module _ {S A : Type 0} (remaining contents : S → Option (List ℕ)) (answers : A → List ℕ → Option (List ℕ) → A → Type 0)
     (binary_text memory_text : List ℕ) (leaves : A → A → Type 0) where
   -- an accept returned: a client is served by a server that is signed out, or the accept had a fault

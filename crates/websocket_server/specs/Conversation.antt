@@ -1,5 +1,5 @@
--- A conversation with a client over a WebSocket on a stream. The frames, the handshake and the closing are RFC 6455's; that
--- each text message gets exactly one text message is this project's own.
+-- A conversation with a client over a WebSocket on a stream. The frames, the handshake and the closing are RFC 6455's;
+-- that each text message gets exactly one text message is this project's own.
 use Rattle.std.specs.Prelude.{◌≡◌, ◌⊎◌, ℕ, zero, suc, List, [], Option, Some, None, Ok}
 use Rattle.tungstenite.specs.Connection.{write_step}
 use Rattle.tungstenite.specs.Content.{Content, text, binary, ping, pong, close}
@@ -16,7 +16,8 @@ abbrev pub sent_text : List ℕ → Option (List ℕ) → List ℕ
 sent_text memory_text (Some answer) = answer
 sent_text memory_text None = memory_text
 
--- over streams whose bytes are known so, for a server that answers a text so, a binary message so, and so without memory
+-- over streams whose bytes are known so, for a server that answers a text so, a binary message so, and so without
+-- memory
 module _ {S A : Type 0} (remaining contents : S → Option (List ℕ)) (answers : A → List ℕ → Option (List ℕ) → A → Type 0)
     (binary_text memory_text : List ℕ) where
   -- one text message is written, and no byte of it waits

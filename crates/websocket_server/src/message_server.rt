@@ -5,7 +5,8 @@ use std::sync::Wait;
 
 /// What answers the messages of one client after another.
 pub trait MessageServer {
-    // From what a server was, with a message and the text that answers it (none where there was no memory for one), to what it is.
+    // From what a server was, with a message and the text that answers it (none where there was no memory for one), to
+    // what it is.
     ghost answers: { Self → List ℕ → Option (List ℕ) → Self → Type 0 };
     // From what a server was to what it is for the next client.
     ghost leaves: { Self → Self → Type 0 };

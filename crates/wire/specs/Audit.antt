@@ -1,4 +1,5 @@
--- The message that asks for an audit: an object in the member `audit`, which says the rows, and in a script the user's name.
+-- The message that asks for an audit: an object in the member `audit`, which says the rows, and in a script the user's
+-- name.
 use Rattle.std.specs.Prelude.{◌≡◌, ℕ, ◌≤◌, List, [], ◌∷◌, nat_le, ◌&&◌, if◌then◌else◌, codes, Option, Some, None}
 use Rattle.serde_json.specs.Data.{Data}
 use Rattle.serde_json.specs.Find.{get}

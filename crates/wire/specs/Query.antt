@@ -35,6 +35,8 @@ asking = codes "ask" ∷ codes "as" ∷ codes "since" ∷ []
 abbrev pub query_called : List ℕ → Data → Option Query
 query_called word d = by_word asking queries word d
 
+-- ---- for private clauses
+
 -- a list of the boards of which a filter holds
 abbrev pub IsFiltered : Query → Type 0
 IsFiltered query.Status = ⊥

@@ -1,5 +1,5 @@
--- What is written of a batch that was tried, and of a message that no request was read from or that a connection doesn't
--- answer: JSON texts with no space.
+-- What is written of a batch that was tried, and of a message that no request was read from or that a connection
+-- doesn't answer: JSON texts with no space.
 use Rattle.std.specs.Prelude.{ℕ, List, ◌++◌, map, codes}
 use Rattle.serde_json.specs.Data.{Data, string, number, unsigned, array, object, Items, member, no_members}
 use Rattle.serde_json.specs.View.{items_of}

@@ -1,5 +1,5 @@
--- Where a message comes from, and whose it is: in a script the member `as` says the user; a connection knows its user, and
--- nothing may say one.
+-- Where a message comes from, and whose it is: in a script the member `as` says the user; a connection knows its user,
+-- and nothing may say one.
 use Rattle.std.specs.Prelude.{◌≡◌, ℕ, List, Option, Some, None, option_map}
 use Rattle.serde_json.specs.Data.{Data}
 use Rattle.json_fields.specs.Form.{Member}

@@ -33,8 +33,8 @@ pub fn malformed_without_an_object()
         ↔ ((length bytes ≤ most_message_bytes) × ((d : Data) → ¬ IsObject bytes d)) }
 {}
 
-/// An object is an unknown request exactly where its members make it no query, no batch, no audit and no greeting, where
-/// it greets in a script, or where a word in it names nothing, whatever else is wrong with it.
+/// An object is an unknown request exactly where its members make it no query, no batch, no audit and no greeting,
+/// where it greets in a script, or where a word in it names nothing, whatever else is wrong with it.
 pub fn unknown_before_bad()
     ensures { (source : Source) (bytes : List ℕ) (d : Data) → IsMessage bytes d →
         (meaning source bytes ≡ Err UnknownRequest) ↔ IsUnknownRequest source d }

@@ -1,5 +1,5 @@
-//! A results server's messages, from a script and on a connection: the request that a message is, read from its JSON text,
-//! and the texts of receipts, audits and faults.
+//! A results server's messages, from a script and on a connection: the request that a message is, read from its JSON
+//! text, and the texts of receipts, audits and faults.
 #![tactic(auto)]
 
 mod audit_range;

@@ -1,5 +1,5 @@
-//! A session of three tables with seven users, each of whom has the token `abc`. Its texts are long, so functions give them:
-//! each place that names a constant is proved with all its bytes.
+//! A session of three tables with seven users, each of whom has the token `abc`. Its texts are long, so functions give
+//! them: each place that names a constant is proved with all its bytes.
 
 use std::alloc::{AllocError, Global};
 

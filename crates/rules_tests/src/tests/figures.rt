@@ -1,8 +1,8 @@
 // Written by figures/make.py from what salliere scores; figures/README.md says how. Both minors score alike, and both
 // majors. The scores are those of declarer's side.
 
-/// What a strain's contracts score: undoubled, doubled, redoubled; each not vulnerable and vulnerable; each by level from
-/// 1 and tricks from 0.
+/// What a strain's contracts score: undoubled, doubled, redoubled; each not vulnerable and vulnerable; each by level
+/// from 1 and tricks from 0.
 pub type Figures = [[[[i32; 14]; 7]; 2]; 3];
 
 pub static MINOR: Figures = [

@@ -121,7 +121,8 @@ static FAULTS: [Option<ErrorKind>; 3] = [
     None,
 ];
 
-/// Whether a text of fifteen bytes is written, in as many calls, where none of them fails; and up to the call that does.
+/// Whether a text of fifteen bytes is written, in as many calls, where none of them fails; and up to the call that
+/// does.
 fn stops(stop: usize, fault: Option<ErrorKind>) -> bool {
     let mut writer = StopsOnce {
         calls: 0,

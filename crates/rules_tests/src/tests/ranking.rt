@@ -3,8 +3,8 @@
 use scoring::matchpoints;
 use std::alloc::Global;
 
-/// Scores, and the units that they earn. Of the last three boards two tables have each score, and beat all that stand before
-/// them.
+/// Scores, and the units that they earn. Of the last three boards two tables have each score, and beat all that stand
+/// before them.
 static BOARDS: [(&[i32], &[u32]); 7] = [
     (&[420, 450, 420], &[1, 4, 1]),
     (&[50], &[0]),

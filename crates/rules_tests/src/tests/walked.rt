@@ -48,8 +48,8 @@ fn is_round(movement: Movement, round: u8, pairs: &Seats, sets: &Seats) -> bool 
     true
 }
 
-/// After each round the East-West pairs move up a table and the sets down one, and at an even number of tables the pairs
-/// skip one more in the middle.
+/// After each round the East-West pairs move up a table and the sets down one, and at an even number of tables the
+/// pairs skip one more in the middle.
 fn is_walked(movement: Movement) -> bool {
     let tables = movement.tables();
     let mut pairs = PAIRS;
@@ -67,8 +67,8 @@ fn is_walked(movement: Movement) -> bool {
     true
 }
 
-/// Whether a movement is as walked, or refused because there are too many rounds, or more than the 64 boards that are the
-/// most. An even number of tables plays a round less than there are tables.
+/// Whether a movement is as walked, or refused because there are too many rounds, or more than the 64 boards that are
+/// the most. An even number of tables plays a round less than there are tables.
 fn is_walked_or_refused(tables: u8, rounds: u8, per_set: u8) -> bool {
     let most = tables.saturating_sub(1) | 1;
     match Movement::new(tables, rounds, per_set) {

@@ -1,5 +1,5 @@
-//! Two workers work beside one another: one of them finishes the second job while the first waits at the gate. They wait for
-//! each job, pass the gate, tell the gate, and send the result.
+//! Two workers work beside one another: one of them finishes the second job while the first waits at the gate. They
+//! wait for each job, pass the gate, tell the gate, and send the result.
 
 use super::{channels, table_work};
 use crossbeam_channel::{Receiver, Sender};
@@ -11,8 +11,8 @@ use std::thread;
 use std::thread::Threads;
 use std::time::{Clock, Duration};
 
-/// Two workers without visits, and their gate. It holds job 1 until job 2 is done, for at most a thousand turns
-/// of a millisecond. Job 2 is done once the gate is told of it, where the gate was passed before with as many jobs, and no
+/// Two workers without visits, and their gate. It holds job 1 until job 2 is done, for at most a thousand turns of a
+/// millisecond. Job 2 is done once the gate is told of it, where the gate was passed before with as many jobs, and no
 /// more than the result of job 3 was sent by then.
 #[derive(Drop)]
 struct HoldsFirst<'a, R: Wait + Clock> {
