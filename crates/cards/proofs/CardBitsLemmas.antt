@@ -25,7 +25,7 @@ use Rattle.cards.specs.declared.card.Card.{Card}
 use Rattle.table_terms.specs.Suit.{suit_number}
 use Rattle.cards.specs.Rank.{height}
 use Rattle.cards.specs.Card.{card_cmp, pack, number_in_pack}
-use Rattle.cards.specs.Cards.{Cards, has_bit, cards_of_bits, bits_of_cards, AreDisjoint, are_same}
+use Rattle.cards.specs.Cards.{Cards, has_card_bit, cards_of_bits, bits_of_cards, AreDisjoint, are_same}
 use Rattle.cards.specs.CardBits.{each_rank, card_at, card_at-number, same_number, card_cmp_total, tied_is_equal, contains-cards_of_bits, digit_weight, bits_of_cards-cards_of_bits}
 
 -- a number below 52 is that of a card
@@ -56,7 +56,7 @@ same_cards = set.same_set card_cmp_total card_cmp-IsAntisymmetric
 pub cards_of_no_bits : cards_of_bits 0 ≡ set.empty
 cards_of_no_bits = same_cards _ _ (λ card. contains-cards_of_bits 0 card ∙ no_bit card ∙ sym (set.contains-empty card_cmp card))
   where
-    no_bit : (card : Card) → has_bit 0 card ≡ false
+    no_bit : (card : Card) → has_card_bit 0 card ≡ false
     no_bit card = ap (λ x. nat_eq x 1) (bit_at-zero (number_in_pack card))
 
 eq_by_number : (a b : Card) → eq_by_cmp card_cmp a b ≡ nat_eq (number_in_pack a) (number_in_pack b)
@@ -129,7 +129,7 @@ ones-digits bits k (suc n) =
 pub len-cards_of_bits : (bits : ℕ) → bits < 2 ^ 52 → set.len (cards_of_bits bits) ≡ ones bits
 unfolding cards_of_bits total pack digits_from
 len-cards_of_bits bits small =
-    len-filter (has_bit bits) pack refl
+    len-filter (has_card_bit bits) pack refl
     ∙ (λ i. total (λ card. digit_weight (bit_at bits (number_in_pack card)) 1 (bit_at-lt bits (number_in_pack card)) i) pack)
     ∙ (λ i. total (λ card. mul-one (bit_at bits (number_in_pack card)) i) pack)
     ∙ sym (add-zero _)

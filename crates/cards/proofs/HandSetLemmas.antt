@@ -12,7 +12,7 @@ use Rattle.table_terms.specs.declared.suit.Suit.{Suit}
 use Rattle.table_terms.specs.declared.suit.Suit.TheVariants.{Spades, Hearts, Diamonds, Clubs}
 use Rattle.cards.specs.Card.{number_in_pack}
 use Rattle.table_terms.specs.Suit.{suit_number}
-use Rattle.cards.specs.Cards.{has_bit, cards_of_bits}
+use Rattle.cards.specs.Cards.{has_card_bit, cards_of_bits}
 use Rattle.cards.specs.CardBits.{card_cmp_total, contains-cards_of_bits}
 use Rattle.cards.proofs.CardBitsLemmas.{height_below, number_below, same_cards, card_cmp-IsAntisymmetric}
 use Rattle.cards.specs.Play.{is_of}
@@ -35,27 +35,27 @@ pub and_below : (a b n : ℕ) → a < n → bit_and a b < n
 and_below a b n small = omega (arith, and_le_l a b)
 
 -- a card's bit in a word that is cut by another
-pub has_bit-and : (a b : ℕ) (card : Card) → has_bit (bit_and a b) card ≡ (has_bit a card && has_bit b card)
-has_bit-and a b card =
+pub has_card_bit-and : (a b : ℕ) (card : Card) → has_card_bit (bit_and a b) card ≡ (has_card_bit a card && has_card_bit b card)
+has_card_bit-and a b card =
     ap (λ x. nat_eq x 1) (bit_at_and a b (number_in_pack card))
     ∙ both_bits _ _ (bit_at-lt a (number_in_pack card)) (bit_at-lt b (number_in_pack card))
 
-pub has_bit-not : (b : ℕ) (card : Card) → b < 2 ^ 52 → has_bit (bit_not w64 b) card ≡ not (has_bit b card)
-has_bit-not b card small =
+pub has_card_bit-not : (b : ℕ) (card : Card) → b < 2 ^ 52 → has_card_bit (bit_not w64 b) card ≡ not (has_card_bit b card)
+has_card_bit-not b card small =
     let large : 2 ^ 52 < 2 ^ 64 = lit< tt in
     ap (λ x. nat_eq x 1) (bit_at_not w64 b (number_in_pack card) (omega arith) (omega (arith, number_below card)))
     ∙ flipped (bit_at b (number_in_pack card)) (bit_at-lt b (number_in_pack card))
 
 pub without_others : (a b : ℕ) (card : Card) → b < 2 ^ 52 →
-    has_bit (bit_and a (bit_not w64 b)) card ≡ (has_bit a card && not (has_bit b card))
+    has_card_bit (bit_and a (bit_not w64 b)) card ≡ (has_card_bit a card && not (has_card_bit b card))
 without_others a b card small =
-    has_bit-and a (bit_not w64 b) card
-    ∙ ap (λ x. has_bit a card && x) (has_bit-not b card small)
+    has_card_bit-and a (bit_not w64 b) card
+    ∙ ap (λ x. has_card_bit a card && x) (has_card_bit-not b card small)
 
 -- the bits from one place up to another
-pub has_bit-mask : (low high : ℕ) (card : Card) →
-    has_bit (2 ^ high - 2 ^ low) card ≡ (nat_lt (number_in_pack card) high && not (nat_lt (number_in_pack card) low))
-has_bit-mask low high card =
+pub has_card_bit-mask : (low high : ℕ) (card : Card) →
+    has_card_bit (2 ^ high - 2 ^ low) card ≡ (nat_lt (number_in_pack card) high && not (nat_lt (number_in_pack card) low))
+has_card_bit-mask low high card =
     elim (cases_lt (number_in_pack card) low) [
       | inl below ↦
           ap (λ x. nat_eq x 1) (bit_at_mask_below low high (number_in_pack card) below)
@@ -97,10 +97,10 @@ and_swap false true = refl
 and_swap false false = refl
 
 pub bits_between : (low high : ℕ) (card : Card) → low < high → high < 52 →
-    has_bit (1 * 2 ^ high % 2 ^ 64 - 2 * 2 ^ low % 2 ^ 64) card ≡ (nat_lt low (number_in_pack card) && nat_lt (number_in_pack card) high)
+    has_card_bit (1 * 2 ^ high % 2 ^ 64 - 2 * 2 ^ low % 2 ^ 64) card ≡ (nat_lt low (number_in_pack card) && nat_lt (number_in_pack card) high)
 bits_between low high card less small =
-    (λ i. has_bit (power_small high (omega arith) i - double_power low (omega arith) i) card)
-    ∙ has_bit-mask (suc low) high card
+    (λ i. has_card_bit (power_small high (omega arith) i - double_power low (omega arith) i) card)
+    ∙ has_card_bit-mask (suc low) high card
     ∙ ap (λ b. nat_lt (number_in_pack card) high && b) (not_below_next low (number_in_pack card))
     ∙ and_swap (nat_lt (number_in_pack card) high) (nat_lt low (number_in_pack card))
 
@@ -140,8 +140,8 @@ pub suit_bits : (word mask : ℕ) (suit : Suit) → mask ≡ 2 ^ (13 * suit_numb
     cards_of_bits (bit_and word mask) ≡ set.retain (cards_of_bits word) (is_of suit)
 suit_bits word mask suit e = same_cards _ _ (λ card.
     contains-cards_of_bits (bit_and word mask) card
-    ∙ has_bit-and word mask card
-    ∙ (λ i. sym (contains-cards_of_bits word card) i && (ap (λ m. has_bit m card) e ∙ has_bit-mask (13 * suit_number suit) (13 * suit_number suit + 13) card ∙ suit_place suit card) i)
+    ∙ has_card_bit-and word mask card
+    ∙ (λ i. sym (contains-cards_of_bits word card) i && (ap (λ m. has_card_bit m card) e ∙ has_card_bit-mask (13 * suit_number suit) (13 * suit_number suit + 13) card ∙ suit_place suit card) i)
     ∙ sym (set.contains-retain (cards_of_bits word) (is_of suit) card (λ x e. ap (is_of suit) (sym (card_cmp-IsAntisymmetric card x e)))))
 
 -- the lowest bit of a word

@@ -17,7 +17,7 @@ use Rattle.cards.proofs.CardBitsLemmas.{same_cards, card_cmp-IsAntisymmetric}
 use Rattle.cards.specs.Cards.{Cards}
 use Rattle.cards.specs.Hands.{Hands, hand_of}
 use Rattle.table_terms.specs.Place.{left_of, place_number}
-use Rattle.cards.specs.Play.{Position, to_play, turn, is_of, following, legal_of, legal, without, table_after, leader_after, after, cards_left, IsApart, IsOut, IsUnderWay, one_for, played, count_of, IsPosition}
+use Rattle.cards.specs.Play.{Position, to_play, turn, is_of, following, legal_of, legal, without, table_after, leader_after, after, cards_left, IsApart, IsOut, IsUnderWay, one_for, played_by, count_of, IsPosition}
 
 -- a hand that holds none of the suit led may play any card
 pub following-none : (hand held : Cards) → held ≡ set.empty → following hand held ≡ hand
@@ -178,7 +178,7 @@ completed (a ∷ b ∷ c ∷ _) = 1
 
 played_after : (strain : Strain) (leader : Place) (hands : Hands) (table : List Card) (card : Card) (place : Place) →
     IsUnderWay hands table →
-    played (leader_after strain leader table card) (table_after table card) place + completed table ≡ played leader table place + one_for (turn leader table) place
+    played_by (leader_after strain leader table card) (table_after table card) place + completed table ≡ played_by leader table place + one_for (turn leader table) place
 unfolding completed
 played_after strain leader hands [] d place trick = omega arith
 played_after strain leader hands (a ∷ []) d place trick = omega arith
@@ -213,7 +213,7 @@ one_of_all West = refl
 
 -- the cards on the table are counted to the four players
 all_played : (leader : Place) (table : List Card) →
-    played leader table North + played leader table East + played leader table South + played leader table West ≡ length table
+    played_by leader table North + played_by leader table East + played_by leader table South + played_by leader table West ≡ length table
 all_played leader [] = refl
 all_played leader (a ∷ table) = omega (arith, all_played (left_of leader) table, one_of_all leader)
 
@@ -224,7 +224,7 @@ four_times p valid =
 
 -- the player in turn hasn't played to the trick
 yet_to_play : (leader : Place) (hands : Hands) (table : List Card) → IsUnderWay hands table →
-    played leader table (turn leader table) ≡ 0
+    played_by leader table (turn leader table) ≡ 0
 yet_to_play leader hands [] trick = refl
 yet_to_play North hands (a ∷ []) trick = refl
 yet_to_play East hands (a ∷ []) trick = refl

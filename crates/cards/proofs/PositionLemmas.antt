@@ -16,7 +16,7 @@ use Rattle.cards.specs.Cards.{Cards, AreDisjoint}
 use Rattle.cards.specs.Hands.{Hands, hand_of}
 use Rattle.cards.specs.FourHands.{NoTwoShare}
 use Rattle.table_terms.specs.Place.{place_number}
-use Rattle.cards.specs.Play.{Position, IsApart, IsOut, IsUnderWay, played, count_of, IsPosition}
+use Rattle.cards.specs.Play.{Position, IsApart, IsOut, IsUnderWay, played_by, count_of, IsPosition}
 use Rattle.cards.specs.Trick.{cards_in}
 use Rattle.cards.proofs.HandsLemmas.{apart_of}
 use Rattle.cards.proofs.PlayLemmas.{same_place, tied}
@@ -198,9 +198,9 @@ tests_of_under_way hands trick table held is all way =
 -- each other player has as many cards as North
 abbrev pub AreEqual : Hands → Place → List Card → Type 0
 AreEqual hands leader table =
-    (set.len hands.east + played leader table East ≡ set.len hands.north + played leader table North)
-    × (set.len hands.south + played leader table South ≡ set.len hands.north + played leader table North)
-    × (set.len hands.west + played leader table West ≡ set.len hands.north + played leader table North)
+    (set.len hands.east + played_by leader table East ≡ set.len hands.north + played_by leader table North)
+    × (set.len hands.south + played_by leader table South ≡ set.len hands.north + played_by leader table North)
+    × (set.len hands.west + played_by leader table West ≡ set.len hands.north + played_by leader table North)
 
 pub tests_of_equal : (p : Position) (table : List Card) → table ≡ p.table → IsPosition p →
     AreEqual p.hands p.leader table

@@ -21,7 +21,7 @@ use Rattle.cards.specs.declared.rank.Rank.{Rank}
 use Rattle.cards.specs.declared.rank.Rank.TheVariants.{Two, Three, Four, Five, Six, Seven, Eight, Nine, Ten, Jack, Queen, King, Ace}
 use Rattle.cards.specs.declared.card.Card.{Card}
 use Rattle.cards.specs.Card.{card_cmp, pack, number_in_pack}
-use Rattle.cards.specs.Cards.{has_bit, cards_of_bits, bits_of_cards}
+use Rattle.cards.specs.Cards.{has_card_bit, cards_of_bits, bits_of_cards}
 
 -- a fact about each rank, from one for every rank
 pub each_rank : (P : Rank → Type 0) → P Two → P Three → P Four → P Five → P Six → P Seven → P Eight → P Nine → P Ten → P Jack → P Queen → P King → P Ace → (rank : Rank) → P rank
@@ -76,12 +76,12 @@ pub tied_is_equal : (a b : Card) → eq_by_cmp card_cmp a b ≡ true → a ≡ b
 tied_is_equal a b e = same_number a b (eqb-true _ _ (sym (unsigned_tied (number_in_pack a) (number_in_pack b)) ∙ e))
 
 -- a card is in the set exactly where its bit is set
-pub contains-cards_of_bits : (bits : ℕ) (card : Card) → set.contains (cards_of_bits bits) card ≡ has_bit bits card
+pub contains-cards_of_bits : (bits : ℕ) (card : Card) → set.contains (cards_of_bits bits) card ≡ has_card_bit bits card
 unfolding cards_of_bits
 contains-cards_of_bits bits card =
-    set.contains-from_list card_cmp_total (filter (has_bit bits) pack) card
-    ∙ any_filter (eq_by_cmp card_cmp card) (has_bit bits) card (λ x e. ap (has_bit bits) (sym (tied_is_equal card x e))) pack
-    ∙ ap (λ b. b && has_bit bits card) (in_pack card)
+    set.contains-from_list card_cmp_total (filter (has_card_bit bits) pack) card
+    ∙ any_filter (eq_by_cmp card_cmp card) (has_card_bit bits) card (λ x e. ap (has_card_bit bits) (sym (tied_is_equal card x e))) pack
+    ∙ ap (λ b. b && has_card_bit bits card) (in_pack card)
 
 -- a digit's weight, by a test and by a product
 pub digit_weight : (x w : ℕ) → x < 2 → cond (nat_eq x 1) w 0 ≡ x * w

@@ -10,12 +10,12 @@ abbrev pub Cards : Type 0
 Cards = set.FinSet card_cmp
 
 -- whether the card's bit is set
-abbrev pub has_bit : ℕ → Card → Bool
-has_bit bits card = nat_eq (bit_at bits (number_in_pack card)) 1
+abbrev pub has_card_bit : ℕ → Card → Bool
+has_card_bit bits card = nat_eq (bit_at bits (number_in_pack card)) 1
 
 -- the cards whose bits are set
 unfoldable pub cards_of_bits : ℕ → Cards
-cards_of_bits bits = set.from_list (filter (has_bit bits) pack)
+cards_of_bits bits = set.from_list (filter (has_card_bit bits) pack)
 
 -- the number in which just the bits of these cards are set
 unfoldable pub bits_of_cards : Cards → ℕ

@@ -172,13 +172,13 @@ abbrev pub one_for : Place → Place → ℕ
 one_for player place = if nat_eq (place_number player) (place_number place) then 1 else 0
 
 -- how many of the cards on the table a player has played
-abbrev pub played : Place → List Card → Place → ℕ
-played leader [] place = 0
-played leader (_ ∷ table) place = one_for leader place + played (left_of leader) table place
+abbrev pub played_by : Place → List Card → Place → ℕ
+played_by leader [] place = 0
+played_by leader (_ ∷ table) place = one_for leader place + played_by (left_of leader) table place
 
 -- how many cards a player has, with the one that he has on the table
 abbrev pub count_of : Position → Place → ℕ
-count_of p place = set.len (hand_of p.hands place) + played p.leader p.table place
+count_of p place = set.len (hand_of p.hands place) + played_by p.leader p.table place
 
 -- no card is in two places, at most three are on the table, and the hands are equal in size once each card on the table
 -- is counted to its player

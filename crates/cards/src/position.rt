@@ -3,7 +3,7 @@ ghost use Rattle.std.specs.FinSet as set;
 ghost use Rattle.cards.specs.Card.{card_cmp};
 ghost use Rattle.cards.specs.Cards.{AreDisjoint};
 ghost use Rattle.cards.specs.Hands.{hand_of};
-ghost use Rattle.cards.specs.Play.{start, to_play, legal, after, point, leader_after, played, cards_left, IsPosition};
+ghost use Rattle.cards.specs.Play.{start, to_play, legal, after, point, leader_after, played_by, cards_left, IsPosition};
 ghost use Rattle.cards.specs.Trick.{cards_in};
 ghost use Rattle.table_terms.specs.declared.place.Place.TheVariants.{North, East, South, West};
 
@@ -272,12 +272,12 @@ fn are_elsewhere(trick: Trick, held: Hand) -> bool
 /// Whether the players have as many cards each, with those on the table.
 fn are_equal(north: Hand, east: Hand, south: Hand, west: Hand, leader: Place, trick: Trick) -> bool
     ensures { IsTrue result
-        ↔ ((set.len east + played leader (cards_in trick) East ≡ set.len north + played leader (cards_in trick) North)
-        × (set.len south + played leader (cards_in trick) South ≡ set.len north + played leader (cards_in trick) North)
-        × (set.len west + played leader (cards_in trick) West ≡ set.len north + played leader (cards_in trick) North)) }
+        ↔ ((set.len east + played_by leader (cards_in trick) East ≡ set.len north + played_by leader (cards_in trick) North)
+        × (set.len south + played_by leader (cards_in trick) South ≡ set.len north + played_by leader (cards_in trick) North)
+        × (set.len west + played_by leader (cards_in trick) West ≡ set.len north + played_by leader (cards_in trick) North)) }
 {
-    let count = north.len() + trick.played(leader, Place::North);
-    east.len() + trick.played(leader, Place::East) == count
-        && south.len() + trick.played(leader, Place::South) == count
-        && west.len() + trick.played(leader, Place::West) == count
+    let count = north.len() + trick.played_by(leader, Place::North);
+    east.len() + trick.played_by(leader, Place::East) == count
+        && south.len() + trick.played_by(leader, Place::South) == count
+        && west.len() + trick.played_by(leader, Place::West) == count
 }

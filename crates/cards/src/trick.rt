@@ -1,5 +1,5 @@
 ghost use Rattle.std.specs.Prelude.{◌≡◌, ◌<◌, ◌≤◌, List, IfSome, IfNone, length};
-ghost use Rattle.cards.specs.Play.{legal_of, following, is_of, table_after, turn, played, one_for};
+ghost use Rattle.cards.specs.Play.{legal_of, following, is_of, table_after, turn, played_by, one_for};
 ghost use Rattle.cards.specs.Trick.{cards_in};
 ghost use Rattle.std.specs.FinSet as set;
 
@@ -102,8 +102,8 @@ impl Trick {
     }
 
     /// How many of the cards a player has played, in a trick with this leader.
-    pub fn played(self, leader: Place, place: Place) -> u32
-        ensures played { result ≡ played leader (cards_in self) place }
+    pub fn played_by(self, leader: Place, place: Place) -> u32
+        ensures played { result ≡ played_by leader (cards_in self) place }
         ensures few { result ≤ 3 }
     {
         let second = leader.left();

@@ -17,8 +17,9 @@ use Rattle.scoring.specs.declared.outcome.Outcome.TheVariants.{PassedOut}
 use Rattle.scoring.specs.Doubling.{times_doubled}
 use Rattle.json_fields.specs.Form.{item_count, AreEach}
 use Rattle.json_fields.specs.Doubling.{doubling_numbered}
-use Rattle.command_object.specs.Result.{declarer, trumps, doubled, level_numbered, level, tricks_numbered, tricks, played, text_or_played, outcome_by, IsOutcome, outcome}
-use Rattle.command_object.specs.Play.{suit_named, rank_named, card_by, card_named, card_of, cards_in, cards_by, play_by, IsCard, IsPlay, play}
+use Rattle.json_fields.specs.Message.{declarer, trumps}
+use Rattle.command_object.specs.Result.{doubled, level_numbered, level, tricks_numbered, tricks_won, played_contract, text_or_played, outcome_by, IsOutcome, outcome}
+use Rattle.command_object.specs.Play.{suit_named, rank_named, card_by, card_named, card_of, cards_of_items, cards_by, play_by, IsCard, IsPlay, play}
 use Rattle.json_fields.proofs.FormLemmas.{Agrees, AgreesForm, form_agrees, with_agrees, kept, both_true, formed_read, formed_reads, is_most, most_is, means_read, means_reads, named_read, named_agrees, doubling_is, doubling_small, doubling_back, each_read, each_reads, each_count}
 use Rattle.json_fields.proofs.LetterLemmas.{place_found, strain_found, place_reads, strain_reads}
 use Rattle.command_object.proofs.LetterLemmas.{suit_reads, rank_reads}
@@ -61,7 +62,7 @@ tricks_is m n h =
     let most = is_most m 13 both.0 in
     (same, omega arith)
 
-tricks_agree : Agrees tricks
+tricks_agree : Agrees tricks_won
 tricks_agree = record {
   read = λ o n h.
       let found = means_read tricks_numbered o n h in
@@ -70,9 +71,9 @@ tricks_agree = record {
   reads = λ o n is. means_reads tricks_numbered o n n is.is (let most = is.most in omega arith) (ap (λ b. cond b (Some n) None) (most_is n 13 is.most));
 }
 
-played_agrees : AgreesForm played
+played_agrees : AgreesForm played_contract
 played_agrees =
-    with_agrees _ tricks (with_agrees _ trumps (with_agrees _ level (with_agrees _ doubled (with_agrees _ declarer (form_agrees [] _)
+    with_agrees _ tricks_won (with_agrees _ trumps (with_agrees _ level (with_agrees _ doubled (with_agrees _ declarer (form_agrees [] _)
     (named_agrees _ _ _ place_reads place_found)) doubled_agrees) level_agrees) (named_agrees _ _ _ strain_reads strain_found)) tricks_agree
 
 text_read : (d : Data) (o : Option (List ℕ)) (ended : Outcome) → as_str d ≡ o → text_or_played o d ≡ Some ended
@@ -80,7 +81,7 @@ text_read : (d : Data) (o : Option (List ℕ)) (ended : Outcome) → as_str d �
 text_read d (Some word) ended is h =
     let both = kept (bytes_eq word (codes "pass")) (Some PassedOut) ended h in
     inl (is ∙ ap Some ((bytes_eq-Decides word (codes "pass")).0 both.0), cc (both.1))
-text_read d None ended is h = inr (is, formed_read [] played played_agrees d ended h)
+text_read d None ended is h = inr (is, formed_read [] played_contract played_agrees d ended h)
 
 outcome_read : (o : Option Data) (ended : Outcome) → outcome_by o ≡ Some ended → IsOutcome o ended
 unfolding outcome_by
@@ -92,7 +93,7 @@ unfolding outcome_by
 outcome_reads None ended is = absurd is
 outcome_reads (Some d) ended (inl pass) = ap (λ o. text_or_played o d) pass.0 ∙ ap Some (sym pass.1)
 outcome_reads (Some d) ended (inr made) =
-    ap (λ o. text_or_played o d) made.0 ∙ formed_reads [] played played_agrees d ended made.1
+    ap (λ o. text_or_played o d) made.0 ∙ formed_reads [] played_contract played_agrees d ended made.1
 
 pub outcome_agrees : Agrees outcome
 outcome_agrees = record { read = outcome_read; reads = outcome_reads }
@@ -149,14 +150,14 @@ unfolding card_of
 card_back d card h = ap (option_and_then card_named) h ∙ card_found card
 
 -- as many cards are read as the list has elements
-pub cards_as_many : (ds : Items) (cards : List Card) → cards_in ds ≡ Some cards → item_count ds ≡ length cards
+pub cards_as_many : (ds : Items) (cards : List Card) → cards_of_items ds ≡ Some cards → item_count ds ≡ length cards
 cards_as_many ds cards h = each_count IsCard ds cards (each_read card_of IsCard card_read ds cards h)
 
 list_read : (o : Option Items) (cards : List Card) → cards_by o ≡ Some cards
     → (elements : Items) × (o ≡ Some elements) × AreEach IsCard elements cards × (length cards ≤ 52)
 list_read None cards h = absurd (cc)
 list_read (Some ds) cards h =
-    let both = kept (nat_le (item_count ds) 52) (cards_in ds) cards h in
+    let both = kept (nat_le (item_count ds) 52) (cards_of_items ds) cards h in
     let all = each_read card_of IsCard card_read ds cards both.1 in
     (ds, refl, all, subst (λ n. n ≤ 52) (each_count IsCard ds cards all) (is_most (item_count ds) 52 both.0))
 
@@ -164,7 +165,7 @@ list_back : (o : Option Items) (ds : Items) (cards : List Card) → o ≡ Some d
     → length cards ≤ 52 → cards_by o ≡ Some cards
 list_back o ds cards is all few =
     ap cards_by is
-    ∙ ap (λ b. cond b (cards_in ds) None) (most_is (item_count ds) 52 (subst (λ n. n ≤ 52) (sym (each_count IsCard ds cards all)) few))
+    ∙ ap (λ b. cond b (cards_of_items ds) None) (most_is (item_count ds) 52 (subst (λ n. n ≤ 52) (sym (each_count IsCard ds cards all)) few))
     ∙ each_reads card_of IsCard card_back ds cards all
 
 play_read : (o : Option Data) (cards : List Card) → play_by o ≡ Some cards → IsPlay o cards

@@ -37,13 +37,13 @@ unfoldable pub card_of : Data → Option Card
 card_of d = option_and_then card_named (as_str d)
 
 -- a card for each element
-abbrev pub cards_in : Items → Option (List Card)
-cards_in ds = each card_of ds
+abbrev pub cards_of_items : Items → Option (List Card)
+cards_of_items ds = each card_of ds
 
 -- at most the 52 cards of the pack
 abbrev pub cards_by : Option Items → Option (List Card)
 cards_by None = None
-cards_by (Some ds) = if nat_le (item_count ds) 52 then cards_in ds else None
+cards_by (Some ds) = if nat_le (item_count ds) 52 then cards_of_items ds else None
 
 -- none where nothing stands there
 unfoldable pub play_by : Option Data → Option (List Card)

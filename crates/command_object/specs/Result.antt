@@ -3,25 +3,14 @@ use Rattle.std.specs.Prelude.{◌≡◌, ◌⊎◌, ℕ, ◌≤◌, List, [], �
 use Rattle.std.specs.Str.{bytes_eq}
 use Rattle.serde_json.specs.Data.{Data}
 use Rattle.serde_json.specs.Find.{as_str}
-use Rattle.table_terms.specs.declared.place.Place.{Place}
-use Rattle.table_terms.specs.declared.strain.Strain.{Strain}
-use Rattle.table_terms.specs.Place.{place_letter}
-use Rattle.table_terms.specs.Strain.{strain_letter}
 use Rattle.scoring.specs.declared.doubling.Doubling.{Doubling}
 use Rattle.scoring.specs.declared.outcome.Outcome.{Outcome}
 use Rattle.scoring.specs.declared.outcome.Outcome.TheVariants.{PassedOut, Played}
 use Rattle.scoring.specs.Doubling.{times_doubled}
 use Rattle.json_fields.specs.Doubling.{doubling_numbered}
-use Rattle.json_fields.specs.Letter.{place_named, strain_named}
 use Rattle.json_fields.specs.Form.{Member, Form, form, ◌with◌, formed, HasForm}
-use Rattle.json_fields.specs.Field.{number, small, named}
-
--- who declared, and in what
-abbrev pub declarer : Member Place
-declarer = named (codes "by") place_named (λ place. place_letter place ∷ [])
-
-abbrev pub trumps : Member Strain
-trumps = named (codes "strain") strain_named (λ x. strain_letter x ∷ [])
+use Rattle.json_fields.specs.Field.{number, small}
+use Rattle.json_fields.specs.Message.{declarer, trumps}
 
 -- how often the contract was doubled
 abbrev pub doubled : Member Doubling
@@ -55,19 +44,19 @@ pub record IsTricks (o : Option Data) (n : ℕ) : Type 0 where
   pub most : n ≤ 13
 
 -- how many tricks declarer's side won
-abbrev pub tricks : Member ℕ
-tricks = record { name = codes "tricks"; value = λ o. option_and_then tricks_numbered (small o); Is = IsTricks }
+abbrev pub tricks_won : Member ℕ
+tricks_won = record { name = codes "tricks"; value = λ o. option_and_then tricks_numbered (small o); Is = IsTricks }
 
 -- a contract that was played; it has no word
-abbrev pub played : Form Outcome
-played =
+abbrev pub played_contract : Form Outcome
+played_contract =
     form [] (λ by doubling n x won. Played (record { level = n; strain = x; declarer = by; doubling = doubling }) won)
-    with declarer with doubled with level with trumps with tricks
+    with declarer with doubled with level with trumps with tricks_won
 
 -- the text `pass`, or a contract that was played
 abbrev pub text_or_played : Option (List ℕ) → Data → Option Outcome
 text_or_played (Some word) d = if bytes_eq word (codes "pass") then Some PassedOut else None
-text_or_played None d = formed [] played d
+text_or_played None d = formed [] played_contract d
 
 -- something has to stand there
 unfoldable pub outcome_by : Option Data → Option Outcome
@@ -78,7 +67,7 @@ outcome_by (Some d) = text_or_played (as_str d) d
 abbrev pub IsOutcome : Option Data → Outcome → Type 0
 IsOutcome None ended = ⊥
 IsOutcome (Some d) ended =
-    ((as_str d ≡ Some (codes "pass")) × (ended ≡ PassedOut)) ⊎ ((as_str d ≡ None) × HasForm [] played d ended)
+    ((as_str d ≡ Some (codes "pass")) × (ended ≡ PassedOut)) ⊎ ((as_str d ≡ None) × HasForm [] played_contract d ended)
 
 -- how the board ended
 abbrev pub outcome : Member Outcome

@@ -12,8 +12,8 @@ use crate::commands::Commands;
 use crate::play::play_of;
 use crate::result::result_of;
 use json_fields::{
-    RequestFault, board_of, digest_of, has_only, is_one_of, name_at, pair_of, place_of, role_named,
-    small_number_at, table_of, text_at,
+    RequestFault, has_only, is_one_of, name_at, read_board, read_digest, read_pair, read_place,
+    read_table, role_named, small_number_at, text_at,
 };
 use scoring::Outcome;
 use serde_json::Value;
@@ -127,10 +127,10 @@ fn enter_of(alloc: Global, value: &Value) -> Result<Command, RequestFault>
     if !has_only(value, &["cmd", "table", "board", "result", "play"]) {
         return Err(RequestFault::BadField);
     }
-    let Some(table) = table_of(value) else {
+    let Some(table) = read_table(value) else {
         return Err(RequestFault::BadField);
     };
-    let Some(board) = board_of(value) else {
+    let Some(board) = read_board(value) else {
         return Err(RequestFault::BadField);
     };
     let Some(outcome) = result_of(value) else {
@@ -151,8 +151,8 @@ fn confirm_of(value: &Value) -> Option<Command>
     if !has_only(value, &["cmd", "table", "board", "result"]) {
         return None;
     }
-    let table = table_of(value)?;
-    let board = board_of(value)?;
+    let table = read_table(value)?;
+    let board = read_board(value)?;
     let outcome = result_of(value)?;
     Some(Command::Confirm {
         table,
@@ -167,10 +167,10 @@ fn correct_of(alloc: Global, value: &Value) -> Result<Command, RequestFault>
     if !has_only(value, &["cmd", "table", "board", "result", "play"]) {
         return Err(RequestFault::BadField);
     }
-    let Some(table) = table_of(value) else {
+    let Some(table) = read_table(value) else {
         return Err(RequestFault::BadField);
     };
-    let Some(board) = board_of(value) else {
+    let Some(board) = read_board(value) else {
         return Err(RequestFault::BadField);
     };
     let Some(outcome) = result_of(value) else {
@@ -191,8 +191,8 @@ fn rule_of(value: &Value) -> Option<Command>
     if !has_only(value, &["cmd", "table", "board", "ns", "ew", "reason"]) {
         return None;
     }
-    let table = table_of(value)?;
-    let board = board_of(value)?;
+    let table = read_table(value)?;
+    let board = read_board(value)?;
     let north_south = north_south_of(value)?;
     let east_west = east_west_of(value)?;
     let reason = reason_of(value)?;
@@ -211,8 +211,8 @@ fn void_of(value: &Value) -> Option<Command>
     if !has_only(value, &["cmd", "table", "board"]) {
         return None;
     }
-    let table = table_of(value)?;
-    let board = board_of(value)?;
+    let table = read_table(value)?;
+    let board = read_board(value)?;
     Some(Command::Void { table, board })
 }
 
@@ -222,7 +222,7 @@ fn hold_of(value: &Value) -> Option<Command>
     if !has_only(value, &["cmd", "board"]) {
         return None;
     }
-    let board = board_of(value)?;
+    let board = read_board(value)?;
     Some(Command::Hold { board })
 }
 
@@ -232,7 +232,7 @@ fn release_of(value: &Value) -> Option<Command>
     if !has_only(value, &["cmd", "board"]) {
         return None;
     }
-    let board = board_of(value)?;
+    let board = read_board(value)?;
     Some(Command::Release { board })
 }
 
@@ -243,8 +243,8 @@ fn seat_of(value: &Value) -> Option<Command>
         return None;
     }
     let name = user_name_of(value)?;
-    let pair = pair_of(value)?;
-    let place = place_of(value)?;
+    let pair = read_pair(value)?;
+    let place = read_place(value)?;
     Some(Command::Seat { name, pair, place })
 }
 
@@ -292,7 +292,7 @@ fn add_user_of(value: &Value) -> Option<Command>
         return None;
     }
     let name = user_name_of(value)?;
-    let digest = digest_of(value)?;
+    let digest = read_digest(value)?;
     Some(Command::AddUser { name, digest })
 }
 

@@ -4,7 +4,7 @@ ghost use Rattle.std.specs.Prelude.{◌≡◌, Some, IfOk, IfErr};
 ghost use Rattle.serde_json.specs.Find.{get};
 ghost use Rattle.serde_json.specs.View.{view, items_view};
 ghost use Rattle.json_fields.specs.Reading.{wanted, Fails, Gives};
-ghost use Rattle.command_object.specs.Play.{card_named, card_of, cards_in, cards_by, play};
+ghost use Rattle.command_object.specs.Play.{card_named, card_of, cards_of_items, cards_by, play};
 
 use cards::Card;
 use json_fields::RequestFault;
@@ -31,9 +31,9 @@ fn card_of(value: &Value) -> Result<Card, RequestFault>
     }
 }
 
-fn cards_in(alloc: Global, list: &[Value]) -> Result<Vec<Card>, RequestFault>
-    ensures cards { IfOk result (λ cards. cards_in (items_view list.now) ≡ Some cards.items) }
-    ensures fault { IfErr result (λ fault. Fails fault (wanted (cards_in (items_view list.now)))) }
+fn cards_of_items(alloc: Global, list: &[Value]) -> Result<Vec<Card>, RequestFault>
+    ensures cards { IfOk result (λ cards. cards_of_items (items_view list.now) ≡ Some cards.items) }
+    ensures fault { IfErr result (λ fault. Fails fault (wanted (cards_of_items (items_view list.now)))) }
 {
     let mut cards = Vec::new(alloc);
     for value in list {
@@ -51,7 +51,7 @@ fn play_in(alloc: Global, list: &[Value]) -> Result<Play, RequestFault>
     if list.len() > Play::MOST {
         return Err(RequestFault::BadField);
     }
-    let cards = cards_in(alloc, list)?;
+    let cards = cards_of_items(alloc, list)?;
     Play::new(cards.as_slice()).ok_or(RequestFault::BadField)
 }
 

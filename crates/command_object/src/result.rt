@@ -4,26 +4,11 @@ ghost use Rattle.std.specs.Prelude.{◌≡◌, [], Some};
 ghost use Rattle.serde_json.specs.Find.{get};
 ghost use Rattle.serde_json.specs.View.{view};
 ghost use Rattle.json_fields.specs.Form.{formed};
-ghost use Rattle.command_object.specs.Result.{declarer, trumps, doubled, level, tricks, played, text_or_played, outcome};
+ghost use Rattle.command_object.specs.Result.{doubled, level, tricks_won, played_contract, text_or_played, outcome};
 
-use json_fields::{
-    doubling_numbered, has_only, place_named, small_number_at, strain_named, text_at,
-};
+use json_fields::{doubling_numbered, has_only, read_declarer, read_trumps, small_number_at};
 use scoring::{Contract, Doubling, Level, Outcome, Tricks};
 use serde_json::Value;
-use table_terms::{Place, Strain};
-
-fn declarer_of(value: &Value) -> Option<Place>
-    ensures { result ≡ declarer.value (get declarer.name (view value.now)) }
-{
-    place_named(text_at(value, "by")?)
-}
-
-fn strain_of(value: &Value) -> Option<Strain>
-    ensures { result ≡ trumps.value (get trumps.name (view value.now)) }
-{
-    strain_named(text_at(value, "strain")?)
-}
 
 fn doubling_of(value: &Value) -> Option<Doubling>
     ensures { result ≡ doubled.value (get doubled.name (view value.now)) }
@@ -38,21 +23,21 @@ fn level_of(value: &Value) -> Option<Level>
 }
 
 fn tricks_of(value: &Value) -> Option<Tricks>
-    ensures { result ≡ tricks.value (get tricks.name (view value.now)) }
+    ensures { result ≡ tricks_won.value (get tricks_won.name (view value.now)) }
 {
     Tricks::new(small_number_at(value, "tricks")?)
 }
 
 fn played_of(value: &Value) -> Option<Outcome>
-    ensures { result ≡ formed [] played (view value.now) }
+    ensures { result ≡ formed [] played_contract (view value.now) }
 {
     if !has_only(value, &["by", "doubled", "level", "strain", "tricks"]) {
         return None;
     }
-    let declarer = declarer_of(value)?;
+    let declarer = read_declarer(value)?;
     let doubling = doubling_of(value)?;
     let level = level_of(value)?;
-    let strain = strain_of(value)?;
+    let strain = read_trumps(value)?;
     let tricks = tricks_of(value)?;
     let contract = Contract {
         level,

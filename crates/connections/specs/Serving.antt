@@ -36,8 +36,8 @@ use Rattle.connections.specs.Linked.{Linked, HasGoneOn, StaysOn}
 -- ---- signing in
 
 -- the account is there, and the digest of the token's bytes is its own
-abbrev pub IsKnown : Linked → List ℕ → List ℕ → Type 0
-IsKnown at name token = digest_of (replay at.opening at.journal) name ≡ Some (record { bytes = sha256 token })
+abbrev pub IsOwnToken : Linked → List ℕ → List ℕ → Type 0
+IsOwnToken at name token = digest_of (replay at.opening at.journal) name ≡ Some (record { bytes = sha256 token })
 
 abbrev pub hello_data : List ℕ → Data
 hello_data name = object (member (codes "hello") (string name) no_members)
@@ -64,8 +64,8 @@ pub record IsBatchText (at : Linked) (user : List ℕ) (commands : List Command)
   pub ran : IsReceiptOf at.opening user commands receipt at.journal
   pub written : text ≡ batch_text receipt
 
--- the rows of the journal's audit, or of a beginning of it, for a user with the permission for it; any other is told that there
--- is none
+-- the rows of the journal's audit, or of a beginning of it, for a user with the permission for it; any other is told
+-- that there is none
 pub record IsAuditText (at : Linked) (user : List ℕ) (range : AuditRange) (text : List ℕ) : Type 0 where
   pub journal : List Entry
   pub begins : IsPrefix journal at.journal
@@ -76,8 +76,9 @@ pub record IsAuditText (at : Linked) (user : List ℕ) (range : AuditRange) (tex
 
 -- ---- messages
 
--- what was found for who was signed in: a text of which this is true, or another fault than that nobody is signed in, over an
--- accepted journal that goes on from the one before; where nobody was signed in, that fault, and all is as before
+-- what was found for who was signed in: a text of which this is true, or another fault than that nobody is signed in,
+-- over an accepted journal that goes on from the one before; where nobody was signed in, that fault, and all is as
+-- before
 abbrev pub ServedTo : {S : Type 0} → (S → List ℕ) → (List ℕ → List ℕ → Type 0) → Linked → Linked
     → Result S ConnectionFault → Option (List ℕ) → Type 0
 ServedTo bytes Told before after served None = (served ≡ Err NotSignedIn) × (after ≡ before)
@@ -85,8 +86,8 @@ ServedTo bytes Told before after served (Some user) =
     IfOk served (λ text. Told user (bytes text)) × IfErr served (λ fault. fault ≢ NotSignedIn)
     × StaysOn before after × IsAccepted after.opening after.journal
 
--- what is answered to a query, a batch or an audit, where somebody is signed in: this, for that user; else that nobody is, and
--- all is as before
+-- what is answered to a query, a batch or an audit, where somebody is signed in: this, for that user; else that nobody
+-- is, and all is as before
 abbrev pub ForUser : (List ℕ → Type 0) → Linked → Linked → List ℕ → Option (List ℕ) → Type 0
 ForUser Told before after text None = (text ≡ connection_fault_text NotSignedIn) × (after ≡ before)
 ForUser Told before after text (Some user) = Told user × StaysOn before after × IsAccepted after.opening after.journal
@@ -96,8 +97,8 @@ pub record Greets (before after : Linked) (name token text : List ℕ) : Type 0 
   pub later : HasGoneOn before after
   pub accepted : IsAccepted after.opening after.journal
   pub told :
-      (IsKnown after name token × (after.user ≡ Some name) × (text ≡ hello_text name))
-      ⊎ (((¬ IsKnown after name token) × (after.user ≡ before.user) × (text ≡ connection_fault_text NotKnown))
+      (IsOwnToken after name token × (after.user ≡ Some name) × (text ≡ hello_text name))
+      ⊎ (((¬ IsOwnToken after name token) × (after.user ≡ before.user) × (text ≡ connection_fault_text NotKnown))
       ⊎ ((after.user ≡ before.user) × (text ≡ connection_fault_text NoEntry)))
 
 -- what is answered to a request

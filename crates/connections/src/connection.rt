@@ -8,7 +8,7 @@ ghost use Rattle.session_book.specs.Run.{most_commands};
 ghost use Rattle.wire.specs.declared.connection_fault.ConnectionFault.TheVariants.{NotSignedIn, NotKnown, NoEntry, OutOfMemory};
 ghost use Rattle.connections.specs.Growing.{AddsNothing, AddsBatch};
 ghost use Rattle.connections.specs.Linked.{HasGoneOn, StaysOn};
-ghost use Rattle.connections.specs.Serving.{batch_text, IsKnown, IsAuditText, IsBatchText, IsRowsText, ServedTo, query_text};
+ghost use Rattle.connections.specs.Serving.{batch_text, IsOwnToken, IsAuditText, IsBatchText, IsRowsText, ServedTo, query_text};
 
 use command_object::Commands;
 use published_view::{AuditReceipt, BatchReceipt, Keeper, Query, QueryFault, Reply};
@@ -65,15 +65,15 @@ impl<K: Keeper> Connection<K> {
         self.user
     }
 
-    /// Signs a user in whose account has the digest of this token; else who was signed in still is. That there is no such
-    /// account and that the token is another are one refusal. It waits for nobody and takes no memory.
+    /// Signs a user in whose account has the digest of this token; else who was signed in still is. That there is no
+    /// such account and that the token is another are one refusal. It waits for nobody and takes no memory.
     pub fn hello(&mut self, name: Name, token: &[u8]) -> Result<(), ConnectionFault>
         ensures later { HasGoneOn self.old self.new }
         ensures accepted { IsAccepted self.new.opening self.new.journal }
-        ensures known { OnOk result (IsKnown self.new name token.now × (self.new.user ≡ Some name)) }
+        ensures known { OnOk result (IsOwnToken self.new name token.now × (self.new.user ≡ Some name)) }
         ensures same { OnErr result (self.new.user ≡ self.old.user) }
         ensures fault { IfErr result (λ fault.
-            ((fault ≡ NotKnown) × (¬ IsKnown self.new name token.now)) ⊎ (fault ≡ NoEntry)) }
+            ((fault ≡ NotKnown) × (¬ IsOwnToken self.new name token.now)) ⊎ (fault ≡ NoEntry)) }
         ensures adds { AddsNothing K.others self.old self.new }
     {
         match self.keeper.digest(name) {
@@ -125,8 +125,8 @@ impl<K: Keeper> Connection<K> {
         }
     }
 
-    /// The text of the receipt for commands of the user who is signed in, which are tried one after another. It may wait for
-    /// others who submit. Where the text finds no memory, the commands stand.
+    /// The text of the receipt for commands of the user who is signed in, which are tried one after another. It may
+    /// wait for others who submit. Where the text finds no memory, the commands stand.
     pub fn serve_command<R: Wait>(
         &mut self,
         rt: &R,

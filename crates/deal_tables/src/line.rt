@@ -15,7 +15,7 @@ pub struct Line {
 }
 
 /// What a line has, if it has all of that, and there is memory for its cards.
-pub fn read_line(alloc: Global, text: &str) -> Option<Line> {
+pub fn parse_line(alloc: Global, text: &str) -> Option<Line> {
     let mut words = text.split_whitespace();
     let hands = read_hands(&mut words)?;
     let strain = Strain::from_letter(read_letter(&mut words))?;

@@ -7,7 +7,7 @@ mod workers;
 
 use cards::{Deal, Position};
 use double_dummy::{Budget, Costs, CostsError, DdTable, costs, solve, table};
-use line::{Line, read_line};
+use line::{Line, parse_line};
 use scoring::{Contract, Doubling, Level};
 use solver_pool::Done;
 use std::alloc::Global;
@@ -177,7 +177,7 @@ fn tricks_of(alloc: Global, text: &str, budget: &mut Budget) -> Option<Answer> {
 }
 
 fn read_ending(alloc: Global, text: &str) -> Option<Position> {
-    let line = read_line(alloc, text)?;
+    let line = parse_line(alloc, text)?;
     let [north, east, south, west] = line.hands;
     let cards = line.cards.as_slice();
     Position::new(north, east, south, west, line.strain, line.player, cards).ok()
@@ -185,7 +185,7 @@ fn read_ending(alloc: Global, text: &str) -> Option<Position> {
 
 // What the cards of a play cost: the hands, the strain, declarer, and the cards.
 fn costs_of(alloc: Global, text: &str, budget: &mut Budget) -> Option<Answer> {
-    let line = read_line(alloc, text)?;
+    let line = parse_line(alloc, text)?;
     costs_in(alloc, &line, budget)
 }
 

@@ -24,7 +24,7 @@ use Rattle.disclosure_rules.specs.Seating.{some_that, cell_in, is_complete, IsCo
 use Rattle.disclosure_rules.proofs.FirstLemmas.{IsFound, found_at, none_found, first_forbids}
 use Rattle.disclosure_rules.proofs.SeatingTests.{complete_decides, still_decides}
 use Rattle.denials.specs.declared.denial.Denial.{Denial}
-use Rattle.denials.specs.Evidence.{own_table, table_of_pair, is_awaited, awaited_table, board_number, board_named, table_named, waits_for_results, denial_by, denial_of}
+use Rattle.denials.specs.Evidence.{own_table, table_of_pair, is_awaited, awaited_table, denied_board, board_named, table_named, waits_for_results, denial_by, denial_of}
 use Rattle.denials.proofs.TableLemmas.{table_of_own_cell}
 
 -- a guarded fact belongs to a board that passes the test
@@ -100,20 +100,20 @@ own_there public viewer board is_section still =
 module _ (public : Public) (viewer : Viewer) (fact : Fact) where
   -- what is incomplete is awaited, at the board that is named
   at_board : (test : ℕ → Bool) → ((b : ℕ) → test b ≡ true → is_complete public b ≡ false) → guarding viewer fact test ≡ true →
-      is_awaited public.movement public.live (board_number fact) (awaited_table public.movement public.live (board_number fact)) ≡ true
+      is_awaited public.movement public.live (denied_board fact) (awaited_table public.movement public.live (denied_board fact)) ≡ true
   at_board test gives forbidden =
       let secret : Guarded fact test = guarded_by viewer fact test forbidden in
-      let number : secret.board ≡ board_number fact = sym (ap (λ o. unwrap_or o 0) secret.is) in
-      awaited_there public (board_number fact) (subst (λ b. is_complete public b ≡ false) number (gives secret.board secret.passes))
+      let number : secret.board ≡ denied_board fact = sym (ap (λ o. unwrap_or o 0) secret.is) in
+      awaited_there public (denied_board fact) (subst (λ b. is_complete public b ≡ false) number (gives secret.board secret.passes))
 
   -- what is still to play is awaited from the own table
   at_own : IsSection public.movement → forbids StillToPlay public viewer fact ≡ true →
-      IsOwn public viewer (board_number fact) (own_table public.movement viewer.seat (board_number fact))
+      IsOwn public viewer (denied_board fact) (own_table public.movement viewer.seat (denied_board fact))
   at_own is_section forbidden =
       let secret = guarded_by viewer fact _ forbidden in
-      let number : secret.board ≡ board_number fact = sym (ap (λ o. unwrap_or o 0) secret.is) in
+      let number : secret.board ≡ denied_board fact = sym (ap (λ o. unwrap_or o 0) secret.is) in
       let still = (and_parts _ _ secret.passes).1 in
-      own_there public viewer (board_number fact) is_section (subst (λ b. has_still_to_play public viewer b ≡ true) number still)
+      own_there public viewer (denied_board fact) is_section (subst (λ b. has_still_to_play public viewer b ≡ true) number still)
 
   -- the table that a rule names is awaited, where the rule waits for results
   named : IsSection public.movement → (rule : Rule) → forbids rule public viewer fact ≡ true → waits_for_results rule ≡ true →

@@ -45,27 +45,27 @@ unfoldable pub awaited_table : Section → List (List ℕ) → ℕ → ℕ
 awaited_table section live board = unwrap_or (find (is_awaited section live board) (range_with_len 1 section.tables)) 0
 
 -- the board that a fact belongs to, or 0
-abbrev pub board_number : Fact → ℕ
-board_number fact = unwrap_or (board_of_fact fact) 0
+abbrev pub denied_board : Fact → ℕ
+denied_board fact = unwrap_or (board_of_fact fact) 0
 
 -- the table that a fact belongs to, or 0
-abbrev pub table_number : Fact → ℕ
-table_number fact = unwrap_or (option_map (λ cell. cell.table) (cell_of_fact fact)) 0
+abbrev pub denied_table : Fact → ℕ
+denied_table fact = unwrap_or (option_map (λ cell. cell.table) (cell_of_fact fact)) 0
 
 -- the board that each rule names: the first three are not about a board
 abbrev pub board_named : Rule → Fact → ℕ
 board_named NoAccount fact = 0
 board_named NotAMember fact = 0
 board_named AccountsAreClosed fact = 0
-board_named BoardIsHeld fact = board_number fact
-board_named StillToPlay fact = board_number fact
-board_named OthersStillPlay fact = board_number fact
-board_named NeitherContestantNorSpectator fact = board_number fact
-board_named BoardIsIncomplete fact = board_number fact
-board_named AnalysisWaits fact = board_number fact
-board_named PlayWaits fact = board_number fact
-board_named ReasonIsForThePairs fact = board_number fact
-board_named NoResult fact = board_number fact
+board_named BoardIsHeld fact = denied_board fact
+board_named StillToPlay fact = denied_board fact
+board_named OthersStillPlay fact = denied_board fact
+board_named NeitherContestantNorSpectator fact = denied_board fact
+board_named BoardIsIncomplete fact = denied_board fact
+board_named AnalysisWaits fact = denied_board fact
+board_named PlayWaits fact = denied_board fact
+board_named ReasonIsForThePairs fact = denied_board fact
+board_named NoResult fact = denied_board fact
 
 -- the table that each rule names: the user's own, the least one that is awaited, or that of the fact
 abbrev pub table_named : Rule → Public → Option Seat → Fact → ℕ
@@ -73,14 +73,14 @@ table_named NoAccount public seat fact = 0
 table_named NotAMember public seat fact = 0
 table_named AccountsAreClosed public seat fact = 0
 table_named BoardIsHeld public seat fact = 0
-table_named StillToPlay public seat fact = own_table public.movement seat (board_number fact)
-table_named OthersStillPlay public seat fact = awaited_table public.movement public.live (board_number fact)
+table_named StillToPlay public seat fact = own_table public.movement seat (denied_board fact)
+table_named OthersStillPlay public seat fact = awaited_table public.movement public.live (denied_board fact)
 table_named NeitherContestantNorSpectator public seat fact = 0
-table_named BoardIsIncomplete public seat fact = awaited_table public.movement public.live (board_number fact)
-table_named AnalysisWaits public seat fact = awaited_table public.movement public.live (board_number fact)
-table_named PlayWaits public seat fact = table_number fact
-table_named ReasonIsForThePairs public seat fact = table_number fact
-table_named NoResult public seat fact = table_number fact
+table_named BoardIsIncomplete public seat fact = awaited_table public.movement public.live (denied_board fact)
+table_named AnalysisWaits public seat fact = awaited_table public.movement public.live (denied_board fact)
+table_named PlayWaits public seat fact = denied_table fact
+table_named ReasonIsForThePairs public seat fact = denied_table fact
+table_named NoResult public seat fact = denied_table fact
 
 -- whether a rule forbids until results are there
 abbrev pub waits_for_results : Rule → Bool

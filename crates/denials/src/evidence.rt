@@ -1,5 +1,5 @@
 ghost use Rattle.std.specs.Prelude.{◌≡◌, ◌↔◌, IsTrue, Some};
-ghost use Rattle.denials.specs.Evidence.{table_of_pair, own_table, is_awaited, awaited_table, table_number};
+ghost use Rattle.denials.specs.Evidence.{table_of_pair, own_table, is_awaited, awaited_table, denied_table};
 ghost use Rattle.denials.specs.Evidence.{table_named, board_named, denial_by, denial_of};
 
 use crate::denial::Denial;
@@ -56,7 +56,7 @@ fn table_named(rule: Rule, public: &Public, seat: &Option<Seat>, fact: Fact) -> 
         Rule::OthersStillPlay | Rule::BoardIsIncomplete | Rule::AnalysisWaits => {
             awaited_table(public, board)
         }
-        Rule::PlayWaits | Rule::ReasonIsForThePairs | Rule::NoResult => table_number(fact),
+        Rule::PlayWaits | Rule::ReasonIsForThePairs | Rule::NoResult => denied_table(fact),
     }
 }
 
@@ -103,8 +103,8 @@ fn is_awaited(public: &Public, table: u8, board: u8) -> bool
 }
 
 /// The table that the fact belongs to, or 0.
-fn table_number(fact: Fact) -> u8
-    ensures { result ≡ table_number fact }
+fn denied_table(fact: Fact) -> u8
+    ensures { result ≡ denied_table fact }
 {
     match fact.cell() {
         Some(cell) => cell.table,

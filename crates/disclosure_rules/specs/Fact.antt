@@ -39,10 +39,10 @@ is_analysed (Cost _) = true
 is_analysed _ = false
 
 -- whether the fact tells how the cards were played
-abbrev pub is_played : Fact → Bool
-is_played (Play _) = true
-is_played (Cost _) = true
-is_played _ = false
+abbrev pub is_of_play : Fact → Bool
+is_of_play (Play _) = true
+is_of_play (Cost _) = true
+is_of_play _ = false
 
 -- whether the fact is the reason of a ruling
 abbrev pub is_reason : Fact → Bool

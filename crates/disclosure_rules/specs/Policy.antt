@@ -17,7 +17,7 @@ use Rattle.disclosure_rules.specs.declared.rule.Rule.TheVariants.{NeitherContest
 use Rattle.disclosure_rules.specs.declared.rule.Rule.TheVariants.{AnalysisWaits, PlayWaits, ReasonIsForThePairs}
 use Rattle.disclosure_rules.specs.declared.rule.Rule.TheVariants.{NoResult}
 use Rattle.disclosure_rules.specs.declared.viewer.Viewer.{Viewer}
-use Rattle.disclosure_rules.specs.Fact.{board_of_fact, cell_of_fact, is_accounts, is_analysed, is_played, is_reason}
+use Rattle.disclosure_rules.specs.Fact.{board_of_fact, cell_of_fact, is_accounts, is_analysed, is_of_play, is_reason}
 use Rattle.disclosure_rules.specs.LiveCells.{is_live}
 use Rattle.disclosure_rules.specs.Numbers.{has_number}
 use Rattle.disclosure_rules.specs.Phase.{is_running}
@@ -74,7 +74,7 @@ forbids AnalysisWaits public viewer fact =
 -- 10, ours: how the cards were played at another table, while boards are being played
 forbids PlayWaits public viewer fact =
     guarding_cell viewer fact (λ cell.
-    is_played fact && (not (is_seated_at public viewer cell) && is_running public.phase))
+    is_of_play fact && (not (is_seated_at public viewer cell) && is_running public.phase))
 -- 11, ours: the reason of a ruling at another table
 forbids ReasonIsForThePairs public viewer fact =
     guarding_cell viewer fact (λ cell. is_reason fact && not (is_seated_at public viewer cell))

@@ -1,5 +1,5 @@
 ghost use Rattle.std.specs.Prelude.{◌≡◌};
-ghost use Rattle.disclosure_rules.specs.Fact.{board_of_fact, cell_of_fact, is_accounts, is_analysed, is_played};
+ghost use Rattle.disclosure_rules.specs.Fact.{board_of_fact, cell_of_fact, is_accounts, is_analysed, is_of_play};
 ghost use Rattle.disclosure_rules.specs.Fact.{is_reason};
 
 use movement::Cell;
@@ -65,8 +65,8 @@ impl Fact {
     }
 
     /// Whether the fact tells how the cards were played.
-    pub fn is_played(self) -> bool
-        ensures { result ≡ is_played self }
+    pub fn is_of_play(self) -> bool
+        ensures { result ≡ is_of_play self }
     {
         matches!(self, Fact::Play(_) | Fact::Cost(_))
     }

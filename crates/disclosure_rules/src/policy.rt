@@ -1,6 +1,6 @@
 ghost use Rattle.std.specs.Prelude.{◌≡◌, ◌&&◌, ◌||◌, not};
 ghost use Rattle.session_roles.specs.declared.role.Role.TheVariants.{Spectator, Director, Administrator};
-ghost use Rattle.disclosure_rules.specs.Fact.{is_accounts, is_analysed, is_played, is_reason};
+ghost use Rattle.disclosure_rules.specs.Fact.{is_accounts, is_analysed, is_of_play, is_reason};
 ghost use Rattle.disclosure_rules.specs.LiveCells.{is_live};
 ghost use Rattle.disclosure_rules.specs.Numbers.{has_number};
 ghost use Rattle.disclosure_rules.specs.Phase.{is_running};
@@ -118,12 +118,12 @@ fn analysis_waits(public: &Public, fact: Fact, board: Option<u8>) -> bool
 }
 
 fn play_waits(public: &Public, viewer: &Viewer, fact: Fact, cell: Option<Cell>) -> bool
-    ensures { result ≡ some_that cell (λ cell. is_played fact
+    ensures { result ≡ some_that cell (λ cell. is_of_play fact
         && (not (is_seated_at public.now viewer.now cell) && is_running public.now.phase)) }
 {
     match cell {
         Some(cell) => {
-            fact.is_played() && !is_seated_at(public, viewer, cell) && public.phase.is_running()
+            fact.is_of_play() && !is_seated_at(public, viewer, cell) && public.phase.is_running()
         }
         None => false,
     }

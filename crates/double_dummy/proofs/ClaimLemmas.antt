@@ -13,7 +13,7 @@ use Rattle.double_dummy_laws.proofs.EqualCardsLemmas.{IsClosed, IsWithin, names_
 use Rattle.double_dummy_laws.proofs.HandLemmas.{among_items, items_among, legal_follows, without_had}
 use Rattle.double_dummy_laws.proofs.RenamingLemmas.{legal_named, legal_old, names_without, played_after, turn_named, worth_in, worth_renamed}
 use Rattle.cards.specs.DoubleDummy.{best, tricks}
-use Rattle.double_dummy_laws.specs.Found.{Claims, IsOwned, wanted}
+use Rattle.double_dummy_laws.specs.Found.{Claims, IsOwned, wanted_answer}
 use Rattle.double_dummy_laws.specs.Known.{IsKnown, IsLike}
 use Rattle.double_dummy_laws.specs.Renaming.{HasNames, Ownership, renamed}
 
@@ -48,8 +48,8 @@ card_claims ownership n p target card answer owned may known claims name hands r
 -- one card that gives the player the answer that the player wants decides
 pub decided : (ownership : Ownership) (n : ℕ) (p : Position) (target : ℕ) (card : Card) → IsOwned ownership p →
     set.contains (legal p) card ≡ true →
-    CardClaims ownership n p target card (wanted (side_of (to_play p))) →
-    Claims ownership (suc n) p target (wanted (side_of (to_play p)))
+    CardClaims ownership n p target card (wanted_answer (side_of (to_play p))) →
+    Claims ownership (suc n) p target (wanted_answer (side_of (to_play p)))
 unfolding tricks
 decided ownership n p target card owned may claims name hands renaming named =
     ap (λ place. nat_le target (best (side_of place)

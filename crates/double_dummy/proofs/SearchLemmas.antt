@@ -16,7 +16,7 @@ use Rattle.cards.specs.Hands.{hand_of}
 use Rattle.std.specs.FinSet as set
 use Rattle.cards.specs.Play.{Position, after, cards_left, legal, legal_of, point, to_play}
 use Rattle.double_dummy.proofs.ClaimLemmas.{card_claims, card_claims_within, claims_like, claims_within, decided, owned_after, refused}
-use Rattle.double_dummy.specs.Search.{CardClaims, IsRefused, IsRunOf}
+use Rattle.double_dummy.specs.Search.{CardClaims, AreTriedInVain, IsRunOf}
 use Rattle.double_dummy_laws.proofs.BestLemmas.{Among}
 use Rattle.double_dummy_laws.proofs.CountLemmas.{has_less, left_after, no_more}
 use Rattle.double_dummy_laws.proofs.EqualCardsLemmas.{IsWithin}
@@ -24,7 +24,7 @@ use Rattle.double_dummy_laws.proofs.HandLemmas.{items_among}
 use Rattle.double_dummy_laws.proofs.OwnershipLemmas.{owned_knowing, owned_tight, tight, tight_tight, tight_within}
 use Rattle.double_dummy_laws.proofs.RenamingLemmas.{legal_old, turn_named, worth_in}
 use Rattle.cards.specs.DoubleDummy.{best, tricks}
-use Rattle.double_dummy_laws.specs.Found.{Claims, IsFound, IsOwned, wanted}
+use Rattle.double_dummy_laws.specs.Found.{Claims, IsFound, IsOwned, wanted_answer}
 use Rattle.double_dummy_laws.specs.Known.{IsKnown, IsLike, IsSettled}
 use Rattle.double_dummy_laws.specs.Renaming.{Ownership, knowing, renamed}
 
@@ -53,7 +53,7 @@ pub found_decided : (p : Position) (target : ℕ) (card : Card) (less more : Car
     set.contains (legal p) card ≡ true →
     ((ownership : Ownership) → IsKnown (knowing ownership more) p.strain p.table card) →
     ((other : Card) → set.contains less other ≡ true → set.contains more other ≡ true) →
-    answer ≡ wanted (side_of (to_play p)) →
+    answer ≡ wanted_answer (side_of (to_play p)) →
     IsFound (after p card) (target - point p card) less answer → IsFound p target more answer
 found_decided p target card less more answer may known each is_wanted found ownership owned tight_p =
     let left = left_after ownership p card owned may in
@@ -68,7 +68,7 @@ found_decided p target card less more answer may known each is_wanted found owne
 -- no card is left untried
 pub found_refused : (p : Position) (target : ℕ) (untried known : Cards) (answer : Bool) (some : Card) →
     set.contains (legal p) some ≡ true → untried ≡ set.empty →
-    IsRefused p target untried known answer → IsFound p target known answer
+    AreTriedInVain p target untried known answer → IsFound p target known answer
 found_refused p target untried known answer some may none each ownership owned tight_p =
     let left = left_after ownership p some owned may in
     subst (λ m. Claims (knowing ownership known) m p target answer) (sym left)
@@ -79,7 +79,7 @@ found_refused p target untried known answer some may none each ownership owned t
 
 -- the cards that a run takes off the untried ones refuse as the one that was tried
 pub refused_step : (p : Position) (target : ℕ) (untried rest known more less decisive run : Cards) (card : Card)
-    (answer : Bool) → IsRefused p target untried known answer →
+    (answer : Bool) → AreTriedInVain p target untried known answer →
     set.contains (legal p) card ≡ true → IsFound (after p card) (target - point p card) less answer →
     ((ownership : Ownership) → IsKnown (knowing ownership decisive) p.strain p.table card) → IsRunOf p card run →
     set.contains run card ≡ true →
@@ -89,7 +89,7 @@ pub refused_step : (p : Position) (target : ℕ) (untried rest known more less d
     ((one other : Card) → set.contains decisive one ≡ true → set.contains run one ≡ true →
     set.contains run other ≡ true → set.contains more other ≡ true) →
     ((other : Card) → set.contains rest other ≡ (set.contains untried other && not (set.contains run other))) →
-    IsRefused p target rest more answer
+    AreTriedInVain p target rest more answer
 refused_step p target untried rest known more less decisive run card answer old may found known_of is_run in_run
     less_in known_in decisive_in closed rest_is ownership n owned tight_p left other may' gone =
     elim (cases_Bool (set.contains run other)) [

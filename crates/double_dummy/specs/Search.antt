@@ -29,8 +29,8 @@ CardClaims ownership left position target card answer =
     nat_le target (worth_in left (renamed name position hands) (name card)) ≡ answer
 
 -- each legal card that is not among these was tried, and gives the player the other answer
-abbrev pub IsRefused : Position → ℕ → Cards → Cards → Bool → Type 0
-IsRefused position target untried known answer =
+abbrev pub AreTriedInVain : Position → ℕ → Cards → Cards → Bool → Type 0
+AreTriedInVain position target untried known answer =
     (ownership : Ownership) (left : ℕ) → IsOwned ownership position → IsTight ownership position → cards_left position ≡ suc left →
     (card : Card) → set.contains (legal position) card ≡ true → set.contains untried card ≡ false →
     CardClaims (knowing ownership known) left position target card answer

@@ -1,6 +1,6 @@
 ghost use Rattle.std.specs.Prelude.{◌≡◌, ◌≢◌, ◌≤◌, ℕ, [], Some, None, Err, IfOk, IfErr, OnErr};
 ghost use Rattle.cards.specs.Play.{start};
-ghost use Rattle.solver_results.specs.PlayAnswer.{answer_of};
+ghost use Rattle.solver_results.specs.PlayAnswer.{answer_for_play};
 ghost use Rattle.double_dummy.specs.declared.error.SolveError.TheVariants.{OutOfBudget};
 ghost use Rattle.cards.specs.DoubleDummy.{first_illegal};
 

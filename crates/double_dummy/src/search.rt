@@ -1,6 +1,6 @@
 ghost use Rattle.table_terms.specs.Place.{side_of};
 ghost use Rattle.cards.specs.Play.{to_play};
-ghost use Rattle.double_dummy_laws.specs.Found.{wanted};
+ghost use Rattle.double_dummy_laws.specs.Found.{wanted_answer};
 ghost use Rattle.cards.specs.Play.{cards_left};
 ghost use Rattle.position_patterns.specs.Remainder.{IsLeftOf};
 ghost use Rattle.double_dummy_laws.specs.Found.{Claims, IsFound, IsOwned, IsTight};
@@ -131,7 +131,7 @@ fn explore(
 
 /// The answer that the player in turn would rather have to whether North and South take so many tricks.
 fn wants(position: &Position) -> bool
-    ensures { result ≡ wanted (side_of (to_play position.now)) }
+    ensures { result ≡ wanted_answer (side_of (to_play position.now)) }
 {
     match position.trick().turn(position.leader()).side() {
         Side::NorthSouth => true,

@@ -6,7 +6,7 @@ use Rattle.cards.specs.declared.card.Card.{Card}
 use Rattle.table_terms.specs.declared.side.Side.{Side}
 use Rattle.table_terms.specs.declared.side.Side.TheVariants.{NorthSouth, EastWest}
 use Rattle.cards.specs.DoubleDummy.{best}
-use Rattle.double_dummy_laws.specs.Found.{wanted}
+use Rattle.double_dummy_laws.specs.Found.{wanted_answer}
 
 -- the card stands in the list
 abbrev pub Among : Card → List Card → Type 0
@@ -103,7 +103,7 @@ all_answer side v target answer (first ∷ rest) some among each =
 
 -- where one card gives the answer that the side wants, the best one does
 pub one_answers : (side : Side) (v : Card → ℕ) (target : ℕ) (cards : List Card) (some : Card) → Among some cards →
-    nat_le target (v some) ≡ wanted side → nat_le target (best side (map v cards)) ≡ wanted side
+    nat_le target (v some) ≡ wanted_answer side → nat_le target (best side (map v cards)) ≡ wanted_answer side
 one_answers NorthSouth v target cards some among enough =
     let above : target ≤ v some = leb-true target (v some) enough in
     let bound = north_south_bound v some cards among in

@@ -13,7 +13,7 @@ use Rattle.double_dummy_laws.proofs.BestLemmas.{same_best}
 use Rattle.double_dummy_laws.proofs.HandLemmas.{among_items, follows_legal, has_without, items_among, legal_follows, without_had}
 use Rattle.double_dummy_laws.proofs.WinnerLemmas.{winner_stays}
 use Rattle.cards.specs.DoubleDummy.{best, tricks}
-use Rattle.double_dummy_laws.specs.Renaming.{AllKnown, ArePlayed, HasNames, IsPlayed, IsRenaming, Ownership, renamed}
+use Rattle.double_dummy_laws.specs.Renaming.{AllKnown, ArePlayed, HasNames, IsLiveCardOf, IsRenaming, Ownership, renamed}
 use Rattle.double_dummy_laws.specs.Known.{IsKnown, IsSettled}
 
 -- the tricks of North and South with a card, with so many cards left in the hands after it
@@ -105,7 +105,7 @@ module _ (ownership : Ownership) (name : Card → Card) (renaming : IsRenaming o
   -- what a card does
   pub after_named : (strain : Strain) (leader : Place) (table : List Card) (card : Card) →
       ArePlayed ownership leader table →
-      IsPlayed ownership (turn leader table) card → IsKnown ownership strain table card →
+      IsLiveCardOf ownership (turn leader table) card → IsKnown ownership strain table card →
       IsAfterNamed ownership name strain leader table card
   after_named strain leader [] card of_table of_card known =
       record { table = refl; leader = refl; point = refl; played = of_card }
@@ -163,11 +163,11 @@ worth_renamed n ownership name p hands renaming named of_table card may known =
 
 -- the table after a card
 pub played_after : (ownership : Ownership) (p : Position) (card : Card) → ArePlayed ownership p.leader p.table →
-    IsPlayed ownership (to_play p) card → ArePlayed ownership (after p card).leader (after p card).table
+    IsLiveCardOf ownership (to_play p) card → ArePlayed ownership (after p card).leader (after p card).table
 played_after ownership p card of_table of_card = played p.strain p.leader p.table card of_table of_card
   where
     played : (strain : Strain) (leader : Place) (table : List Card) (card : Card) → ArePlayed ownership leader table →
-        IsPlayed ownership (turn leader table) card →
+        IsLiveCardOf ownership (turn leader table) card →
         ArePlayed ownership (leader_after strain leader table card) (table_after table card)
     played strain leader [] card of_table of_card = of_card
     played strain leader (a ∷ []) card of_table of_card = (of_table, of_card)

@@ -15,7 +15,7 @@ use Rattle.cards.specs.Rank.{height}
 use Rattle.table_terms.specs.Place.{left_of}
 use Rattle.table_terms.specs.Strain.{trump_of}
 use Rattle.cards.specs.Play.{is_of, is_trump, strength, strength_by, strongest, winner}
-use Rattle.double_dummy_laws.specs.Renaming.{IsPlayed, IsRenaming, Ownership}
+use Rattle.double_dummy_laws.specs.Renaming.{IsLiveCardOf, IsRenaming, Ownership}
 use Rattle.double_dummy_laws.specs.Known.{IsAbove, IsSettled, IsTrickKnown}
 
 pub height_below : (rank : Rank) → height rank < 13
@@ -219,12 +219,12 @@ turns_3 West e = cc
 
 -- the cards of a trick, and who played them
 pub record IsTrick (ownership : Ownership) (leader : Place) (a b c d : Card) : Type 0 where
-  pub first : IsPlayed ownership leader a
-  pub second : IsPlayed ownership (left_of leader) b
-  pub third : IsPlayed ownership (left_of (left_of leader)) c
-  pub fourth : IsPlayed ownership (left_of (left_of (left_of leader))) d
+  pub first : IsLiveCardOf ownership leader a
+  pub second : IsLiveCardOf ownership (left_of leader) b
+  pub third : IsLiveCardOf ownership (left_of (left_of leader)) c
+  pub fourth : IsLiveCardOf ownership (left_of (left_of (left_of leader))) d
 
-others : (ownership : Ownership) (x y : Place) (a b : Card) → IsPlayed ownership x a → IsPlayed ownership y b → x ≢ y →
+others : (ownership : Ownership) (x y : Place) (a b : Card) → IsLiveCardOf ownership x a → IsLiveCardOf ownership y b → x ≢ y →
     ownership.owner a ≢ ownership.owner b
 others ownership x y a b (_, of_a) (_, of_b) ne e = ne (sym of_a ∙ e ∙ of_b)
 
@@ -232,7 +232,7 @@ unequal : (a b : ℕ) → 0 < a → AreApart a b → a ≢ b
 unequal a b some differ e = omega arith
 
 differ : (ownership : Ownership) (trump : Option Suit) (led : Suit) (x y : Place) (a b : Card) →
-    IsPlayed ownership x a → IsPlayed ownership y b → x ≢ y →
+    IsLiveCardOf ownership x a → IsLiveCardOf ownership y b → x ≢ y →
     AreApart (strength trump led a) (strength trump led b)
 differ ownership trump led x y a b of_a of_b ne =
     apart trump led a b (λ e. others ownership x y a b of_a of_b ne (ap ownership.owner e))
@@ -263,8 +263,8 @@ flip ne e = ne (sym e)
 -- the strongest card of a trick stays above the other three
 module _ (ownership : Ownership) (name : Card →
     Card) (renaming : IsRenaming ownership name) (trump : Option Suit) (led : Suit) where
-  stays_above : (w x y z : Place) (top a b c : Card) → IsPlayed ownership w top → IsPlayed ownership x a →
-      IsPlayed ownership y b → IsPlayed ownership z c →
+  stays_above : (w x y z : Place) (top a b c : Card) → IsLiveCardOf ownership w top → IsLiveCardOf ownership x a →
+      IsLiveCardOf ownership y b → IsLiveCardOf ownership z c →
       x ≢ w → y ≢ w → z ≢ w → IsSettled ownership top a b c →
       IsAbove (strength trump led top) (strength trump led a) (strength trump led b) (strength trump led c) →
       IsAbove (strength trump led (name top)) (strength trump led (name a)) (strength trump led (name b))

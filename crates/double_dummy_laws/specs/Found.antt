@@ -36,6 +36,6 @@ IsFound position target known answer =
     Claims (knowing ownership known) (cards_left position) position target answer
 
 -- the answer that a side would rather have
-abbrev pub wanted : Side → Bool
-wanted NorthSouth = true
-wanted EastWest = false
+abbrev pub wanted_answer : Side → Bool
+wanted_answer NorthSouth = true
+wanted_answer EastWest = false

@@ -26,16 +26,16 @@ pub record IsRenaming (ownership : Ownership) (name : Card → Card) : Type 0 wh
       height (name a).rank < height (name b).rank
 
 -- a live card of this player
-abbrev pub IsPlayed : Ownership → Place → Card → Type 0
-IsPlayed ownership place card = (ownership.is_live card ≡ true) × (ownership.owner card ≡ place)
+abbrev pub IsLiveCardOf : Ownership → Place → Card → Type 0
+IsLiveCardOf ownership place card = (ownership.is_live card ≡ true) × (ownership.owner card ≡ place)
 
 -- the cards of a trick that is not yet complete are live, and those of the players in turn
 abbrev pub ArePlayed : Ownership → Place → List Card → Type 0
 ArePlayed ownership leader [] = Unit {0}
-ArePlayed ownership leader (a ∷ []) = IsPlayed ownership leader a
-ArePlayed ownership leader (a ∷ b ∷ []) = IsPlayed ownership leader a × IsPlayed ownership (left_of leader) b
+ArePlayed ownership leader (a ∷ []) = IsLiveCardOf ownership leader a
+ArePlayed ownership leader (a ∷ b ∷ []) = IsLiveCardOf ownership leader a × IsLiveCardOf ownership (left_of leader) b
 ArePlayed ownership leader (a ∷ b ∷ c ∷ []) =
-    IsPlayed ownership leader a × (IsPlayed ownership (left_of leader) b × IsPlayed ownership
+    IsLiveCardOf ownership leader a × (IsLiveCardOf ownership (left_of leader) b × IsLiveCardOf ownership
     (left_of (left_of leader)) c)
 ArePlayed ownership leader (a ∷ b ∷ c ∷ d ∷ _) = ⊥
 

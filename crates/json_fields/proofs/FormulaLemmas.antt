@@ -20,7 +20,7 @@ use Rattle.json_fields.specs.Atom.{atom_called}
 use Rattle.json_fields.specs.Filter.{first_and_others, formula_of, formula_called, formulas_in, formulas_of, within_limits}
 use Rattle.json_fields.specs.declared.filter_fault.FilterFault.{FilterFault}
 use Rattle.json_fields.specs.declared.filter_fault.FilterFault.TheVariants.{BadField, OutOfMemory}
-use Rattle.json_fields.specs.FilterReading.{Reads, Fails, not_deeper, none_deeper, left_after_list}
+use Rattle.json_fields.specs.FilterReading.{ReadsFilter, FailsFilter, not_deeper, none_deeper, left_after_list}
 use Rattle.json_fields.specs.SoleMember.{sole_member}
 
 -- ---- objects of one member
@@ -229,20 +229,20 @@ atom_named name d read not_and not_or not_not is =
 
 -- where what a member's name says isn't read, the member isn't
 pub each_fails : (deep : ℕ) (name : List ℕ) (d : Data) (fault : FilterFault) → 1 ≤ deep → name ≡ codes "and"
-    → Fails fault (option_and_then (none_deeper (deep - 1)) (formulas_in d))
-    → Fails fault (option_and_then (not_deeper deep) (formula_called name d))
+    → FailsFilter fault (option_and_then (none_deeper (deep - 1)) (formulas_in d))
+    → FailsFilter fault (option_and_then (not_deeper deep) (formula_called name d))
 each_fails deep name d BadField h is e = rw is (each_deeper deep (formulas_in d) h e)
 each_fails deep name d OutOfMemory h is e = tt
 
 pub some_fails : (deep : ℕ) (name : List ℕ) (d : Data) (fault : FilterFault) → 1 ≤ deep → name ≡ codes "or"
-    → Fails fault (option_and_then (none_deeper (deep - 1)) (formulas_in d))
-    → Fails fault (option_and_then (not_deeper deep) (formula_called name d))
+    → FailsFilter fault (option_and_then (none_deeper (deep - 1)) (formulas_in d))
+    → FailsFilter fault (option_and_then (not_deeper deep) (formula_called name d))
 some_fails deep name d BadField h is e = rw is (some_deeper deep (formulas_in d) h e)
 some_fails deep name d OutOfMemory h is e = tt
 
 pub contrary_fails : (deep : ℕ) (name : List ℕ) (d : Data) (fault : FilterFault) → 1 ≤ deep → name ≡ codes "not"
-    → Fails fault (option_and_then (not_deeper (deep - 1)) (formula_of d))
-    → Fails fault (option_and_then (not_deeper deep) (formula_called name d))
+    → FailsFilter fault (option_and_then (not_deeper (deep - 1)) (formula_of d))
+    → FailsFilter fault (option_and_then (not_deeper deep) (formula_called name d))
 contrary_fails deep name d BadField h is e = rw is (contrary_deeper deep (formula_of d) h e)
 contrary_fails deep name d OutOfMemory h is e = tt
 
@@ -289,8 +289,8 @@ with_front_deeper deep (c ∷ cs) others e =
     others_deeper deep (formula c) (with_front cs others) (with_front_deeper deep cs others e)
 
 front_fails : (deep : ℕ) (cs : List Condition) (o : Option Formula) (others : Option Formulas) (fault : FilterFault)
-    → Fails fault (option_and_then (not_deeper deep) o)
-    → Fails fault (option_and_then (none_deeper deep) (with_front cs (first_and_others o others)))
+    → FailsFilter fault (option_and_then (not_deeper deep) o)
+    → FailsFilter fault (option_and_then (none_deeper deep) (with_front cs (first_and_others o others)))
 front_fails deep cs o others BadField h =
     with_front_deeper deep cs (first_and_others o others) (first_deeper deep o others h)
 front_fails deep cs o others OutOfMemory h = tt
@@ -299,10 +299,10 @@ front_fails deep cs o others OutOfMemory h = tt
 pub value_fails : (deep : ℕ) (cs : List Condition) (values : List Value) (i : ℕ) (v : Value) (fault : FilterFault)
     → formulas_of (items_view values) ≡ with_front cs (formulas_of (items_view (drop i values)))
     → i < length values → v ≡ get_or values i v
-    → Fails fault (option_and_then (not_deeper deep) (formula_of (view v)))
-    → Fails fault (option_and_then (none_deeper deep) (formulas_of (items_view values)))
+    → FailsFilter fault (option_and_then (not_deeper deep) (formula_of (view v)))
+    → FailsFilter fault (option_and_then (none_deeper deep) (formulas_of (items_view values)))
 value_fails deep cs values i v fault kept below is h =
-    subst (λ o. Fails fault (option_and_then (none_deeper deep) o))
+    subst (λ o. FailsFilter fault (option_and_then (none_deeper deep) o))
     (sym (kept ∙ ap (with_front cs) (read_next values i v below is)))
     (front_fails deep cs (formula_of (view v)) (formulas_of (items_view (drop (suc i) values))) fault h)
 
@@ -365,6 +365,6 @@ too_deep (Some f) h =
 
 -- a fault after the check
 pub fault_reads : (o : Option Formula) (r : Option ℕ) (fault : FilterFault) → r ≡ option_and_then (left_after most_depth most_atoms) o
-    → is_some r ≡ true → Fails fault (option_and_then (not_deeper most_depth) o) → Reads (Err fault) (option_and_then within_limits o)
+    → is_some r ≡ true → FailsFilter fault (option_and_then (not_deeper most_depth) o) → ReadsFilter (Err fault) (option_and_then within_limits o)
 fault_reads o r BadField is some h = too_deep o h
 fault_reads o r OutOfMemory is some h = some_left o r is some

@@ -21,7 +21,7 @@ use Rattle.session_roles.specs.declared.role.Role.TheVariants.{Member, Spectator
 use Rattle.session_roles.specs.Role.{roles, role_name}
 use Rattle.user_names.specs.declared.digest.Digest.{Digest}
 use Rattle.json_fields.specs.Field.{text, number, called}
-use Rattle.json_fields.specs.User.{stood_for, digest_named, digest, role_named, role_of, IsRole, user_roles, pairs_of, pair_named, pair, place}
+use Rattle.json_fields.specs.User.{stood_for, digest_named, digest, role_named, role_of, IsRole, user_roles, side_pairs, pair_named, pair, place}
 use Rattle.json_fields.proofs.LetterLemmas.{place_found, place_reads, find_nothing, found_passes}
 use Rattle.json_fields.proofs.FormLemmas.{Agrees, named_agrees, listed_agrees}
 
@@ -164,22 +164,22 @@ pair_found word pair is =
     sym (by_side pair.side pair.number (sym is.written) is.least is.most)
   where
     by_side : (side : Side) (number : ℕ) → word ≡ pair_text (a_pair side number) → 1 ≤ number → number ≤ 255
-        → find (is_called word) (pairs_of NorthSouth ++ pairs_of EastWest) ≡ Some (a_pair side number)
+        → find (is_called word) (side_pairs NorthSouth ++ side_pairs EastWest) ≡ Some (a_pair side number)
     by_side NorthSouth number called least most =
-        find-append (is_called word) (pairs_of NorthSouth) (pairs_of EastWest)
-        ∙ ap (λ o. option_or o (find (is_called word) (pairs_of EastWest))) (found_pair NorthSouth word 1 255 number called least (omega arith) (omega arith))
+        find-append (is_called word) (side_pairs NorthSouth) (side_pairs EastWest)
+        ∙ ap (λ o. option_or o (find (is_called word) (side_pairs EastWest))) (found_pair NorthSouth word 1 255 number called least (omega arith) (omega arith))
     by_side EastWest number called least most =
-        find-append (is_called word) (pairs_of NorthSouth) (pairs_of EastWest)
-        ∙ ap (λ o. option_or o (find (is_called word) (pairs_of EastWest))) (none_called NorthSouth word 1 255 (λ other from to same. other_side 78 69 _ _ (omega arith) (same ∙ called)))
+        find-append (is_called word) (side_pairs NorthSouth) (side_pairs EastWest)
+        ∙ ap (λ o. option_or o (find (is_called word) (side_pairs EastWest))) (none_called NorthSouth word 1 255 (λ other from to same. other_side 78 69 _ _ (omega arith) (same ∙ called)))
         ∙ found_pair EastWest word 1 255 number called least (omega arith) (omega arith)
 
 pub no_pair_found : (word : List ℕ) → ((pair : Pair) → ¬ IsPairText pair word) → None ≡ pair_named word
 unfolding pair_named
 no_pair_found word none =
-    sym (find-append (is_called word) (pairs_of NorthSouth) (pairs_of EastWest)
-    ∙ ap (λ o. option_or o (find (is_called word) (pairs_of EastWest))) (of_side NorthSouth) ∙ of_side EastWest)
+    sym (find-append (is_called word) (side_pairs NorthSouth) (side_pairs EastWest)
+    ∙ ap (λ o. option_or o (find (is_called word) (side_pairs EastWest))) (of_side NorthSouth) ∙ of_side EastWest)
   where
-    of_side : (side : Side) → find (is_called word) (pairs_of side) ≡ None
+    of_side : (side : Side) → find (is_called word) (side_pairs side) ≡ None
     of_side side = none_called side word 1 255 (λ number from to same. none (a_pair side number) (record { written = same; least = from; most = omega (arith, to) }))
 
 -- what is read is one or the other
@@ -192,11 +192,11 @@ record Named (word : List ℕ) (pair : Pair) : Type 0 where
   least : 1 ≤ pair.number
   most : pair.number ≤ 255
 
-named_side : (side : Side) (word : List ℕ) (pair : Pair) → find (is_called word) (pairs_of side) ≡ Some pair → Named word pair
+named_side : (side : Side) (word : List ℕ) (pair : Pair) → find (is_called word) (side_pairs side) ≡ Some pair → Named word pair
 named_side side word pair h =
     let range = found_among side word 1 255 pair h in
     record {
-      text = sym ((bytes_eq-Decides (pair_text pair) word).0 (found_passes (is_called word) (pairs_of side) pair h));
+      text = sym ((bytes_eq-Decides (pair_text pair) word).0 (found_passes (is_called word) (side_pairs side) pair h));
       least = range.0;
       most = omega (arith, range.1);
     }
@@ -204,7 +204,7 @@ named_side side word pair h =
 named_pair : (word : List ℕ) (pair : Pair) → pair_named word ≡ Some pair → Named word pair
 unfolding pair_named
 named_pair word pair h =
-    elim (one_or_other _ _ pair (sym (find-append (is_called word) (pairs_of NorthSouth) (pairs_of EastWest)) ∙ h)) [
+    elim (one_or_other _ _ pair (sym (find-append (is_called word) (side_pairs NorthSouth) (side_pairs EastWest)) ∙ h)) [
       | inl found ↦ named_side NorthSouth word pair found
       | inr found ↦ named_side EastWest word pair found
     ]

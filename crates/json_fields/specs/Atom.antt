@@ -4,17 +4,14 @@ use Rattle.std.specs.List.{find}
 use Rattle.std.specs.Str.{bytes_eq}
 use Rattle.serde_json.specs.Data.{Data}
 use Rattle.serde_json.specs.Find.{get, as_bool, as_i64, as_number, as_str}
-use Rattle.table_terms.specs.declared.place.Place.{Place}
-use Rattle.table_terms.specs.declared.strain.Strain.{Strain}
 use Rattle.table_terms.specs.declared.vulnerability.Vulnerability.{Vulnerability}
 use Rattle.table_terms.specs.declared.vulnerability.Vulnerability.TheVariants.{Neither, NorthSouth, EastWest, Both}
-use Rattle.table_terms.specs.Place.{place_letter}
-use Rattle.table_terms.specs.Strain.{strain_letter}
 use Rattle.table_terms.specs.Vulnerability.{vulnerability_text}
 use Rattle.json_fields.specs.Doubling.{doubling_numbered}
-use Rattle.json_fields.specs.Field.{limited, named, small}
+use Rattle.json_fields.specs.Field.{limited, small}
 use Rattle.json_fields.specs.Form.{Form, Member, applied, form, ◌with◌, formed, has_only}
 use Rattle.json_fields.specs.Letter.{place_named, strain_named}
+use Rattle.json_fields.specs.Message.{declarer, trumps}
 use Rattle.query_filter.specs.declared.atom.Atom.{Atom}
 use Rattle.query_filter.specs.declared.atom.Atom.TheVariants as atom
 use Rattle.query_filter.specs.declared.bounds.Bounds.{Bounds}
@@ -45,27 +42,20 @@ score_within (Some points) =
     if int_le (neg_ℤ (pos 10000)) points && int_le points (pos 10000) then Some points else None
 
 -- the score that stands there
-abbrev pub score : Option Data → Option ℤ
-score o = score_within (option_and_then (λ d. option_and_then as_i64 (as_number d)) o)
+abbrev pub score_said : Option Data → Option ℤ
+score_said o = score_within (option_and_then (λ d. option_and_then as_i64 (as_number d)) o)
 
 -- from the least to the most, in points for North-South
 abbrev pub score_bounds : Data → Option ScoreBounds
 score_bounds d =
     if has_only (codes "max" ∷ codes "min" ∷ []) d
-    then applied (applied (Some (λ high low. record { min = low; max = high })) (score (get (codes "max") d)))
-    (score (get (codes "min") d))
+    then applied (applied (Some (λ high low. record { min = low; max = high })) (score_said (get (codes "max") d)))
+    (score_said (get (codes "min") d))
     else None
 
--- who is to declare, and in what
-abbrev pub declarer : Member Place
-declarer = named (codes "by") place_named (λ place. place_letter place ∷ [])
-
-abbrev pub trumps : Member Strain
-trumps = named (codes "strain") strain_named (λ x. strain_letter x ∷ [])
-
 -- a declarer, a strain, and between which bounds the tricks are
-abbrev pub double_dummy : Form Atom
-double_dummy =
+abbrev pub double_dummy_bounds : Form Atom
+double_dummy_bounds =
     form [] (λ by high low x. atom.DoubleDummy by x (record { min = low; max = high }))
     with declarer with most with least with trumps
 
@@ -81,5 +71,5 @@ atom_called name d =
     else if bytes_eq name (codes "doubled") then option_map (λ x. atom.Doubled x) (option_and_then doubling_numbered (small (Some d)))
     else if bytes_eq name (codes "made") then option_map (λ x. atom.Made x) (as_bool d)
     else if bytes_eq name (codes "score") then option_map (λ x. atom.Score x) (score_bounds d)
-    else if bytes_eq name (codes "dd") then formed [] double_dummy d
+    else if bytes_eq name (codes "dd") then formed [] double_dummy_bounds d
     else None

@@ -64,13 +64,13 @@ at_most_32 None = None
 at_most_32 (Some name) = if nat_le (length name) 32 then Some name else None
 
 -- what stands there is this name
-pub record IsName (o : Option Data) (name : List ℕ) : Type 0 where
+pub record SaysName (o : Option Data) (name : List ℕ) : Type 0 where
   pub is : text o ≡ Some name
   pub short : length name ≤ 32
 
 -- a member of this name that is a name itself
 abbrev pub called : List ℕ → Member (List ℕ)
-called name = record { name = name; value = λ o. at_most_32 (text o); Is = IsName }
+called name = record { name = name; value = λ o. at_most_32 (text o); Is = SaysName }
 
 -- ---- texts that name something
 

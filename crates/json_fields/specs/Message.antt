@@ -1,8 +1,14 @@
--- Members of many messages: whose a message is, from which version on an answer is wanted, and of which table and board.
-use Rattle.std.specs.Prelude.{◌≡◌, ℕ, List, codes, Option, Some, None}
+-- Members of many messages: whose a message is, from which version on an answer is wanted, of which table and board,
+-- and who declares in what.
+use Rattle.std.specs.Prelude.{◌≡◌, ℕ, List, [], ◌∷◌, codes, Option, Some, None}
 use Rattle.serde_json.specs.Data.{Data}
+use Rattle.table_terms.specs.declared.place.Place.{Place}
+use Rattle.table_terms.specs.declared.strain.Strain.{Strain}
+use Rattle.table_terms.specs.Place.{place_letter}
+use Rattle.table_terms.specs.Strain.{strain_letter}
 use Rattle.json_fields.specs.Form.{Member}
-use Rattle.json_fields.specs.Field.{whole, numbered, called}
+use Rattle.json_fields.specs.Field.{whole, numbered, called, named}
+use Rattle.json_fields.specs.Letter.{place_named, strain_named}
 
 -- a table's number, and a board's
 abbrev pub table : Member ℕ
@@ -10,6 +16,13 @@ table = numbered (codes "table")
 
 abbrev pub board : Member ℕ
 board = numbered (codes "board")
+
+-- who declares, and in what
+abbrev pub declarer : Member Place
+declarer = named (codes "by") place_named (λ place. place_letter place ∷ [])
+
+abbrev pub trumps : Member Strain
+trumps = named (codes "strain") strain_named (λ x. strain_letter x ∷ [])
 
 -- the user in whose name a message is
 abbrev pub user : Member (List ℕ)

@@ -63,12 +63,12 @@ user_roles = listed (codes "roles") role_of IsRole
 -- ---- seats
 
 -- the pairs of a side, by their numbers
-abbrev pub pairs_of : Side → List Pair
-pairs_of side = map (λ number. record { side = side; number = number }) (range_with_len 1 255)
+abbrev pub side_pairs : Side → List Pair
+side_pairs side = map (λ number. record { side = side; number = number }) (range_with_len 1 255)
 
 -- the pair whose text it is; numbers are 1 to 255
 unfoldable pub pair_named : List ℕ → Option Pair
-pair_named word = find (λ pair. bytes_eq (pair_text pair) word) (pairs_of NorthSouth ++ pairs_of EastWest)
+pair_named word = find (λ pair. bytes_eq (pair_text pair) word) (side_pairs NorthSouth ++ side_pairs EastWest)
 
 -- what stands there is the text of this pair
 pub record IsPair (o : Option Data) (pair : Pair) : Type 0 where

@@ -8,15 +8,16 @@ ghost use Rattle.json_fields.specs.Field.{small, at_most};
 ghost use Rattle.json_fields.specs.Form.{formed};
 ghost use Rattle.json_fields.specs.Letter.{place_named, strain_named};
 ghost use Rattle.query_filter.specs.declared.atom.Atom.TheVariants as atom;
-ghost use Rattle.json_fields.specs.Atom.{marking_named, most, least, bounds, score, score_bounds, declarer, trumps, double_dummy, atom_called};
+ghost use Rattle.json_fields.specs.Atom.{marking_named, most, least, bounds, score_said, score_bounds, double_dummy_bounds, atom_called};
 
 use crate::doubling::doubling_numbered;
 use crate::field::{has_only, small_number_at, text_at};
 use crate::letter::{place_named, strain_named};
+use crate::message::{read_declarer, read_trumps};
 use query_filter::{Atom, Bounds, ScoreBounds};
 use scoring::Doubling;
 use serde_json::Value;
-use table_terms::{Place, Strain, Vulnerability};
+use table_terms::Vulnerability;
 
 fn marking_named(text: &str) -> Option<Vulnerability>
     ensures { result ≡ marking_named text.now }
@@ -117,8 +118,8 @@ fn bounds(value: &Value) -> Option<Bounds>
     Some(Bounds { min, max })
 }
 
-fn score(value: &Value, name: &str) -> Option<i32>
-    ensures { result ≡ score (get name.now (view value.now)) }
+fn score_said(value: &Value, name: &str) -> Option<i32>
+    ensures { result ≡ score_said (get name.now (view value.now)) }
 {
     match value.get(name)?.as_i64()? {
         points if -10000 <= points && points <= 10000 => Some(points as i32),
@@ -132,33 +133,21 @@ fn score_bounds(value: &Value) -> Option<ScoreBounds>
     if !has_only(value, &["max", "min"]) {
         return None;
     }
-    let max = score(value, "max")?;
-    let min = score(value, "min")?;
+    let max = score_said(value, "max")?;
+    let min = score_said(value, "min")?;
     Some(ScoreBounds { min, max })
 }
 
-fn declarer_of(value: &Value) -> Option<Place>
-    ensures { result ≡ declarer.value (get declarer.name (view value.now)) }
-{
-    place_named(text_at(value, "by")?)
-}
-
-fn trumps_of(value: &Value) -> Option<Strain>
-    ensures { result ≡ trumps.value (get trumps.name (view value.now)) }
-{
-    strain_named(text_at(value, "strain")?)
-}
-
-fn double_dummy(value: &Value) -> Option<Atom>
-    ensures { result ≡ formed [] double_dummy (view value.now) }
+fn double_dummy_bounds(value: &Value) -> Option<Atom>
+    ensures { result ≡ formed [] double_dummy_bounds (view value.now) }
 {
     if !has_only(value, &["by", "max", "min", "strain"]) {
         return None;
     }
-    let declarer = declarer_of(value)?;
+    let declarer = read_declarer(value)?;
     let max = most_of(value)?;
     let min = least_of(value)?;
-    let strain = trumps_of(value)?;
+    let strain = read_trumps(value)?;
     let tricks = Bounds { min, max };
     Some(Atom::DoubleDummy {
         declarer,
@@ -180,7 +169,7 @@ pub(crate) fn atom_called(name: &str, value: &Value) -> Option<Atom>
         "doubled" => doubled(value),
         "made" => made(value),
         "score" => scores(value),
-        "dd" => double_dummy(value),
+        "dd" => double_dummy_bounds(value),
         _ => None,
     }
 }

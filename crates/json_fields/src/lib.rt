@@ -1,8 +1,9 @@
-//! JSON values as messages have them. The members of an object: whether it has no others, and the texts, numbers, names, places,
-//! strains and doublings in them; who a user is, which roles one has, and where one sits; a filter. What many messages have: the
-//! faults of reading one, the word that says what it asks for, and the members that say whose it is, from which version on an
-//! answer is wanted, and of which table and board. And objects and arrays as they are written, member by member and item by item:
-//! a refusal of memory is kept until the end, so that what writes a value has no early return for each of its parts.
+//! JSON values as messages have them. The members of an object: whether it has no others, and the texts, numbers,
+//! names, places, strains and doublings in them; who a user is, which roles one has, and where one sits; a filter. What
+//! many messages have: the faults of reading one, the word that says what it asks for, and the members that say whose
+//! it is, from which version on an answer is wanted, and of which table and board. And objects and arrays as they are
+//! written, member by member and item by item: a refusal of memory is kept until the end, so that what writes a value
+//! has no early return for each of its parts.
 #![tactic(auto)]
 
 mod array_writer;
@@ -27,9 +28,9 @@ pub use field::{has_only, limited_at, name_at, small_number_at, text_at, whole_a
 pub use filter_fault::FilterFault;
 pub use filter_reading::read_filter;
 pub use letter::{place_named, strain_named};
-pub use message::{board_of, since_of, table_of, user_of};
+pub use message::{read_board, read_declarer, read_since, read_table, read_trumps};
 pub use object_writer::ObjectWriter;
 pub use request_fault::RequestFault;
 pub use text_value::string_value;
-pub use user::{digest_of, pair_of, place_of, role_named, role_of};
+pub use user::{read_digest, read_pair, read_place, read_role, role_named};
 pub use word::is_one_of;

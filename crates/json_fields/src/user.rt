@@ -23,7 +23,7 @@ fn digest_named(digits: &str) -> Option<Digest>
 }
 
 /// The digest in the member `digest`.
-pub fn digest_of(value: &Value) -> Option<Digest>
+pub fn read_digest(value: &Value) -> Option<Digest>
     ensures { result ≡ digest.value (get digest.name (view value.now)) }
 {
     match text_at(value, "digest") {
@@ -44,7 +44,7 @@ pub fn role_named(word: &str) -> Option<Role>
 
 /// The role that stands there.
 #[tactic(auto, unfolding(crate::specs::User::role_of))]
-pub fn role_of(value: &Value) -> Option<Role>
+pub fn read_role(value: &Value) -> Option<Role>
     ensures { result ≡ role_of (view value.now) }
 {
     match value.as_str() {
@@ -63,7 +63,7 @@ fn pair_named(word: &str) -> Option<Pair>
 }
 
 /// The pair in the member `pair`.
-pub fn pair_of(value: &Value) -> Option<Pair>
+pub fn read_pair(value: &Value) -> Option<Pair>
     ensures { result ≡ pair.value (get pair.name (view value.now)) }
 {
     match text_at(value, "pair") {
@@ -73,7 +73,7 @@ pub fn pair_of(value: &Value) -> Option<Pair>
 }
 
 /// The place in the member `place`.
-pub fn place_of(value: &Value) -> Option<Place>
+pub fn read_place(value: &Value) -> Option<Place>
     ensures { result ≡ place.value (get place.name (view value.now)) }
 {
     match text_at(value, "place") {

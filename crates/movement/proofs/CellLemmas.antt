@@ -3,7 +3,7 @@ use Rattle.std.proofs.Common.{◌≡◌, ℕ, ◌+◌, ◌-◌, ◌*◌, ◌%◌
 use Rattle.std.proofs.Math.Nat.{add-sub_cancel}
 use Rattle.table_terms.specs.declared.side.Side.TheVariants.{EastWest}
 use Rattle.movement.specs.declared.cell.Cell.{Cell}
-use Rattle.movement.specs.Movement.{Section, Row, IsSection, IsOfSet, HasCell, IsCell, boards_of, row_of, rows, table_of, set_on}
+use Rattle.movement.specs.Movement.{Section, Row, IsSection, IsOfSet, HasCell, IsCell, boards_of, row_of, rows, east_west_table, set_on}
 use Rattle.movement.specs.Row.{IsAt, IsCellInRange, board_of_set}
 use Rattle.movement.proofs.RoundLemmas.{skipped, table_of_moved}
 use Rattle.movement.proofs.RowLemmas.{made_of, found_in, Any-rows, rounds-le}
@@ -12,7 +12,7 @@ use Rattle.movement.proofs.SetLemmas.{same_set, within-boards, nth_board}
 -- a table has a row in each round
 pub Any-at_table : (section : Section) → IsSection section → (P : Row → Type 0) (table round : ℕ) →
     table < section.tables → round < section.rounds →
-    ((pair : ℕ) → table_of section.tables pair round ≡ table → P (row_of section.tables round pair)) →
+    ((pair : ℕ) → east_west_table section.tables pair round ≡ table → P (row_of section.tables round pair)) →
     Any P (rows section)
 Any-at_table section is_section P table round table_below round_below holds =
     let few = rounds-le section is_section in
@@ -54,7 +54,7 @@ board_is_cell section table round k board one_board in_set (at, row, within, her
 
 -- the East-West pair at a table in a round
 pub pair_at_table : (section : Section) (table round pair : ℕ) → 1 ≤ table → 1 ≤ round → round ≤ section.rounds →
-    pair < section.tables → table_of section.tables pair (round - 1) ≡ table - 1 →
+    pair < section.tables → east_west_table section.tables pair (round - 1) ≡ table - 1 →
     Any (λ row. IsAt row table round × (row.east_west ≡ record { side = EastWest; number = pair + 1 })) (rows section)
 pair_at_table section table round pair from_table from_round to_round pair_below here =
     Any-rows section (λ row. IsAt row table round × (row.east_west ≡ record { side = EastWest; number = pair + 1 }))
@@ -97,7 +97,7 @@ scheduled_of section cell is_cell =
     let found = found_in section (λ row. HasCell section row cell) is_cell in
     let made = found.is_made in
     let has = found.holds in
-    let table : table_of n made.pair made.round ≡ cell.table - 1 = omega (arith, has.table) in
+    let table : east_west_table n made.pair made.round ≡ cell.table - 1 = omega (arith, has.table) in
     let set : found.row.set ≡ set_on n (cell.table - 1) made.round + 1 = rw table at made.is_set in
     let set_below : set_on n (cell.table - 1) made.round < n = omega (arith, made.pair_below) in
     let board : IsOfSet section (set_on n (cell.table - 1) made.round + 1) cell.board = rw set at has.board in

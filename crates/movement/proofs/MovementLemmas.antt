@@ -3,7 +3,7 @@ use Rattle.std.proofs.Common.{◌≡◌, ℕ, sym, ap, ◌∙◌, inl, inr, Cont
 use Rattle.table_terms.specs.declared.pair.Pair.{Pair}
 use Rattle.table_terms.specs.declared.side.Side.TheVariants.{NorthSouth, EastWest}
 use Rattle.movement.specs.declared.cell.Cell.{Cell}
-use Rattle.movement.specs.Movement.{Section, Row, IsSection, HasCell, rows, table_of, set_on}
+use Rattle.movement.specs.Movement.{Section, Row, IsSection, HasCell, rows, east_west_table, set_on}
 use Rattle.movement.specs.Row.{Plays, Seats}
 use Rattle.movement.proofs.RoundLemmas.{same_pair, same_round_of_table, same_round_of_pair, same_round_at_table}
 use Rattle.movement.proofs.RowLemmas.{made_of, rounds-le, same_made, in_range}
@@ -18,8 +18,8 @@ same_at_table section first second is_section in_first in_second same_table same
     let b = made_of section second in_second in
     let few = rounds-le section is_section in
     let round : a.round ≡ b.round = omega arith in
-    let table : table_of n a.pair a.round ≡ table_of n b.pair b.round = omega arith in
-    let met : table_of n a.pair a.round ≡ table_of n b.pair a.round = cc in
+    let table : east_west_table n a.pair a.round ≡ east_west_table n b.pair b.round = omega arith in
+    let met : east_west_table n a.pair a.round ≡ east_west_table n b.pair a.round = cc in
     let pair : a.pair ≡ b.pair = same_pair n a.pair b.pair a.round a.pair_below b.pair_below (omega arith) met in
     same_made section first second a b round pair
 
@@ -31,9 +31,9 @@ same_set_at_table section first second is_section in_first in_second same_table 
     let a = made_of section first in_first in
     let b = made_of section second in_second in
     let few = rounds-le section is_section in
-    let here : ℕ = table_of n a.pair a.round in
-    let table : here ≡ table_of n b.pair b.round = omega arith in
-    let set : set_on n here a.round ≡ set_on n (table_of n b.pair b.round) b.round = omega arith in
+    let here : ℕ = east_west_table n a.pair a.round in
+    let table : here ≡ east_west_table n b.pair b.round = omega arith in
+    let set : set_on n here a.round ≡ set_on n (east_west_table n b.pair b.round) b.round = omega arith in
     let held : set_on n here a.round ≡ set_on n here b.round = cc in
     let round : a.round ≡ b.round =
     same_round_of_table n here a.round b.round (omega arith) (omega arith) (omega arith) held in
@@ -48,8 +48,8 @@ same_at_set section first second is_section in_first in_second same_pair same_se
     let b = made_of section second in_second in
     let few = rounds-le section is_section in
     let pair : a.pair ≡ b.pair = omega (arith, ap (λ (pair : Pair). pair.number) same_pair) in
-    let set : set_on n (table_of n a.pair a.round) a.round ≡ set_on n (table_of n b.pair b.round) b.round = omega arith in
-    let met : set_on n (table_of n a.pair a.round) a.round ≡ set_on n (table_of n a.pair b.round) b.round = cc in
+    let set : set_on n (east_west_table n a.pair a.round) a.round ≡ set_on n (east_west_table n b.pair b.round) b.round = omega arith in
+    let met : set_on n (east_west_table n a.pair a.round) a.round ≡ set_on n (east_west_table n a.pair b.round) b.round = cc in
     let round : a.round ≡ b.round =
     same_round_of_pair n a.pair a.round b.round a.pair_below (omega arith) (omega arith) met in
     same_made section first second a b round pair
@@ -64,9 +64,9 @@ same_opponents section first second is_section in_first in_second same_pair same
     let b = made_of section second in_second in
     let most = is_section.not_too_many_rounds in
     let pair : a.pair ≡ b.pair = omega (arith, ap (λ (pair : Pair). pair.number) same_pair) in
-    let table : table_of n a.pair a.round ≡ table_of n b.pair b.round =
+    let table : east_west_table n a.pair a.round ≡ east_west_table n b.pair b.round =
     omega (arith, ap (λ (pair : Pair). pair.number) same_opponent) in
-    let met : table_of n a.pair a.round ≡ table_of n a.pair b.round = cc in
+    let met : east_west_table n a.pair a.round ≡ east_west_table n a.pair b.round = cc in
     let round : a.round ≡ b.round =
     same_round_at_table n a.pair a.round b.round a.pair_below (omega arith) (omega arith) met in
     same_made section first second a b round pair

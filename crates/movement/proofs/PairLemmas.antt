@@ -4,7 +4,7 @@ use Rattle.std.proofs.lemmas.List.Elements.{Contains-get_or}
 use Rattle.table_terms.specs.declared.pair.Pair.{Pair}
 use Rattle.table_terms.specs.declared.side.Side.TheVariants.{NorthSouth, EastWest}
 use Rattle.movement.specs.declared.cell.Cell.{Cell}
-use Rattle.movement.specs.Movement.{Section, Row, IsOfSet, HasCell, IsCell, boards_of, row_of, rows, table_of, set_on}
+use Rattle.movement.specs.Movement.{Section, Row, IsOfSet, HasCell, IsCell, boards_of, row_of, rows, east_west_table, set_on}
 use Rattle.movement.specs.Row.{Seats, Plays, IsCellInRange}
 use Rattle.movement.proofs.CellLemmas.{cell_in_range}
 use Rattle.movement.proofs.RowLemmas.{IsMade, made_of, Any-rows, All-rows}
@@ -34,8 +34,8 @@ seated_north_south section row pair made is_north_south (inr east) =
 
 -- an East-West pair's cell at a set, in the round in which it plays the set
 pub pair_cell : (section : Section) (number board set round table : ℕ) → 1 ≤ number → number ≤ section.tables →
-    round < section.rounds → table ≡ table_of section.tables (number - 1) round →
-    set_on section.tables (table_of section.tables (number - 1) round) round ≡ set →
+    round < section.rounds → table ≡ east_west_table section.tables (number - 1) round →
+    set_on section.tables (east_west_table section.tables (number - 1) round) round ≡ set →
     IsOfSet section (set + 1) board →
     Any (λ row. Seats row (east_west number) × HasCell section row (record { table = table + 1; board = board }))
     (rows section)
@@ -53,7 +53,7 @@ pub record PairPlays (section : Section) (number board : ℕ) : Type 0 where
   pub round_below : round < section.rounds
   pub from_number : 1 ≤ number
   pub to_number : number ≤ section.tables
-  pub set : IsOfSet section (set_on section.tables (table_of section.tables (number - 1) round) round + 1) board
+  pub set : IsOfSet section (set_on section.tables (east_west_table section.tables (number - 1) round) round + 1) board
   pub from_board : 1 ≤ board
   pub to_board : board ≤ boards_of section
 
@@ -63,10 +63,10 @@ pair_plays section row number board made plays =
     let n : ℕ = section.tables in
     let seated = seated_east_west section row number made plays.seated in
     let pair : made.pair ≡ number - 1 = omega arith in
-    let set : row.set ≡ set_on n (table_of n (number - 1) made.round) made.round + 1 = rw pair at made.is_set in
-    let set_below : set_on n (table_of n (number - 1) made.round) made.round < n = omega (arith, made.pair_below) in
+    let set : row.set ≡ set_on n (east_west_table n (number - 1) made.round) made.round + 1 = rw pair at made.is_set in
+    let set_below : set_on n (east_west_table n (number - 1) made.round) made.round < n = omega (arith, made.pair_below) in
     let board_of = rw set at plays.board in
-    let limits = within-boards section (set_on n (table_of n (number - 1) made.round) made.round) board set_below board_of in
+    let limits = within-boards section (set_on n (east_west_table n (number - 1) made.round) made.round) board set_below board_of in
     record {
       round = made.round;
       round_below = made.round_below;
@@ -80,9 +80,9 @@ pair_plays section row number board made plays =
 -- the set that the pair plays in that round is the board's
 pub set_on-plays : (section : Section) (number board set : ℕ) (plays : PairPlays section number board) →
     IsOfSet section (set + 1) board →
-    set_on section.tables (table_of section.tables (number - 1) plays.round) plays.round ≡ set
+    set_on section.tables (east_west_table section.tables (number - 1) plays.round) plays.round ≡ set
 set_on-plays section number board set plays is_of_set =
-    let held : ℕ = set_on section.tables (table_of section.tables (number - 1) plays.round) plays.round in
+    let held : ℕ = set_on section.tables (east_west_table section.tables (number - 1) plays.round) plays.round in
     let same = same_set section (held + 1) (set + 1) board (omega arith) (omega arith) plays.set is_of_set in
     omega arith
 

@@ -3,7 +3,7 @@ use Rattle.std.proofs.Common.{◌≡◌, ℕ, ◌+◌, ◌-◌, ◌/◌, ◌%◌
 use Rattle.std.proofs.lemmas.Bool.{cases_lt}
 use Rattle.std.proofs.lemmas.Bool.Decides.{nat_tests}
 use Rattle.std.proofs.Math.Nat.{mod-eq_of_lt, mod-eq-sub-mod}
-use Rattle.movement.specs.Movement.{set_on, has_skipped, table_of, most_rounds}
+use Rattle.movement.specs.Movement.{set_on, has_skipped, east_west_table, most_rounds}
 
 -- a number below twice the tables, and the same number taken round them
 pub record IsWrapped (tables number wrapped : ℕ) : Type 0 where
@@ -34,7 +34,7 @@ skipped_cases tables round = grind (arith, nat_tests)
 
 -- two East-West pairs are at two tables
 pub same_pair : (tables first second round : ℕ) → first < tables → second < tables → round < tables →
-    table_of tables first round ≡ table_of tables second round → first ≡ second
+    east_west_table tables first round ≡ east_west_table tables second round → first ≡ second
 same_pair tables first second round first_below second_below round_below same =
     let skip = skipped_cases tables round in
     let first_moved = wraps tables (first + round + skipped tables round) (omega arith) in
@@ -51,15 +51,15 @@ same_round_of_table tables table first second table_below first_below second_bel
 
 -- in two rounds an East-West pair plays two sets
 pub same_round_of_pair : (tables pair first second : ℕ) → pair < tables → first < tables → second < tables →
-    set_on tables (table_of tables pair first) first ≡ set_on tables (table_of tables pair second) second →
+    set_on tables (east_west_table tables pair first) first ≡ set_on tables (east_west_table tables pair second) second →
     first ≡ second
 same_round_of_pair tables pair first second pair_below first_below second_below same =
     let first_skip = skipped_cases tables first in
     let second_skip = skipped_cases tables second in
     let first_moved = wraps tables (pair + first + skipped tables first) (omega arith) in
     let second_moved = wraps tables (pair + second + skipped tables second) (omega arith) in
-    let first_held = wraps tables (table_of tables pair first + first) (omega arith) in
-    let second_held = wraps tables (table_of tables pair second + second) (omega arith) in
+    let first_held = wraps tables (east_west_table tables pair first + first) (omega arith) in
+    let second_held = wraps tables (east_west_table tables pair second + second) (omega arith) in
     omega arith
 
 pub most_rounds_cases : (tables : ℕ) →
@@ -68,7 +68,7 @@ most_rounds_cases tables = grind (arith, nat_tests)
 
 -- in two rounds of a section an East-West pair is at two tables
 pub same_round_at_table : (tables pair first second : ℕ) → pair < tables → first < most_rounds tables →
-    second < most_rounds tables → table_of tables pair first ≡ table_of tables pair second → first ≡ second
+    second < most_rounds tables → east_west_table tables pair first ≡ east_west_table tables pair second → first ≡ second
 same_round_at_table tables pair first second pair_below first_below second_below same =
     let most = most_rounds_cases tables in
     let first_skip = skipped_cases tables first in
@@ -79,7 +79,7 @@ same_round_at_table tables pair first second pair_below first_below second_below
 
 -- the East-West pair that is as far below a table as the pairs have moved up by the round is at that table
 pub table_of_moved : (tables table round : ℕ) → table < tables → round < tables →
-    table_of tables ((table + tables - (round + skipped tables round)) % tables) round ≡ table
+    east_west_table tables ((table + tables - (round + skipped tables round)) % tables) round ≡ table
 table_of_moved tables table round table_below small =
     let skip = skipped_cases tables round in
     let pair : ℕ = (table + tables - (round + skipped tables round)) % tables in
@@ -95,10 +95,10 @@ IsRoundApart tables apart round =
 
 pub set_on_apart : (tables pair set round : ℕ) → pair < tables → set < tables →
     IsRoundApart tables ((set + tables - pair) % tables) round →
-    set_on tables (table_of tables pair round) round ≡ set
+    set_on tables (east_west_table tables pair round) round ≡ set
 set_on_apart tables pair set round pair_below set_below is_round =
     let far = wraps tables (set + tables - pair) (omega arith) in
     let skip = skipped_cases tables round in
     let moved = wraps tables (pair + round + skipped tables round) (omega arith) in
-    let held = wraps tables (table_of tables pair round + round) (omega arith) in
+    let held = wraps tables (east_west_table tables pair round + round) (omega arith) in
     omega arith

@@ -3,7 +3,7 @@ use Rattle.std.proofs.Common.{◌≡◌, ℕ, ◌+◌, ◌<◌, ◌≤◌, List,
 use Rattle.std.specs.List.{range_with_len}
 use Rattle.std.proofs.lemmas.List.Elements.{Contains-get_or}
 use Rattle.table_terms.specs.declared.side.Side.TheVariants.{NorthSouth, EastWest}
-use Rattle.movement.specs.Movement.{Section, Row, IsSection, row_of, rows, table_of, set_on}
+use Rattle.movement.specs.Movement.{Section, Row, IsSection, row_of, rows, east_west_table, set_on}
 use Rattle.movement.specs.Row.{IsInRange}
 use Rattle.movement.proofs.ContainsLemmas.{Contains-range, range-contains, Contains-map_range, map_range-contains, Contains-flat_map, flat_map-contains}
 use Rattle.movement.proofs.RoundLemmas.{most_rounds_cases}
@@ -16,8 +16,8 @@ pub record IsMade (section : Section) (row : Row) : Type 0 where
   pub pair_below : pair < section.tables
   pub made : row_of section.tables round pair ≡ row
   pub is_round : row.round ≡ round + 1
-  pub is_table : row.table ≡ table_of section.tables pair round + 1
-  pub is_set : row.set ≡ set_on section.tables (table_of section.tables pair round) round + 1
+  pub is_table : row.table ≡ east_west_table section.tables pair round + 1
+  pub is_set : row.set ≡ set_on section.tables (east_west_table section.tables pair round) round + 1
   pub is_opponent : row.north_south.number ≡ row.table
   pub is_pair : row.east_west.number ≡ pair + 1
   pub is_north_south : row.north_south.side ≡ NorthSouth

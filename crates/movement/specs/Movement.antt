@@ -32,13 +32,13 @@ abbrev pub has_skipped : ℕ → ℕ → Bool
 has_skipped tables round = (tables % 2 == 0) && nat_le (tables / 2) round
 
 -- the table of an East-West pair in a round, all counted from 0: up one table a round, and one more at the skip
-abbrev pub table_of : ℕ → ℕ → ℕ → ℕ
-table_of tables east_west round = (east_west + round + (if has_skipped tables round then 1 else 0)) % tables
+abbrev pub east_west_table : ℕ → ℕ → ℕ → ℕ
+east_west_table tables east_west round = (east_west + round + (if has_skipped tables round then 1 else 0)) % tables
 
 -- what an East-West pair plays in a round, both counted from 0
 abbrev pub row_of : ℕ → ℕ → ℕ → Row
 row_of tables round east_west =
-    let table = table_of tables east_west round in
+    let table = east_west_table tables east_west round in
     record {
       round = round + 1;
       table = table + 1;
@@ -57,6 +57,10 @@ rows section =
 -- how many boards the section plays
 abbrev pub boards_of : Section → ℕ
 boards_of section = section.tables * section.per_set
+
+-- whether the section has a board of this number
+abbrev pub has_board : Section → ℕ → Bool
+has_board section board = nat_le 1 board && nat_le board (boards_of section)
 
 -- a board of a set: the boards of set 1 come first, then those of set 2, and so on
 pub record IsOfSet (section : Section) (set board : ℕ) : Type 0 where

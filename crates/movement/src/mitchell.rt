@@ -41,11 +41,11 @@ pub fn set_on(tables: u8, table: u8, round: u8) -> u8
 }
 
 /// The table of an East-West pair in a round.
-pub fn table_of(tables: u8, east_west: u8, round: u8) -> u8
+pub fn east_west_table(tables: u8, east_west: u8, round: u8) -> u8
     requires few { tables ≤ spec.most_tables }
     requires pair { east_west < tables }
     requires round { round < tables }
-    ensures { result ≡ spec.table_of tables east_west round }
+    ensures { result ≡ spec.east_west_table tables east_west round }
 {
     (east_west + moved(tables, round)) % tables
 }
@@ -56,7 +56,7 @@ pub fn east_west_at(tables: u8, table: u8, round: u8) -> u8
     requires table { table < tables }
     requires round { round < tables }
     ensures pair { result < tables }
-    ensures at { spec.table_of tables result round ≡ table }
+    ensures at { spec.east_west_table tables result round ≡ table }
 {
     (table + tables - moved(tables, round)) % tables
 }
@@ -79,9 +79,9 @@ pub fn round_of_east_west(tables: u8, east_west: u8, set: u8) -> u8
     requires pair { east_west < tables }
     requires set { set < tables }
     ensures round { result < tables }
-    ensures plays { spec.set_on tables (spec.table_of tables east_west result) result ≡ set }
+    ensures plays { spec.set_on tables (spec.east_west_table tables east_west result) result ≡ set }
     ensures only { (round : ℕ) → round < tables →
-        spec.set_on tables (spec.table_of tables east_west round) round ≡ set → round ≡ result }
+        spec.set_on tables (spec.east_west_table tables east_west round) round ≡ set → round ≡ result }
 {
     let apart = (set + tables - east_west) % tables;
     if apart % 2 == 0 {

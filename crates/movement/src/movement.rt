@@ -222,7 +222,7 @@ impl Movement {
         let set = self.set_of(board);
         let round = mitchell::round_of_east_west(self.tables, number - 1, set);
         if round < self.rounds {
-            let table = mitchell::table_of(self.tables, number - 1, round) + 1;
+            let table = mitchell::east_west_table(self.tables, number - 1, round) + 1;
             Some(Cell { table, board })
         } else {
             None

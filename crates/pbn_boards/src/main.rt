@@ -6,9 +6,9 @@ mod line;
 mod reading;
 mod words;
 
-use crate::fault::Fault;
+use crate::fault::FileFault;
 use crate::reading::{STANDARD_INPUT, read_lines};
-use crate::words::{Check, boards_in, called_with, check_in};
+use crate::words::{Check, boards_in, check_in, words_after_name};
 use std::io;
 use std::process::ExitCode;
 
@@ -19,7 +19,7 @@ Writes the boards 1 to BOARDS (at most 255) of a PBN text, or why they can't be 
 FILE under its name. The FILE - is standard input.";
 
 fn main(rt: HostRuntime) -> ExitCode {
-    ExitCode::from(match called_with(&rt) {
+    ExitCode::from(match words_after_name(&rt) {
         Ok(words) => run(&rt, words.as_slice()),
         Err(error) if error.kind() == io::ErrorKind::OutOfMemory => 4,
         // Some word is no text.

@@ -1,6 +1,6 @@
 //! From a text to the lines of its boards.
 
-use crate::fault::Fault;
+use crate::fault::FileFault;
 use crate::line::board_line;
 use pbn_records::{BoardSet, read_deals};
 use std::alloc::{AllocError, Global};
@@ -14,18 +14,18 @@ pub const STANDARD_INPUT: &str = "-";
 const MOST_BYTES: u64 = 16_777_216;
 
 /// The lines of the boards 1 to `boards` of a file.
-pub fn read_lines(rt: &HostRuntime, file: &str, boards: u8) -> Result<String, Fault> {
+pub fn read_lines(rt: &HostRuntime, file: &str, boards: u8) -> Result<String, FileFault> {
     let set = read_boards(rt, file, boards)?;
     Ok(board_lines(rt.alloc(), &set)?)
 }
 
 // The boards 1 to `boards` of a file.
-fn read_boards(rt: &HostRuntime, file: &str, boards: u8) -> Result<BoardSet, Fault> {
+fn read_boards(rt: &HostRuntime, file: &str, boards: u8) -> Result<BoardSet, FileFault> {
     let text = read_text(rt, file)?;
     if text.len() as u64 > MOST_BYTES {
-        return Err(Fault::Unreadable);
+        return Err(FileFault::Unreadable);
     }
-    read_deals(rt.alloc(), text.as_slice(), boards).map_err(Fault::Deals)
+    read_deals(rt.alloc(), text.as_slice(), boards).map_err(FileFault::Deals)
 }
 
 // All of a file, and of a longer one a byte more than a text may have.

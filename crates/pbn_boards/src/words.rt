@@ -10,7 +10,7 @@ pub struct Check<'w> {
 }
 
 /// The words after the program's name.
-pub fn called_with(rt: &HostRuntime) -> io::Result<Vec<String>> {
+pub fn words_after_name(rt: &HostRuntime) -> io::Result<Vec<String>> {
     let mut words = env::args(rt)?;
     let _name = words.next();
     Ok(words.collect(rt.alloc())?)

@@ -2,8 +2,8 @@
 use Rattle.std.proofs.Common.{◌≡◌, ℕ, ◌<◌, Bool, true, false, List, [], ◌∷◌, ◌++◌, length, refl, sym, ap, subst, ◌∙◌, append-nil, arith}
 use Rattle.std.specs.Prelude.{Option, Some, None, ◌==◌, ◌&&◌, if◌then◌else◌}
 use Rattle.std.proofs.lemmas.Bool.{ne_eqb, eqb-true, true≢false, cond_both, and_from, and_parts}
-use Rattle.pbn_pieces.specs.Pieces.{is_blank, is_space, is_name_byte, is_other_than, is_escape, is_letter, is_within_quotes, Each, IsWithinQuotes, Quotes, Tag, tag_text, IsTag, HasTag, HasBlankLine, AtLineEnd, Piece, Comment, OpenComment, LineComment, EscapeLine, BlankLine, Quoted, Tagged, Broken, Plain, spelled, Stands, starts_line, Joins}
-use Rattle.pbn_pieces.specs.Cutting.{split, after_byte, in_front, closing, ◌>>=◌, named, name_at, tag_at, line_end, blank_before, blank_line, comment_at, quoted_at, tagged_at, piece_at, or_piece, first_piece}
+use Rattle.pbn_pieces.specs.Pieces.{is_blank, is_space, is_tag_name_byte, is_other_than, is_escape, is_letter, is_within_quotes, Each, IsWithinQuotes, Quotes, Tag, tag_text, IsTag, HasTag, HasBlankLine, AtLineEnd, Piece, Comment, OpenComment, LineComment, EscapeLine, BlankLine, Quoted, Tagged, Broken, Plain, spelled, MayStand, starts_line, Joins}
+use Rattle.pbn_pieces.specs.Cutting.{split, after_byte, in_front, closing, ◌>>=◌, nonempty_name, tag_name_at, tag_at, line_end, blank_before, blank_line, comment_at, quoted_at, tagged_at, piece_at, or_piece, first_piece}
 
 -- the text doesn't go on with a byte that passes
 abbrev pub StopsAt : (ℕ → Bool) → List ℕ → Type 0
@@ -84,21 +84,21 @@ split_is test (byte ∷ bytes) =
     (λ e. (refl, tt))
 
 -- a name ends the blanks before it, and blanks or a quote end a name
-name_is_no_blank : (byte : ℕ) → is_name_byte byte ≡ true → is_blank byte ≡ false
+name_is_no_blank : (byte : ℕ) → is_tag_name_byte byte ≡ true → is_blank byte ≡ false
 name_is_no_blank byte is = grind (arith, is)
 
-blank_is_no_name : (byte : ℕ) → is_blank byte ≡ true → is_name_byte byte ≡ false
+blank_is_no_name : (byte : ℕ) → is_blank byte ≡ true → is_tag_name_byte byte ≡ false
 blank_is_no_name byte is = grind (arith, is)
 
-blanks_stop : (name rest : List ℕ) → Each is_name_byte name → 0 < length name → StopsAt is_blank (name ++ rest)
+blanks_stop : (name rest : List ℕ) → Each is_tag_name_byte name → 0 < length name → StopsAt is_blank (name ++ rest)
 blanks_stop [] rest each named = absurd (omega (arith, named))
 blanks_stop (byte ∷ name) rest each named = name_is_no_blank byte each.0
 
-name_stops : (blanks rest : List ℕ) → Each is_blank blanks → StopsAt is_name_byte (blanks ++ 34 ∷ rest)
+name_stops : (blanks rest : List ℕ) → Each is_blank blanks → StopsAt is_tag_name_byte (blanks ++ 34 ∷ rest)
 name_stops [] rest each = refl
 name_stops (byte ∷ blanks) rest each = blank_is_no_name byte each.0
 
-named_first : (name rest : List ℕ) → 0 < length name → named name rest ≡ Some (name, rest)
+named_first : (name rest : List ℕ) → 0 < length name → nonempty_name name rest ≡ Some (name, rest)
 named_first [] rest is = absurd (omega (arith, is))
 named_first (byte ∷ name) rest is = refl
 
@@ -107,7 +107,7 @@ unfolding tag_at
 tag_first tag rest is =
     let closed = 34 ∷ (tag.value ++ 34 ∷ (tag.after ++ 93 ∷ rest)) in
     rw (split_first is_blank tag.before (tag.name ++ (tag.between ++ closed)) is.before (blanks_stop tag.name (tag.between ++ closed) is.name is.named))
-    (rw (split_first is_name_byte tag.name (tag.between ++ closed) is.name (name_stops tag.between (tag.value ++ 34 ∷ (tag.after ++ 93 ∷ rest)) is.between))
+    (rw (split_first is_tag_name_byte tag.name (tag.between ++ closed) is.name (name_stops tag.between (tag.value ++ 34 ∷ (tag.after ++ 93 ∷ rest)) is.between))
     (rw (named_first tag.name (tag.between ++ closed) is.named)
     (rw (split_first is_blank tag.between closed is.between refl)
     (rw (closing_first tag.value (tag.after ++ 93 ∷ rest) is.value)
@@ -136,24 +136,24 @@ after_byte_is : (wanted : ℕ) (bytes rest : List ℕ) → after_byte wanted byt
 after_byte_is wanted [] rest e = grind (arith, e)
 after_byte_is wanted (byte ∷ bytes) rest e = grind (arith, e)
 
-name_is : (bytes name rest : List ℕ) → name_at bytes ≡ Some (name, rest) → (bytes ≡ name ++ rest) × Each is_name_byte name × (0 < length name)
+name_is : (bytes name rest : List ℕ) → tag_name_at bytes ≡ Some (name, rest) → (bytes ≡ name ++ rest) × Each is_tag_name_byte name × (0 < length name)
 name_is bytes name rest found =
-    let all = split_is is_name_byte bytes in
-    subst (λ text. (text ≡ name ++ rest) × Each is_name_byte name × (0 < length name)) (sym all.0)
-    (by_name (split is_name_byte bytes).0 (split is_name_byte bytes).1 name rest found all.1)
+    let all = split_is is_tag_name_byte bytes in
+    subst (λ text. (text ≡ name ++ rest) × Each is_tag_name_byte name × (0 < length name)) (sym all.0)
+    (by_name (split is_tag_name_byte bytes).0 (split is_tag_name_byte bytes).1 name rest found all.1)
   where
-    by_name : (some other name rest : List ℕ) → named some other ≡ Some (name, rest) → Each is_name_byte some →
-        (some ++ other ≡ name ++ rest) × Each is_name_byte name × (0 < length name)
+    by_name : (some other name rest : List ℕ) → nonempty_name some other ≡ Some (name, rest) → Each is_tag_name_byte some →
+        (some ++ other ≡ name ++ rest) × Each is_tag_name_byte name × (0 < length name)
     by_name [] other name rest found each = absurd (none_some _ found)
     by_name (byte ∷ some) other name rest found each =
         let same = some_same (byte ∷ some, other) (name, rest) found in
-        subst (λ (s : List ℕ × List ℕ). (byte ∷ some ++ other ≡ s.0 ++ s.1) × Each is_name_byte s.0 × (0 < length s.0)) same (refl, each, omega arith)
+        subst (λ (s : List ℕ × List ℕ). (byte ∷ some ++ other ≡ s.0 ++ s.1) × Each is_tag_name_byte s.0 × (0 < length s.0)) same (refl, each, omega arith)
 
 pub tag_is : (bytes : List ℕ) (tag : Tag) (rest : List ℕ) → tag_at bytes ≡ Some (tag, rest) → (bytes ≡ tag_text tag rest) × IsTag tag
 unfolding tag_at
 tag_is bytes tag rest found =
     let before = split_is is_blank bytes in
-    let name = bind_ok (name_at (split is_blank bytes).1) _ _ found in
+    let name = bind_ok (tag_name_at (split is_blank bytes).1) _ _ found in
     let is_name = name_is (split is_blank bytes).1 name.0.0 name.0.1 name.1 in
     let between = split_is is_blank name.0.1 in
     let opened = bind_ok (after_byte 34 (split is_blank name.0.1).1) _ _ name.2 in
@@ -249,7 +249,7 @@ at_line_end_stops : (rest : List ℕ) → AtLineEnd rest → StopsAt (is_other_t
 at_line_end_stops [] at = tt
 at_line_end_stops (byte ∷ rest) at = grind (arith, at)
 
-plain_at : (starting : Bool) (byte : ℕ) (rest : List ℕ) → Stands starting (Plain byte) rest → piece_at starting byte rest ≡ (Plain byte, rest)
+plain_at : (starting : Bool) (byte : ℕ) (rest : List ℕ) → MayStand starting (Plain byte) rest → piece_at starting byte rest ≡ (Plain byte, rest)
 plain_at starting byte rest stands =
     rw (ne_eqb byte 123 stands.0, ne_eqb byte 59 stands.1, ne_eqb byte 91 stands.2)
     (cond_both (byte == 37 && starting) _ _ (λ (found : Piece × List ℕ). found ≡ (Plain byte, rest))
@@ -258,13 +258,13 @@ plain_at starting byte rest stands =
     (λ quote. ap (quoted_at rest) (no_closing_found rest (stands.3 (eqb-true byte 34 quote))) ∙ ap (λ (b : ℕ). (Plain b, rest)) (sym (eqb-true byte 34 quote)))
     (λ other. refl)))
 
-plain_first : (starting : Bool) (byte : ℕ) (rest : List ℕ) → Stands starting (Plain byte) rest → first_piece starting (byte ∷ rest) ≡ Some (Plain byte, rest)
+plain_first : (starting : Bool) (byte : ℕ) (rest : List ℕ) → MayStand starting (Plain byte) rest → first_piece starting (byte ∷ rest) ≡ Some (Plain byte, rest)
 plain_first false byte rest stands = ap (λ (found : Piece × List ℕ). Some found) (plain_at false byte rest stands)
 plain_first true byte rest stands =
     ap (λ found. Some (or_piece found (piece_at true byte rest))) (no_blank_line_found (byte ∷ rest) (stands.4 refl).1)
     ∙ ap (λ (found : Piece × List ℕ). Some found) (plain_at true byte rest stands)
 
-pub first_is : (starting : Bool) (piece : Piece) (rest : List ℕ) → Stands starting piece rest → first_piece starting (spelled piece rest) ≡ Some (piece, rest)
+pub first_is : (starting : Bool) (piece : Piece) (rest : List ℕ) → MayStand starting piece rest → first_piece starting (spelled piece rest) ≡ Some (piece, rest)
 first_is starting (Comment inside) rest stands =
     within_line starting 123 (inside ++ 125 ∷ rest) refl
     ∙ ap (λ (s : List ℕ × List ℕ). Some (comment_at s.0 s.1)) (split_first (is_other_than 125) inside (125 ∷ rest) stands refl)

@@ -1,12 +1,12 @@
 -- What begins a text is its first piece, where it may stand there.
 use Rattle.std.proofs.Common.{ℕ, Bool, true, false, List, [], ◌∷◌, ◌++◌, refl, sym, ap, subst, ◌∙◌, arith, append-nil}
 use Rattle.std.proofs.lemmas.Bool.{true≢false}
-use Rattle.pbn_pieces.specs.Pieces.{is_other_than, Each, IsWithinQuotes, Quotes, Tag, tag_text, IsTag, HasTag, AtLineEnd, Piece, Comment, OpenComment, LineComment, EscapeLine, Quoted, Tagged, Broken, Plain, spelled, Stands, starts_line, Joins, Begins}
+use Rattle.pbn_pieces.specs.Pieces.{is_other_than, Each, IsWithinQuotes, Quotes, Tag, tag_text, IsTag, HasTag, AtLineEnd, Piece, Comment, OpenComment, LineComment, EscapeLine, Quoted, Tagged, Broken, Plain, spelled, MayStand, starts_line, Joins, Begins}
 use Rattle.pbn_pieces.specs.Cutting.{first_piece}
 use Rattle.pbn_pieces.proofs.CutLemmas.{none_some, some_same, first_is, no_blank_line}
 use Rattle.pbn_pieces.proofs.FirstPieceLemmas.{no_line}
 
-pub begins : (starting : Bool) (piece : Piece) (rest : List ℕ) (pieces : List Piece) → Stands starting piece rest →
+pub begins : (starting : Bool) (piece : Piece) (rest : List ℕ) (pieces : List Piece) → MayStand starting piece rest →
     Joins starting pieces (spelled piece rest) → Begins pieces piece rest
 begins starting piece rest [] stands joins =
     absurd (none_some (piece, rest) (ap (first_piece starting) (sym joins) ∙ first_is starting piece rest stands))

@@ -6,8 +6,8 @@ use Rattle.std.proofs.lemmas.Bool.{ne_eqb}
 use Rattle.pbn_pieces.specs.Pieces.{Piece, LineComment, EscapeLine, Plain, is_other_than, is_space, BlankLine, starts_line}
 use Rattle.pbn_pieces.specs.Cutting.{split, after_byte, closing, line_end, blank_before, blank_line, comment_at, quoted_at, tag_at, tagged_at, piece_at, or_piece, first_piece}
 use Rattle.pbn_pieces.specs.Told.{IsSkipped, Shows, CutsAt, Cuts}
-use Rattle.pbn_pieces.specs.declared.piece.Found.{Found}
-use Rattle.pbn_pieces.specs.declared.piece.Found.TheVariants as found
+use Rattle.pbn_pieces.specs.declared.piece.NextPiece.{NextPiece}
+use Rattle.pbn_pieces.specs.declared.piece.NextPiece.TheVariants as found
 use Rattle.pbn_pieces.proofs.CutLemmas.{none_some, starts_blank}
 use Rattle.pbn_pieces.proofs.FirstPieceLemmas.{first_ok}
 
@@ -49,7 +49,7 @@ module _ {A : Type 0} where
   none_of (Some x) N M P f cases = tt
 
 -- the computed first piece may stand there
-first_cuts : (starting : Bool) (text : List ℕ) (seen : Found) (rest : List ℕ) (piece : Piece) →
+first_cuts : (starting : Bool) (text : List ℕ) (seen : NextPiece) (rest : List ℕ) (piece : Piece) →
     first_piece starting text ≡ Some (piece, rest) → Shows seen piece → Cuts starting text seen rest
 first_cuts starting text seen rest piece e shows =
     let first = first_ok starting text piece rest e in
@@ -62,7 +62,7 @@ cuts_blank starting text rest spaces return s e =
     (ap (λ b. first_piece b text) s ∙ starts_blank text (BlankLine spaces return) rest e)
     (spaces, return, refl)
 
-pub cuts_from : (starting : Bool) (byte : ℕ) (bytes : List ℕ) (seen : Found) (rest : List ℕ) → (starting ≡ true → blank_line (byte ∷ bytes) ≡ None) →
+pub cuts_from : (starting : Bool) (byte : ℕ) (bytes : List ℕ) (seen : NextPiece) (rest : List ℕ) → (starting ≡ true → blank_line (byte ∷ bytes) ≡ None) →
     CutsAt starting byte bytes seen rest → Cuts starting (byte ∷ bytes) seen rest
 cuts_from false byte bytes seen rest none cuts =
     first_cuts false (byte ∷ bytes) seen rest cuts.piece (ap (λ (found : Piece × List ℕ). Some found) cuts.first) cuts.shown
@@ -70,7 +70,7 @@ cuts_from true byte bytes seen rest none cuts =
     first_cuts true (byte ∷ bytes) seen rest cuts.piece (λ i. Some (or_piece (none refl i) (cuts.first i))) cuts.shown
 
 -- the same of a text that is not empty
-pub cuts_front : (starting : Bool) (text : List ℕ) (seen : Found) (rest : List ℕ) → 1 ≤ length text →
+pub cuts_front : (starting : Bool) (text : List ℕ) (seen : NextPiece) (rest : List ℕ) → 1 ≤ length text →
     (starting ≡ true → blank_line text ≡ None) →
     CutsAt starting (get_or text 0 0) (take (length text - 1) (drop 1 text)) seen rest → Cuts starting text seen rest
 cuts_front starting [] seen rest some none cuts = absurd (omega (arith, some))
@@ -122,7 +122,7 @@ cuts_quoted starting first after rest e r = record {
   shown = quoted_told after (closing after);
 }
 
-pub cuts_tag : (starting : Bool) (first : ℕ) (after : List ℕ) (seen : Found) (rest : List ℕ) → first ≡ 91 →
+pub cuts_tag : (starting : Bool) (first : ℕ) (after : List ℕ) (seen : NextPiece) (rest : List ℕ) → first ≡ 91 →
     ((piece : Piece) × (tagged_at after (tag_at after) ≡ (piece, rest)) × Shows seen piece) → CutsAt starting first after seen rest
 cuts_tag starting first after seen rest e told = record { piece = told.0; first = ap (λ b. piece_at starting b after) e ∙ told.1; shown = told.2 }
 

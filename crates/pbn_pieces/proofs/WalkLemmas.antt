@@ -2,7 +2,7 @@
 use Rattle.std.proofs.Common.{◌≡◌, ℕ, ◌<◌, Bool, true, false, List, [], ◌∷◌, ◌++◌, length, refl, sym, ap, ◌∙◌, arith, append-nil, append_assoc, length-append}
 use Rattle.pbn_pieces.specs.Pieces.{size, Tag, Piece, Comment, OpenComment, LineComment, EscapeLine, BlankLine, Quoted, Tagged, Broken, Plain, spelled, tag_text}
 use Rattle.pbn_pieces.specs.Told.{Cuts, NoneCloses}
-use Rattle.pbn_pieces.specs.declared.piece.Found.{Found}
+use Rattle.pbn_pieces.specs.declared.piece.NextPiece.{NextPiece}
 
 -- a piece's bytes stand before the rest
 pub spelled_front : (piece : Piece) (rest : List ℕ) → spelled piece rest ≡ spelled piece [] ++ rest
@@ -37,12 +37,12 @@ has_bytes (Tagged tag) = omega arith
 has_bytes (Broken after) = omega arith
 has_bytes (Plain byte) = omega arith
 
-pub walk_shrinks : (starting : Bool) (text rest : List ℕ) (seen : Found) → Cuts starting text seen rest → length rest < length text
+pub walk_shrinks : (starting : Bool) (text rest : List ℕ) (seen : NextPiece) → Cuts starting text seen rest → length rest < length text
 walk_shrinks starting text rest seen cuts =
     let long = ap length (cuts.joined ∙ spelled_front cuts.piece rest) ∙ length-append (spelled cuts.piece []) rest in
     omega (arith, long, has_bytes cuts.piece)
 
-pub closes_on : (starting : Bool) (text rest : List ℕ) (seen : Found) (least : ℕ) → Cuts starting text seen rest → NoneCloses text least → NoneCloses rest least
+pub closes_on : (starting : Bool) (text rest : List ℕ) (seen : NextPiece) (least : ℕ) → Cuts starting text seen rest → NoneCloses text least → NoneCloses rest least
 closes_on starting text rest seen least cuts none front back e left =
     none (spelled cuts.piece [] ++ front) back
     (cuts.joined ∙ spelled_front cuts.piece rest ∙ ap (λ x. spelled cuts.piece [] ++ x) e ∙ sym (append_assoc (spelled cuts.piece []) front (34 ∷ back)))

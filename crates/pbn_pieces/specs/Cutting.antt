@@ -1,6 +1,6 @@
 -- The first piece of a text, computed.
 use Rattle.std.specs.Prelude.{ℕ, Bool, true, false, ◌==◌, ◌&&◌, if◌then◌else◌, List, [], ◌∷◌, Option, Some, None}
-use Rattle.pbn_pieces.specs.Pieces.{is_blank, is_space, is_name_byte, is_other_than, is_escape, Tag, Piece, Comment, OpenComment, LineComment, EscapeLine, BlankLine, Quoted, Tagged, Broken, Plain}
+use Rattle.pbn_pieces.specs.Pieces.{is_blank, is_space, is_tag_name_byte, is_other_than, is_escape, Tag, Piece, Comment, OpenComment, LineComment, EscapeLine, BlankLine, Quoted, Tagged, Broken, Plain}
 
 -- the bytes up to the first that fails the test, and the others
 abbrev pub split : (ℕ → Bool) → List ℕ → List ℕ × List ℕ
@@ -32,19 +32,19 @@ abbrev pub ◌>>=◌ : {A B : Type 0} → Option A → (A → Option B) → Opti
 None >>= f = None
 (Some x) >>= f = f x
 
-abbrev pub named : List ℕ → List ℕ → Option (List ℕ × List ℕ)
-named [] rest = None
-named (byte ∷ bytes) rest = Some (byte ∷ bytes, rest)
+abbrev pub nonempty_name : List ℕ → List ℕ → Option (List ℕ × List ℕ)
+nonempty_name [] rest = None
+nonempty_name (byte ∷ bytes) rest = Some (byte ∷ bytes, rest)
 
 -- a name of at least one byte
-abbrev pub name_at : List ℕ → Option (List ℕ × List ℕ)
-name_at bytes = let name = split is_name_byte bytes in named name.0 name.1
+abbrev pub tag_name_at : List ℕ → Option (List ℕ × List ℕ)
+tag_name_at bytes = let name = split is_tag_name_byte bytes in nonempty_name name.0 name.1
 
 -- the tag that stands after a `[`
 unfoldable pub tag_at : List ℕ → Option (Tag × List ℕ)
 tag_at bytes = do
   before ← Some (split is_blank bytes)
-  name ← name_at before.1
+  name ← tag_name_at before.1
   between ← Some (split is_blank name.1)
   opened ← after_byte 34 between.1
   value ← closing opened

@@ -12,12 +12,12 @@ is_blank byte = byte == 32 || (byte == 9 || (byte == 13 || byte == 10))
 abbrev pub is_space : ℕ → Bool
 is_space byte = byte == 32 || byte == 9
 
-abbrev pub is_between : ℕ → ℕ → ℕ → Bool
-is_between least most byte = nat_le least byte && nat_le byte most
+abbrev pub is_byte_between : ℕ → ℕ → ℕ → Bool
+is_byte_between least most byte = nat_le least byte && nat_le byte most
 
 -- ASCII letters, digits and `_`
-abbrev pub is_name_byte : ℕ → Bool
-is_name_byte byte = is_between 65 90 byte || (is_between 97 122 byte || (is_between 48 57 byte || byte == 95))
+abbrev pub is_tag_name_byte : ℕ → Bool
+is_tag_name_byte byte = is_byte_between 65 90 byte || (is_byte_between 97 122 byte || (is_byte_between 48 57 byte || byte == 95))
 
 abbrev pub is_other_than : ℕ → ℕ → Bool
 is_other_than end byte = not (byte == end)
@@ -65,7 +65,7 @@ tag_text tag rest = tag.before ++ (tag.name ++ (tag.between ++ 34 ∷ (tag.value
 
 pub record IsTag (tag : Tag) : Type 0 where
   pub before : Each is_blank tag.before
-  pub name : Each is_name_byte tag.name
+  pub name : Each is_tag_name_byte tag.name
   pub named : 0 < length tag.name
   pub between : Each is_blank tag.between
   pub value : IsWithinQuotes tag.value
@@ -126,16 +126,16 @@ pub record HasBlankLine (bytes : List ℕ) : Type 0 where
   pub each : Each is_space spaces
 
 -- the piece may stand here, at a line's start or within a line, before this rest
-abbrev pub Stands : Bool → Piece → List ℕ → Type 0
-Stands starting (Comment inside) rest = Each (is_other_than 125) inside
-Stands starting (OpenComment inside) rest = Each (is_other_than 125) inside × (rest ≡ [])
-Stands starting (LineComment inside) rest = Each (is_other_than 10) inside × AtLineEnd rest
-Stands starting (EscapeLine inside) rest = (starting ≡ true) × Each (is_other_than 10) inside × AtLineEnd rest
-Stands starting (BlankLine spaces return) rest = (starting ≡ true) × Each is_space spaces
-Stands starting (Quoted within) rest = IsWithinQuotes within
-Stands starting (Tagged tag) rest = IsTag tag
-Stands starting (Broken after) rest = (rest ≡ []) × ¬ HasTag after
-Stands starting (Plain byte) rest =
+abbrev pub MayStand : Bool → Piece → List ℕ → Type 0
+MayStand starting (Comment inside) rest = Each (is_other_than 125) inside
+MayStand starting (OpenComment inside) rest = Each (is_other_than 125) inside × (rest ≡ [])
+MayStand starting (LineComment inside) rest = Each (is_other_than 10) inside × AtLineEnd rest
+MayStand starting (EscapeLine inside) rest = (starting ≡ true) × Each (is_other_than 10) inside × AtLineEnd rest
+MayStand starting (BlankLine spaces return) rest = (starting ≡ true) × Each is_space spaces
+MayStand starting (Quoted within) rest = IsWithinQuotes within
+MayStand starting (Tagged tag) rest = IsTag tag
+MayStand starting (Broken after) rest = (rest ≡ []) × ¬ HasTag after
+MayStand starting (Plain byte) rest =
     (byte ≢ 123) × (byte ≢ 59) × (byte ≢ 91) × (byte ≡ 34 → ¬ Quotes rest) ×
     (starting ≡ true → (byte ≢ 37) × ¬ HasBlankLine (byte ∷ rest))
 
@@ -155,7 +155,7 @@ starts_line (Plain byte) = byte == 10
 abbrev pub Joins : Bool → List Piece → List ℕ → Type 0
 Joins starting [] text = text ≡ []
 Joins starting (piece ∷ pieces) text =
-    (rest : List ℕ) × (text ≡ spelled piece rest) × Stands starting piece rest × Joins (starts_line piece) pieces rest
+    (rest : List ℕ) × (text ≡ spelled piece rest) × MayStand starting piece rest × Joins (starts_line piece) pieces rest
 
 -- the pieces of a text are this one and those of the rest
 abbrev pub Begins : List Piece → Piece → List ℕ → Type 0

@@ -10,7 +10,7 @@ use crate::tag_text::{after_byte, quoted, tag};
 
 /// What a reader is told of a piece.
 #[derive(Clone, Copy)]
-pub enum Found<'t> {
+pub enum NextPiece<'t> {
     /// A tag's name and value, as written: `\"` is not yet read as `"`.
     Tag { name: &'t [u8], value: &'t [u8] },
     /// A line of nothing but blanks.
@@ -21,15 +21,15 @@ pub enum Found<'t> {
     Skipped(bool),
 }
 
-impl Found<'_> {
+impl NextPiece<'_> {
     /// Whether a line starts after it.
     pub(crate) fn ends_line(&self) -> bool
         ensures { (piece : Piece) → Shows self.now piece → starts_line piece ≡ result }
     {
         match self {
-            Found::BlankLine => true,
-            Found::Skipped(ends) => *ends,
-            Found::Tag { .. } | Found::BadTag => false,
+            NextPiece::BlankLine => true,
+            NextPiece::Skipped(ends) => *ends,
+            NextPiece::Tag { .. } | NextPiece::BadTag => false,
         }
     }
 }
@@ -42,7 +42,7 @@ pub(crate) fn next_piece<'t>(
     text: &'t [u8],
     starting: bool,
     unclosed: &mut usize,
-) -> Option<(Found<'t>, &'t [u8])>
+) -> Option<(NextPiece<'t>, &'t [u8])>
     requires { NoneCloses text.now unclosed.old }
     ensures piece { IfSome result (λ found. Cuts starting text.now found.0 found.1.now) }
     ensures none { IfNone result (text.now ≡ []) }
@@ -54,7 +54,7 @@ pub(crate) fn next_piece<'t>(
     };
     if starting {
         if let Some(rest) = blank_line(text) {
-            return Some((Found::BlankLine, rest));
+            return Some((NextPiece::BlankLine, rest));
         }
     }
     Some(piece_from(starting, first, after, unclosed))
@@ -67,36 +67,36 @@ fn piece_from<'t>(
     first: u8,
     after: &'t [u8],
     unclosed: &mut usize,
-) -> (Found<'t>, &'t [u8])
+) -> (NextPiece<'t>, &'t [u8])
     requires { NoneCloses (first ∷ after.now) unclosed.old }
     ensures piece { CutsAt starting first after.now result.0 result.1.now }
     ensures unclosed { NoneCloses (first ∷ after.now) unclosed.new }
 {
     if first == b'{' {
-        return (Found::Skipped(false), after_comment(after));
+        return (NextPiece::Skipped(false), after_comment(after));
     }
     if first == b';' {
-        return (Found::Skipped(false), after_line(after));
+        return (NextPiece::Skipped(false), after_line(after));
     }
     if first == b'%' && starting {
-        return (Found::Skipped(false), after_line(after));
+        return (NextPiece::Skipped(false), after_line(after));
     }
     if first == b'"' {
-        return (Found::Skipped(false), after_quoted(after, unclosed));
+        return (NextPiece::Skipped(false), after_quoted(after, unclosed));
     }
     if first == b'[' {
         return tag_from(after);
     }
-    (Found::Skipped(first == b'\n'), after)
+    (NextPiece::Skipped(first == b'\n'), after)
 }
 
-fn tag_from(after: &[u8]) -> (Found<'_>, &[u8])
+fn tag_from(after: &[u8]) -> (NextPiece<'_>, &[u8])
     ensures { (piece : Piece) × (cutting.tagged_at after.now (cutting.tag_at after.now) ≡ (piece, result.1.now))
         × Shows result.0 piece }
 {
     match tag(after) {
-        Some((name, value, rest)) => (Found::Tag { name, value }, rest),
-        None => (Found::BadTag, &[]),
+        Some((name, value, rest)) => (NextPiece::Tag { name, value }, rest),
+        None => (NextPiece::BadTag, &[]),
     }
 }
 

@@ -1,7 +1,7 @@
 ghost use Rattle.std.specs.Prelude.{◌≡◌, [], true, length, IfSome, IfNone};
 ghost use Rattle.pbn_pieces.specs.Told.{Takes};
 
-use crate::piece::{Found, next_piece};
+use crate::piece::{NextPiece, next_piece};
 use std::marker::Model;
 
 /// A text that is cut into pieces, from its front.
@@ -44,7 +44,7 @@ impl<'t> Pieces<'t> {
     }
 
     /// Takes the first piece off, if any byte is left.
-    pub fn next_piece(&mut self) -> Option<Found<'t>>
+    pub fn next_piece(&mut self) -> Option<NextPiece<'t>>
         ensures piece { IfSome result (λ found. Takes self.old found self.new) }
         ensures none { IfNone result (self.old.rest ≡ []) }
     {

@@ -1,7 +1,7 @@
 //! What stands at the front of a text.
 
 ghost use Rattle.std.specs.Prelude.{◌≡◌};
-ghost use Rattle.pbn_pieces.specs.Kinds.{passes};
+ghost use Rattle.pbn_pieces.specs.Kinds.{is_of_kind};
 ghost use Rattle.pbn_pieces.specs.Cutting.{split};
 
 /// Bytes of one kind.
@@ -19,7 +19,7 @@ pub(crate) enum Kind {
 
 impl Kind {
     fn has(self, byte: u8) -> bool
-        ensures { result ≡ passes self byte }
+        ensures { result ≡ is_of_kind self byte }
     {
         match self {
             Kind::Blanks => matches!(byte, b' ' | b'\t' | b'\r' | b'\n'),
@@ -32,7 +32,7 @@ impl Kind {
 
 /// The bytes of a kind at the front, and the rest.
 pub(crate) fn split_off(kind: Kind, bytes: &[u8]) -> (&[u8], &[u8])
-    ensures { (result.0.now, result.1.now) ≡ split (passes kind) bytes.now }
+    ensures { (result.0.now, result.1.now) ≡ split (is_of_kind kind) bytes.now }
 {
     for (i, byte) in bytes.iter().enumerate() {
         if !kind.has(*byte) {

@@ -61,7 +61,7 @@ pub(crate) fn tag(bytes: &[u8]) -> Option<(&[u8], &[u8], &[u8])>
 }
 
 fn name(bytes: &[u8]) -> Option<(&[u8], &[u8])>
-    ensures { MatchOption result (cutting.name_at bytes.now ≡ None) (λ found. cutting.name_at bytes.now ≡
+    ensures { MatchOption result (cutting.tag_name_at bytes.now ≡ None) (λ found. cutting.tag_name_at bytes.now ≡
         Some (found.0.now, found.1.now)) }
 {
     let (name, rest) = split_off(Kind::NameBytes, bytes);

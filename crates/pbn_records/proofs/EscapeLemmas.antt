@@ -6,7 +6,7 @@ use Rattle.std.proofs.lemmas.Bool.{true≢false, cases_Bool, and_parts}
 use Rattle.pbn_pieces.specs.Pieces.{is_escape}
 use Rattle.pbn_records.specs.Values.{read_value, is_inherited_form}
 use Rattle.pbn_records.specs.MarkValue.{is_open}
-use Rattle.pbn_records.specs.Boards.{is_digit, are_digits, number_of, board_number}
+use Rattle.pbn_records.specs.Boards.{is_digit, are_digits, decimal_number, board_number}
 
 -- neither `"` nor `\`
 abbrev pub is_free : ℕ → Bool
@@ -105,7 +105,7 @@ same_number boards written = by_case (same_or_neither written)
     none : (value : List ℕ) → are_free value ≡ false → board_number boards value ≡ None
     none value e =
         let digits : are_digits value ≡ false = elim (cases_Bool (are_digits value)) [ inl is ↦ absurd (true≢false (sym (digits_are_free value is) ∙ e)) | inr isnt ↦ isnt ] in
-        ap (λ (b : Bool). if b && (nat_le 1 (number_of value) && nat_le (number_of value) boards) then Some (number_of value) else None) digits
+        ap (λ (b : Bool). if b && (nat_le 1 (decimal_number value) && nat_le (decimal_number value) boards) then Some (decimal_number value) else None) digits
 
     by_case : IsSameOrNeither written → board_number boards (read_value written) ≡ board_number boards written
     by_case (inl same) = ap (board_number boards) same

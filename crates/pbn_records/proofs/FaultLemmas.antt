@@ -15,9 +15,9 @@ use Rattle.pbn_records.specs.declared.fault.Fault.TheVariants.{BadTag, BadDeal, 
 use Rattle.pbn_records.specs.Tags.{Valued}
 use Rattle.pbn_records.specs.Values.{Values, read_value, is_inherited_form}
 use Rattle.pbn_records.specs.DealValue.{IsDealValue, IsHiddenValue}
-use Rattle.pbn_records.specs.Boards.{HasDeal, board_of, is_there, number_in}
+use Rattle.pbn_records.specs.Boards.{HasDeal, game_board, is_there, number_in}
 use Rattle.pbn_records.specs.declared.tag_at.TagAt.{TagAt}
-use Rattle.pbn_records.specs.Shown.{shown, as_read}
+use Rattle.pbn_records.specs.Shown.{as_written, as_read}
 use Rattle.pbn_records.specs.Faults.{IsConflict, DealFault, BoardFault, FaultAtTag}
 use Rattle.pbn_records.specs.Kept.{IsOther, KnowsDeal, Finds, earlier_of, HasTagFault, HasBadDealer, HasBadVulnerable}
 use Rattle.pbn_records.proofs.EscapeLemmas.{same_form}
@@ -210,17 +210,17 @@ vulnerable_fault number None bad = absurd bad
 vulnerable_fault number (Some tag) bad = fault_at number used.Vulnerable tag BadMark (refl, refl, bad)
 
 pub bad_deal_fault : (number : ℕ) (tag : Option TagAt) (offset : ℕ) (written : List ℕ) (fault : Fault) →
-    as_read (shown tag) ≡ Some (record { offset = offset; value = read_value written }) → DealFault None written fault →
-    HasSomeFault number used.Deal (as_read (shown tag))
+    as_read (as_written tag) ≡ Some (record { offset = offset; value = read_value written }) → DealFault None written fault →
+    HasSomeFault number used.Deal (as_read (as_written tag))
 bad_deal_fault number tag offset written fault is bad =
     subst (HasSomeFault number used.Deal) (sym is)
     (fault_at number used.Deal (record { offset = offset; value = read_value written }) fault (deal_fault_read written None fault bad))
 
-pub no_deal_no_board : (boards number : ℕ) (values : Values) → values used.Deal ≡ None → board_of boards values ≡ Some number → ⊥
+pub no_deal_no_board : (boards number : ℕ) (values : Values) → values used.Deal ≡ None → game_board boards values ≡ Some number → ⊥
 no_deal_no_board boards number values none e =
     some_some number (sym e ∙ ap (λ tag. if is_there tag then number_in boards (values used.Board) else None) none)
 
 pub has_deal_read : (deal : Hands) (tag : Option TagAt) (offset : ℕ) (written : List ℕ) →
-    as_read (shown tag) ≡ Some (record { offset = offset; value = read_value written }) → IsDealValue deal written → HasDeal (as_read (shown tag)) deal
+    as_read (as_written tag) ≡ Some (record { offset = offset; value = read_value written }) → IsDealValue deal written → HasDeal (as_read (as_written tag)) deal
 has_deal_read deal tag offset written is deals =
     subst (λ tag. HasDeal tag deal) (sym is) ((same_deal deal written).0 deals)

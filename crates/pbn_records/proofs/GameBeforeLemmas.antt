@@ -15,11 +15,11 @@ use Rattle.pbn_records.specs.declared.used.Used.TheVariants as used_tag
 use Rattle.pbn_records.specs.Tags.{Placed, Valued, tag_in, without_mark}
 use Rattle.pbn_records.specs.Values.{Values, no_values, values_of, all_values, valued, inherited, read_value, is_inherited_form}
 use Rattle.pbn_records.specs.MarkValue.{ReadsDealer, ReadsVulnerable}
-use Rattle.pbn_records.specs.Boards.{is_there, number_in, is_board, board_of, first_game, HasDeal, IsRead}
+use Rattle.pbn_records.specs.Boards.{is_there, number_in, is_this_board, game_board, first_game, HasDeal, IsRead}
 use Rattle.pbn_records.specs.declared.fault.Fault.TheVariants.{InheritedForm}
-use Rattle.pbn_records.specs.Faults.{FaultAtTag, first_of, HasFault}
+use Rattle.pbn_records.specs.Faults.{FaultAtTag, first_game_if_any, HasFault}
 use Rattle.pbn_records.specs.Reads.{start_of, values_from}
-use Rattle.pbn_records.specs.GameBefore.{values_at, values_before, IsWritten, HasHash, IsFirstOf, IsReadAt}
+use Rattle.pbn_records.specs.GameBefore.{values_at, values_before, IsTagAsWritten, HasHash, IsFirstOf, IsReadAt}
 
 -- the values in the game before, where these are the values before the first
 ahead : Values → List (List Placed) → ℕ → Values
@@ -47,7 +47,7 @@ unfolding ahead
 ahead_is_before games zero = refl
 ahead_is_before games (suc index) = refl
 
-at_written : (games : List (List Placed)) (index : ℕ) (used : Used) (tag : Option Valued) → IsWritten games index used tag →
+at_written : (games : List (List Placed)) (index : ℕ) (used : Used) (tag : Option Valued) → IsTagAsWritten games index used tag →
     values_at games index used ≡ valued (values_before games index used) tag
 at_written games index used tag is =
     ap (λ (values : Values). values used) (stepped no_values games index is.game is.there)
@@ -59,11 +59,11 @@ at_hash : (games : List (List Placed)) (index offset : ℕ) (used : Used) → Ha
     values_at games index used ≡ inherited offset (values_before games index used)
 at_hash games index offset used has = at_written games index used _ has
 
-pub at_none : (games : List (List Placed)) (index : ℕ) (used : Used) → IsWritten games index used None → values_at games index used ≡ None
+pub at_none : (games : List (List Placed)) (index : ℕ) (used : Used) → IsTagAsWritten games index used None → values_at games index used ≡ None
 at_none games index used is = at_written games index used None is
 
 -- any other value
-pub at_other : (games : List (List Placed)) (index : ℕ) (used : Used) (tag : Valued) → IsWritten games index used (Some tag) → tag.value ≢ codes "#" →
+pub at_other : (games : List (List Placed)) (index : ℕ) (used : Used) (tag : Valued) → IsTagAsWritten games index used (Some tag) → tag.value ≢ codes "#" →
     values_at games index used ≡ Some (record { offset = tag.offset; value = read_value tag.value })
 at_other games index used tag is other =
     at_written games index used (Some tag) is ∙ ap (λ hash. if hash then inherited tag.offset (values_before games index used)
@@ -123,7 +123,7 @@ pub alone : (used : Used) (some others : List (List Placed)) (index : ℕ) → m
 alone used some others index same = alone_from used no_values no_values some others index refl same
 
 -- a board's first game
-isnt : (board : ℕ) (found : Option ℕ) → found ≢ Some board → is_board board found ≡ false
+isnt : (board : ℕ) (found : Option ℕ) → found ≢ Some board → is_this_board board found ≡ false
 isnt board None apart = refl
 isnt board (Some other) apart = elim (cases_Bool (nat_eq other board)) [
   | inl same ↦ absurd (apart (ap (λ (n : ℕ). Some n) (eqb-true other board same)))
@@ -141,9 +141,9 @@ found_at test (values ∷ xs) (suc index) none is others =
 first_is : (boards number : ℕ) (games : List (List Placed)) (index : ℕ) → IsFirstOf boards number games index →
     first_game boards number (all_values no_values games) ≡ Some (values_at games index)
 first_is boards number games index first =
-    found_at (λ values. is_board number (board_of boards values)) (all_values no_values games) index refl
-    (ap (is_board number) first.is ∙ eq-eqb number number refl)
-    (λ other before. isnt number (board_of boards (values_at games other)) (first.first other before))
+    found_at (λ values. is_this_board number (game_board boards values)) (all_values no_values games) index refl
+    (ap (is_this_board number) first.is ∙ eq-eqb number number refl)
+    (λ other before. isnt number (game_board boards (values_at games other)) (first.first other before))
 
 -- a board is what its first game says of it
 read_at : (text : List ℕ) (boards number index : ℕ) (board : Board) (games : List (List Placed)) → IsReadAt text boards number board games index →
@@ -212,7 +212,7 @@ form_fault boards before (game ∷ games) zero values used tag there is form =
     inl (
       used,
       subst
-          (λ found. FaultAtTag (board_of boards game) (first_of boards before (board_of boards game)) used found InheritedForm tag.offset)
+          (λ found. FaultAtTag (game_board boards game) (first_game_if_any boards before (game_board boards game)) used found InheritedForm tag.offset)
           (sym (ap (λ (values : Values). values used) (some_same game values there) ∙ is))
           (refl, ((λ e. refl), (λ plain. absurd (true≢false (sym form ∙ plain))))),
     )

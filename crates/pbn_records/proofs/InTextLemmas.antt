@@ -4,9 +4,9 @@ use Rattle.std.specs.Prelude.{Option, Some, None, ◌==◌, ◌&&◌, if◌then�
 use Rattle.std.specs.Option.{is_some, option_or}
 use Rattle.std.specs.List.{AllByRecursion}
 use Rattle.std.proofs.lemmas.Bool.{true≢false, cond_both}
-use Rattle.pbn_pieces.specs.Pieces.{Piece, Comment, OpenComment, LineComment, EscapeLine, BlankLine, Quoted, Tagged, Broken, Plain, spelled, size, Stands, Joins}
-use Rattle.pbn_pieces.specs.declared.piece.Found.{Found}
-use Rattle.pbn_pieces.specs.declared.piece.Found.TheVariants as found
+use Rattle.pbn_pieces.specs.Pieces.{Piece, Comment, OpenComment, LineComment, EscapeLine, BlankLine, Quoted, Tagged, Broken, Plain, spelled, size, MayStand, Joins}
+use Rattle.pbn_pieces.specs.declared.piece.NextPiece.{NextPiece}
+use Rattle.pbn_pieces.specs.declared.piece.NextPiece.TheVariants as found
 use Rattle.pbn_pieces.specs.Told.{IsSkipped, Shows, Uncut, Takes}
 use Rattle.pbn_pieces.proofs.CutLemmas.{some_same}
 use Rattle.pbn_pieces.proofs.ExistenceLemmas.{cut_each}
@@ -19,8 +19,8 @@ use Rattle.pbn_records.specs.Tags.{without_mark, Placed, Mark, Named, Break, mar
 use Rattle.pbn_records.specs.Values.{Values, no_values, values_of, all_values}
 use Rattle.pbn_records.specs.Faults.{HasFault}
 use Rattle.pbn_records.specs.Reads.{start_of, values_from, ArePieces, IsFirstFault, IsRefused}
-use Rattle.pbn_records.specs.Kept.{Walk, ended_walk, end_of, add_to, step, all_games, error_of, Knows}
-use Rattle.pbn_records.specs.At.{IsAt, walk_on, EndsInFault, EndsInBadTag}
+use Rattle.pbn_records.specs.Kept.{Walk, ended_walk, end_of, add_to, after_mark, all_games, error_of, Knows}
+use Rattle.pbn_records.specs.At.{IsStateAfter, walk_on, EndsInFault, EndsInBadTag}
 use Rattle.pbn_records.specs.InText.{IsInText, StandsInText, HasRead}
 use Rattle.pbn_records.proofs.RisingLemmas.{Stand, ValuesStand, values_stand, fault_stands, faults_stand, games_high, bad_from_here, has_fault, fault_among}
 use Rattle.pbn_records.proofs.StateLemmas.{ended_game}
@@ -44,7 +44,7 @@ break_step walk marks =
     ends_all walk (games_from [] marks)
     ∙ ap (λ game. (end_of walk).done ++ all_values (end_of walk).before (games_from game marks)) (sym (end_game_none walk))
 
-tag_step : (walk : Walk) (tag : Placed) (marks : List Mark) → all_games walk (Named tag ∷ marks) ≡ all_games (step walk (Named tag)) marks
+tag_step : (walk : Walk) (tag : Placed) (marks : List Mark) → all_games walk (Named tag ∷ marks) ≡ all_games (after_mark walk (Named tag)) marks
 tag_step walk tag marks = by_case (has_already walk.game (used_of tag.name))
   where
     by_case : (b : Bool) →
@@ -66,7 +66,7 @@ skipped_marks offset (Tagged tag) is = absurd is
 skipped_marks offset (Broken after) is = absurd is
 skipped_marks offset (Plain byte) is = (refl, refl)
 
-marks_told : (walk : Walk) (offset : ℕ) (seen : Found) (piece : Piece) (marks : List Mark) → Shows seen piece → seen ≢ found.BadTag →
+marks_told : (walk : Walk) (offset : ℕ) (seen : NextPiece) (piece : Piece) (marks : List Mark) → Shows seen piece → seen ≢ found.BadTag →
     (all_games walk (mark_of offset piece ++ marks) ≡ all_games (walk_on walk offset seen) marks) × (bad_at offset piece ≡ None)
 marks_told walk offset (found.Tag name value) piece marks shows good = (
   ap (λ p. all_games walk (mark_of offset p ++ marks)) shows.1
@@ -92,7 +92,7 @@ stand_one_more next (first ∷ game) tag all is = (all.0, stand_one_more next ga
 end_stands : (P : ℕ → Type 0) (walk : Walk) → Stand P (end_of walk).game
 end_stands P walk = subst (Stand P) (sym (end_game_none walk)) tt
 
-walk_stands : (here next : ℕ) (walk : Walk) (seen : Found) → here < next → Stand (λ n. n < here) walk.game → Stand (λ n. n < next) (walk_on walk here seen).game
+walk_stands : (here next : ℕ) (walk : Walk) (seen : NextPiece) → here < next → Stand (λ n. n < here) walk.game → Stand (λ n. n < next) (walk_on walk here seen).game
 walk_stands here next walk (found.Tag name value) lt all =
     let tag : Placed = record { offset = here; name = name.now; value = value.now } in
     cond_both (has_already walk.game (used_of name.now)) (add_to (end_of walk) tag) (add_to walk tag) (λ (w : Walk). Stand (λ n. n < next) w.game)
@@ -103,11 +103,11 @@ walk_stands here next walk found.BadTag lt all = end_stands (λ n. n < next) wal
 walk_stands here next walk (found.Skipped ends) lt all = stand_on here next walk.game (omega (arith, lt)) all
 
 -- how long a piece is
-piece_long : (old new : Uncut) (seen : Found) → (takes : Takes old seen new) → length old.rest ≡ size takes.cuts.piece + length new.rest
+piece_long : (old new : Uncut) (seen : NextPiece) → (takes : Takes old seen new) → length old.rest ≡ size takes.cuts.piece + length new.rest
 piece_long old new seen takes =
     ap length (takes.cuts.joined ∙ spelled_front takes.cuts.piece new.rest) ∙ length-append (spelled takes.cuts.piece []) new.rest
 
-pub shrinks : (old new : Uncut) (seen : Found) → Takes old seen new → length new.rest < length old.rest
+pub shrinks : (old new : Uncut) (seen : NextPiece) → Takes old seen new → length new.rest < length old.rest
 shrinks old new seen takes = let long = piece_long old new seen takes in let some = has_bytes takes.cuts.piece in omega (arith, long, some)
 
 marked_within : (text : List ℕ) → length (without_mark text) ≤ length text
@@ -121,12 +121,12 @@ pub starts_in : (text : List ℕ) → IsInText text (record { starting = true; r
 starts_in text = record { within = marked_within text; below = tt; whole = λ more joins. (more, joins, refl, refl) }
 
 -- one piece more
-joins_more : (old new : Uncut) (seen : Found) (more : List Piece) → (takes : Takes old seen new) → Joins new.starting more new.rest →
+joins_more : (old new : Uncut) (seen : NextPiece) (more : List Piece) → (takes : Takes old seen new) → Joins new.starting more new.rest →
     Joins old.starting (takes.cuts.piece ∷ more) old.rest
 joins_more old new seen more takes joins =
     (new.rest, takes.cuts.joined, takes.cuts.stands, subst (λ b. Joins b more new.rest) takes.starts joins)
 
-pub steps_in : (text : List ℕ) (old new : Uncut) (walk : Walk) (seen : Found) → IsInText text old walk → Takes old seen new → seen ≢ found.BadTag →
+pub steps_in : (text : List ℕ) (old new : Uncut) (walk : Walk) (seen : NextPiece) → IsInText text old walk → Takes old seen new → seen ≢ found.BadTag →
     IsInText text new (walk_on walk (length text - length old.rest) seen)
 steps_in text old new walk seen at takes good =
     let here = length text - length old.rest in
@@ -188,7 +188,7 @@ refused_by text boards here walk next error all more pieces games high bad below
 no_end : (done : List Values) (values : Values) → done ≡ done ++ values ∷ [] → ⊥
 no_end done values e = let long = ap length e ∙ length-append done (values ∷ []) in omega (arith, long)
 
-next_high : (here : ℕ) (walk : Walk) (seen : Found) → (walk_on walk here seen).done ≡ walk.done ++ values_of walk.before walk.game ∷ [] →
+next_high : (here : ℕ) (walk : Walk) (seen : NextPiece) → (walk_on walk here seen).done ≡ walk.done ++ values_of walk.before walk.game ∷ [] →
     Stand (λ n. here ≤ n) (walk_on walk here seen).game
 next_high here walk (found.Tag name value) same =
     let tag : Placed = record { offset = here; name = name.now; value = value.now } in
@@ -213,8 +213,8 @@ ends_here text uncut walk at none =
     let all = at.whole [] none in
     record { all = all.0; pieces = all.1; games = all.2 ∙ ends_all walk []; bad_so = all.3 }
 
-broken_ends : (here : ℕ) (starting : Bool) (piece : Piece) (after rest : List ℕ) → piece ≡ Broken after → Stands starting piece rest → rest ≡ []
-broken_ends here starting piece after rest is stands = (subst (λ p. Stands starting p rest) is stands).0
+broken_ends : (here : ℕ) (starting : Bool) (piece : Piece) (after rest : List ℕ) → piece ≡ Broken after → MayStand starting piece rest → rest ≡ []
+broken_ends here starting piece after rest is stands = (subst (λ p. MayStand starting p rest) is stands).0
 
 bad_here : (text : List ℕ) (old new : Uncut) (walk : Walk) → IsInText text old walk → Takes old found.BadTag new →
     EndsHere text walk (Some (length text - length old.rest))
@@ -239,7 +239,7 @@ refused_ending text boards here walk error bad ends high below faultless fault =
     (λ place e. high place (sym ends.bad_so ∙ e)) below faultless fault
 
 -- a game's fault is the first of the text
-refused_good : (text : List ℕ) (boards : ℕ) (old new : Uncut) (walk : Walk) (seen : Found) (error : DealsError) → IsInText text old walk → Takes old seen new →
+refused_good : (text : List ℕ) (boards : ℕ) (old new : Uncut) (walk : Walk) (seen : NextPiece) (error : DealsError) → IsInText text old walk → Takes old seen new →
     seen ≢ found.BadTag → ((fault : Fault) (offset : ℕ) → ¬ HasFault boards [] walk.done fault offset) →
     EndsInFault boards walk (walk_on walk (length text - length old.rest) seen) error → IsRefused error text boards
 refused_good text boards old new walk seen error at takes good faultless ends =
@@ -254,13 +254,13 @@ refused_good text boards old new walk seen error at takes good faultless ends =
     (λ place e. let after = bad_from_here (length text - length new.rest) more.0 place (sym all.3 ∙ e) in omega (arith, after, later))
     at.below faultless ends
 
-is_bad : Found → Bool
+is_bad : NextPiece → Bool
 is_bad (found.Tag name value) = false
 is_bad found.BlankLine = false
 is_bad found.BadTag = true
 is_bad (found.Skipped ends) = false
 
-refused_fault : (text : List ℕ) (boards : ℕ) (old new : Uncut) (walk : Walk) (seen : Found) (error : DealsError) → IsInText text old walk → Takes old seen new →
+refused_fault : (text : List ℕ) (boards : ℕ) (old new : Uncut) (walk : Walk) (seen : NextPiece) (error : DealsError) → IsInText text old walk → Takes old seen new →
     ((fault : Fault) (offset : ℕ) → ¬ HasFault boards [] walk.done fault offset) →
     EndsInFault boards walk (walk_on walk (length text - length old.rest) seen) error → IsRefused error text boards
 unfolding is_bad
@@ -274,7 +274,7 @@ refused_fault text boards old new walk found.BadTag error at takes faultless end
 refused_fault text boards old new walk (found.Skipped more) error at takes faultless ends =
     refused_good text boards old new walk (found.Skipped more) error at takes (λ e. true≢false (sym (ap is_bad e))) faultless ends
 
-refused_bad : (text : List ℕ) (boards : ℕ) (old new : Uncut) (walk : Walk) (seen : Found) (error : DealsError) → IsInText text old walk → Takes old seen new →
+refused_bad : (text : List ℕ) (boards : ℕ) (old new : Uncut) (walk : Walk) (seen : NextPiece) (error : DealsError) → IsInText text old walk → Takes old seen new →
     EndsInBadTag boards walk seen (length text - length old.rest) error → IsRefused error text boards
 refused_bad text boards old new walk seen error at takes ends =
     let here = length text - length old.rest in
@@ -290,7 +290,7 @@ refused_bad text boards old new walk seen error at takes ends =
       ];
     })
 
-pub refused_taken : (text : List ℕ) (boards offset : ℕ) (old new : Uncut) (state : State) (seen : Found) (error : DealsError) →
+pub refused_taken : (text : List ℕ) (boards offset : ℕ) (old new : Uncut) (state : State) (seen : NextPiece) (error : DealsError) →
     (stands : StandsInText text old boards state) → offset ≡ length text - length old.rest → Takes old seen new →
     EndsInFault state.boards stands.walk (walk_on stands.walk offset seen) error ⊎ EndsInBadTag state.boards stands.walk seen offset error →
     IsRefused error text boards
@@ -311,7 +311,7 @@ refused_at_end text boards uncut state error stands none ends =
     (λ place e. absurd (true≢false (ap is_some (sym e)))) stands.in_text.below stands.at.faultless ends)
 
 pub reads_all : (text : List ℕ) (boards : ℕ) (uncut : Uncut) (old new : State) → (stands : StandsInText text uncut boards old) → uncut.rest ≡ [] →
-    new.boards ≡ old.boards → IsAt new (end_of stands.walk) → HasRead text boards new
+    new.boards ≡ old.boards → IsStateAfter new (end_of stands.walk) → HasRead text boards new
 reads_all text boards uncut old new stands none same at =
     let ends = ends_here text uncut stands.walk stands.in_text none in
     let games = ends.games ∙ append-nil (end_of stands.walk).done in
@@ -325,12 +325,12 @@ reads_all text boards uncut old new stands none same at =
       known = subst (λ (games : List Values). Knows new.boards games new.known) (sym games) at.known;
     })
 
-pub stands_on : (text : List ℕ) (boards offset : ℕ) (old new : Uncut) (before after : State) (seen : Found) → (stands : StandsInText text old boards before) →
+pub stands_on : (text : List ℕ) (boards offset : ℕ) (old new : Uncut) (before after : State) (seen : NextPiece) → (stands : StandsInText text old boards before) →
     offset ≡ length text - length old.rest → Takes old seen new → seen ≢ found.BadTag → after.boards ≡ before.boards →
-    ((walk : Walk) → IsAt before walk → IsAt after (walk_on walk offset seen)) → StandsInText text new boards after
+    ((walk : Walk) → IsStateAfter before walk → IsStateAfter after (walk_on walk offset seen)) → StandsInText text new boards after
 stands_on text boards offset old new before after seen stands place takes good same on = record {
   walk = walk_on stands.walk (length text - length old.rest) seen;
   same = same ∙ stands.same;
-  at = subst (λ n. IsAt after (walk_on stands.walk n seen)) place (on stands.walk stands.at);
+  at = subst (λ n. IsStateAfter after (walk_on stands.walk n seen)) place (on stands.walk stands.at);
   in_text = steps_in text old new stands.walk seen stands.in_text takes good;
 }

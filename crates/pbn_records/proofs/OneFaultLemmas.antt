@@ -18,11 +18,11 @@ use Rattle.pbn_records.specs.declared.used.Used.{Used}
 use Rattle.pbn_records.specs.declared.used.Used.TheVariants as used
 use Rattle.pbn_records.specs.declared.fault.Fault.{Fault}
 use Rattle.pbn_records.specs.declared.fault.Fault.TheVariants as kind
-use Rattle.pbn_records.specs.Tags.{Placed, Valued, Mark, Named, Break, mark_of, marks_from, bad_at, bad_from, name_of, used_of, tag_in, has_already, ended, games_from}
+use Rattle.pbn_records.specs.Tags.{Placed, Valued, Mark, Named, Break, mark_of, marks_from, bad_at, bad_from, tag_name, used_of, tag_in, has_already, ended, games_from}
 use Rattle.pbn_records.specs.Values.{Values, inherited, read_value, valued, values_of, all_values, is_inherited_form}
 use Rattle.pbn_records.specs.DealValue.{IsDealValue, IsHiddenValue}
-use Rattle.pbn_records.specs.Boards.{board_of}
-use Rattle.pbn_records.specs.Faults.{DealFault, BoardFault, FaultAtTag, first_of, IsFaultOf, HasFault}
+use Rattle.pbn_records.specs.Boards.{game_board}
+use Rattle.pbn_records.specs.Faults.{DealFault, BoardFault, FaultAtTag, first_game_if_any, IsFaultOf, HasFault}
 use Rattle.pbn_records.specs.Reads.{values_from, IsFault}
 use Rattle.pbn_records.proofs.DealValueLemmas.{hand_has}
 use Rattle.pbn_records.proofs.PartsLemmas.{not_hidden}
@@ -118,7 +118,7 @@ apart_more (first ∷ game) tag below apart = (stand_one_more game apart.0, apar
     stand_one_more [] all = (below.0, tt)
     stand_one_more (other ∷ game) all = (all.0, stand_one_more game all.1)
 
-one_used : (name : List ℕ) (one other : Used) → bytes_eq name (name_of one) ≡ true → bytes_eq name (name_of other) ≡ true → one ≡ other
+one_used : (name : List ℕ) (one other : Used) → bytes_eq name (tag_name one) ≡ true → bytes_eq name (tag_name other) ≡ true → one ≡ other
 one_used name one other a b = some_same one other (sym (used_by_name name one a) ∙ used_by_name name other b)
 
 at_or_past : (used : Used) (game : List Placed) (least : ℕ) (found : Valued) → Stand (λ n. least < n) game → tag_in used game ≡ Some found → least < found.offset
@@ -130,14 +130,14 @@ two_places : (one other : Used) (game : List Placed) (a b : Valued) → Apart ga
 unfolding Apart
 two_places one other [] a b apart at_a at_b same = absurd (true≢false (sym (ap is_some at_a)))
 two_places one other (tag ∷ game) a b apart at_a at_b same =
-    elim (cases_Bool (bytes_eq tag.name (name_of one))) [
-      | inl is ↦ elim (cases_Bool (bytes_eq tag.name (name_of other))) [
+    elim (cases_Bool (bytes_eq tag.name (tag_name one))) [
+      | inl is ↦ elim (cases_Bool (bytes_eq tag.name (tag_name other))) [
         | inl also ↦ one_used tag.name one other is also
         | inr isnt ↦
             let here = here_at one a at_a is in
             let past = at_or_past other game tag.offset b apart.0 (further other isnt ∙ at_b) in absurd (omega (arith, here, past, same))
       ]
-      | inr isnt ↦ elim (cases_Bool (bytes_eq tag.name (name_of other))) [
+      | inr isnt ↦ elim (cases_Bool (bytes_eq tag.name (tag_name other))) [
         | inl also ↦
             let here = here_at other b at_b also in
             let past = at_or_past one game tag.offset a apart.0 (further one isnt ∙ at_a) in absurd (omega (arith, here, past, same))
@@ -145,10 +145,10 @@ two_places one other (tag ∷ game) a b apart at_a at_b same =
       ]
     ]
   where
-    further : (used : Used) → bytes_eq tag.name (name_of used) ≡ false → tag_in used game ≡ tag_in used (tag ∷ game)
+    further : (used : Used) → bytes_eq tag.name (tag_name used) ≡ false → tag_in used game ≡ tag_in used (tag ∷ game)
     further used isnt = sym (ap (λ (b : Bool). if b then Some (record { offset = tag.offset; value = tag.value }) else tag_in used game) isnt)
 
-    here_at : (used : Used) (found : Valued) → tag_in used (tag ∷ game) ≡ Some found → bytes_eq tag.name (name_of used) ≡ true → tag.offset ≡ found.offset
+    here_at : (used : Used) (found : Valued) → tag_in used (tag ∷ game) ≡ Some found → bytes_eq tag.name (tag_name used) ≡ true → tag.offset ≡ found.offset
     here_at used found at is = ap (λ (v : Valued). v.offset)
         (some_same _ found (sym (ap (λ (b : Bool). if b then Some (record { offset = tag.offset; value = tag.value }) else tag_in used game) is) ∙ at))
 
@@ -178,11 +178,11 @@ one_game_fault : (boards : ℕ) (before : List Values) (values : Values) (one ot
     IsFaultOf boards before values one offset → IsFaultOf boards before values other offset → one ≡ other
 unfolding ValuesApart
 one_game_fault boards before values one other offset apart (some, a) (another, b) =
-    let x = no_bad_tag (board_of boards values) (first_of boards before (board_of boards values)) some (values some) one offset a in
-    let y = no_bad_tag (board_of boards values) (first_of boards before (board_of boards values)) another (values another) other offset b in
+    let x = no_bad_tag (game_board boards values) (first_game_if_any boards before (game_board boards values)) some (values some) one offset a in
+    let y = no_bad_tag (game_board boards values) (first_game_if_any boards before (game_board boards values)) another (values another) other offset b in
     let same = apart some another x.0 y.0 x.1 y.1 (x.2 ∙ sym y.2) in
-    one_tag_fault (board_of boards values) (first_of boards before (board_of boards values)) another (values another) one other offset
-    (subst (λ u. FaultAtTag (board_of boards values) (first_of boards before (board_of boards values)) u (values u) one offset) same a) b
+    one_tag_fault (game_board boards values) (first_game_if_any boards before (game_board boards values)) another (values another) one other offset
+    (subst (λ u. FaultAtTag (game_board boards values) (first_game_if_any boards before (game_board boards values)) u (values u) one offset) same a) b
 
 -- games one after the other
 Follow : List Values → Type 0

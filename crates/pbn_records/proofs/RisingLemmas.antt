@@ -8,10 +8,10 @@ use Rattle.pbn_pieces.specs.Pieces.{Piece, Comment, OpenComment, LineComment, Es
 use Rattle.pbn_pieces.proofs.CutLemmas.{some_same}
 use Rattle.pbn_records.specs.declared.used.Used.{Used}
 use Rattle.pbn_records.specs.declared.fault.Fault.{Fault}
-use Rattle.pbn_records.specs.Tags.{Placed, Valued, Mark, Named, Break, mark_of, marks_from, bad_at, bad_from, name_of, used_of, tag_in, has_already, ended, games_from}
+use Rattle.pbn_records.specs.Tags.{Placed, Valued, Mark, Named, Break, mark_of, marks_from, bad_at, bad_from, tag_name, used_of, tag_in, has_already, ended, games_from}
 use Rattle.pbn_records.specs.Values.{Values, read_value, inherited, valued, values_of, all_values}
-use Rattle.pbn_records.specs.Boards.{board_of}
-use Rattle.pbn_records.specs.Faults.{FaultAtTag, first_of, IsFaultOf, HasFault}
+use Rattle.pbn_records.specs.Boards.{game_board}
+use Rattle.pbn_records.specs.Faults.{FaultAtTag, first_game_if_any, IsFaultOf, HasFault}
 
 -- the tags of a game stand where this holds
 abbrev pub Stand : (ℕ → Type 0) → List Placed → Type 0
@@ -24,7 +24,7 @@ StandAt P (Some tag) = P tag.offset
 pub tag_stands : (P : ℕ → Type 0) (used : Used) (game : List Placed) → Stand P game → StandAt P (tag_in used game)
 tag_stands P used [] all = tt
 tag_stands P used (tag ∷ game) all =
-    cond_both (bytes_eq tag.name (name_of used)) (Some (record { offset = tag.offset; value = tag.value })) (tag_in used game) (StandAt P)
+    cond_both (bytes_eq tag.name (tag_name used)) (Some (record { offset = tag.offset; value = tag.value })) (tag_in used game) (StandAt P)
     (λ e. all.0) (λ e. tag_stands P used game all.1)
 
 inherited_stands : (P : ℕ → Type 0) (offset : ℕ) (before : Option Valued) → P offset → StandAt P (inherited offset before)
@@ -51,7 +51,7 @@ fault_stands_at P board first used (Some tag) fault offset is has = subst P has.
 pub fault_stands : (P : ℕ → Type 0) (boards : ℕ) (before : List Values) (values : Values) (fault : Fault) (offset : ℕ) →
     ValuesStand P values → IsFaultOf boards before values fault offset → P offset
 fault_stands P boards before values fault offset all (used, is) =
-    fault_stands_at P (board_of boards values) (first_of boards before (board_of boards values)) used (values used) fault offset (all used) is
+    fault_stands_at P (game_board boards values) (first_game_if_any boards before (game_board boards values)) used (values used) fault offset (all used) is
 
 pub faults_stand : (P : ℕ → Type 0) (boards : ℕ) (before games : List Values) (fault : Fault) (offset : ℕ) →
     AllByRecursion (ValuesStand P) games → HasFault boards before games fault offset → P offset

@@ -4,7 +4,7 @@ use Rattle.std.specs.Prelude.{ℕ, ◌+◌, ◌*◌, ◌-◌, Bool, false, not, 
 use Rattle.std.specs.List.{list_all}
 use Rattle.pbn_records.specs.declared.board.Board.{Board}
 use Rattle.cards.specs.Hands.{Hands}
-use Rattle.pbn_pieces.specs.Pieces.{is_between}
+use Rattle.pbn_pieces.specs.Pieces.{is_byte_between}
 use Rattle.pbn_records.specs.declared.used.Used.TheVariants as used
 use Rattle.pbn_records.specs.Tags.{Valued}
 use Rattle.pbn_records.specs.Values.{Values}
@@ -13,7 +13,7 @@ use Rattle.pbn_records.specs.DealValue.{IsDealValue}
 
 -- decimal digits
 abbrev pub is_digit : ℕ → Bool
-is_digit byte = is_between 48 57 byte
+is_digit byte = is_byte_between 48 57 byte
 
 -- one digit or more
 abbrev pub are_digits : List ℕ → Bool
@@ -21,14 +21,14 @@ are_digits [] = false
 are_digits (byte ∷ bytes) = list_all is_digit (byte ∷ bytes)
 
 -- the number of decimal digits, leading zeros allowed
-abbrev pub number_of : List ℕ → ℕ
-number_of digits = fold (λ number digit. 10 * number + (digit - 48)) 0 digits
+abbrev pub decimal_number : List ℕ → ℕ
+decimal_number digits = fold (λ number digit. 10 * number + (digit - 48)) 0 digits
 
 -- the number of a value, if it is that of a board
 abbrev pub board_number : ℕ → List ℕ → Option ℕ
 board_number boards value =
-    if are_digits value && (nat_le 1 (number_of value) && nat_le (number_of value) boards) then
-    Some (number_of value) else None
+    if are_digits value && (nat_le 1 (decimal_number value) && nat_le (decimal_number value) boards) then
+    Some (decimal_number value) else None
 
 -- whether a Deal says anything
 abbrev pub is_there : Option Valued → Bool
@@ -41,17 +41,17 @@ number_in boards None = None
 number_in boards (Some tag) = board_number boards tag.value
 
 -- the board of a game, unless the game is ignored
-abbrev pub board_of : ℕ → Values → Option ℕ
-board_of boards values = if is_there (values used.Deal) then number_in boards (values used.Board) else None
+abbrev pub game_board : ℕ → Values → Option ℕ
+game_board boards values = if is_there (values used.Deal) then number_in boards (values used.Board) else None
 
 -- whether this is the board
-abbrev pub is_board : ℕ → Option ℕ → Bool
-is_board board None = false
-is_board board (Some other) = other == board
+abbrev pub is_this_board : ℕ → Option ℕ → Bool
+is_this_board board None = false
+is_this_board board (Some other) = other == board
 
 -- a board's first game that isn't ignored
 abbrev pub first_game : ℕ → ℕ → List Values → Option Values
-first_game boards board games = find (λ values. is_board board (board_of boards values)) games
+first_game boards board games = find (λ values. is_this_board board (game_board boards values)) games
 
 -- the value is there, and is the deal's
 abbrev pub HasDeal : Option Valued → Hands → Type 0

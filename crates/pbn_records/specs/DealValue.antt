@@ -23,15 +23,6 @@ parts_from part (byte ∷ bytes) = if byte == 32
 abbrev pub parts : List ℕ → List (List ℕ)
 parts text = parts_from [] text
 
--- the parts, if there are four
-abbrev pub four_of : List (List ℕ) → Option (List (List ℕ))
-four_of [] = None
-four_of (a ∷ []) = None
-four_of (a ∷ b ∷ []) = None
-four_of (a ∷ b ∷ c ∷ []) = None
-four_of (a ∷ b ∷ c ∷ d ∷ []) = Some (a ∷ b ∷ c ∷ d ∷ [])
-four_of (a ∷ b ∷ c ∷ d ∷ e ∷ more) = None
-
 -- the value is a player's letter in either case, a colon, and four parts, clockwise from that player's
 pub record HasParts (value : List ℕ) (first : Place) (own left opposite right : List ℕ) : Type 0 where
   pub letter : ℕ
@@ -86,3 +77,14 @@ pub record IsHiddenValue (value : List ℕ) : Type 0 where
   pub right : List ℕ
   pub has : HasParts value first own left opposite right
   pub hidden : AreHidden own left opposite right
+
+-- ---- for private clauses
+
+-- the parts, if there are four
+abbrev pub four_of : List (List ℕ) → Option (List (List ℕ))
+four_of [] = None
+four_of (a ∷ []) = None
+four_of (a ∷ b ∷ []) = None
+four_of (a ∷ b ∷ c ∷ []) = None
+four_of (a ∷ b ∷ c ∷ d ∷ []) = Some (a ∷ b ∷ c ∷ d ∷ [])
+four_of (a ∷ b ∷ c ∷ d ∷ e ∷ more) = None

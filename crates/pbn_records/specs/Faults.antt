@@ -9,7 +9,7 @@ use Rattle.pbn_records.specs.Tags.{Valued}
 use Rattle.pbn_records.specs.Values.{Values, is_inherited_form}
 use Rattle.pbn_records.specs.MarkValue.{IsBadDealer, IsBadVulnerable}
 use Rattle.pbn_records.specs.DealValue.{IsDealValue, IsHiddenValue}
-use Rattle.pbn_records.specs.Boards.{board_of, first_game, HasDeal}
+use Rattle.pbn_records.specs.Boards.{game_board, first_game, HasDeal}
 
 -- the board has an earlier game, with another deal
 abbrev pub IsConflict : Option Values → Hands → Type 0
@@ -45,15 +45,15 @@ FaultAtTag board first used None fault offset = ⊥
 FaultAtTag board first used (Some tag) fault offset = (tag.offset ≡ offset) × TagFault board first used tag.value fault
 
 -- the first game of a board, if it is a board's
-abbrev pub first_of : ℕ → List Values → Option ℕ → Option Values
-first_of boards games None = None
-first_of boards games (Some board) = first_game boards board games
+abbrev pub first_game_if_any : ℕ → List Values → Option ℕ → Option Values
+first_game_if_any boards games None = None
+first_game_if_any boards games (Some board) = first_game boards board games
 
 -- a fault of a game, at an offset, where these are the games before it
 abbrev pub IsFaultOf : ℕ → List Values → Values → Fault → ℕ → Type 0
 IsFaultOf boards before values fault offset =
     (used : Used) ×
-    FaultAtTag (board_of boards values) (first_of boards before (board_of boards values)) used (values used) fault offset
+    FaultAtTag (game_board boards values) (first_game_if_any boards before (game_board boards values)) used (values used) fault offset
 
 -- a fault of one of the games, where these are before them
 abbrev pub HasFault : ℕ → List Values → List Values → Fault → ℕ → Type 0

@@ -5,7 +5,7 @@ use Rattle.pbn_records.specs.declared.used.Used.{Used}
 use Rattle.pbn_records.specs.declared.board.Board.{Board}
 use Rattle.pbn_records.specs.Tags.{Placed, Valued, marks_from, tag_in, games_from}
 use Rattle.pbn_records.specs.Values.{Values, no_values, all_values}
-use Rattle.pbn_records.specs.Boards.{board_of}
+use Rattle.pbn_records.specs.Boards.{game_board}
 use Rattle.pbn_records.specs.Reads.{start_of, ArePieces, Reads}
 
 -- the games of a text of these pieces
@@ -22,7 +22,7 @@ values_before games zero = no_values
 values_before games (suc index) = values_at games index
 
 -- one of these games has the tag as it is written, or hasn't the tag
-pub record IsWritten (games : List (List Placed)) (index : ℕ) (used : Used) (tag : Option Valued) : Type 0 where
+pub record IsTagAsWritten (games : List (List Placed)) (index : ℕ) (used : Used) (tag : Option Valued) : Type 0 where
   pub game : List Placed
   pub there : slice_get games index ≡ Some game
   pub written : tag_in used game ≡ tag
@@ -30,12 +30,12 @@ pub record IsWritten (games : List (List Placed)) (index : ℕ) (used : Used) (t
 -- the tag's value is `#` in one of these games, and its `[` stands at this offset
 abbrev pub HasHash : List (List Placed) → ℕ → Used → ℕ → Type 0
 HasHash games index used offset =
-    IsWritten games index used (Some (record { offset = offset; value = codes "#" }))
+    IsTagAsWritten games index used (Some (record { offset = offset; value = codes "#" }))
 
 -- one of these games is a board's, and none before it is
 pub record IsFirstOf (boards number : ℕ) (games : List (List Placed)) (index : ℕ) : Type 0 where
-  pub is : board_of boards (values_at games index) ≡ Some number
-  pub first : (other : ℕ) → other < index → board_of boards (values_at games other) ≢ Some number
+  pub is : game_board boards (values_at games index) ≡ Some number
+  pub first : (other : ℕ) → other < index → game_board boards (values_at games other) ≢ Some number
 
 -- the text has these games and is read, and one of them is the first of this board
 pub record IsReadAt (text : List ℕ) (boards number : ℕ) (board : Board) (games : List (List Placed)) (index : ℕ)

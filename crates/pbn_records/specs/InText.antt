@@ -6,7 +6,7 @@ use Rattle.pbn_pieces.specs.Told.{Uncut}
 use Rattle.pbn_records.specs.declared.state.State.{State}
 use Rattle.pbn_records.specs.Tags.{Placed, marks_from, bad_from}
 use Rattle.pbn_records.specs.Kept.{Walk, Knows, all_games}
-use Rattle.pbn_records.specs.At.{IsAt}
+use Rattle.pbn_records.specs.At.{IsStateAfter}
 use Rattle.pbn_records.specs.Reads.{start_of, values_from, ArePieces, IsFaultless}
 
 -- the games so far, and those of what is left, are those of the text
@@ -29,5 +29,5 @@ pub record HasRead (text : List ℕ) (boards : ℕ) (state : State) : Type 0 whe
 pub record StandsInText (text : List ℕ) (uncut : Uncut) (boards : ℕ) (state : State) : Type 0 where
   pub walk : Walk
   pub same : state.boards ≡ boards
-  pub at : IsAt state walk
+  pub at : IsStateAfter state walk
   pub in_text : IsInText text uncut walk

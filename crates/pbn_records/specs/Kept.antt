@@ -111,9 +111,9 @@ abbrev pub add_to : Walk → Placed → Walk
 add_to walk tag = record walk { game = walk.game ++ tag ∷ [] }
 
 -- one mark more
-abbrev pub step : Walk → Mark → Walk
-step walk Break = end_of walk
-step walk (Named tag) = if has_already walk.game (used_of tag.name) then add_to (end_of walk) tag else add_to walk tag
+abbrev pub after_mark : Walk → Mark → Walk
+after_mark walk Break = end_of walk
+after_mark walk (Named tag) = if has_already walk.game (used_of tag.name) then add_to (end_of walk) tag else add_to walk tag
 
 -- the values of all games, where these marks are still to come
 abbrev pub all_games : Walk → List Mark → List Values

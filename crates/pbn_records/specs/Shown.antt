@@ -8,9 +8,9 @@ use Rattle.pbn_records.specs.Tags.{Valued}
 use Rattle.pbn_records.specs.Values.{Values, inherited, read_value}
 
 -- a tag, with its value as written
-abbrev pub shown : Option TagAt → Option Valued
-shown None = None
-shown (Some tag) = Some (record { offset = tag.offset; value = tag.value.now })
+abbrev pub as_written : Option TagAt → Option Valued
+as_written None = None
+as_written (Some tag) = Some (record { offset = tag.offset; value = tag.value.now })
 
 -- the used tag among these
 abbrev pub tag_of : UsedTags → Used → Option TagAt
@@ -31,4 +31,4 @@ as_read (Some tag) = Some (record { offset = tag.offset; value = read_value tag.
 
 -- the values of these tags, as read
 abbrev pub values_read : UsedTags → Values
-values_read tags used = as_read (shown (tag_of tags used))
+values_read tags used = as_read (as_written (tag_of tags used))

@@ -58,11 +58,11 @@ bad_from offset [] = None
 bad_from offset (piece ∷ pieces) = option_or (bad_at offset piece) (bad_from (offset + size piece) pieces)
 
 -- the name of a used tag
-abbrev pub name_of : Used → List ℕ
-name_of Board = codes "Board"
-name_of Dealer = codes "Dealer"
-name_of Vulnerable = codes "Vulnerable"
-name_of Deal = codes "Deal"
+abbrev pub tag_name : Used → List ℕ
+tag_name Board = codes "Board"
+tag_name Dealer = codes "Dealer"
+tag_name Vulnerable = codes "Vulnerable"
+tag_name Deal = codes "Deal"
 
 -- the used tag of a name; all others are skipped
 abbrev pub used_of : List ℕ → Option Used
@@ -82,7 +82,7 @@ pub record Valued : Type 0 where
 abbrev pub tag_in : Used → List Placed → Option Valued
 tag_in used [] = None
 tag_in used (tag ∷ game) =
-    if bytes_eq tag.name (name_of used) then
+    if bytes_eq tag.name (tag_name used) then
     Some (record { offset = tag.offset; value = tag.value }) else tag_in used game
 
 -- whether the game has the used tag already

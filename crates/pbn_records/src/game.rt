@@ -1,7 +1,7 @@
 ghost use Rattle.std.specs.Prelude.{◌≡◌, ◌≢◌, None, Some};
 ghost use Rattle.std.specs.Option.{is_some};
 ghost use Rattle.pbn_records.specs.declared.used.Used.{Used};
-ghost use Rattle.pbn_records.specs.Shown.{shown, tag_of, inheriting};
+ghost use Rattle.pbn_records.specs.Shown.{as_written, tag_of, inheriting};
 
 use crate::tag_at::TagAt;
 use crate::used::Used;
@@ -55,8 +55,8 @@ impl<'t> UsedTags<'t> {
     /// Ends the game: its tags become those of the game before, whose value each takes where its own is `#`.
     pub(crate) fn end(&mut self, before: &mut UsedTags<'t>)
         ensures ended { (used : Used) →
-            shown (tag_of before.new used)
-            ≡ inheriting (shown (tag_of before.old used)) (shown (tag_of self.old used)) }
+            as_written (tag_of before.new used)
+            ≡ inheriting (as_written (tag_of before.old used)) (as_written (tag_of self.old used)) }
         ensures none { (used : Used) → tag_of self.new used ≡ None }
     {
         inherit(&mut self.board, &before.board);
@@ -70,7 +70,7 @@ impl<'t> UsedTags<'t> {
 
 /// Takes the value of the game before where a tag's own is `#`.
 fn inherit<'t>(tag: &mut Option<TagAt<'t>>, before: &Option<TagAt<'t>>)
-    ensures { shown tag.new ≡ inheriting (shown before.now) (shown tag.old) }
+    ensures { as_written tag.new ≡ inheriting (as_written before.now) (as_written tag.old) }
 {
     let Some(own) = tag else {
         return;

@@ -9,7 +9,7 @@ use crate::board::Board;
 use crate::deals_error::DealsError;
 use crate::game::UsedTags;
 use crate::known_boards::KnownBoards;
-use crate::reader::{board_in, board_of, first_fault};
+use crate::reader::{board_in, first_fault, game_board};
 
 /// Adds the board of a game, unless the game is ignored or the board has an earlier game.
 pub(crate) fn add_game(
@@ -24,7 +24,7 @@ pub(crate) fn add_game(
     ensures fault { IfErr result (λ error. (games : List Values) → Knows boards games known.old →
         IsGameFault boards games (values_read values.now) error) }
 {
-    let board = board_of(values, boards);
+    let board = game_board(values, boards);
     let earlier = known_board(known, board);
     if let Some(fault) = first_fault(values, board, &earlier) {
         return Err(fault.error());

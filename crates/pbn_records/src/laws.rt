@@ -15,7 +15,7 @@ ghost use Rattle.pbn_records.specs.MarkValue.{ReadsDealer, ReadsVulnerable};
 ghost use Rattle.pbn_records.specs.Boards.{number_in, HasDeal};
 ghost use Rattle.pbn_records.specs.Faults.{FaultAtTag, HasFault};
 ghost use Rattle.pbn_records.specs.Reads.{Reads, IsRefused};
-ghost use Rattle.pbn_records.specs.GameBefore.{values_at, values_before, IsWritten, HasHash, IsReadAt};
+ghost use Rattle.pbn_records.specs.GameBefore.{values_at, values_before, IsTagAsWritten, HasHash, IsReadAt};
 
 /// A text gives one set of boards at most.
 pub fn a_text_is_read_in_one_way()
@@ -52,9 +52,9 @@ pub fn a_hash_takes_the_value_before()
     ensures first { (games : List (List Placed)) (offset : ℕ) (used : Used) →
         HasHash games 0 used offset → values_at games 0 used ≡ None }
     ensures not_there { (games : List (List Placed)) (index : ℕ) (used : Used) →
-        IsWritten games index used None → values_at games index used ≡ None }
+        IsTagAsWritten games index used None → values_at games index used ≡ None }
     ensures other { (games : List (List Placed)) (index : ℕ) (used : Used) (tag : Valued) →
-        IsWritten games index used (Some tag) → tag.value ≢ codes "#" →
+        IsTagAsWritten games index used (Some tag) → tag.value ≢ codes "#" →
         values_at games index used ≡ Some (record { offset = tag.offset; value = read_value tag.value }) }
 {}
 

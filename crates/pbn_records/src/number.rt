@@ -1,7 +1,7 @@
 ghost use Rattle.std.specs.Prelude.{◌≡◌, ℕ, List, true, false, min, MatchOption};
 ghost use Rattle.std.specs.List.{list_all};
 ghost use Rattle.pbn_records.specs.Boards as board;
-ghost use Rattle.pbn_records.specs.Boards.{is_digit, number_of};
+ghost use Rattle.pbn_records.specs.Boards.{is_digit, decimal_number};
 
 /// More than any board's number.
 const OVER: u16 = 256;
@@ -36,7 +36,7 @@ pub(crate) fn number_within(number: Option<u8>, boards: u8) -> Option<u8>
 fn capped_number(digits: &[u8]) -> Option<u16>
     ensures { MatchOption result
         (list_all is_digit digits.now ≡ false)
-        (λ number. (list_all is_digit digits.now ≡ true) × (number ≡ min (number_of digits.now) 256)) }
+        (λ number. (list_all is_digit digits.now ≡ true) × (number ≡ min (decimal_number digits.now) 256)) }
 {
     let mut number: u16 = 0;
     for digit in digits {

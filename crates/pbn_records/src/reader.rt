@@ -7,7 +7,7 @@ ghost use Rattle.pbn_records.specs.MarkValue.{ReadsDealer, ReadsVulnerable, IsBa
 ghost use Rattle.pbn_records.specs.Boards as boards_of;
 ghost use Rattle.pbn_records.specs.Boards.{IsRead};
 ghost use Rattle.pbn_records.specs.Faults.{DealFault, BoardFault, FaultAtTag};
-ghost use Rattle.pbn_records.specs.Shown.{shown, as_read, values_read};
+ghost use Rattle.pbn_records.specs.Shown.{as_written, as_read, values_read};
 ghost use Rattle.pbn_records.specs.Kept.{IsOther, KnowsDeal, Finds, HasTagFault, HasBadDealer, HasBadVulnerable};
 
 use crate::board::Board;
@@ -22,8 +22,8 @@ use cards::Deal;
 use table_terms::{Place, Vulnerability, dealer_of, vulnerability_of};
 
 /// The board of a game, unless the game is ignored.
-pub(crate) fn board_of(values: &UsedTags<'_>, boards: u8) -> Option<u8>
-    ensures { result ≡ boards_of.board_of boards (values_read values.now) }
+pub(crate) fn game_board(values: &UsedTags<'_>, boards: u8) -> Option<u8>
+    ensures { result ≡ boards_of.game_board boards (values_read values.now) }
 {
     let Some(deal) = &values.deal else {
         return None;
@@ -64,7 +64,7 @@ fn tag_fault(
     known: &Option<Board>,
 ) -> Option<FaultAt>
     ensures { (first : Option Values) → KnowsDeal first known.now →
-        Finds result (FaultAtTag board first used (as_read (shown tag.now))) }
+        Finds result (FaultAtTag board first used (as_read (as_written tag.now))) }
 {
     let Some(tag) = tag else {
         return None;
@@ -172,7 +172,7 @@ fn conflict(deal: Deal, known: &Option<Board>) -> Option<Fault>
 pub(crate) fn board_in(values: &UsedTags<'_>, number: u8) -> Option<Board>
     requires { 1 ≤ number }
     ensures board { IfSome result (IsRead number (values_read values.now)) }
-    ensures none { IfNone result ((boards : ℕ) → boards_of.board_of boards (values_read values.now) ≡ Some number →
+    ensures none { IfNone result ((boards : ℕ) → boards_of.game_board boards (values_read values.now) ≡ Some number →
         (fault : Fault) × (offset : ℕ) × HasTagFault (Some number) None (values_read values.now) fault offset) }
 {
     let Some(tag) = &values.deal else {
@@ -197,8 +197,8 @@ pub(crate) fn board_in(values: &UsedTags<'_>, number: u8) -> Option<Board>
 /// Who deals a board.
 fn dealer_in(tag: &Option<TagAt<'_>>, number: u8) -> Option<Place>
     requires { 1 ≤ number }
-    ensures dealer { IfSome result (ReadsDealer number (as_read (shown tag.now))) }
-    ensures none { IfNone result (HasBadDealer (as_read (shown tag.now))) }
+    ensures dealer { IfSome result (ReadsDealer number (as_read (as_written tag.now))) }
+    ensures none { IfNone result (HasBadDealer (as_read (as_written tag.now))) }
 {
     let Some(tag) = tag else {
         return Some(dealer_of(number));
@@ -212,8 +212,8 @@ fn dealer_in(tag: &Option<TagAt<'_>>, number: u8) -> Option<Place>
 /// Which sides are vulnerable on a board.
 fn vulnerability_in(tag: &Option<TagAt<'_>>, number: u8) -> Option<Vulnerability>
     requires { 1 ≤ number }
-    ensures vulnerability { IfSome result (ReadsVulnerable number (as_read (shown tag.now))) }
-    ensures none { IfNone result (HasBadVulnerable (as_read (shown tag.now))) }
+    ensures vulnerability { IfSome result (ReadsVulnerable number (as_read (as_written tag.now))) }
+    ensures none { IfNone result (HasBadVulnerable (as_read (as_written tag.now))) }
 {
     let Some(tag) = tag else {
         return Some(vulnerability_of(number));

@@ -2,7 +2,7 @@ ghost use Rattle.std.specs.Prelude.{◌≡◌, [], IfOk, OnOk, IfErr, IfSome, If
 ghost use Rattle.pbn_records.specs.Tags as tags;
 ghost use Rattle.pbn_records.specs.Reads.{Reads, IsRefused};
 ghost use Rattle.pbn_records.specs.Values.{no_values};
-ghost use Rattle.pbn_records.specs.At.{IsAt};
+ghost use Rattle.pbn_records.specs.At.{IsStateAfter};
 ghost use Rattle.pbn_records.specs.InText.{HasRead};
 ghost use Rattle.pbn_records.specs.Each.{KnowsFirst, IsUnknown, HasFirst};
 
@@ -45,7 +45,7 @@ fn read_games(alloc: Global, text: &[u8], boards: u8) -> Result<State<'_>, Deals
 
 /// Goes over all pieces of a text, at whose start the state is.
 fn take_all<'t>(state: &mut State<'t>, text: &'t [u8]) -> Result<(), DealsError>
-    requires { IsAt state.old (record { done = []; before = no_values; game = [] }) }
+    requires { IsStateAfter state.old (record { done = []; before = no_values; game = [] }) }
     ensures read { OnOk result (HasRead text.now state.old.boards state.new) }
     ensures refused { IfErr result (λ error. IsRefused error text.now state.old.boards) }
 {

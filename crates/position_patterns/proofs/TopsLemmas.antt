@@ -18,7 +18,7 @@ use Rattle.cards.proofs.CardBitsLemmas.{card_cmp-IsAntisymmetric}
 use Rattle.std.specs.FinSet as set
 use Rattle.position_patterns.specs.declared.pattern.SuitTops.{SuitTops}
 use Rattle.position_patterns.specs.declared.pattern.SuitPattern.{SuitPattern}
-use Rattle.position_patterns.specs.declared.pattern.Entry.{Entry}
+use Rattle.position_patterns.specs.declared.pattern.Remembered.{Remembered}
 use Rattle.cards.specs.Play.{cards_left, IsApart, Position, start, without}
 use Rattle.position_patterns.proofs.DigitLemmas.{tops_from_digits}
 use Rattle.position_patterns.proofs.RankLemmas.{low_digits_four}
@@ -192,7 +192,7 @@ held_by hands card held = elim (or_cases _ _ held) [
   ]
 ]
 
-pub true_pattern : (entry : Entry) (p : Position) (known : Cards) → IsApart p.hands → Matches entry p →
+pub true_pattern : (entry : Remembered) (p : Position) (known : Cards) → IsApart p.hands → Matches entry p →
     ((suit : Suit) → IsReach known (holding p.hands suit) (tops_of entry suit).count) →
     IsFound p entry.target known entry.holds → IsTruePattern entry
 true_pattern entry p known apart matches reach found q more matches' top_cards ownership owned tight =
@@ -243,7 +243,7 @@ each_suit P a b c d Diamonds = c
 each_suit P a b c d Clubs = d
 
 -- the four sets of top cards together
-pub top_cards_in : (entry : Entry) (q : Position) (a b c d all : Cards) →
+pub top_cards_in : (entry : Remembered) (q : Position) (a b c d all : Cards) →
     ((card : Card) → IsTop entry.spades.count (holding q.hands Spades) card → set.contains a card ≡ true) →
     ((card : Card) → IsTop entry.hearts.count (holding q.hands Hearts) card → set.contains b card ≡ true) →
     ((card : Card) → IsTop entry.diamonds.count (holding q.hands Diamonds) card → set.contains c card ≡ true) →
@@ -282,7 +282,7 @@ tops_at held hands suit count tops same each =
     subst (λ h. (card : Card) → IsTop count (holding h suit) card → set.contains tops card ≡ true) same each
 
 -- what is remembered of a position is true of its pattern
-pub true_entry : (entry : Entry) (p : Position) (hands : Hands) (known : Cards) → hands ≡ p.hands → IsApart hands →
+pub true_entry : (entry : Remembered) (p : Position) (hands : Hands) (known : Cards) → hands ≡ p.hands → IsApart hands →
     entry.strain ≡ p.strain → entry.leader ≡ p.leader → p.table ≡ [] → cards_left p ≡ 4 * entry.tricks →
     ((suit : Suit) → HasTops (tops_of entry suit) (holding hands suit)) →
     ((suit : Suit) → IsReach known (holding hands suit) (tops_of entry suit).count) →

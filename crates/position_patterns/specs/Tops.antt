@@ -1,4 +1,5 @@
--- A position's pattern in numbers, and what is remembered of one: who holds the top cards, and how many each player has.
+-- A position's pattern in numbers, and what is remembered of one: who holds the top cards, and how many each player
+-- has.
 use Rattle.std.specs.Prelude.{◌≡◌, ℕ, ◌+◌, ◌%◌, ◌^◌, ◌≤◌, true, length, List, [], ◌∷◌, ◌*◌}
 use Rattle.cards.specs.Cards.{Cards}
 use Rattle.cards.specs.declared.card.Card.{Card}
@@ -10,7 +11,7 @@ use Rattle.std.specs.FinSet as set
 use Rattle.position_patterns.specs.declared.pattern.SuitTops.{SuitTops}
 use Rattle.position_patterns.specs.declared.pattern.SuitPattern.{SuitPattern}
 use Rattle.position_patterns.specs.declared.pattern.Pattern.{Pattern}
-use Rattle.position_patterns.specs.declared.pattern.Entry.{Entry}
+use Rattle.position_patterns.specs.declared.pattern.Remembered.{Remembered}
 use Rattle.table_terms.specs.Place.{place_number}
 use Rattle.cards.specs.Play.{Position, cards_left}
 use Rattle.double_dummy_laws.specs.Found.{IsFound}
@@ -56,14 +57,14 @@ pub record IsReach (known : Cards) (held : List Held) (count : ℕ) : Type 0 whe
   pub reach : (card : Card) → set.contains known card ≡ true → IsTop (length held) held card → IsTop count held card
 
 -- a suit's tops among the four of an entry
-abbrev pub tops_of : Entry → Suit → SuitTops
+abbrev pub tops_of : Remembered → Suit → SuitTops
 tops_of entry Spades = entry.spades
 tops_of entry Hearts = entry.hearts
 tops_of entry Diamonds = entry.diamonds
 tops_of entry Clubs = entry.clubs
 
 -- the position is at the beginning of a trick, and of the entry's pattern
-pub record Matches (entry : Entry) (position : Position) : Type 0 where
+pub record Matches (entry : Remembered) (position : Position) : Type 0 where
   pub strain : position.strain ≡ entry.strain
   pub leader : position.leader ≡ entry.leader
   pub table : position.table ≡ []
@@ -71,11 +72,11 @@ pub record Matches (entry : Entry) (position : Position) : Type 0 where
   pub suits : (suit : Suit) → HasTops (tops_of entry suit) (holding position.hands suit)
 
 -- the set has the top cards of each suit
-abbrev pub HasTopCards : Entry → Position → Cards → Type 0
+abbrev pub HasTopCards : Remembered → Position → Cards → Type 0
 HasTopCards entry position known = (card : Card) → IsTop (tops_of entry card.suit).count (holding position.hands card.suit) card →
     set.contains known card ≡ true
 
 -- what an entry says holds of every position of its pattern
-abbrev pub IsTruePattern : Entry → Type 0
+abbrev pub IsTruePattern : Remembered → Type 0
 IsTruePattern entry = (position : Position) (known : Cards) → Matches entry position → HasTopCards entry position known →
     IsFound position entry.target known entry.holds

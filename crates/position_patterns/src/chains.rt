@@ -1,9 +1,9 @@
-use crate::pattern::Entry;
+use crate::pattern::Remembered;
 use crate::sketch::{Block, NONE, SLOTS, Slot};
 use table_terms::{Place, Strain};
 
-/// Chains of blocks whose slots point at entries of which the lengths, leader and strain have one hash: where each chain
-/// begins, and all blocks.
+/// Chains of blocks whose slots point at entries of which the lengths, leader and strain have one hash: where each
+/// chain begins, and all blocks.
 #[derive(Drop)]
 pub struct Chains {
     pub heads: Vec<u32>,
@@ -56,7 +56,7 @@ impl Chains {
     }
 
     /// Puts an entry first in its chain: into the first block, or into a new one before it, if that finds room.
-    pub fn link(&mut self, place: usize, entry: &Entry) {
+    pub fn link(&mut self, place: usize, entry: &Remembered) {
         if place >= NONE as usize {
             return;
         }

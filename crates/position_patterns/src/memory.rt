@@ -9,7 +9,7 @@ ghost use Rattle.std.specs.Prelude.{◌≡◌, All, IfSome, []};
 use crate::chains::Chains;
 use crate::finding::Finding;
 use crate::holders::Holders;
-use crate::pattern::{Entry, Pattern};
+use crate::pattern::{Pattern, Remembered};
 use crate::sketch::NONE;
 use cards::Position;
 use std::alloc::{AllocError, Global};
@@ -17,12 +17,12 @@ use std::alloc::{AllocError, Global};
 // How many blocks of a chain are looked at.
 const LONGEST: u32 = 100;
 
-/// What was found out, by pattern: entries, and chains of blocks whose slots point at entries of which the lengths, leader
-/// and strain have one hash, with the entry that served last in front. What it forgets is searched again, so the chains
-/// need no proof, only the entries.
+/// What was found out, by pattern: entries, and chains of blocks whose slots point at entries of which the lengths,
+/// leader and strain have one hash, with the entry that served last in front. What it forgets is searched again, so the
+/// chains need no proof, only the entries.
 #[derive(Drop)]
 pub struct Memory {
-    entries: Vec<Entry>,
+    entries: Vec<Remembered>,
     chains: Chains,
     room: usize,
     ghost true_entries: { All IsTruePattern entries.items } by { Prim.hlevel props },
@@ -166,7 +166,7 @@ impl Memory {
         if self.entries.len() >= self.room || self.chains.blocks.len() >= self.room / 2 {
             self.forget();
         }
-        let entry = Entry::new(position, holders, pattern, target, finding);
+        let entry = Remembered::new(position, holders, pattern, target, finding);
         let place = self.entries.len();
         if push_entry(&mut self.entries, entry) {
             self.chains.link(place, &entry);
@@ -185,7 +185,7 @@ impl Memory {
 }
 
 /// From how many tricks on there is room for the answers.
-fn least_kept(entries: &[Entry], room: usize) -> u8 {
+fn least_kept(entries: &[Remembered], room: usize) -> u8 {
     for least in 3..14 {
         let mut found: usize = 0;
         for entry in entries {
@@ -201,7 +201,7 @@ fn least_kept(entries: &[Entry], room: usize) -> u8 {
 }
 
 /// Keeps the entries of so many tricks and more.
-fn keep(entries: &mut Vec<Entry>, least: u8)
+fn keep(entries: &mut Vec<Remembered>, least: u8)
     requires { All IsTruePattern entries.old.items }
     ensures { All IsTruePattern entries.new.items }
 {
@@ -209,7 +209,7 @@ fn keep(entries: &mut Vec<Entry>, least: u8)
 }
 
 /// Adds an entry, if it finds room.
-fn push_entry(entries: &mut Vec<Entry>, entry: Entry) -> bool
+fn push_entry(entries: &mut Vec<Remembered>, entry: Remembered) -> bool
     requires all { All IsTruePattern entries.old.items }
     requires entry { IsTruePattern entry }
     ensures { All IsTruePattern entries.new.items }

@@ -40,7 +40,7 @@ pub struct SuitTops {
 
 /// What was found out of every position of a pattern.
 #[derive(Clone, Copy)]
-pub struct Entry {
+pub struct Remembered {
     pub target: u8,
     pub holds: bool,
     pub leader: Place,
@@ -166,7 +166,7 @@ impl SuitTops {
     }
 }
 
-impl Entry {
+impl Remembered {
     /// What was found out, as of each position of the pattern.
     pub fn new(
         position: &Position,
@@ -174,7 +174,7 @@ impl Entry {
         pattern: &Pattern,
         target: u8,
         finding: &Finding,
-    ) -> Entry
+    ) -> Remembered
         requires same { holders.now ≡ position.now.hands }
         requires apart { IsApart holders.now }
         requires start { position.now.table ≡ [] }
@@ -183,7 +183,7 @@ impl Entry {
         ensures { IsTruePattern result }
     {
         let known = finding.known;
-        Entry {
+        Remembered {
             strain: position.strain(),
             leader: position.leader(),
             tricks: position.tricks_left(),

@@ -1,4 +1,4 @@
-use crate::pattern::{Entry, Pattern, SuitTops};
+use crate::pattern::{Pattern, Remembered, SuitTops};
 
 // How many slots a block has: with the next block's number they fill a line of a processor's cache.
 pub const SLOTS: usize = 5;
@@ -6,8 +6,8 @@ pub const SLOTS: usize = 5;
 // What a slot without an entry points at, and what ends a chain.
 pub const NONE: u32 = u32::MAX;
 
-/// A sketch of an entry: the holders of its top cards, up to four of each suit. Most entries that do not match are passed over
-/// by their sketch, unread; which are decides nothing but the time.
+/// A sketch of an entry: the holders of its top cards, up to four of each suit. Most entries that do not match are
+/// passed over by their sketch, unread; which are decides nothing but the time.
 #[derive(Clone, Copy)]
 pub struct Slot {
     mask: u32,
@@ -24,7 +24,7 @@ pub struct Block {
 
 impl Slot {
     /// The slot of an entry that lies in this place.
-    pub fn of(entry: &Entry, place: u32) -> Slot {
+    pub fn of(entry: &Remembered, place: u32) -> Slot {
         let spades = few(&entry.spades);
         let hearts = few(&entry.hearts);
         let diamonds = few(&entry.diamonds);
@@ -57,7 +57,7 @@ fn four(spades: u16, hearts: u16, diamonds: u16, clubs: u16) -> u64 {
     (spades as u64) << 48 | (hearts as u64) << 32 | (diamonds as u64) << 16 | clubs as u64
 }
 
-impl Entry {
+impl Remembered {
     /// How many cards each player has of each suit.
     pub fn lengths(&self) -> u64 {
         four(

@@ -10,7 +10,7 @@ use Rattle.session_opening.specs.declared.opening_refusal.OpeningRefusal.TheVari
 use Rattle.session_object.specs.declared.object.SessionObject.{SessionObject}
 use Rattle.session_object.specs.declared.session_fault.SessionFault.{SessionFault}
 use Rattle.session_object.specs.declared.session_fault.SessionFault.TheVariants as session
-use Rattle.session_object.specs.Reading.{section_of, Reads, IsRefused}
+use Rattle.session_object.specs.Reading.{section_of, ReadsSession, IsSessionRefused}
 use Rattle.session_object.proofs.ReadingLemmas.{one_text}
 use Rattle.program.specs.declared.fault.Fault.{Fault}
 use Rattle.program.specs.declared.fault.Fault.TheVariants.{OutOfMemory}
@@ -24,7 +24,7 @@ one_opening line one other first second =
     ∙ sym second.opens
 
 -- the boards of a session object are those of its movement
-pub boards_read : (given : Option (List ℕ)) (line : List ℕ) (object : SessionObject) → Reads given line object
+pub boards_read : (given : Option (List ℕ)) (line : List ℕ) (object : SessionObject) → ReadsSession given line object
     → boards_of object.config.movement ≤ length object.config.boards
 boards_read given line object reads =
     let many : length object.config.boards ≡ boards_of (section_of reads.reads.session) = reads.reads.boards.many in
@@ -32,11 +32,11 @@ boards_read given line object reads =
     omega (arith, many, same)
 
 -- the line is no session object, or there was no memory to read it
-pub unread : (given : Option (List ℕ)) (fault : SessionFault) (ended : Fault) (line : List ℕ) → ended ≡ fault_of_session fault → IsRefused fault given line
+pub unread : (given : Option (List ℕ)) (fault : SessionFault) (ended : Fault) (line : List ℕ) → ended ≡ fault_of_session fault → IsSessionRefused fault given line
     → OpensNoneWith given ended line ⊎ (ended ≡ OutOfMemory)
 unread given fault ended line is refused = subst (λ f. OpensNoneWith given f line ⊎ (f ≡ OutOfMemory)) (sym is) (by fault refused)
   where
-    by : (fault : SessionFault) → IsRefused fault given line
+    by : (fault : SessionFault) → IsSessionRefused fault given line
         → OpensNoneWith given (fault_of_session fault) line ⊎ (fault_of_session fault ≡ OutOfMemory)
     by session.TooLong refused = inl (λ same. absurd (cc), refused)
     by session.Malformed refused = inl (λ same. absurd (cc), refused)
@@ -47,7 +47,7 @@ unread given fault ended line is refused = subst (λ f. OpensNoneWith given f li
 
 -- the session isn't opened, or there was no memory for it
 pub unopened : (given : Option (List ℕ)) (cause : OpeningRefusal) (ended : Fault) (line : List ℕ) (object : SessionObject) → ended ≡ fault_of_opening cause
-    → Reads given line object
+    → ReadsSession given line object
     → (opening_refusal object.config ≡ Some cause) ⊎ ((cause ≡ refusal.OutOfMemory) × (opening_refusal object.config ≡ None))
     → OpensNoneWith given ended line ⊎ (ended ≡ OutOfMemory)
 unopened given cause ended line object is reads met = subst (λ f. OpensNoneWith given f line ⊎ (f ≡ OutOfMemory)) (sym is) (by cause met)

@@ -20,7 +20,7 @@ use Rattle.json_fields.specs.Reading.{Fails}
 use Rattle.wire.specs.ReceiptText.{receipt_text, fault_text, connection_fault_text}
 use Rattle.published_view.specs.Reply.{reply_of}
 use Rattle.reply_texts.specs.ReplyText.{reply_text}
-use Rattle.program.specs.Script.{Memory, ample, Response, response_to_meaning, response_to_line, stopped_at, run_with}
+use Rattle.program.specs.Script.{MemoryRefusals, ample, Response, response_to_meaning, response_to_line, stopped_at, run_with}
 use Rattle.program.specs.Standing.{line_of}
 use Rattle.program.specs.Writes.{Responds}
 
@@ -31,14 +31,14 @@ module _ (opening : SessionState) (journal : List Entry) (line : List ℕ) where
   responds_no_memory = record { memory = record { refused_before = true; refused_at = None; refused_after = false }; journal_is = refl; text_is = refl }
 
   -- with this memory, a line leads to what its meaning does
-  response_by : (memory : Memory) (meant : Result Request RequestFault) → memory.refused_before ≡ false → meaning Script line ≡ meant →
+  response_by : (memory : MemoryRefusals) (meant : Result Request RequestFault) → memory.refused_before ≡ false → meaning Script line ≡ meant →
       response_to_line opening journal (record { line = line; memory = memory }) ≡ response_to_meaning opening journal memory meant
   unfolding response_to_line
   response_by memory meant goes_on means =
       ap (λ b. if b then record { journal = journal; text = fault_text OutOfMemory } else response_to_meaning opening journal memory (meaning Script line)) goes_on
       ∙ ap (response_to_meaning opening journal memory) means
 
-  pub responds_by : (memory : Memory) (meant : Result Request RequestFault) → memory.refused_before ≡ false → meaning Script line ≡ meant →
+  pub responds_by : (memory : MemoryRefusals) (meant : Result Request RequestFault) → memory.refused_before ≡ false → meaning Script line ≡ meant →
       Responds opening journal line (response_to_meaning opening journal memory meant).journal ((response_to_meaning opening journal memory meant).text ++ 10 ∷ [])
   responds_by memory meant goes_on means =
       let step = response_by memory meant goes_on means in
@@ -98,7 +98,7 @@ module _ (opening : SessionState) (journal : List Entry) (line : List ℕ) where
       Runs stopped opening journal user commands after → first ≡ first_number (length journal) (length after.journal) → last ≡ last_number (length journal) (length after.journal) →
       version ≡ length after.journal → text ≡ receipt_text after.answers first last version → Responds opening journal line after.journal (text ++ 10 ∷ [])
   responds_receipt stopped user commands after first last version text means runs is_first is_last is_version is_text =
-      let memory : Memory = record { refused_before = false; refused_at = place stopped user commands after runs; refused_after = false } in
+      let memory : MemoryRefusals = record { refused_before = false; refused_at = place stopped user commands after runs; refused_after = false } in
       let ran = runs_with stopped user commands after runs in
       let step = response_by memory (Ok (a_batch (Some user) commands)) refl means in
       record {
@@ -113,7 +113,7 @@ module _ (opening : SessionState) (journal : List Entry) (line : List ℕ) where
   pub responds_no_receipt : (stopped : Bool) (user : List ℕ) (commands : List Command) (after : Progress) → meaning Script line ≡ Ok (a_batch (Some user) commands) →
       Runs stopped opening journal user commands after → Responds opening journal line after.journal (fault_text OutOfMemory ++ 10 ∷ [])
   responds_no_receipt stopped user commands after means runs =
-      let memory : Memory = record { refused_before = false; refused_at = place stopped user commands after runs; refused_after = true } in
+      let memory : MemoryRefusals = record { refused_before = false; refused_at = place stopped user commands after runs; refused_after = true } in
       let ran = runs_with stopped user commands after runs in
       let step = response_by memory (Ok (a_batch (Some user) commands)) refl means in
       record { memory = memory; journal_is = ap (λ (t : Response). t.journal) step ∙ ap (λ (p : Progress). p.journal) ran; text_is = ap (λ (t : Response). t.text ++ 10 ∷ []) step }
@@ -124,7 +124,7 @@ pub responds_whole : (opening : SessionState) (journal : List Entry) (line whole
     → Responds opening journal whole after text
 unfolding response_to_line
 responds_whole opening journal line whole after text same responds =
-    let memory : Memory = responds.memory in
+    let memory : MemoryRefusals = responds.memory in
     let step : response_to_line opening journal (record { line = line; memory = memory })
     ≡ response_to_line opening journal (record { line = whole; memory = memory }) =
     ap (λ meant. if memory.refused_before then record { journal = journal; text = fault_text OutOfMemory } else response_to_meaning opening journal memory meant) same in

@@ -10,7 +10,7 @@ use Rattle.script_lines.specs.declared.line_end.LineEnd.{LineEnd}
 use Rattle.script_lines.specs.declared.line_end.LineEnd.TheVariants.{LineFeed, EndOfInput}
 use Rattle.script_lines.specs.declared.reading.ReadFault.{ReadFault}
 use Rattle.script_lines.specs.declared.reading.ReadFault.TheVariants as read
-use Rattle.script_lines.specs.Lines.{pieces_of, ended_line, ended_lines, last_line, lines_of, first_of}
+use Rattle.script_lines.specs.Lines.{pieces_of, ended_line, ended_lines, last_line, lines_of, first_line_of}
 use Rattle.script_lines.specs.Reading.{IsUnbroken, TakesLine, TakesLonger, FailsAtInput, FailsForMemory, FailsFor, FailsWithin}
 use Rattle.script_lines.specs.Writing.{WritesPart}
 use Rattle.script_lines.proofs.LineLemmas.{piece_more, ended_more, ended_same, all_ended, lines_rest, lines_more}
@@ -88,11 +88,11 @@ is_last [] some = absurd (omega arith)
 is_last (byte ∷ bytes) some = refl
 
 -- the first of lines stays the first
-pub first_more : (lines later : List (List ℕ)) → 1 ≤ length lines → first_of (lines ++ later) ≡ first_of lines
+pub first_more : (lines later : List (List ℕ)) → 1 ≤ length lines → first_line_of (lines ++ later) ≡ first_line_of lines
 first_more [] later begun = absurd (omega arith)
 first_more (first ∷ lines) later begun = refl
 
-first_last : (line : List ℕ) → first_of (last_line line) ≡ line
+first_last : (line : List ℕ) → first_line_of (last_line line) ≡ line
 first_last [] = refl
 first_last (byte ∷ bytes) = refl
 
@@ -121,7 +121,7 @@ with_line messages line = messages ++ filter is_not_empty (line ∷ [])
 module _ (input before : Option (List ℕ)) (reader reader' writer' : Option (List ℕ)) (ledger' : Ledger) (left left' : ℕ) (line : List ℕ) (taken text' : List ℕ) where
   -- after a line more, whose message has its response or is passed over
   advance : (end : LineEnd) → (whole : (pieces_of taken).rest ≡ []) → 1 ≤ length (ended_lines taken) → Consumes input reader taken → left + length taken ≡ script_limit →
-      Opens (first_of (ended_lines taken)) ledger'.opening → TakesLine end reader reader' line left left' →
+      Opens (first_line_of (ended_lines taken)) ledger'.opening → TakesLine end reader reader' line left left' →
       RespondsToEach ledger'.opening (with_line (messages_among (ended_lines taken)) line) ledger'.journal text' → Appends before writer' text' → StandsAfter end input before reader' writer' ledger' left'
   advance LineFeed whole begun consumed counted opened takes responses appended =
       let lines : ended_lines (taken ++ (takes.piece ++ 10 ∷ [])) ≡ ended_lines taken ++ line ∷ [] =
@@ -133,7 +133,7 @@ module _ (input before : Option (List ℕ)) (reader reader' writer' : Option (Li
         stands = record {
           consumed = Consumes-trans input reader reader' taken (takes.piece ++ 10 ∷ []) consumed takes.consumed;
           counted = omega (arith, counted, takes.counted, length-append taken (takes.piece ++ 10 ∷ []), length-append takes.piece (10 ∷ []));
-          opened = subst (λ first. Opens first ledger'.opening) (sym (ap first_of lines ∙ first_more (ended_lines taken) (line ∷ []) begun)) opened;
+          opened = subst (λ first. Opens first ledger'.opening) (sym (ap first_line_of lines ∙ first_more (ended_lines taken) (line ∷ []) begun)) opened;
           text = text';
           responses = subst (λ messages. RespondsToEach ledger'.opening messages ledger'.journal text') (sym (ap messages_among lines ∙ among_first (ended_lines taken) (line ∷ []) begun)) responses;
           appended = appended;
@@ -147,7 +147,7 @@ module _ (input before : Option (List ℕ)) (reader reader' writer' : Option (Li
         stands = record {
           consumed = Consumes-trans input reader reader' taken line consumed takes.consumed;
           counted = omega (arith, counted, takes.counted, length-append taken line);
-          opened = subst (λ first. Opens first ledger'.opening) (sym (ap first_of lines ∙ first_more (ended_lines taken) (last_line line) begun)) opened;
+          opened = subst (λ first. Opens first ledger'.opening) (sym (ap first_line_of lines ∙ first_more (ended_lines taken) (last_line line) begun)) opened;
           text = text';
           responses = subst (λ messages. RespondsToEach ledger'.opening messages ledger'.journal text')
               (sym (ap messages_among lines ∙ among_first (ended_lines taken) (last_line line) begun ∙ ap (λ rest. messages_among (ended_lines taken) ++ rest) (last_message line))) responses;
@@ -172,7 +172,7 @@ module _ (input before reader reader' writer writer' : Option (List ℕ)) (ledge
       (text : List ℕ) → Responds ledger.opening ledger.journal line ledger'.journal text → Appends writer writer' text → StandsAfter end input before reader' writer' ledger' left'
   responded_next at takes some same text tells appended =
       advance input before reader reader' writer' ledger' left left' line at.taken (at.stands.text ++ text) end at.whole at.begun at.stands.consumed at.stands.counted
-      (subst (Opens (first_of (ended_lines at.taken))) (sym same) at.stands.opened) takes
+      (subst (Opens (first_line_of (ended_lines at.taken))) (sym same) at.stands.opened) takes
       (subst (λ opening. RespondsToEach opening (with_line (messages_among (ended_lines at.taken)) line) ledger'.journal (at.stands.text ++ text)) (sym same)
       (subst (λ more. RespondsToEach ledger.opening (messages_among (ended_lines at.taken) ++ more) ledger'.journal (at.stands.text ++ text)) (sym (is_message line some))
       (responds_to_more ledger.opening _ ledger.journal ledger'.journal at.stands.text text line at.stands.responses tells)))
@@ -182,7 +182,7 @@ module _ (input before reader reader' writer writer' : Option (List ℕ)) (ledge
 
 module _ (input : List ℕ) (before reader reader' writer : Option (List ℕ)) (ledger : Ledger) (left left' most : ℕ) (taken text line : List ℕ) where
   module _ (whole : (pieces_of taken).rest ≡ []) (begun : 1 ≤ length (ended_lines taken)) (taken_first : Consumes (Some input) reader taken) (counted : left + length taken ≡ script_limit)
-      (opened : Opens (first_of (ended_lines taken)) ledger.opening) (responses : RespondsToEach ledger.opening (messages_among (ended_lines taken)) ledger.journal text) (appended : Appends before writer text) where
+      (opened : Opens (first_line_of (ended_lines taken)) ledger.opening) (responses : RespondsToEach ledger.opening (messages_among (ended_lines taken)) ledger.journal text) (appended : Appends before writer text) where
     -- bytes of a line that hasn't ended change nothing
     written_so_far : (piece : List ℕ) → IsUnbroken piece → WritesSoFar (ended_lines (taken ++ piece)) before writer
     written_so_far piece unbroken =
@@ -354,7 +354,7 @@ begins reader reader' writer ledger left' line LineFeed opened none takes =
       stands = record {
         consumed = takes.consumed;
         counted = omega (arith, takes.counted, length-append takes.piece (10 ∷ []));
-        opened = subst (λ first. Opens first ledger.opening) (takes.shortened ∙ sym (ap first_of lines)) opened;
+        opened = subst (λ first. Opens first ledger.opening) (takes.shortened ∙ sym (ap first_line_of lines)) opened;
         text = [];
         responses = subst (λ ls. RespondsToEach ledger.opening (messages_among ls) ledger.journal []) (sym lines) (subst (λ j. RespondsToEach ledger.opening [] j []) (sym none) (responds_to_none ledger.opening));
         appended = Appends-nil writer;
@@ -368,7 +368,7 @@ begins reader reader' writer ledger left' line EndOfInput opened none takes =
       stands = record {
         consumed = takes.consumed;
         counted = omega (arith, takes.counted);
-        opened = subst (λ first. Opens first ledger.opening) (sym (ap first_of lines ∙ first_last line)) opened;
+        opened = subst (λ first. Opens first ledger.opening) (sym (ap first_line_of lines ∙ first_last line)) opened;
         text = [];
         responses = subst (λ ls. RespondsToEach ledger.opening (messages_among ls) ledger.journal []) (sym lines) (no_more line);
         appended = Appends-nil writer;
@@ -390,7 +390,7 @@ record ReadsFirst (input : List ℕ) (left : Option (List ℕ)) (line : List ℕ
   consumed : Consumes (Some input) left read
   few : length read ≤ most_bytes + 2
   one : length (lines_of read) ≤ 1
-  first : first_of (lines_of input) ≡ line
+  first : first_line_of (lines_of input) ≡ line
 
 reads_first : (end : LineEnd) (input : List ℕ) (reader' : Option (List ℕ)) (line : List ℕ) (all left' : ℕ) → TakesLine end (Some input) reader' line all left' →
     length line ≤ most_bytes → ReadsFirst input reader' line
@@ -404,9 +404,9 @@ reads_first LineFeed input reader' line all left' takes short =
       consumed = takes.consumed;
       few = omega (arith, short, ap length takes.shortened, at_most_one_less takes.piece, length-append takes.piece (10 ∷ []));
       one = subst (λ ls. length ls ≤ 1) (sym (all_ended (takes.piece ++ 10 ∷ []) whole ∙ lines)) (omega arith);
-      first = ap (λ bytes. first_of (lines_of bytes)) is_input
-          ∙ ap first_of (lines_more (takes.piece ++ 10 ∷ []) rest whole)
-          ∙ ap (λ ls. first_of (ls ++ lines_of rest)) lines
+      first = ap (λ bytes. first_line_of (lines_of bytes)) is_input
+          ∙ ap first_line_of (lines_more (takes.piece ++ 10 ∷ []) rest whole)
+          ∙ ap (λ ls. first_line_of (ls ++ lines_of rest)) lines
           ∙ sym takes.shortened;
     }
 reads_first EndOfInput input reader' line all left' takes short =
@@ -418,7 +418,7 @@ reads_first EndOfInput input reader' line all left' takes short =
       consumed = takes.consumed;
       few = omega (arith, short);
       one = subst (λ ls. length ls ≤ 1) (sym lines) (at_most_one line);
-      first = ap (λ bytes. first_of (lines_of bytes)) (is_input ∙ ap (λ r. line ++ r) none ∙ append-nil line) ∙ ap first_of lines ∙ first_last line;
+      first = ap (λ bytes. first_line_of (lines_of bytes)) (is_input ∙ ap (λ r. line ++ r) none ∙ append-nil line) ∙ ap first_line_of lines ∙ first_last line;
     }
 
 module _ (input : List ℕ) (reader' writer : Option (List ℕ)) (line : List ℕ) (reads : ReadsFirst input reader' line) where
@@ -483,7 +483,7 @@ finished input before reader writer ledger left at =
       consumed = subst (Consumes (Some input) reader) (sym all) at.stands.consumed;
       written = record {
         opening = ledger.opening;
-        opened = subst (λ bytes. Opens (first_of (lines_of bytes)) ledger.opening) (sym all) at.stands.opened;
+        opened = subst (λ bytes. Opens (first_line_of (lines_of bytes)) ledger.opening) (sym all) at.stands.opened;
         journal = ledger.journal;
         text = at.stands.text;
         responses = subst (λ bytes. RespondsToEach ledger.opening (messages_among (lines_of bytes)) ledger.journal at.stands.text) (sym all) at.stands.responses;

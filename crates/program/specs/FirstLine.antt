@@ -8,27 +8,27 @@ use Rattle.session_opening.specs.declared.opening_refusal.OpeningRefusal.TheVari
 use Rattle.session_object.specs.declared.object.SessionObject.{SessionObject}
 use Rattle.session_object.specs.declared.session_fault.SessionFault.{SessionFault}
 use Rattle.session_object.specs.declared.session_fault.SessionFault.TheVariants as session
-use Rattle.session_object.specs.Reading.{Reads, IsRefused}
+use Rattle.session_object.specs.Reading.{ReadsSession, IsSessionRefused}
 use Rattle.program.specs.declared.fault.Fault.{Fault}
 use Rattle.program.specs.declared.fault.Fault.TheVariants.{Session, Opening, Input, Output, OutOfMemory}
 
--- the text is a session object whose boards are given beside it, or stand in it where none are; nothing refuses the session,
--- and this is its opening
+-- the text is a session object whose boards are given beside it, or stand in it where none are; nothing refuses the
+-- session, and this is its opening
 pub record OpensWith (given : Option (List ℕ)) (text : List ℕ) (opening : SessionState) : Type 0 where
   pub object : SessionObject
-  pub reads : Reads given text object
+  pub reads : ReadsSession given text object
   pub allowed : opening_refusal object.config ≡ None
   pub opens : opening ≡ opening_of object.config
 
 -- the text is a session object, and this is the first cause not to open its session
 pub record IsNotOpened (given : Option (List ℕ)) (text : List ℕ) (cause : OpeningRefusal) : Type 0 where
   pub object : SessionObject
-  pub reads : Reads given text object
+  pub reads : ReadsSession given text object
   pub refused : opening_refusal object.config ≡ Some cause
 
 -- why the text opens no session: its fault as a session object, else the first cause not to open the session
 abbrev pub OpensNoneWith : Option (List ℕ) → Fault → List ℕ → Type 0
-OpensNoneWith given (Session fault) text = (fault ≢ session.OutOfMemory) × IsRefused fault given text
+OpensNoneWith given (Session fault) text = (fault ≢ session.OutOfMemory) × IsSessionRefused fault given text
 OpensNoneWith given (Opening cause) text = IsNotOpened given text cause
 OpensNoneWith given Input text = ⊥
 OpensNoneWith given Output text = ⊥

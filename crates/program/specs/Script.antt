@@ -39,19 +39,19 @@ messages_among lines = filter is_not_empty (drop 1 lines)
 
 -- where memory was refused to a message, if anywhere: before it had any effect, at a command of its batch, which comes
 -- after so many others, or for the text of its response
-pub record Memory : Type 0 where
+pub record MemoryRefusals : Type 0 where
   pub refused_before : Bool
   pub refused_at : Option ℕ
   pub refused_after : Bool
 
 -- memory was ample throughout
-abbrev pub ample : Memory
+abbrev pub ample : MemoryRefusals
 ample = record { refused_before = false; refused_at = None; refused_after = false }
 
 -- a message as it came, and what memory there was for it
 pub record Received : Type 0 where
   pub line : List ℕ
-  pub memory : Memory
+  pub memory : MemoryRefusals
 
 -- a message for which there was all the memory that it took
 abbrev pub with_ample_memory : List ℕ → Received
@@ -59,8 +59,8 @@ with_ample_memory line = record { line = line; memory = ample }
 
 -- ---- batches
 
--- a batch with memory refused at the first of these commands: those after it are not tried. Where something else refuses
--- it, or none is left, memory is not the cause, and the batch is run whole
+-- a batch with memory refused at the first of these commands: those after it are not tried. Where something else
+-- refuses it, or none is left, memory is not the cause, and the batch is run whole
 abbrev pub stopped_at : SessionState → List ℕ → Progress → Progress → List Command → Progress
 stopped_at opening actor whole so_far [] = whole
 stopped_at opening actor whole so_far (command ∷ later) =
@@ -84,7 +84,7 @@ pub record Response : Type 0 where
   pub text : List ℕ
 
 -- the text of a response, or that there was no memory for it
-abbrev pub text_with : Memory → List ℕ → List ℕ
+abbrev pub text_with : MemoryRefusals → List ℕ → List ℕ
 text_with memory text = if memory.refused_after then fault_text OutOfMemory else text
 
 -- the receipt of a batch, from the versions before and after it
@@ -92,20 +92,20 @@ abbrev pub receipt_between : ℕ → ℕ → List Answer → List ℕ
 receipt_between before after answers = receipt_text answers (first_number before after) (last_number before after) after
 
 -- a batch has its receipt
-abbrev pub response_to_batch : Memory → List Entry → Progress → Response
+abbrev pub response_to_batch : MemoryRefusals → List Entry → Progress → Response
 response_to_batch memory journal after = record {
   journal = after.journal;
   text = text_with memory (receipt_between (length journal) (length after.journal) after.answers);
 }
 
 -- a request leaves the journal as it is, and has a text
-abbrev pub response_by_text : List Entry → Memory → List ℕ → Response
+abbrev pub response_by_text : List Entry → MemoryRefusals → List ℕ → Response
 response_by_text journal memory text = record { journal = journal; text = text_with memory text }
 
 -- a query has its reply, at the newest version, a batch its receipt and an audit its rows. No message of a script is
 -- without its user or is a greeting: the first and the last case, which are here for each request to have one, are met
 -- by none
-abbrev pub response_to_request : SessionState → List Entry → Memory → Option (List ℕ) → RequestBody → Response
+abbrev pub response_to_request : SessionState → List Entry → MemoryRefusals → Option (List ℕ) → RequestBody → Response
 response_to_request opening journal memory None request =
     response_by_text journal memory (connection_fault_text NotSignedIn)
 response_to_request opening journal memory (Some user) (body.Query query since) =
@@ -118,7 +118,7 @@ response_to_request opening journal memory (Some user) (body.Hello name token) =
     response_by_text journal memory (fault_text UnknownRequest)
 
 -- what is no request has its fault
-abbrev pub response_to_meaning : SessionState → List Entry → Memory → Result Request RequestFault → Response
+abbrev pub response_to_meaning : SessionState → List Entry → MemoryRefusals → Result Request RequestFault → Response
 response_to_meaning opening journal memory (Ok request) =
     response_to_request opening journal memory request.user request.body
 response_to_meaning opening journal memory (Err fault) = response_by_text journal memory (fault_text fault)

@@ -5,7 +5,7 @@ use Rattle.script_lines.specs.declared.line_end.LineEnd.{LineEnd}
 use Rattle.script_lines.specs.declared.line_end.LineEnd.TheVariants.{LineFeed, EndOfInput}
 use Rattle.script_lines.specs.declared.reading.ReadFault.{ReadFault}
 use Rattle.script_lines.specs.declared.reading.ReadFault.TheVariants as read
-use Rattle.script_lines.specs.Lines.{pieces_of, ended_lines, lines_of, first_of}
+use Rattle.script_lines.specs.Lines.{pieces_of, ended_lines, lines_of, first_line_of}
 use Rattle.session_book.specs.Journal.{Ledger}
 use Rattle.json_fields.specs.declared.request_fault.RequestFault.{RequestFault}
 use Rattle.wire.specs.ReceiptText.{fault_text}
@@ -20,13 +20,13 @@ abbrev pub line_of : {S : Type 0} → (S → List ℕ) → Result S RequestFault
 line_of bytes (Ok text) = bytes text
 line_of bytes (Err fault) = fault_text fault ++ 10 ∷ []
 
--- so many bytes were taken from the reader, the first of these lines opened the session, and the messages among them have
--- their responses
+-- so many bytes were taken from the reader, the first of these lines opened the session, and the messages among them
+-- have their responses
 pub record Stands (input before reader writer : Option (List ℕ)) (ledger : Ledger) (left : ℕ) (taken : List ℕ)
     (lines : List (List ℕ)) : Type 0 where
   pub consumed : Consumes input reader taken
   pub counted : left + length taken ≡ script_limit
-  pub opened : Opens (first_of lines) ledger.opening
+  pub opened : Opens (first_line_of lines) ledger.opening
   pub text : List ℕ
   pub responses : RespondsToEach ledger.opening (messages_among lines) ledger.journal text
   pub appended : Appends before writer text

@@ -1,14 +1,14 @@
 -- What a script's run reads and writes, against the text of the script.
 use Rattle.std.specs.Prelude.{◌≡◌, ℕ, ◌+◌, ◌≤◌, ◌⊎◌, Option, Some, List, [], ◌∷◌, ◌++◌, map, length}
 use Rattle.std.specs.Io.KnownBytes.{Consumes, Appends, IsAtEnd}
-use Rattle.script_lines.specs.Lines.{pieces_of, ended_lines, lines_of, first_of}
+use Rattle.script_lines.specs.Lines.{pieces_of, ended_lines, lines_of, first_line_of}
 use Rattle.session_object.specs.Reading.{most_bytes}
 use Rattle.session_state.specs.session_commands.declared.entry.Entry.{Entry}
 use Rattle.session_state.specs.SessionState.{SessionState}
 use Rattle.program.specs.declared.fault.Fault.{Fault}
 use Rattle.program.specs.declared.fault.Fault.TheVariants.{Session, Opening, Input, Output, OutOfMemory}
 use Rattle.program.specs.FirstLine.{Opens, OpensNone}
-use Rattle.program.specs.Script.{Memory, Received, response_to_line, responses_to, messages_among}
+use Rattle.program.specs.Script.{MemoryRefusals, Received, response_to_line, responses_to, messages_among}
 
 -- how many bytes a script has at most
 abbrev pub script_limit : ℕ
@@ -19,7 +19,7 @@ script_limit = 1073741824
 -- a message leads from a journal to another, and this text with its LF responds to it
 pub record Responds (opening : SessionState) (journal : List Entry) (line : List ℕ) (after : List Entry) (text : List ℕ)
     : Type 0 where
-  pub memory : Memory
+  pub memory : MemoryRefusals
   pub journal_is : (response_to_line opening journal (record { line = line; memory = memory })).journal ≡ after
   pub text_is : (response_to_line opening journal (record { line = line; memory = memory })).text ++ 10 ∷ [] ≡ text
 
@@ -36,7 +36,7 @@ pub record RespondsToEach (opening : SessionState) (messages : List (List ℕ)) 
 -- the responses to the messages among these lines, of which the first opens the session; and nothing else
 pub record WritesResponses (lines : List (List ℕ)) (before after : Option (List ℕ)) : Type 0 where
   pub opening : SessionState
-  pub opened : Opens (first_of lines) opening
+  pub opened : Opens (first_line_of lines) opening
   pub journal : List Entry
   pub text : List ℕ
   pub responses : RespondsToEach opening (messages_among lines) journal text
@@ -50,7 +50,7 @@ WritesSoFar (first ∷ lines) before after = WritesResponses (first ∷ lines) b
 -- a first part of the responses to the messages among these lines
 pub record WritesPartOfResponses (lines : List (List ℕ)) (before after : Option (List ℕ)) : Type 0 where
   pub opening : SessionState
-  pub opened : Opens (first_of lines) opening
+  pub opened : Opens (first_line_of lines) opening
   pub journal : List Entry
   pub text : List ℕ
   pub responses : RespondsToEach opening (messages_among lines) journal text
@@ -62,7 +62,7 @@ pub record WritesPartOfResponses (lines : List (List ℕ)) (before after : Optio
 -- the responses to the messages among these lines, and a first part of the response to one message more
 pub record WritesPartOfLast (lines : List (List ℕ)) (last : List ℕ) (before after : Option (List ℕ)) : Type 0 where
   pub opening : SessionState
-  pub opened : Opens (first_of lines) opening
+  pub opened : Opens (first_line_of lines) opening
   pub journal : List Entry
   pub text : List ℕ
   pub responses : RespondsToEach opening (messages_among lines) journal text
@@ -89,7 +89,7 @@ pub record IsUnopened (fault : Fault) (input : List ℕ) (left : Option (List �
     pub read : List ℕ
     pub consumed : Consumes (Some input) left read
     pub few : length read ≤ most_bytes + 2
-    pub opens_none : OpensNone fault (first_of (lines_of input))
+    pub opens_none : OpensNone fault (first_line_of (lines_of input))
     pub unwritten : Appends before after []
 
 -- there was no memory for the session of the first line: nothing is written, and no second line is read

@@ -4,7 +4,7 @@ use Rattle.std.specs.Prelude.{Option, Some, None, slice_get, is_some, not, ◌&&
 use Rattle.std.specs.Option.{option_and_then, option_map}
 use Rattle.cards.specs.Hands.{Hands}
 use Rattle.movement.specs.declared.cell.Cell.{Cell}
-use Rattle.movement.specs.Movement.{IsSection, boards_of}
+use Rattle.movement.specs.Movement.{IsSection, boards_of, has_board}
 use Rattle.movement.specs.Schedule.{is_scheduled}
 use Rattle.movement.proofs.CellLemmas.{cell_in_range}
 use Rattle.movement.proofs.ScheduleTests.{scheduled-cell}
@@ -20,7 +20,6 @@ use Rattle.session_book.specs.session_state.SessionState.{SessionState, cell_at,
 use Rattle.session_book.proofs.session_state_lemmas.ScheduleLemmas.{placed}
 use Rattle.query_filter.specs.declared.trick_table.TrickTable.{TrickTable}
 use Rattle.session_queries.specs.Content.{Content, analysis_of, play_of, costs_of, reason_of}
-use Rattle.session_queries.specs.Facts.{has_board}
 use Rattle.session_queries.specs.Reading.{as_public, as_seats, as_accounts, as_pairs, as_hands, as_analysis, as_play, as_costs, as_reason, shown_public, shown_seats, shown_hands, shown_marks, shown_results, shown_analysis}
 use Rattle.session_queries.specs.Shown.{Shown, is_allowed, shown}
 use Rattle.session_queries.proofs.ShownLemmas.{content_allowed, content_denied}

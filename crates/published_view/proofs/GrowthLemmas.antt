@@ -11,7 +11,7 @@ use Rattle.session_state.specs.session_commands.declared.entry.Entry.{Entry}
 use Rattle.session_state.specs.session_commands.declared.refusal.Refusal.{Refusal}
 use Rattle.session_state.specs.SessionState.{SessionState}
 use Rattle.published_view.specs.session_book.Journal.{Ledger, state_of, entry_of, refusal_after}
-use Rattle.published_view.specs.session_book.Run.{Progress, answered, step, run, Runs}
+use Rattle.published_view.specs.session_book.Run.{Progress, answered, after_command, run, Runs}
 use Rattle.published_view.specs.session_book.Replay.{replay}
 use Rattle.published_view.proofs.session_book_lemmas.JournalLemmas.{replayed_more}
 use Rattle.session_state.specs.Apply.{apply}
@@ -38,12 +38,12 @@ answered_extends so_far actor command None = (record { actor = User actor; comma
 answered_extends so_far actor command (Some cause) = same_extends so_far.journal
 
 fold_extends : (opening : SessionState) (actor : List ℕ) (batch : List Command) (so_far : Progress) →
-    Extends so_far.journal (fold (step opening actor) so_far batch).journal
+    Extends so_far.journal (fold (after_command opening actor) so_far batch).journal
 fold_extends opening actor [] so_far = same_extends so_far.journal
 fold_extends opening actor (command ∷ batch) so_far =
-    more_extends so_far.journal (step opening actor so_far command).journal (fold (step opening actor) (step opening actor so_far command) batch).journal
+    more_extends so_far.journal (after_command opening actor so_far command).journal (fold (after_command opening actor) (after_command opening actor so_far command) batch).journal
     (answered_extends so_far actor command (refusal_after opening so_far.journal (User actor) command))
-    (fold_extends opening actor batch (step opening actor so_far command))
+    (fold_extends opening actor batch (after_command opening actor so_far command))
 
 run_extends : (opening : SessionState) (before : List Entry) (actor : List ℕ) (batch : List Command) →
     Extends before (run opening before actor batch).journal

@@ -17,7 +17,7 @@ use Rattle.session_queries.specs.declared.reply.Reply.{Reply}
 use Rattle.published_view.specs.History.{IsGivenIn, NamesPublished, state_there}
 use Rattle.published_view.specs.Reply.{reply_of}
 use Rattle.published_view.specs.View.{version_of, reply_after}
-use Rattle.published_view.specs.World.{World, Reading, Read, Moment, Solves, Reads, MayGoOn, IsHistory, now, with_journal, with_seen}
+use Rattle.published_view.specs.World.{World, Reading, Read, Moment, Solves, ReadsVersion, MayGoOn, IsHistory, now, with_journal, with_seen}
 use Rattle.published_view.proofs.StepLemmas.{Extends, same_extends, more_extends, step_leaves}
 use Rattle.published_view.proofs.ElementLemmas.{contains_first, contains_cases}
 
@@ -128,7 +128,7 @@ module _ (opening : SessionState) where
   version_is : (entries : List Entry) → IsAccepted opening entries → version_of entries ≡ length entries
   version_is entries accepted = let few = accepted_length opening entries accepted in omega (arith, few)
 
-  reply_given : (before : World) (reading : Reading) (reply : Reply) (after : World) → Reads opening before reading after → reading.reply ≡ Some reply →
+  reply_given : (before : World) (reading : Reading) (reply : Reply) (after : World) → ReadsVersion opening before reading after → reading.reply ≡ Some reply →
       reply ≡ reply_after opening (take reading.version before.journal) reading.user reading.query reading.since
   reply_given before reading reply after reads told =
       subst (λ (found : Option Reply). IfSome found (λ r. r ≡ reply_after opening (take reading.version before.journal) reading.user reading.query reading.since)) told reads.reply
@@ -139,7 +139,7 @@ module _ (opening : SessionState) where
   is_of later after earlier reading reply is told =
       let moment : Moment = record { step = Read reading; after = after } in
       let here = history_before later (moment ∷ earlier) is in
-      let reads : Reads opening (now earlier) reading after = here.0 in
+      let reads : ReadsVersion opening (now earlier) reading after = here.0 in
       let was = was_newest earlier here.1 reading.version reads.published in
       let entries = (now was.earlier).journal in
       let then : IsHistory opening was.earlier = history_before was.later was.earlier (subst (IsHistory opening) was.split here.1) in

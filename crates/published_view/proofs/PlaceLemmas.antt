@@ -3,11 +3,11 @@ use Rattle.std.proofs.Common.{rules, ◌≡◌, ℕ, ◌+◌, ◌<◌, ◌≤◌
 use Rattle.std.specs.List.{flat_map, range_with_len}
 use Rattle.std.proofs.lemmas.Bool.{cases_Bool, false≢true}
 use Rattle.movement.specs.declared.cell.Cell.{Cell}
-use Rattle.movement.specs.Movement.{Section, boards_of}
+use Rattle.movement.specs.Movement.{Section, boards_of, has_board}
 use Rattle.movement.specs.Schedule.{is_scheduled}
 use Rattle.disclosure_rules.specs.declared.fact.Fact.{Fact}
 use Rattle.disclosure_rules.specs.declared.fact.Fact.TheVariants as fact
-use Rattle.session_queries.specs.Facts.{cell_on, cells_of_board, facts_of_cell, facts_of_board, boards, facts, same_fact, has_board, has_place}
+use Rattle.session_queries.specs.Facts.{cell_on, cells_of_board, facts_of_cell, facts_of_board, boards, facts, same_fact, has_place}
 use Rattle.session_queries.proofs.FactLemmas.{has_fact, same_fact_is}
 pub use Rattle.session_book.proofs.session_state_lemmas.ScheduleLemmas.{found_scheduled}
 use Rattle.published_view.proofs.ElementLemmas.{none_there, contains_first, contains_later, contains_cases, from_filter, from_flat, from_range}

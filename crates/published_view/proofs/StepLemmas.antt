@@ -12,7 +12,7 @@ use Rattle.session_state.specs.session_commands.declared.refusal.Refusal.{Refusa
 use Rattle.session_book.specs.declared.answer.Answer.{Answer}
 use Rattle.session_book.specs.declared.answer.Answer.TheVariants.{Accepted, Refused}
 use Rattle.session_book.specs.Journal.{IsAccepted, refusal_after}
-use Rattle.session_book.specs.Run.{Progress, answered, step, run, Runs, IsTried}
+use Rattle.session_book.specs.Run.{Progress, answered, after_command, run, Runs, IsTried}
 use Rattle.session_book.proofs.JournalLemmas.{accepted_more}
 use Rattle.published_view.proofs.ElementLemmas.{contains_first, contains_later, contains_cases}
 use Rattle.published_view.specs.World.{World, with_journal, with_seen, book_with, Step, Submit, Solve, Learn, Read, Happens}
@@ -58,12 +58,12 @@ module _ (opening : SessionState) (actor : List ℕ) where
   goes_answered so_far command None may = goes_with opening so_far.journal (record { actor = User actor; command = command }) may
   goes_answered so_far command (Some cause) refused = goes_nowhere opening so_far.journal
 
-  goes_fold : (batch : List Command) (so_far : Progress) → Goes opening so_far.journal (fold (step opening actor) so_far batch).journal
+  goes_fold : (batch : List Command) (so_far : Progress) → Goes opening so_far.journal (fold (after_command opening actor) so_far batch).journal
   goes_fold [] so_far = goes_nowhere opening so_far.journal
   goes_fold (command ∷ batch) so_far =
-      goes_on opening so_far.journal (step opening actor so_far command).journal (fold (step opening actor) (step opening actor so_far command) batch).journal
+      goes_on opening so_far.journal (after_command opening actor so_far command).journal (fold (after_command opening actor) (after_command opening actor so_far command) batch).journal
       (goes_answered so_far command (refusal_after opening so_far.journal (User actor) command) refl)
-      (goes_fold batch (step opening actor so_far command))
+      (goes_fold batch (after_command opening actor so_far command))
 
   goes_run : (before : List Entry) (batch : List Command) → Goes opening before (run opening before actor batch).journal
   unfolding run

@@ -6,7 +6,8 @@ use Rattle.disclosure_rules.specs.declared.fact.Fact.{Fact}
 use Rattle.disclosure_rules.specs.declared.fact.Fact.TheVariants as fact
 use Rattle.session_book.specs.session_state.SessionState.{SessionState, cell_at, table_at, viewer_of}
 use Rattle.session_queries.specs.Content.{content}
-use Rattle.session_queries.specs.Facts.{has_board, has_place}
+use Rattle.session_queries.specs.Facts.{has_place}
+use Rattle.movement.specs.Movement.{has_board}
 use Rattle.session_queries.specs.Shown.{is_allowed}
 
 -- two states agree for a user where the user has the same roles and the same seat, what every member may see is the

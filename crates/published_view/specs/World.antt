@@ -102,7 +102,7 @@ pub record Learns (before : World) (display version : ℕ) (after : World) : Typ
 
 -- a display reads at a version that was published and is no older than what it has seen. The reply, if there is one,
 -- is that of the entries of this version; with a reply or without one, the display has then seen it
-pub record Reads (opening : SessionState) (before : World) (reading : Reading) (after : World) : Type 0 where
+pub record ReadsVersion (opening : SessionState) (before : World) (reading : Reading) (after : World) : Type 0 where
   pub published : Contains before.published reading.version
   pub not_older : before.seen reading.display ≤ reading.version
   pub reply : IfSome reading.reply (λ reply.
@@ -114,7 +114,7 @@ abbrev pub Happens : SessionState → World → Step → World → Type 0
 Happens opening before (Submit actor batch) after = Submits opening before actor batch after
 Happens opening before (Solve command) after = Solves opening before command after
 Happens opening before (Learn display version) after = Learns before display version after
-Happens opening before (Read reading) after = Reads opening before reading after
+Happens opening before (Read reading) after = ReadsVersion opening before reading after
 
 -- a step, and what the session is after it
 pub record Moment : Type 0 where
@@ -140,4 +140,4 @@ pub record MayGoOn (opening : SessionState) (world : World) : Type 0 where
   pub version : (display version : ℕ) → Contains world.published version →
       (after : World) × Learns world display version after
   pub query : (display : ℕ) (user : List ℕ) (query : Query) (since : ℕ) →
-      (reply : Reply) × (after : World) × Reads opening world (newest world display user query since (Some reply)) after
+      (reply : Reply) × (after : World) × ReadsVersion opening world (newest world display user query since (Some reply)) after

@@ -1,7 +1,7 @@
 //! The answers to queries, each for a user who is allowed the fact that decides it.
 ghost use Rattle.std.specs.Prelude.{◌≡◌, ◌≤◌, ◌+◌, ◌-◌, ◌++◌, true, Some, None, All, IfOk, OnOk, slice_get, vec_len};
 ghost use Rattle.disclosure_rules.specs.Policy.{first_rule};
-ghost use Rattle.movement.specs.Movement.{IsSection};
+ghost use Rattle.movement.specs.Movement.{IsSection, has_board};
 ghost use Rattle.movement.specs.Schedule.{is_scheduled};
 ghost use Rattle.session_book.specs.session_state.SessionState.{cell_at};
 ghost use Rattle.session_book.specs.session_state.Readers.{seats_in_order};
@@ -12,7 +12,7 @@ ghost use Rattle.session_queries.specs.declared.query.Query.TheVariants as query
 ghost use Rattle.published_view.specs.Answers.{answer_from, traveller_by, list_by, ranking_by, board_earnings, all_earnings};
 ghost use Rattle.session_queries.specs.Query.{fact_of};
 ghost use Rattle.session_queries.specs.Content.{analysis_of};
-ghost use Rattle.session_queries.specs.Facts.{has_board, has_place};
+ghost use Rattle.session_queries.specs.Facts.{has_place};
 ghost use Rattle.session_queries.specs.Shown.{shown};
 
 use crate::listing::listed_from;

@@ -1,8 +1,7 @@
 ghost use Rattle.std.specs.Prelude.{◌≡◌, ◌++◌, ◌∷◌, [], ◌&&◌, nat_le, true, cond, IfOk, OnOk};
 ghost use Rattle.disclosure_rules.specs.declared.fact.Fact.TheVariants as fact;
 ghost use Rattle.disclosure_rules.specs.Policy.{first_rule};
-ghost use Rattle.movement.specs.Movement.{IsSection};
-ghost use Rattle.session_queries.specs.Facts.{has_board};
+ghost use Rattle.movement.specs.Movement.{IsSection, has_board};
 ghost use Rattle.session_queries.specs.Reading.{shown_analysis};
 ghost use Rattle.session_queries.specs.Shown.{shown};
 ghost use Rattle.published_view.specs.Listing.{facts_for, is_listed, listed_from, outcome_of, outcomes_of, tricks_shown};

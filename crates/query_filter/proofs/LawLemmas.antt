@@ -7,7 +7,7 @@ use Rattle.query_filter.specs.declared.atom.Atom.TheVariants as atom
 use Rattle.query_filter.specs.declared.board_facts.BoardFacts.{BoardFacts}
 use Rattle.query_filter.specs.Formula.{Formula, Formulas, no_formula, formula_then, Not}
 use Rattle.query_filter.specs.Holds.{atom_holds, holds, all_hold, any_holds}
-use Rattle.query_filter.specs.Laws.{IsOnResults, with_result, contraries}
+use Rattle.query_filter.specs.Laws.{IsOnResults, with_one_outcome, contraries}
 
 not_both : (p q : Bool) → not (p && q) ≡ (not p || not q)
 not_both true q = refl
@@ -37,7 +37,7 @@ one_alone test xs h =
 
 -- one of the results makes an atom on results true
 pub one_result : (a : Atom) (facts : BoardFacts) → IsOnResults a → atom_holds a facts ≡ true
-    → Any (λ outcome. atom_holds a (with_result facts outcome) ≡ true) facts.outcomes
+    → Any (λ outcome. atom_holds a (with_one_outcome facts outcome) ≡ true) facts.outcomes
 one_result (atom.Vulnerability marking) facts on h = absurd on
 one_result (atom.Dealer place) facts on h = absurd on
 one_result (atom.Level levels) facts on h = one_alone _ facts.outcomes h

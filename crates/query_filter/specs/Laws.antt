@@ -18,8 +18,8 @@ IsOnResults (atom.Score scores) = Unit {0}
 IsOnResults (atom.DoubleDummy declarer strain tricks) = ⊥
 
 -- the board with this one result
-abbrev pub with_result : BoardFacts → Outcome → BoardFacts
-with_result facts outcome = record facts { outcomes = outcome ∷ [] }
+abbrev pub with_one_outcome : BoardFacts → Outcome → BoardFacts
+with_one_outcome facts outcome = record facts { outcomes = outcome ∷ [] }
 
 -- the contrary of each
 abbrev pub contraries : Formulas → Formulas

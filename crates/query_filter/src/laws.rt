@@ -11,7 +11,7 @@ ghost use Rattle.query_filter.specs.declared.bounds.ScoreBounds.{ScoreBounds};
 ghost use Rattle.query_filter.specs.Bounds.{is_between, is_score_between};
 ghost use Rattle.query_filter.specs.Formula.{Formulas, Not, And, Or};
 ghost use Rattle.query_filter.specs.Holds.{atom_holds, holds};
-ghost use Rattle.query_filter.specs.Laws.{IsOnResults, with_result, contraries};
+ghost use Rattle.query_filter.specs.Laws.{IsOnResults, with_one_outcome, contraries};
 
 /// Where no result is shown, no atom on results holds, and where there is no table, none on double-dummy tricks.
 #[tactic(auto, using(crate::proofs::LawLemmas::no_result))]
@@ -26,7 +26,7 @@ pub fn nothing_shown_makes_nothing_true()
 #[tactic(auto, using(crate::proofs::LawLemmas::one_result))]
 pub fn one_result_makes_it_true()
     ensures { (atom : Atom) (facts : BoardFacts) → IsOnResults atom → atom_holds atom facts ≡ true
-        → Any (λ outcome. atom_holds atom (with_result facts outcome) ≡ true) facts.outcomes }
+        → Any (λ outcome. atom_holds atom (with_one_outcome facts outcome) ≡ true) facts.outcomes }
 {}
 
 /// Nothing lies between bounds whose least is above their most.

@@ -17,7 +17,7 @@ use Rattle.rbac.specs.Hierarchy.{IsClosure, reached_from, is_broken_in}
 use Rattle.session_roles.specs.Separation.{apart, has_both}
 use Rattle.session_roles.specs.Role.{without_role}
 use Rattle.rbac.specs.RoleData.{RoleData, deassign_user}
-use Rattle.session_roles.specs.Operation.{holds, are_allowed}
+use Rattle.session_roles.specs.Operation.{permits, one_permits}
 use Rattle.session_roles.specs.declared.operation.Operation.{Operation}
 use Rattle.rbac.specs.Authorization.{HasPermission, IsReached, AreAuthorized, IsBroken, reached, authorized_roles}
 use Rattle.session_roles.proofs.RoleLemmas.{has_roles_that, listed_roles_that}
@@ -88,12 +88,12 @@ pub none_authorized : (now : RoleData) (name : List ℕ) → All (λ account. ac
 none_authorized now name none = ap (option_map (reached now.pairs)) (no_roles now.accounts name none)
 
 -- a set that holds just the authorized roles allows just the permissions
-pub decides_permission : (now : RoleData) (name : List ℕ) (set : List Role) (operation : Operation) → AreAuthorized now name set → Decides (are_allowed set operation) (HasPermission now name operation)
+pub decides_permission : (now : RoleData) (name : List ℕ) (set : List Role) (operation : Operation) → AreAuthorized now name set → Decides (one_permits set operation) (HasPermission now name operation)
 decides_permission now name set operation are =
-    Decides-like (are_allowed set operation)
-    (λ one. let parts = and_parts (has set one.0) (holds one.0 operation) one.1 in (one.0, (are.exact one.0).0 parts.0, parts.1))
-    (λ some. (some.0, and_from (has set some.0) (holds some.0 operation) ((are.exact some.0).1 some.1) some.2))
-    (decides_role (λ role. has set role && holds role operation))
+    Decides-like (one_permits set operation)
+    (λ one. let parts = and_parts (has set one.0) (permits one.0 operation) one.1 in (one.0, (are.exact one.0).0 parts.0, parts.1))
+    (λ some. (some.0, and_from (has set some.0) (permits some.0 operation) ((are.exact some.0).1 some.1) some.2))
+    (decides_role (λ role. has set role && permits role operation))
 
 -- with other roles or without a pair there is no further account
 pub none_deassigned : (now : RoleData) (other : List ℕ) (role : Role) (name : List ℕ) → All (λ account. account.name ≢ name) now.accounts → authorized_roles (deassign_user now other role) name ≡ None

@@ -5,7 +5,7 @@ use Rattle.std.specs.Option.{option_map_or}
 use Rattle.std.specs.Bool.{Decides}
 use Rattle.rbac.specs.declared.change.Change.{Change}
 use Rattle.rbac.specs.declared.change.Change.TheVariants.{Deassign, DeleteInheritance}
-use Rattle.session_roles.specs.Operation.{are_allowed}
+use Rattle.session_roles.specs.Operation.{one_permits}
 use Rattle.std.specs.List.{Any}
 use Rattle.std.proofs.lemmas.Bool.{both_ways, false≢true, or_right, false_from_ne_true, not_from_false}
 use Rattle.std.proofs.lemmas.Bool.Decides.{same_from_decides}
@@ -22,7 +22,7 @@ use Rattle.session_roles.specs.Role.{has, IsListed, with_role, without_role, sam
 use Rattle.rbac.specs.Inheritance.{Reaches, pair_of, same_inheritance}
 use Rattle.session_roles.specs.Separation.{apart}
 use Rattle.rbac.specs.Account.{HasAccount, IsAssigned, same_name}
-use Rattle.rbac.specs.RoleData.{RoleData, assign_user, deassign_user, delete_inheritance, after}
+use Rattle.rbac.specs.RoleData.{RoleData, assign_user, deassign_user, delete_inheritance, after_change}
 use Rattle.rbac.specs.Authorization.{IsReached, IsAuthorized, AreAuthorized, HasPermission, RoleHasPermission, KeepsSeparation, KeepsAssignedApart, IsValid, authorized_roles, has_permission}
 use Rattle.session_roles.proofs.RoleLemmas.{same_sets, has_with_role, without_role_absent}
 use Rattle.rbac.proofs.InheritanceLemmas.{reaches_on}
@@ -135,7 +135,7 @@ authorized_alone state name set other one two =
 
 -- the test of a permission decides whether the user has it
 permission_of : (state : RoleData) (name : List ℕ) (operation : Operation) (answer : Option (List Role)) → MatchOption answer (¬ HasAccount state.accounts name) (AreAuthorized state name)
-    → Decides (option_map_or (λ set. are_allowed set operation) answer false) (HasPermission state name operation)
+    → Decides (option_map_or (λ set. one_permits set operation) answer false) (HasPermission state name operation)
 permission_of state name operation (Some set) are = decides_permission state name set operation are
 permission_of state name operation None none = (
   λ test. absurd (false≢true test),
@@ -147,15 +147,15 @@ permission_exact state name operation valid =
     permission_of state name operation (authorized_roles state name) (authorized_roles_exact state name valid)
 
 -- a change that takes authorization away keeps the accounts and their names
-apart_after : (state : RoleData) (change : Change) → AreApart state.accounts → AreApart (after state change).accounts
+apart_after : (state : RoleData) (change : Change) → AreApart state.accounts → AreApart (after_change state change).accounts
 apart_after state (Deassign other role) apart = apart_changed (λ set. without_role set role) other.now state.accounts apart
 apart_after state (DeleteInheritance senior junior) apart = apart
 
-found_after : (state : RoleData) (change : Change) (name : List ℕ) (place : ℕ) → FoundAt state.accounts name place → FoundAt (after state change).accounts name place
+found_after : (state : RoleData) (change : Change) (name : List ℕ) (place : ℕ) → FoundAt state.accounts name place → FoundAt (after_change state change).accounts name place
 found_after state (Deassign other role) name place at = found_changed (λ set. without_role set role) other.now state.accounts name place at
 found_after state (DeleteInheritance senior junior) name place at = at
 
-missing_after : (state : RoleData) (change : Change) (name : List ℕ) → All (λ account. account.name ≢ name) state.accounts → All (λ account. account.name ≢ name) (after state change).accounts
+missing_after : (state : RoleData) (change : Change) (name : List ℕ) → All (λ account. account.name ≢ name) state.accounts → All (λ account. account.name ≢ name) (after_change state change).accounts
 missing_after state (Deassign other role) name none = none_changed (λ set. without_role set role) other.now state.accounts name none
 missing_after state (DeleteInheritance senior junior) name none = none
 
@@ -166,17 +166,17 @@ has_found accounts name place at =
 
 -- what a user with an account, and one without, is authorized for after such a change
 answer_after : (state : RoleData) (change : Change) (name : List ℕ) → AreApart state.accounts → ((place : ℕ) × FoundAt state.accounts name place) ⊎ All (λ account. account.name ≢ name) state.accounts
-    → MatchOption (authorized_roles (after state change) name) (¬ HasAccount state.accounts name) (λ set. HasAccount state.accounts name × AreAuthorized (after state change) name set)
+    → MatchOption (authorized_roles (after_change state change) name) (¬ HasAccount state.accounts name) (λ set. HasAccount state.accounts name × AreAuthorized (after_change state change) name set)
 answer_after state change name apart (inl at) =
     let d : Account = record { name = name; assigned = [] } in
     let there = found_after state change name at.0 at.1 in
     let still = apart_after state change apart in
-    subst (λ answer. MatchOption answer (¬ HasAccount state.accounts name) (λ set. HasAccount state.accounts name × AreAuthorized (after state change) name set))
-    (sym (authorized_is (after state change) name at.0 there still d))
-    (has_found state.accounts name at.0 at.1, are_authorized (after state change) name at.0 there still d)
+    subst (λ answer. MatchOption answer (¬ HasAccount state.accounts name) (λ set. HasAccount state.accounts name × AreAuthorized (after_change state change) name set))
+    (sym (authorized_is (after_change state change) name at.0 there still d))
+    (has_found state.accounts name at.0 at.1, are_authorized (after_change state change) name at.0 there still d)
 answer_after state change name apart (inr none) =
-    subst (λ answer. MatchOption answer (¬ HasAccount state.accounts name) (λ set. HasAccount state.accounts name × AreAuthorized (after state change) name set))
-    (sym (none_authorized (after state change) name (missing_after state change name none)))
+    subst (λ answer. MatchOption answer (¬ HasAccount state.accounts name) (λ set. HasAccount state.accounts name × AreAuthorized (after_change state change) name set))
+    (sym (none_authorized (after_change state change) name (missing_after state change name none)))
     (no_account state.accounts name none)
 
 exact_of : (answer : Option (List Role)) (Missing There : Type 0) (P : List Role → Type 0) → MatchOption answer Missing (λ set. There × P set) → IfSome answer P
@@ -192,13 +192,13 @@ none_of (Some set) Missing There P both = tt
 none_of None Missing There P missing = missing
 
 -- so what is answered for the data after the change is exact
-module _ (state : RoleData) (change : Change) (name : List ℕ) (answer : Option (List Role)) (valid : IsValid state) (is : answer ≡ authorized_roles (after state change) name) where
-  answered : MatchOption answer (¬ HasAccount state.accounts name) (λ set. HasAccount state.accounts name × AreAuthorized (after state change) name set)
+module _ (state : RoleData) (change : Change) (name : List ℕ) (answer : Option (List Role)) (valid : IsValid state) (is : answer ≡ authorized_roles (after_change state change) name) where
+  answered : MatchOption answer (¬ HasAccount state.accounts name) (λ set. HasAccount state.accounts name × AreAuthorized (after_change state change) name set)
   answered =
-      subst (λ found. MatchOption found (¬ HasAccount state.accounts name) (λ set. HasAccount state.accounts name × AreAuthorized (after state change) name set)) (sym is)
+      subst (λ found. MatchOption found (¬ HasAccount state.accounts name) (λ set. HasAccount state.accounts name × AreAuthorized (after_change state change) name set)) (sym is)
       (answer_after state change name valid.names (place_or_none state.accounts name))
 
-  pub exact_after : IfSome answer (AreAuthorized (after state change) name)
+  pub exact_after : IfSome answer (AreAuthorized (after_change state change) name)
   exact_after = exact_of answer _ _ _ answered
 
   pub some_after : OnSome answer (HasAccount state.accounts name)

@@ -12,7 +12,7 @@ abbrev pub data_of : Inside → RoleData
 data_of roles = record { accounts = roles.accounts.items; pairs = roles.pairs.items }
 
 -- the data is valid, the table is that of the pairs, and there is room for all users and for every pair of two roles
-pub record IsKept (roles : Inside) : Type 0 where
+pub record AreKeptRoles (roles : Inside) : Type 0 where
   pub valid : IsValid (data_of roles)
   pub closure : IsClosure roles.pairs.items roles.hierarchy.reached
   pub users : most_users ≤ vec_capacity roles.accounts

@@ -40,6 +40,6 @@ abbrev pub delete_inheritance : RoleData → Role → Role → RoleData
 delete_inheritance state senior junior = record state { pairs = without_pair state.pairs (pair_of senior junior) }
 
 -- either of the changes that take authorization away
-abbrev pub after : RoleData → Change → RoleData
-after state (Deassign name role) = deassign_user state name.now role
-after state (DeleteInheritance senior junior) = delete_inheritance state senior junior
+abbrev pub after_change : RoleData → Change → RoleData
+after_change state (Deassign name role) = deassign_user state name.now role
+after_change state (DeleteInheritance senior junior) = delete_inheritance state senior junior

@@ -9,7 +9,7 @@ ghost use Rattle.rbac.specs.declared.add_inheritance_error.AddInheritanceError.{
 ghost use Rattle.rbac.specs.declared.delete_inheritance_error.DeleteInheritanceError.{DeleteInheritanceError};
 ghost use Rattle.rbac.specs.Account.{HasAccount};
 ghost use Rattle.rbac.specs.Inheritance.{opening_pairs};
-ghost use Rattle.rbac.specs.RoleData.{opening_data, add_user, assign_user, deassign_user, add_inheritance, delete_inheritance, after};
+ghost use Rattle.rbac.specs.RoleData.{opening_data, add_user, assign_user, deassign_user, add_inheritance, delete_inheritance, after_change};
 ghost use Rattle.rbac.specs.Authorization.{AreAuthorized, HasPermission, IsValid, authorized_roles, has_permission, reached};
 ghost use Rattle.user_names.specs.First.{IsFirst};
 ghost use Rattle.rbac.specs.Refusals.{add_user_place, RefusesUser, assign_place, RefusesAssignment, deassign_place, RefusesDeassignment, inheritance_place, RefusesInheritance, RefusesDeletion};
@@ -33,8 +33,8 @@ use user_names::Name;
 /// the inheritance pairs, each in the order of adding. After `new` no call takes memory, and a refusal changes nothing.
 ///
 /// A name is looked for among the accounts in turn, and what each role reaches is kept as a table of six bytes. So
-/// `authorized` costs one scan of the names and at most six unions of a byte, `add_inheritance` that union for each account
-/// and separation set, and a deletion works the table out anew from the pairs.
+/// `authorized` costs one scan of the names and at most six unions of a byte, `add_inheritance` that union for each
+/// account and separation set, and a deletion works the table out anew from the pairs.
 #[derive(Drop)]
 pub struct Roles {
     accounts: Vec<Account>,
@@ -47,11 +47,11 @@ impl Model for Roles {
 
     ghost Value = { RoleData };
 
-    ghost use Rattle.rbac.specs.Kept.{data_of, IsKept};
+    ghost use Rattle.rbac.specs.Kept.{data_of, AreKeptRoles};
 
     ghost view = { data_of };
 
-    ghost invariant = { IsKept };
+    ghost invariant = { AreKeptRoles };
 }
 
 impl Roles {
@@ -219,21 +219,21 @@ impl Roles {
         Some(self.hierarchy.reached_from(self.accounts[place].assigned))
     }
 
-    /// CheckAccess of INCITS 359-2012: whether a user is authorized for a role that holds the operation.
+    /// CheckAccess of INCITS 359-2012: whether a user is authorized for a role that permits the operation.
     pub fn check_access(&self, name: &str, operation: Operation) -> bool
         ensures permission { IsTrue result ↔ HasPermission self.now name.now operation }
         ensures test { result ≡ has_permission self.now name.now operation }
     {
         match self.authorized(name) {
-            Some(roles) => operation.is_held_by(roles),
+            Some(roles) => operation.is_permitted_by(roles),
             None => false,
         }
     }
 
     /// What `authorized` would answer after a change. A change that would be refused changes nothing.
     pub fn authorized_if(&self, name: &str, change: Change<'_>) -> Option<RoleSet>
-        ensures roles { result ≡ authorized_roles (after self.now change.entry) name.now }
-        ensures exact { IfSome result (AreAuthorized (after self.now change.entry) name.now) }
+        ensures roles { result ≡ authorized_roles (after_change self.now change.entry) name.now }
+        ensures exact { IfSome result (AreAuthorized (after_change self.now change.entry) name.now) }
         ensures some { OnSome result (HasAccount self.now.accounts name.now) }
         ensures none { IfNone result (¬ HasAccount self.now.accounts name.now) }
     {

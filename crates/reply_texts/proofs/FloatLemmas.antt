@@ -24,7 +24,7 @@ use Rattle.standings.specs.declared.traveller_row.TravellerRow.{TravellerRow}
 use Rattle.reply_texts.specs.DataOf.{number_data, list_data, option_data}
 use Rattle.reply_texts.specs.StatusText.{held_boards, live_tables, tables_data, live_data, mark_data, marks_data, seat_data, status_data}
 use Rattle.reply_texts.specs.BoardText.{tricks_data}
-use Rattle.reply_texts.specs.TravellerText.{outcome_data, result_data, row_data}
+use Rattle.reply_texts.specs.TravellerText.{outcome_data, result_data, traveller_row_data}
 use Rattle.reply_texts.specs.CostsText.{card_costs_data}
 use Rattle.reply_texts.specs.TableText.{card_data}
 use Rattle.reply_texts.specs.ListText.{standing_data, role_data, account_data, inheritance_data}
@@ -79,7 +79,7 @@ none_in_a_result table north_south east_west (Played outcome score points) =
     λ i. none_in_an_outcome outcome i || (none_in_an_integer score i || false)
 none_in_a_result table north_south east_west (Ruled first second) = refl
 
-none_in_a_row : (row : TravellerRow) → has_float (row_data row) ≡ false
+none_in_a_row : (row : TravellerRow) → has_float (traveller_row_data row) ≡ false
 none_in_a_row row = none_in_a_result row.table row.north_south row.east_west row.result
 
 none_in_costs : (costs : CardCosts) → has_float (card_costs_data costs) ≡ false
@@ -99,7 +99,7 @@ none_in_a_body body.Behind = refl
 none_in_a_body (body.Denied denial) = refl
 none_in_a_body (body.Status public seats) = none_in_a_status public seats
 none_in_a_body (body.Board number hands marks) = refl
-none_in_a_body (body.Traveller number rows) = ap (λ b. b || false) (none_in_a_list row_data none_in_a_row rows)
+none_in_a_body (body.Traveller number rows) = ap (λ b. b || false) (none_in_a_list traveller_row_data none_in_a_row rows)
 none_in_a_body (body.Analysis number tricks) =
     ap (λ b. b || false) (none_in_an_option tricks_data (λ table. refl) tricks)
 none_in_a_body (body.Play cell cards) =

@@ -22,8 +22,8 @@ board_data board hands marks =
     (member (codes "vul") (string (vulnerability_text marks.vulnerability)) no_members))))
 
 -- a declarer's tricks in spades, hearts, diamonds, clubs and no trump
-abbrev pub declarer_tricks : TrickTable → Place → List ℕ
-declarer_tricks table declarer =
+abbrev pub tricks_by_strain : TrickTable → Place → List ℕ
+tricks_by_strain table declarer =
     tricks_of table Spades declarer
     ∷ tricks_of table Hearts declarer
     ∷ tricks_of table Diamonds declarer
@@ -32,7 +32,7 @@ declarer_tricks table declarer =
     ∷ []
 
 abbrev pub declarer_data : TrickTable → Place → Data
-declarer_data table declarer = list_data number_data (declarer_tricks table declarer)
+declarer_data table declarer = list_data number_data (tricks_by_strain table declarer)
 
 -- each declarer's tricks
 abbrev pub tricks_data : TrickTable → Data

@@ -25,8 +25,8 @@ outcome_data (outcome.Played contract tricks) =
     (member (codes "strain") (string (strain_letter contract.strain ∷ []))
     (member (codes "tricks") (number_data tricks) no_members)))))
 
--- what a row says of these pairs at a table. A result that was played: North-South's scoring units, how the board ended,
--- and North-South's score. A ruling: North-South's percentage and East-West's
+-- what a row says of these pairs at a table. A result that was played: North-South's scoring units, how the board
+-- ended, and North-South's score. A ruling: North-South's percentage and East-West's
 abbrev pub result_data : ℕ → Pair → Pair → RowResult → Data
 result_data table north_south east_west (Played outcome score points) =
     object (member (codes "ew") (string (pair_text east_west))
@@ -42,11 +42,11 @@ result_data table north_south east_west (Ruled north_south_percentage east_west_
     (number_data north_south_percentage ∷ number_data east_west_percentage ∷ [])))
     (member (codes "table") (number_data table) no_members))))
 
-abbrev pub row_data : TravellerRow → Data
-row_data row = result_data row.table row.north_south row.east_west row.result
+abbrev pub traveller_row_data : TravellerRow → Data
+traveller_row_data row = result_data row.table row.north_south row.east_west row.result
 
 -- the board's number and its rows
 abbrev pub traveller_data : ℕ → List TravellerRow → Data
 traveller_data board rows =
     object (member (codes "board") (number_data board)
-    (member (codes "rows") (list_data row_data rows) no_members))
+    (member (codes "rows") (list_data traveller_row_data rows) no_members))

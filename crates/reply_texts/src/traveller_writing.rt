@@ -2,7 +2,7 @@
 
 ghost use Rattle.std.specs.Prelude.{◌≡◌, IfOk};
 ghost use Rattle.serde_json.specs.View.{view};
-ghost use Rattle.reply_texts.specs.TravellerText.{outcome_data, result_data, row_data, traveller_data};
+ghost use Rattle.reply_texts.specs.TravellerText.{outcome_data, result_data, traveller_row_data, traveller_data};
 ghost use Rattle.scoring.specs.declared.outcome.Outcome.TheVariants as outcome;
 ghost use Rattle.standings.specs.declared.row_result.RowResult.TheVariants.{Played, Ruled};
 
@@ -28,7 +28,7 @@ pub(crate) fn traveller_value(
 }
 
 impl ToJson for TravellerRow {
-    ghost json = { row_data };
+    ghost json = { traveller_row_data };
 
     fn to_json(&self, alloc: Global) -> Result<Value, AllocError> {
         match self.result {

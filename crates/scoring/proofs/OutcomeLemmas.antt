@@ -15,7 +15,7 @@ use Rattle.scoring.specs.declared.doubling.Doubling.TheVariants.{Undoubled, Doub
 use Rattle.scoring.specs.declared.outcome.Outcome.{Outcome}
 use Rattle.scoring.specs.declared.outcome.Outcome.TheVariants.{PassedOut, Played}
 use Rattle.scoring.specs.Doubling.{times_doubled}
-use Rattle.scoring.specs.Outcome.{marks_of, same_outcome}
+use Rattle.scoring.specs.Outcome.{outcome_parts, same_outcome}
 
 abbrev strain_of : ℕ → Strain
 strain_of letter =
@@ -51,7 +51,7 @@ outcome_of (level ∷ strain ∷ declarer ∷ times ∷ tricks ∷ []) =
     Played (record { level = level; strain = strain_of strain; declarer = place_of declarer; doubling = doubling_of times }) tricks
 outcome_of _ = PassedOut
 
-outcome_of-marks : (outcome : Outcome) → outcome_of (marks_of outcome) ≡ outcome
+outcome_of-marks : (outcome : Outcome) → outcome_of (outcome_parts outcome) ≡ outcome
 outcome_of-marks PassedOut = refl
 outcome_of-marks (Played contract tricks) = λ i. Played (record {
   level = contract.level;
@@ -63,7 +63,7 @@ outcome_of-marks (Played contract tricks) = λ i. Played (record {
 -- two outcomes are found the same exactly where they are one
 pub same_outcome_decides : (a b : Outcome) → Decides (same_outcome a b) (a ≡ b)
 same_outcome_decides a b =
-    let marks = pointwise_decides Decides-eqb (marks_of a) (marks_of b) in (
+    let marks = pointwise_decides Decides-eqb (outcome_parts a) (outcome_parts b) in (
       λ same. sym (outcome_of-marks a) ∙ ap outcome_of (marks.0 same) ∙ outcome_of-marks b,
-      λ one. marks.1 (ap marks_of one),
+      λ one. marks.1 (ap outcome_parts one),
     )

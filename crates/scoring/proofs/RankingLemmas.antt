@@ -10,7 +10,7 @@ use Rattle.std.specs.Cmp.{ranked}
 use Rattle.table_terms.specs.declared.side.Side.{Side}
 use Rattle.table_terms.specs.declared.side.Side.TheVariants.{NorthSouth, EastWest}
 use Rattle.scoring.specs.declared.standing.Standing.{Standing}
-use Rattle.scoring.specs.Ranking.{Key, ByPercentage, BySide, ByNumber, ByTops, ByEarned, place_of, HasHigherPercentage, place_of_side, IsBefore, IsTied, RanksBefore}
+use Rattle.scoring.specs.Ranking.{Key, ByPercentage, BySide, ByNumber, ByTops, ByEarned, key_order, HasHigherPercentage, place_of_side, IsBefore, IsTied, RanksBefore}
 
 -- ---- each key alone
 
@@ -67,7 +67,7 @@ tied-trans key a b c s t = (tied-split key a b c s.0 t.0, tied-split key c b a t
 
 -- ---- all keys in their order
 
-same_key : (k l : Key) → place_of k ≡ place_of l → (P : Key → Type 0) → P k → P l
+same_key : (k l : Key) → key_order k ≡ key_order l → (P : Key → Type 0) → P k → P l
 same_key ByPercentage ByPercentage e P h = h
 same_key BySide BySide e P h = h
 same_key ByNumber ByNumber e P h = h
@@ -96,7 +96,7 @@ same_key ByEarned ByTops e P h = absurd (omega arith)
 
 pub ranks-asym : (a b : Standing) → RanksBefore a b → ¬ RanksBefore b a
 ranks-asym a b r s =
-    elim (cases_order (place_of r.key) (place_of s.key)) [
+    elim (cases_order (key_order r.key) (key_order s.key)) [
       | inl same ↦ before-asym s.key a b (same_key r.key s.key same (λ k. IsBefore k a b) r.before) s.before
       | inr apart ↦ elim apart [
         | inl sooner ↦ (s.earlier r.key sooner).1 r.before
@@ -106,7 +106,7 @@ ranks-asym a b r s =
 
 pub ranks-trans : (a b c : Standing) → RanksBefore a b → RanksBefore b c → RanksBefore a c
 ranks-trans a b c r s =
-    elim (cases_order (place_of r.key) (place_of s.key)) [
+    elim (cases_order (key_order r.key) (key_order s.key)) [
       | inl same ↦ record {
         key = s.key;
         before = before-trans s.key a b c (same_key r.key s.key same (λ k. IsBefore k a b) r.before) s.before;
@@ -139,31 +139,31 @@ Ranks a b o = MatchOrdering o (RanksBefore a b) ((key : Key) → IsTied key a b)
 flip_tied : (key : Key) (a b : Standing) → IsTied key a b → IsTied key b a
 flip_tied key a b t = (t.1, t.0)
 
-first_key : (a b : Standing) (other : Key) → place_of other < 0 → IsTied other a b
+first_key : (a b : Standing) (other : Key) → key_order other < 0 → IsTied other a b
 first_key a b other h = absurd (omega arith)
 
-second_key : (a b : Standing) → IsTied ByPercentage a b → (other : Key) → place_of other < 1 → IsTied other a b
+second_key : (a b : Standing) → IsTied ByPercentage a b → (other : Key) → key_order other < 1 → IsTied other a b
 second_key a b p ByPercentage h = p
 second_key a b p BySide h = absurd (omega arith)
 second_key a b p ByNumber h = absurd (omega arith)
 second_key a b p ByTops h = absurd (omega arith)
 second_key a b p ByEarned h = absurd (omega arith)
 
-third_key : (a b : Standing) → IsTied ByPercentage a b → IsTied BySide a b → (other : Key) → place_of other < 2 → IsTied other a b
+third_key : (a b : Standing) → IsTied ByPercentage a b → IsTied BySide a b → (other : Key) → key_order other < 2 → IsTied other a b
 third_key a b p s ByPercentage h = p
 third_key a b p s BySide h = s
 third_key a b p s ByNumber h = absurd (omega arith)
 third_key a b p s ByTops h = absurd (omega arith)
 third_key a b p s ByEarned h = absurd (omega arith)
 
-fourth_key : (a b : Standing) → IsTied ByPercentage a b → IsTied BySide a b → IsTied ByNumber a b → (other : Key) → place_of other < 3 → IsTied other a b
+fourth_key : (a b : Standing) → IsTied ByPercentage a b → IsTied BySide a b → IsTied ByNumber a b → (other : Key) → key_order other < 3 → IsTied other a b
 fourth_key a b p s n ByPercentage h = p
 fourth_key a b p s n BySide h = s
 fourth_key a b p s n ByNumber h = n
 fourth_key a b p s n ByTops h = absurd (omega arith)
 fourth_key a b p s n ByEarned h = absurd (omega arith)
 
-fifth_key : (a b : Standing) → IsTied ByPercentage a b → IsTied BySide a b → IsTied ByNumber a b → IsTied ByTops a b → (other : Key) → place_of other < 4 → IsTied other a b
+fifth_key : (a b : Standing) → IsTied ByPercentage a b → IsTied BySide a b → IsTied ByNumber a b → IsTied ByTops a b → (other : Key) → key_order other < 4 → IsTied other a b
 fifth_key a b p s n t ByPercentage h = p
 fifth_key a b p s n t BySide h = s
 fifth_key a b p s n t ByNumber h = n

@@ -9,12 +9,12 @@ use Rattle.scoring.specs.Doubling.{times_doubled}
 
 -- what tells one outcome from another: nothing where all four players passed; else the level, the strain, the declarer,
 -- the doubling and the tricks
-abbrev pub marks_of : Outcome → List ℕ
-marks_of PassedOut = []
-marks_of (Played contract tricks) =
+abbrev pub outcome_parts : Outcome → List ℕ
+outcome_parts PassedOut = []
+outcome_parts (Played contract tricks) =
     contract.level ∷ strain_letter contract.strain ∷ place_letter contract.declarer
     ∷ times_doubled contract.doubling ∷ tricks ∷ []
 
 -- whether two outcomes are one
 abbrev pub same_outcome : Outcome → Outcome → Bool
-same_outcome a b = pointwise nat_eq (marks_of a) (marks_of b)
+same_outcome a b = pointwise nat_eq (outcome_parts a) (outcome_parts b)

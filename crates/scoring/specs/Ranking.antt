@@ -1,5 +1,5 @@
--- own: the order in which the pairs of a session rank. The first key that tells two standings apart decides; the keys in
--- their order are percentage, side, number, tops, earned.
+-- own: the order in which the pairs of a session rank. The first key that tells two standings apart decides; the keys
+-- in their order are percentage, side, number, tops, earned.
 use Rattle.std.specs.Prelude.{◌≡◌, ℕ, ◌*◌, ◌<◌, ◌⊎◌}
 use Rattle.table_terms.specs.declared.side.Side.{Side}
 use Rattle.table_terms.specs.declared.side.Side.TheVariants.{NorthSouth, EastWest}
@@ -14,12 +14,12 @@ pub data Key : Type 0 where
   ByEarned : Key
 
 -- the place of a key in their order
-abbrev pub place_of : Key → ℕ
-place_of ByPercentage = 0
-place_of BySide = 1
-place_of ByNumber = 2
-place_of ByTops = 3
-place_of ByEarned = 4
+abbrev pub key_order : Key → ℕ
+key_order ByPercentage = 0
+key_order BySide = 1
+key_order ByNumber = 2
+key_order ByTops = 3
+key_order ByEarned = 4
 
 -- a has earned a greater part of its tops than b, by cross product; whoever has no tops comes after all who have some
 abbrev pub HasHigherPercentage : Standing → Standing → Type 0
@@ -46,4 +46,4 @@ IsTied key a b = (¬ IsBefore key a b) × (¬ IsBefore key b a)
 pub record RanksBefore (a b : Standing) : Type 0 where
   pub key : Key
   pub before : IsBefore key a b
-  pub earlier : (other : Key) → place_of other < place_of key → IsTied other a b
+  pub earlier : (other : Key) → key_order other < key_order key → IsTied other a b

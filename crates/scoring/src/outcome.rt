@@ -13,11 +13,11 @@ pub enum Outcome {
 impl PartialEq for Outcome {
     ghost use Rattle.std.specs.Cmp.{on_per, partial_equiv_from_equiv};
     ghost use Rattle.std.specs.Cmp.Lexicographic.{nat_list_eq_equiv};
-    ghost use Rattle.scoring.specs.Outcome.{marks_of, same_outcome};
+    ghost use Rattle.scoring.specs.Outcome.{outcome_parts, same_outcome};
 
     ghost eq = { same_outcome };
 
-    ghost laws = { on_per marks_of (partial_equiv_from_equiv nat_list_eq_equiv) };
+    ghost laws = { on_per outcome_parts (partial_equiv_from_equiv nat_list_eq_equiv) };
 
     fn eq(&self, other: &Outcome) -> bool {
         match self {
@@ -36,7 +36,7 @@ impl PartialEq for Outcome {
 impl Eq for Outcome {
     ghost use Rattle.std.specs.Cmp.{on_equiv};
     ghost use Rattle.std.specs.Cmp.Lexicographic.{nat_list_eq_equiv};
-    ghost use Rattle.scoring.specs.Outcome.{marks_of};
+    ghost use Rattle.scoring.specs.Outcome.{outcome_parts};
 
-    ghost laws = { on_equiv marks_of nat_list_eq_equiv };
+    ghost laws = { on_equiv outcome_parts nat_list_eq_equiv };
 }

@@ -4,18 +4,18 @@ use Rattle.std.specs.Prelude.{if◌then◌else◌, flat_map}
 use Rattle.std.proofs.lemmas.Bool.{ne_eqb, cases_eq, eq-eqb}
 use Rattle.std.proofs.lemmas.List.{map-append}
 use Rattle.std.proofs.lemmas.List.Elements.{All-head, All-tail, All-cons, All-nil}
-use Rattle.script_lines.specs.Lines.{Pieces, before_rest, before, pieces_of, ended_line, ended_lines, last_line, lines_of}
+use Rattle.script_lines.specs.Lines.{CutText, before_rest, before, pieces_of, ended_line, ended_lines, last_line, lines_of}
 use Rattle.script_lines.specs.Reading.{IsUnbroken}
 
 abbrev ends_no_line : ℕ → Type 0
 ends_no_line byte = byte ≢ 10
 
 -- a byte that ends no line, before pieces
-pub before_other : (byte : ℕ) (following : Pieces) → byte ≢ 10 → before byte following ≡ before_rest byte following.ended following.rest
+pub before_other : (byte : ℕ) (following : CutText) → byte ≢ 10 → before byte following ≡ before_rest byte following.ended following.rest
 before_other byte following other =
     ap (λ (b : Bool). if b then record { ended = [] ∷ following.ended; rest = following.rest } else before_rest byte following.ended following.rest) (ne_eqb byte 10 other)
 
-before_feed : (byte : ℕ) (following : Pieces) → byte ≡ 10 → before byte following ≡ record { ended = [] ∷ following.ended; rest = following.rest }
+before_feed : (byte : ℕ) (following : CutText) → byte ≡ 10 → before byte following ≡ record { ended = [] ∷ following.ended; rest = following.rest }
 before_feed byte following feed =
     ap (λ (b : Bool). if b then record { ended = [] ∷ following.ended; rest = following.rest } else before_rest byte following.ended following.rest) (eq-eqb byte 10 feed)
 
@@ -32,19 +32,19 @@ unended (byte ∷ piece) unbroken =
     ap (before byte) (unended piece (All-tail ends_no_line byte piece unbroken)) ∙ before_other byte _ (All-head ends_no_line byte piece unbroken)
 
 -- pieces after which nothing is left over, and then others
-abbrev joined : Pieces → Pieces → Pieces
+abbrev joined : CutText → CutText → CutText
 joined first second = record { ended = first.ended ++ second.ended; rest = second.rest }
 
 -- a byte before pieces that leave nothing over leaves nothing over, and only if they do
-before_whole : (byte : ℕ) (first second : Pieces) → (before byte first).rest ≡ [] → (first.rest ≡ []) × (before byte (joined first second) ≡ joined (before byte first) second)
+before_whole : (byte : ℕ) (first second : CutText) → (before byte first).rest ≡ [] → (first.rest ≡ []) × (before byte (joined first second) ≡ joined (before byte first) second)
 before_whole byte first second whole =
     elim (cases_eq byte 10) [
       | inl feed ↦ (
-        sym (ap (λ (p : Pieces). p.rest) (before_feed byte first feed)) ∙ whole,
+        sym (ap (λ (p : CutText). p.rest) (before_feed byte first feed)) ∙ whole,
         before_feed byte (joined first second) feed ∙ ap (λ p. joined p second) (sym (before_feed byte first feed)),
       )
       | inr other ↦
-          let inner = by_lines first.ended first.rest (sym (ap (λ (p : Pieces). p.rest) (before_other byte first other)) ∙ whole) in
+          let inner = by_lines first.ended first.rest (sym (ap (λ (p : CutText). p.rest) (before_other byte first other)) ∙ whole) in
           (inner.0, before_other byte (joined first second) other ∙ inner.1 ∙ ap (λ p. joined p second) (sym (before_other byte first other)))
     ]
   where
@@ -70,7 +70,7 @@ pub ended_more : (text piece : List ℕ) → (pieces_of text).rest ≡ [] → Is
     ended_lines (text ++ (piece ++ 10 ∷ [])) ≡ ended_lines text ++ ended_line piece ∷ []
 unfolding ended_lines
 ended_more text piece whole unbroken =
-    ap (λ (p : Pieces). map ended_line p.ended) (piece_more text piece whole unbroken)
+    ap (λ (p : CutText). map ended_line p.ended) (piece_more text piece whole unbroken)
     ∙ map-append ended_line (pieces_of text).ended (piece ∷ [])
 
 -- bytes that no LF ends
@@ -81,7 +81,7 @@ rest_more text piece whole unbroken = whole_first text piece whole ∙ ap (joine
 pub ended_same : (text piece : List ℕ) → (pieces_of text).rest ≡ [] → IsUnbroken piece → ended_lines (text ++ piece) ≡ ended_lines text
 unfolding ended_lines
 ended_same text piece whole unbroken =
-    ap (λ (p : Pieces). map ended_line p.ended) (rest_more text piece whole unbroken) ∙ ap (map ended_line) (append-nil (pieces_of text).ended)
+    ap (λ (p : CutText). map ended_line p.ended) (rest_more text piece whole unbroken) ∙ ap (map ended_line) (append-nil (pieces_of text).ended)
 
 -- all lines of a text that ends with an LF are ended
 pub all_ended : (text : List ℕ) → (pieces_of text).rest ≡ [] → lines_of text ≡ ended_lines text
@@ -110,7 +110,7 @@ joins (byte ∷ text) = ap (λ bytes. byte ∷ bytes) (joins text) ∙ elim (cas
   | inr other ↦ by_lines byte (pieces_of text).ended (pieces_of text).rest ∙ ap text_of (sym (before_other byte (pieces_of text) other))
 ]
   where
-    text_of : Pieces → List ℕ
+    text_of : CutText → List ℕ
     text_of p = flat_map (λ piece. piece ++ 10 ∷ []) p.ended ++ p.rest
 
     by_lines : (byte : ℕ) (ended : List (List ℕ)) (rest : List ℕ) → byte ∷ text_of (record { ended = ended; rest = rest }) ≡ text_of (before_rest byte ended rest)
@@ -125,7 +125,7 @@ pieces_unbroken (byte ∷ text) = elim (cases_eq byte 10) [
   | inr other ↦ subst AreUnbroken (sym (before_other byte (pieces_of text) other)) (by_lines byte (pieces_of text).ended (pieces_of text).rest other (pieces_unbroken text))
 ]
   where
-    AreUnbroken : Pieces → Type 0
+    AreUnbroken : CutText → Type 0
     AreUnbroken p = All IsUnbroken p.ended × IsUnbroken p.rest
 
     by_lines : (byte : ℕ) (ended : List (List ℕ)) (rest : List ℕ) → byte ≢ 10 → All IsUnbroken ended × IsUnbroken rest → AreUnbroken (before_rest byte ended rest)

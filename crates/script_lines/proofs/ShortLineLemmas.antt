@@ -9,7 +9,7 @@ use Rattle.std.proofs.lemmas.Bool.{ne_eqb}
 use Rattle.std.proofs.lemmas.List.Elements.{All-head, All-tail, All-cons, All-nil, All-append}
 use Rattle.script_lines.specs.declared.reading.ReadFault.{ReadFault}
 use Rattle.script_lines.specs.declared.reading.ReadFault.TheVariants.{Input, OutOfMemory}
-use Rattle.script_lines.specs.Lines.{Pieces, before_rest, pieces_of, ended_line, ended_lines, last_line, lines_of, first_of}
+use Rattle.script_lines.specs.Lines.{CutText, before_rest, pieces_of, ended_line, ended_lines, last_line, lines_of, first_line_of}
 use Rattle.script_lines.specs.NextByte.{FailsAtByte}
 use Rattle.script_lines.specs.Reading.{IsUnbroken, TakesEnded, TakesLonger, FailsWithin}
 use Rattle.script_lines.proofs.LineLemmas.{before_other}
@@ -49,7 +49,7 @@ at_most_one_less piece = one_less (ends_with_byte 13 piece) piece
 
 -- ---- the first line of a text that begins so
 
-abbrev with_front : List ℕ → List (List ℕ) → List ℕ → Pieces
+abbrev with_front : List ℕ → List (List ℕ) → List ℕ → CutText
 with_front front [] rest = record { ended = []; rest = front ++ rest }
 with_front front (piece ∷ pieces) rest = record { ended = (front ++ piece) ∷ pieces; rest = rest }
 
@@ -62,7 +62,7 @@ pieces_with [] text unbroken = none (pieces_of text).ended (pieces_of text).rest
     none (piece ∷ pieces) rest = refl
 pieces_with (byte ∷ front) text unbroken =
     before_other byte (pieces_of (front ++ text)) (All-head (λ b. b ≢ 10) byte front unbroken)
-    ∙ ap (λ (p : Pieces). before_rest byte p.ended p.rest) (pieces_with front text (All-tail (λ b. b ≢ 10) byte front unbroken))
+    ∙ ap (λ (p : CutText). before_rest byte p.ended p.rest) (pieces_with front text (All-tail (λ b. b ≢ 10) byte front unbroken))
     ∙ one_more (pieces_of text).ended (pieces_of text).rest
   where
     one_more : (ended : List (List ℕ)) (rest : List ℕ)
@@ -76,20 +76,20 @@ first_with front [] rest = front ++ rest
 first_with front (piece ∷ pieces) rest = ended_line (front ++ piece)
 
 first_is : (byte : ℕ) (front text : List ℕ) → IsUnbroken (byte ∷ front)
-    → first_of (lines_of ((byte ∷ front) ++ text)) ≡ first_with (byte ∷ front) (pieces_of text).ended (pieces_of text).rest
+    → first_line_of (lines_of ((byte ∷ front) ++ text)) ≡ first_with (byte ∷ front) (pieces_of text).ended (pieces_of text).rest
 unfolding lines_of ended_lines
 first_is byte front text unbroken =
-    ap (λ (p : Pieces). first_of (map ended_line p.ended ++ last_line p.rest)) (pieces_with (byte ∷ front) text unbroken)
+    ap (λ (p : CutText). first_line_of (map ended_line p.ended ++ last_line p.rest)) (pieces_with (byte ∷ front) text unbroken)
     ∙ of_pieces (pieces_of text).ended (pieces_of text).rest
   where
     of_pieces : (ended : List (List ℕ)) (rest : List ℕ)
-        → first_of (map ended_line (with_front (byte ∷ front) ended rest).ended ++ last_line (with_front (byte ∷ front) ended rest).rest)
+        → first_line_of (map ended_line (with_front (byte ∷ front) ended rest).ended ++ last_line (with_front (byte ∷ front) ended rest).rest)
         ≡ first_with (byte ∷ front) ended rest
     of_pieces [] rest = refl
     of_pieces (piece ∷ pieces) rest = refl
 
 first_line_is : (front text : List ℕ) → 1 ≤ length front → IsUnbroken front
-    → first_of (lines_of (front ++ text)) ≡ first_with front (pieces_of text).ended (pieces_of text).rest
+    → first_line_of (lines_of (front ++ text)) ≡ first_with front (pieces_of text).ended (pieces_of text).rest
 first_line_is [] text some unbroken = absurd (omega arith)
 first_line_is (byte ∷ front) text some unbroken = first_is byte front text unbroken
 
@@ -115,16 +115,16 @@ unbroken_with xs y unbroken other = All-append (λ b. b ≢ 10) xs (y ∷ []) un
 
 module _ (before reader : Option (List ℕ)) (line : List ℕ) (most all left : ℕ) (unbroken : IsUnbroken line) (full : length line ≡ most) where
   of_text : (piece : List ℕ) → Consumes before reader piece
-      → ((rest : List ℕ) → reader ≡ Some rest → most < length (first_of (lines_of (piece ++ rest))))
-      → IfSome before (λ text. most < length (first_of (lines_of text)))
+      → ((rest : List ℕ) → reader ≡ Some rest → most < length (first_line_of (lines_of (piece ++ rest))))
+      → IfSome before (λ text. most < length (first_line_of (lines_of text)))
   of_text piece consumed long = by before reader consumed long
     where
       by : (before reader : Option (List ℕ)) → Consumes before reader piece
-          → ((rest : List ℕ) → reader ≡ Some rest → most < length (first_of (lines_of (piece ++ rest))))
-          → IfSome before (λ text. most < length (first_of (lines_of text)))
+          → ((rest : List ℕ) → reader ≡ Some rest → most < length (first_line_of (lines_of (piece ++ rest))))
+          → IfSome before (λ text. most < length (first_line_of (lines_of text)))
       by None reader consumed long = tt
       by (Some text) None consumed long = absurd consumed
-      by (Some text) (Some rest) consumed long = subst (λ t. most < length (first_of (lines_of t))) (sym consumed) (long rest refl)
+      by (Some text) (Some rest) consumed long = subst (λ t. most < length (first_line_of (lines_of t))) (sym consumed) (long rest refl)
 
   -- a byte follows that is no CR
   pub longer_at_once : (y : ℕ) → y ≢ 10 → y ≢ 13 → Consumes before reader (line ++ y ∷ []) → left + (length line + 1) ≡ all
@@ -174,7 +174,7 @@ module _ (before reader : Option (List ℕ)) (line : List ℕ) (most all left : 
         longer = of_text (line ++ 13 ∷ []) consumed (λ rest at.
             let none : rest ≡ [] = subst IsAtEnd at at_end in
             let same = first_line_is (line ++ 13 ∷ []) rest (omega (arith, length-append line (13 ∷ []))) piece in
-            let whole : first_of (lines_of ((line ++ 13 ∷ []) ++ rest)) ≡ (line ++ 13 ∷ []) ++ [] =
+            let whole : first_line_of (lines_of ((line ++ 13 ∷ []) ++ rest)) ≡ (line ++ 13 ∷ []) ++ [] =
             same ∙ ap (λ r. first_with (line ++ 13 ∷ []) (pieces_of r).ended (pieces_of r).rest) none in
             omega (arith, full, ap length whole, ap length (append-nil (line ++ 13 ∷ [])), length-append line (13 ∷ [])));
       }

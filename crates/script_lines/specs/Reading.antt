@@ -5,7 +5,7 @@ use Rattle.script_lines.specs.declared.line_end.LineEnd.{LineEnd}
 use Rattle.script_lines.specs.declared.line_end.LineEnd.TheVariants.{LineFeed, EndOfInput}
 use Rattle.script_lines.specs.declared.reading.ReadFault.{ReadFault}
 use Rattle.script_lines.specs.declared.reading.ReadFault.TheVariants.{Input, OutOfMemory}
-use Rattle.script_lines.specs.Lines.{ended_line, first_of, lines_of}
+use Rattle.script_lines.specs.Lines.{ended_line, first_line_of, lines_of}
 
 -- no byte of it ends a line
 abbrev pub IsUnbroken : List ℕ → Type 0
@@ -47,8 +47,8 @@ pub record FailsInLine (old new : Option (List ℕ)) (left_old : ℕ) : Type 0 w
   pub within : length piece ≤ left_old
   pub full : 0 < length beyond → length piece ≡ left_old
 
--- the reader failed, or had a byte more than may be read: what came before of the line is taken, its first bytes are kept,
--- and nothing else is lost
+-- the reader failed, or had a byte more than may be read: what came before of the line is taken, its first bytes are
+-- kept, and nothing else is lost
 pub record FailsAtInput (old new : Option (List ℕ)) (most : ℕ) (line : List ℕ) (left_old left_new : ℕ) : Type 0 where
   pub piece : List ℕ
   pub unbroken : IsUnbroken piece
@@ -59,8 +59,8 @@ pub record FailsAtInput (old new : Option (List ℕ)) (most : ℕ) (line : List 
   pub counted : left_new + length piece ≡ left_old
   pub full : 0 < length beyond → left_new ≡ 0
 
--- memory was refused for a byte of the line that was to be kept, which may be read and is lost: the line keeps what came
--- before
+-- memory was refused for a byte of the line that was to be kept, which may be read and is lost: the line keeps what
+-- came before
 pub record FailsForMemory (old new : Option (List ℕ)) (most : ℕ) (line : List ℕ) (left_old left_new : ℕ) : Type 0 where
   pub unbroken : IsUnbroken line
   pub lost : ℕ
@@ -83,7 +83,7 @@ pub record TakesLonger (old new : Option (List ℕ)) (most left_old left_new : �
   pub consumed : Consumes old new piece
   pub few : length piece ≤ most + 2
   pub counted : left_new + length piece ≡ left_old
-  pub longer : IfSome old (λ text. most < length (first_of (lines_of text)))
+  pub longer : IfSome old (λ text. most < length (first_line_of (lines_of text)))
 
 -- a line that isn't longer, or the front of one that is
 abbrev pub TakesUpTo : Option LineEnd → Option (List ℕ) → Option (List ℕ) → List ℕ → ℕ → ℕ → ℕ → Type 0

@@ -10,7 +10,7 @@ use Rattle.server_words.specs.declared.words.Words.TheVariants.{Script, Serve}
 use Rattle.server_words.specs.declared.words.Serving.{Serving}
 
 -- own: each number is in its range
-pub record IsInRange (serving : Serving) : Type 0 where
+pub record AreNumbersInRange (serving : Serving) : Type 0 where
   pub port : (least_port ≤ serving.port) × (serving.port ≤ most_port)
   pub displays : (least_displays ≤ serving.displays) × (serving.displays ≤ most_displays)
   pub workers : serving.workers ≤ most_workers
@@ -32,10 +32,6 @@ AsksNoHelp words = (¬ IsAmong DisplayHelp (faults_in words)) × (¬ IsAmong Dis
 abbrev pub IsMistaken : List Text → Type 0
 IsMistaken words = (faults_in words ≢ []) × AsksNoHelp words
 
--- `clap` has no fault to find in the words, and names the subcommand that they name
-abbrev pub IsReadFrom : List Text → ArgMatches → Type 0
-IsReadFrom words matches = (faults_in words ≡ []) × (subcommand_rows_of matches ≡ subcommand_in words)
-
 -- the words have no fault, and ask for this
 abbrev pub AsksFor : List Text → Words → Type 0
 AsksFor words Script =
@@ -44,4 +40,10 @@ AsksFor words (Serve serving) =
     (faults_in words ≡ []) × (option_map (λ p. p.0) (subcommand_in words) ≡ Some (codes "serve"))
     × (first_of (codes "session") (option_map_or (λ p. p.1) (subcommand_in words) []) ≡ Some serving.session.now)
     × (first_of (codes "deals") (option_map_or (λ p. p.1) (subcommand_in words) []) ≡ Some serving.deals.now)
-    × IsInRange serving
+    × AreNumbersInRange serving
+
+-- ---- for private clauses
+
+-- `clap` has no fault to find in the words, and names the subcommand that they name
+abbrev pub IsReadFrom : List Text → ArgMatches → Type 0
+IsReadFrom words matches = (faults_in words ≡ []) × (subcommand_rows_of matches ≡ subcommand_in words)

@@ -4,7 +4,7 @@ ghost use Rattle.std.specs.Prelude.{MatchResult, ◌≡◌, ◌⊎◌, ℕ, List
 ghost use Rattle.clap.specs.Words.{HasKind, app_of, first_of, found_of, kind_of, rows_of};
 ghost use Rattle.clap.specs.declared.error.kind.ErrorKind.TheVariants.{InvalidValue, OutOfMemory};
 ghost use Rattle.server_words.specs.CommandLine.{needing_one};
-ghost use Rattle.server_words.specs.Words.{AsksFor, IsInRange, IsReadFrom, faults_in};
+ghost use Rattle.server_words.specs.Words.{AsksFor, AreNumbersInRange, IsReadFrom, faults_in};
 
 use crate::command_line::{add_subcommands, plain_line};
 use crate::words::{Serving, Words};
@@ -12,8 +12,8 @@ use clap::error::ErrorKind;
 use clap::{ArgMatches, Command, Error};
 use std::alloc::Global;
 
-/// What the words ask for, the program's name first. The error has the text for who called the program: of a mistake, or the
-/// help that was asked for.
+/// What the words ask for, the program's name first. The error has the text for who called the program: of a mistake,
+/// or the help that was asked for.
 pub fn read_words<'a>(alloc: Global, words: &'a [String]) -> Result<Words<'a>, Error>
     ensures asked { IfOk result (AsksFor (map string_bytes words.entry.now)) }
     ensures script { AsksFor (map string_bytes words.entry.now) Words.Script →
@@ -82,7 +82,7 @@ fn matches_of<'a>(
 fn serving_of<'a>(given: &ArgMatches<'a>) -> Option<Serving<'a>>
     ensures session { IfSome result (λ serving. first_of (codes "session") (rows_of (found_of given.now)) ≡ Some serving.session.now) }
     ensures deals { IfSome result (λ serving. first_of (codes "deals") (rows_of (found_of given.now)) ≡ Some serving.deals.now) }
-    ensures range { IfSome result IsInRange }
+    ensures range { IfSome result AreNumbersInRange }
 {
     let (port, displays, workers, connections) = numbers_of(given)?;
     let serving = Serving {

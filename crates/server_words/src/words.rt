@@ -1,5 +1,5 @@
 ghost use Rattle.std.specs.Prelude.{◌≡◌, true};
-ghost use Rattle.server_words.specs.Words.{IsInRange};
+ghost use Rattle.server_words.specs.Words.{AreNumbersInRange};
 
 /// What the program's words ask for.
 #[derive(Clone, Copy, PartialEq)]
@@ -30,7 +30,7 @@ pub struct Serving<'a> {
 impl Serving<'_> {
     /// Whether each number is in its range.
     pub(crate) fn is_in_range(&self) -> bool
-        ensures { result ≡ true → IsInRange self.now }
+        ensures { result ≡ true → AreNumbersInRange self.now }
     {
         1 <= self.port
             && (1..=32).contains(&self.displays)

@@ -6,7 +6,7 @@ use Rattle.std.specs.Option.{option_or}
 use Rattle.movement.specs.Movement.{IsSection}
 use Rattle.session_state.specs.Apply.{apply}
 use Rattle.session_state.specs.OwnNumbers.{TellsOwn, KeepsOwn}
-use Rattle.session_state.specs.Refusal.{first_of, is_permitted, hindrance_of, refusal_of}
+use Rattle.session_state.specs.Refusal.{first_cause, is_permitted, hindrance_of, refusal_of}
 use Rattle.session_state.specs.SessionState.{SessionState}
 use Rattle.session_state.specs.session_commands.declared.actor.Actor.{Actor}
 use Rattle.session_state.specs.session_commands.declared.command.Command.{Command}
@@ -31,7 +31,7 @@ free_of_hindrance state spoiler actor command entries none = by_permission (is_p
   where
     by_permission : (b : Bool) → is_permitted state.roles actor command ≡ b → hindrance_of state command ≡ None
     by_permission true allowed =
-        first_none (hindrance_of state command) (first_of (last_causes spoiler command entries)) (sym (refused_else state spoiler actor command entries allowed) ∙ none)
+        first_none (hindrance_of state command) (first_cause (last_causes spoiler command entries)) (sym (refused_else state spoiler actor command entries allowed) ∙ none)
     by_permission false denied =
         let refused : Some NotPermitted ≡ None = sym (refused_actor state spoiler actor command entries denied) ∙ none in
         absurd cc

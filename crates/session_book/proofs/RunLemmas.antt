@@ -14,20 +14,20 @@ use Rattle.session_book.specs.Exposure.{spoiler_of}
 use Rattle.session_book.specs.Journal.{replay, refusal_after}
 use Rattle.session_state.specs.session_commands.Refusal.{is_out_of_memory}
 use Rattle.session_state.proofs.RefusalLemmas.{never_memory}
-use Rattle.session_book.specs.Run.{Progress, stops, answered, step, run, Runs}
+use Rattle.session_book.specs.Run.{Progress, stops, answered, after_command, run, Runs}
 use Rattle.session_state.specs.SessionState.{SessionState}
 
 run_more : (opening : SessionState) (before : List Entry) (actor : List ℕ) (tried : List Command) (command : Command) →
-    run opening before actor (tried ++ command ∷ []) ≡ step opening actor (run opening before actor tried) command
+    run opening before actor (tried ++ command ∷ []) ≡ after_command opening actor (run opening before actor tried) command
 unfolding run
-run_more opening before actor tried command = fold-append (step opening actor) (record { journal = before; answers = [] }) tried (command ∷ [])
+run_more opening before actor tried command = fold-append (after_command opening actor) (record { journal = before; answers = [] }) tried (command ∷ [])
 
 -- a command is answered as the journal so far says
 pub runs_answered : (opening : SessionState) (before : List Entry) (actor : List ℕ) (tried : List Command) (command : Command) (so_far : Progress) (found : Option Refusal) →
     Runs false opening before actor tried so_far → refusal_after opening so_far.journal (User actor) command ≡ found →
     Runs false opening before actor (tried ++ command ∷ []) (answered so_far actor command found)
 runs_answered opening before actor tried command so_far found ran refused =
-    sym (ap (answered so_far actor command) refused) ∙ (ap (λ progress. step opening actor progress command) ran ∙ sym (run_more opening before actor tried command))
+    sym (ap (answered so_far actor command) refused) ∙ (ap (λ progress. after_command opening actor progress command) ran ∙ sym (run_more opening before actor tried command))
 
 -- memory is refused at a command that nothing else refuses
 pub runs_stopped : (opening : SessionState) (before : List Entry) (actor : List ℕ) (tried : List Command) (command : Command) (so_far : Progress) →

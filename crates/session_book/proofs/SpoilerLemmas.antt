@@ -18,7 +18,7 @@ use Rattle.session_state.specs.Apply.{apply}
 use Rattle.session_state.specs.session_commands.Refusal.{spoiled}
 use Rattle.session_state.proofs.RefusalLemmas.{free_at_last}
 use Rattle.session_state.specs.session_commands.declared.command.Command.{Command}
-use Rattle.session_state.specs.session_commands.Command.{cell_of, is_told_by_table}
+use Rattle.session_state.specs.session_commands.Command.{subject_cell, is_told_by_table}
 use Rattle.session_state.specs.session_commands.declared.entry.Entry.{Entry}
 use Rattle.session_state.specs.session_commands.declared.refusal.Refusal.TheVariants.{Spoiled}
 use Rattle.session_state.specs.SessionState.{SessionState, viewer_of}
@@ -63,7 +63,7 @@ told_spoils false other cell spoiler at free = absurd cc
 
 none_spoils : (command : Command) (cell : Cell) (spoiler : Cell → Option (List ℕ)) → result_cell command ≡ Some cell → spoiled command (option_and_then spoiler (result_cell command)) ≡ None →
     spoiler cell ≡ None
-none_spoils command cell spoiler at free = told_spoils (is_told_by_table command) (cell_of command) cell spoiler at free
+none_spoils command cell spoiler at free = told_spoils (is_told_by_table command) (subject_cell command) cell spoiler at free
 
 -- each entry of an accepted journal may follow those before it
 pub follows : (opening : SessionState) (before entries : List Entry) (entry : Entry) (after : List Entry) → Follow opening before (entries ++ entry ∷ after) → MayFollow opening (before ++ entries) entry

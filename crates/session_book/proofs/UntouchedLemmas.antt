@@ -30,7 +30,7 @@ use Rattle.disclosure_rules.specs.Seating.{some_that}
 use Rattle.disclosure_rules.specs.declared.seat.Seat as the_seat
 use Rattle.disclosure_rules.proofs.NumbersLemmas.{has_number-numbers_that}
 use Rattle.session_state.specs.Apply.{apply, effect, confirmed, with_result}
-use Rattle.session_state.specs.session_commands.Command.{cell_of}
+use Rattle.session_state.specs.session_commands.Command.{subject_cell}
 use Rattle.session_state.specs.Refusal.{hindrance_of}
 use Rattle.session_state.specs.Seats.{without_seat}
 use Rattle.session_state.specs.SessionState.{SessionState, cell_at}
@@ -231,7 +231,7 @@ confirmed_elsewhere state cell (Ruled north_south east_west reason) user board f
     nothing_changed state user board
 
 -- one line for each command: of what it doesn't touch it shows no more
-effect_shows : (state : SessionState) (command : Command) (user : List ℕ) (board : ℕ) → ((cell : Cell) → cell_of command ≡ Some cell → 1 ≤ cell.board) → 1 ≤ board → board ≤ 64 →
+effect_shows : (state : SessionState) (command : Command) (user : List ℕ) (board : ℕ) → ((cell : Cell) → subject_cell command ≡ Some cell → 1 ≤ cell.board) → 1 ≤ board → board ≤ 64 →
     is_touched (touched_by command) user board ≡ false → ShowsNoMore state (effect state command) user board
 effect_shows state (Enter table number outcome play) user board from low high untouched =
     record { movement = refl; roles = λ role is. is; seat = inl refl; held = λ is. is; live = λ place is. is }
@@ -342,11 +342,11 @@ is_scheduled_there (Some other) cell scheduled at none =
 is_scheduled_there None cell scheduled at none = absurd cc
 
 -- an entry that nothing hinders, and that is about a cell, has a board
-has_board : (state : SessionState) (command : Command) → hindrance_of state command ≡ None → (cell : Cell) → cell_of command ≡ Some cell → 1 ≤ cell.board
+its_board_is_there : (state : SessionState) (command : Command) → hindrance_of state command ≡ None → (cell : Cell) → subject_cell command ≡ Some cell → 1 ≤ cell.board
 unfolding hindrance_of
-has_board state command none cell at =
+its_board_is_there state command none cell at =
     let free = second_free _ _ _ none in
-    let scheduled = is_scheduled_there (cell_of command) cell (is_scheduled state.public.movement) at free in
+    let scheduled = is_scheduled_there (subject_cell command) cell (is_scheduled state.public.movement) at free in
     (cell_in_range state.public.movement cell (scheduled-cell state.public.movement cell scheduled)).from_board
 
 -- of what an entry doesn't touch it shows no more
@@ -356,4 +356,4 @@ untouched_shows state entry user board low high untouched = by_hindrance (hindra
   where
     by_hindrance : (found : Option Refusal) → found ≡ hindrance_of state entry.command → ShowsNoMore state (cond (is_some found) state (effect state entry.command)) user board
     by_hindrance (Some cause) found = nothing_changed state user board
-    by_hindrance None found = effect_shows state entry.command user board (has_board state entry.command (sym found)) low high untouched
+    by_hindrance None found = effect_shows state entry.command user board (its_board_is_there state entry.command (sym found)) low high untouched

@@ -1,7 +1,8 @@
 -- Who was shown something of which board, and which results that spoils.
 --
 -- own: who was shown something of a board plays it no more. It keeps what Law 16D asks of a player (no information from
--- elsewhere about a board that is still to be played): no result is entered or confirmed at a cell where such a user sits.
+-- elsewhere about a board that is still to be played): no result is entered or confirmed at a cell where such a user
+-- sits.
 use Rattle.std.specs.Prelude.{◌≡◌, ℕ, Bool, ◌&&◌, if◌then◌else◌, Option, Some, None, is_none, List, [], ◌∷◌, ◌++◌, map, find, option_and_then}
 use Rattle.std.specs.List.{list_any}
 use Rattle.movement.specs.declared.cell.Cell.{Cell}
@@ -11,7 +12,7 @@ use Rattle.disclosure_rules.specs.Fact.{board_of_fact}
 use Rattle.disclosure_rules.specs.Policy.{first_rule}
 use Rattle.disclosure_rules.specs.Seating.{is_seated_at}
 use Rattle.session_state.specs.session_commands.declared.command.Command.{Command}
-use Rattle.session_state.specs.session_commands.Command.{cell_of, is_told_by_table}
+use Rattle.session_state.specs.session_commands.Command.{subject_cell, is_told_by_table}
 use Rattle.session_state.specs.session_commands.declared.entry.Entry.{Entry}
 use Rattle.session_state.specs.SessionState.{SessionState, viewer_of}
 use Rattle.session_book.specs.Replay.{replay}
@@ -22,8 +23,8 @@ pub record SomeAllowed (state : SessionState) (user : List ℕ) (board : ℕ) : 
   pub of_board : board_of_fact fact ≡ Some board
   pub allowed : first_rule state.public (viewer_of state user) fact ≡ None
 
--- some secret fact of the board was allowed to the user after some first part of the journal, the empty one and the whole
--- journal included
+-- some secret fact of the board was allowed to the user after some first part of the journal, the empty one and the
+-- whole journal included
 pub record Exposed (opening : SessionState) (journal : List Entry) (user : List ℕ) (board : ℕ) : Type 0 where
   pub first : List Entry
   pub later : List Entry
@@ -50,7 +51,7 @@ users_of state = map (λ account. account.name) state.roles.accounts
 
 -- the cell whose result the command enters or confirms, if it does so
 abbrev pub result_cell : Command → Option Cell
-result_cell command = if is_told_by_table command then cell_of command else None
+result_cell command = if is_told_by_table command then subject_cell command else None
 
 -- whether the user is exposed to the board of the cell, and sits there now in one of its two pairs
 abbrev pub spoils : SessionState → List Entry → Cell → List ℕ → Bool

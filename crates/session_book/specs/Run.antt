@@ -27,11 +27,6 @@ abbrev pub answer_of : Option Refusal → Answer
 answer_of None = Accepted
 answer_of (Some cause) = Refused cause
 
--- whether no command is tried any more: memory was refused
-abbrev pub stops : Option Refusal → Bool
-stops None = false
-stops (Some cause) = is_out_of_memory cause
-
 -- a user's command that nothing refuses joins the journal; another is answered why it is refused
 abbrev pub answered : Progress → List ℕ → Command → Option Refusal → Progress
 answered so_far actor command None =
@@ -43,13 +38,13 @@ answered so_far actor command (Some cause) =
     record { journal = so_far.journal; answers = so_far.answers ++ Refused cause ∷ [] }
 
 -- one command more
-abbrev pub step : SessionState → List ℕ → Progress → Command → Progress
-step opening actor so_far command =
+abbrev pub after_command : SessionState → List ℕ → Progress → Command → Progress
+after_command opening actor so_far command =
     answered so_far actor command (refusal_after opening so_far.journal (User actor) command)
 
 -- the commands of a user's batch in their order, after a journal
 unfoldable pub run : SessionState → List Entry → List ℕ → List Command → Progress
-run opening journal actor batch = fold (step opening actor) (record { journal = journal; answers = [] }) batch
+run opening journal actor batch = fold (after_command opening actor) (record { journal = journal; answers = [] }) batch
 
 -- memory is refused at a command that nothing else refuses: those before it stand, and those after it are not tried
 pub record RunsUntil (opening : SessionState) (before : List Entry) (actor : List ℕ) (batch : List Command)
@@ -86,3 +81,10 @@ first_number before after = if nat_lt before after then before + 1 else 0
 
 abbrev pub last_number : ℕ → ℕ → ℕ
 last_number before after = if nat_lt before after then after else 0
+
+-- ---- for private clauses
+
+-- whether no command is tried any more: memory was refused
+abbrev pub stops : Option Refusal → Bool
+stops None = false
+stops (Some cause) = is_out_of_memory cause

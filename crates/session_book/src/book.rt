@@ -36,8 +36,8 @@ use user_names::Name;
 /// For how many entries a new book has room.
 const FIRST_ROOM: usize = 256;
 
-/// A session's journal, beside the state that it leads to from the opening, and who was shown something of which board on the
-/// way.
+/// A session's journal, beside the state that it leads to from the opening, and who was shown something of which board
+/// on the way.
 #[derive(Drop)]
 pub struct Book {
     opening: State,
@@ -55,7 +55,7 @@ impl Model for Book {
 
     ghost coded = { ledger_code };
 
-    ghost use Rattle.session_book.specs.KeptBook.{IsKept};
+    ghost use Rattle.session_book.specs.KeptBook.{IsKeptBook};
 
     ghost view = { λ b. record {
       opening = b.opening;
@@ -63,15 +63,15 @@ impl Model for Book {
       spare = vec_capacity b.journal - vec_len b.journal;
     } };
 
-    ghost invariant = { IsKept };
+    ghost invariant = { IsKeptBook };
 }
 
 impl Book {
     /// How many commands a batch has at most.
     pub const MOST_COMMANDS: usize = 64;
 
-    /// The book of a session that opens in a state. Its journal is empty, and there is room for all that the session's state
-    /// can need.
+    /// The book of a session that opens in a state. Its journal is empty, and there is room for all that the session's
+    /// state can need.
     pub fn open(alloc: Global, opening: State) -> Result<Book, AllocError>
         ensures opening { IfOk result (λ book. book.opening ≡ opening) }
         ensures journal { IfOk result (λ book. book.journal ≡ []) }
@@ -236,8 +236,8 @@ impl Book {
             .is_some()
     }
 
-    /// Whether a user is exposed to a board of the session: whether, at the opening or after some entry, some secret fact
-    /// of the board was allowed to the user.
+    /// Whether a user is exposed to a board of the session: whether, at the opening or after some entry, some secret
+    /// fact of the board was allowed to the user.
     pub fn exposed(&self, name: Name, board: u8) -> bool
         requires from { 1 ≤ board }
         requires to { board ≤ boards_of (state_of self.now).public.movement }
@@ -265,9 +265,9 @@ impl Book {
         self.exposure.ask_touched(&self.state, &touched, boards);
     }
 
-    /// Tries the commands of a user, one after another: each that is accepted joins the journal. Where memory is refused
-    /// at one of them, those before it stand, and those after it are not tried. Where there is no memory for the
-    /// answers, nothing is tried.
+    /// Tries the commands of a user, one after another: each that is accepted joins the journal. Where memory is
+    /// refused at one of them, those before it stand, and those after it are not tried. Where there is no memory for
+    /// the answers, nothing is tried.
     pub fn submit(&mut self, actor: Name, batch: &[Command]) -> Result<Submission, AllocError>
         requires { length batch.now ≤ most_commands }
         ensures ran { IfOk result (λ submission. (stopped : Bool)

@@ -1,5 +1,5 @@
--- What each command needs before it is tried: a permission, a phase, and the user, the cell or the board that it is about.
--- One line for each command, in the order of the commands.
+-- What each command needs before it is tried: a permission, a phase, and the user, the cell or the board that it is
+-- about. One line for each command, in the order of the commands.
 --
 -- own: the commands and what they need are this project's.
 use Rattle.std.specs.Prelude.{ℕ, Bool, true, false, Option, Some, None, is_none, List, [], ◌∷◌}
@@ -68,70 +68,70 @@ phases_of (Solved board table) = any_phase
 phases_of (Analysed table board costs) = any_phase
 
 -- the user that it is about, who must have an account
-abbrev pub user_of : Command → Option (List ℕ)
-user_of (Enter table board outcome play) = None
-user_of (Confirm table board outcome) = None
-user_of (Correct table board outcome play) = None
-user_of (Rule table board north_south east_west reason) = None
-user_of (Void table board) = None
-user_of (Hold board) = None
-user_of (Release board) = None
-user_of (Seat name pair place) = Some name
-user_of (Unseat name) = Some name
-user_of NextRound = None
-user_of Close = None
-user_of Finalise = None
-user_of (AddUser name digest) = None
-user_of (Assign name role) = Some name
-user_of (Deassign name role) = Some name
-user_of (AddInheritance senior junior) = None
-user_of (DeleteInheritance senior junior) = None
-user_of (Solved board table) = None
-user_of (Analysed table board costs) = None
+abbrev pub subject_user : Command → Option (List ℕ)
+subject_user (Enter table board outcome play) = None
+subject_user (Confirm table board outcome) = None
+subject_user (Correct table board outcome play) = None
+subject_user (Rule table board north_south east_west reason) = None
+subject_user (Void table board) = None
+subject_user (Hold board) = None
+subject_user (Release board) = None
+subject_user (Seat name pair place) = Some name
+subject_user (Unseat name) = Some name
+subject_user NextRound = None
+subject_user Close = None
+subject_user Finalise = None
+subject_user (AddUser name digest) = None
+subject_user (Assign name role) = Some name
+subject_user (Deassign name role) = Some name
+subject_user (AddInheritance senior junior) = None
+subject_user (DeleteInheritance senior junior) = None
+subject_user (Solved board table) = None
+subject_user (Analysed table board costs) = None
 
 -- the table and the board that it is about, which must be scheduled
-abbrev pub cell_of : Command → Option Cell
-cell_of (Enter table board outcome play) = Some (record { table = table; board = board })
-cell_of (Confirm table board outcome) = Some (record { table = table; board = board })
-cell_of (Correct table board outcome play) = Some (record { table = table; board = board })
-cell_of (Rule table board north_south east_west reason) = Some (record { table = table; board = board })
-cell_of (Void table board) = Some (record { table = table; board = board })
-cell_of (Hold board) = None
-cell_of (Release board) = None
-cell_of (Seat name pair place) = None
-cell_of (Unseat name) = None
-cell_of NextRound = None
-cell_of Close = None
-cell_of Finalise = None
-cell_of (AddUser name digest) = None
-cell_of (Assign name role) = None
-cell_of (Deassign name role) = None
-cell_of (AddInheritance senior junior) = None
-cell_of (DeleteInheritance senior junior) = None
-cell_of (Solved board table) = None
-cell_of (Analysed table board costs) = Some (record { table = table; board = board })
+abbrev pub subject_cell : Command → Option Cell
+subject_cell (Enter table board outcome play) = Some (record { table = table; board = board })
+subject_cell (Confirm table board outcome) = Some (record { table = table; board = board })
+subject_cell (Correct table board outcome play) = Some (record { table = table; board = board })
+subject_cell (Rule table board north_south east_west reason) = Some (record { table = table; board = board })
+subject_cell (Void table board) = Some (record { table = table; board = board })
+subject_cell (Hold board) = None
+subject_cell (Release board) = None
+subject_cell (Seat name pair place) = None
+subject_cell (Unseat name) = None
+subject_cell NextRound = None
+subject_cell Close = None
+subject_cell Finalise = None
+subject_cell (AddUser name digest) = None
+subject_cell (Assign name role) = None
+subject_cell (Deassign name role) = None
+subject_cell (AddInheritance senior junior) = None
+subject_cell (DeleteInheritance senior junior) = None
+subject_cell (Solved board table) = None
+subject_cell (Analysed table board costs) = Some (record { table = table; board = board })
 
 -- the board that it is about as a whole, which must be one of the session
-abbrev pub board_of : Command → Option ℕ
-board_of (Enter table board outcome play) = None
-board_of (Confirm table board outcome) = None
-board_of (Correct table board outcome play) = None
-board_of (Rule table board north_south east_west reason) = None
-board_of (Void table board) = None
-board_of (Hold board) = Some board
-board_of (Release board) = Some board
-board_of (Seat name pair place) = None
-board_of (Unseat name) = None
-board_of NextRound = None
-board_of Close = None
-board_of Finalise = None
-board_of (AddUser name digest) = None
-board_of (Assign name role) = None
-board_of (Deassign name role) = None
-board_of (AddInheritance senior junior) = None
-board_of (DeleteInheritance senior junior) = None
-board_of (Solved board table) = Some board
-board_of (Analysed table board costs) = None
+abbrev pub subject_board : Command → Option ℕ
+subject_board (Enter table board outcome play) = None
+subject_board (Confirm table board outcome) = None
+subject_board (Correct table board outcome play) = None
+subject_board (Rule table board north_south east_west reason) = None
+subject_board (Void table board) = None
+subject_board (Hold board) = Some board
+subject_board (Release board) = Some board
+subject_board (Seat name pair place) = None
+subject_board (Unseat name) = None
+subject_board NextRound = None
+subject_board Close = None
+subject_board Finalise = None
+subject_board (AddUser name digest) = None
+subject_board (Assign name role) = None
+subject_board (Deassign name role) = None
+subject_board (AddInheritance senior junior) = None
+subject_board (DeleteInheritance senior junior) = None
+subject_board (Solved board table) = Some board
+subject_board (Analysed table board costs) = None
 
 -- whether it tells a result that was played: a spoiled table may not
 abbrev pub is_told_by_table : Command → Bool

@@ -105,7 +105,7 @@ pub enum Command {
 
 impl Command {
     ghost use Rattle.std.specs.Prelude.{◌≡◌};
-    ghost use Rattle.session_commands.specs.Command.{operation_of, is_solvers, phases_of, user_of, cell_of, board_of};
+    ghost use Rattle.session_commands.specs.Command.{operation_of, is_solvers, phases_of, subject_user, subject_cell, subject_board};
     ghost use Rattle.session_commands.specs.Command.{is_told_by_table, is_among};
     ghost use Rattle.session_commands.specs.Refusal.{spoiled};
 
@@ -179,7 +179,7 @@ impl Command {
 
     /// The user that it is about, who must have an account.
     pub fn user(&self) -> Option<Name>
-        ensures { result ≡ user_of self.now }
+        ensures { result ≡ subject_user self.now }
     {
         match *self {
             Command::Seat { name, .. }
@@ -192,7 +192,7 @@ impl Command {
 
     /// The table and the board that it is about, if it is about a table.
     pub fn cell(&self) -> Option<Cell>
-        ensures { result ≡ cell_of self.now }
+        ensures { result ≡ subject_cell self.now }
     {
         match *self {
             Command::Enter { table, board, .. }
@@ -207,7 +207,7 @@ impl Command {
 
     /// The board that it is about, if it is about a board as a whole.
     pub fn board(&self) -> Option<u8>
-        ensures { result ≡ board_of self.now }
+        ensures { result ≡ subject_board self.now }
     {
         match *self {
             Command::Hold { board } | Command::Release { board } | Command::Solved { board, .. } =>

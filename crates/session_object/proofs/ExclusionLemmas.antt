@@ -15,7 +15,7 @@ use Rattle.session_object.specs.declared.object.SessionObject.{SessionObject}
 use Rattle.session_object.specs.declared.session_fault.SessionFault.{SessionFault}
 use Rattle.session_object.specs.declared.session_fault.SessionFault.TheVariants.{TooLong, Malformed, BadField, Movement, Deals, OutOfMemory}
 use Rattle.session_object.specs.Session.{Session}
-use Rattle.session_object.specs.Reading.{section_of, IsAllowed, ReadsObject, IsRefusedObject, Reads, IsRefused, IsRefusedText}
+use Rattle.session_object.specs.Reading.{section_of, HasNoMovementError, ReadsObject, IsRefusedObject, ReadsSession, IsSessionRefused, IsRefusedText}
 use Rattle.session_object.proofs.SessionLemmas.{one_session}
 
 -- a text whose boards are read has no fault
@@ -54,7 +54,7 @@ object_or_refused Malformed given d object other read refused = refused
 object_or_refused BadField given d object other read refused = refused read.session read.says
 object_or_refused (Movement error) given d object other read refused =
     let same = one_session given d refused.session read.session refused.says read.says in
-    subst (λ s. IsAllowed (section_of s)) (sym same) read.allowed error refused.refused.holds
+    subst (λ s. HasNoMovementError (section_of s)) (sym same) read.allowed error refused.refused.holds
 object_or_refused (Deals error) given d object other read (kind, refused) =
     let same = one_session given d refused.session read.session refused.says read.says in
     read_or_refused read.session.pbn (boards_of (section_of read.session)) object.config.boards error kind read.boards
@@ -62,13 +62,13 @@ object_or_refused (Deals error) given d object other read (kind, refused) =
 object_or_refused OutOfMemory given d object other read refused = other refl
 
 text_or_refused : (fault : SessionFault) (given : Option (List ℕ)) (text : List ℕ) (object : SessionObject) → fault ≢ OutOfMemory
-    → Reads given text object → IsRefusedText fault given text → ⊥
+    → ReadsSession given text object → IsRefusedText fault given text → ⊥
 text_or_refused fault given text object other read refused =
     let same : refused.said ≡ read.said = same_Some refused.said read.said (sym refused.is.object.reads ∙ read.is.object.reads) in
     object_or_refused fault given read.said object other read.reads (subst (IsRefusedObject fault given) same refused.refused)
 
-pub not_refused : (given : Option (List ℕ)) (text : List ℕ) (object : SessionObject) (fault : SessionFault) → Reads given text object
-    → fault ≢ OutOfMemory → ¬ IsRefused fault given text
+pub not_refused : (given : Option (List ℕ)) (text : List ℕ) (object : SessionObject) (fault : SessionFault) → ReadsSession given text object
+    → fault ≢ OutOfMemory → ¬ IsSessionRefused fault given text
 not_refused given text object TooLong read other refused = omega (arith, read.is.short, refused)
 not_refused given text object Malformed read other refused = refused.none read.said read.is.object
 not_refused given text object BadField read other refused = text_or_refused BadField given text object other read refused

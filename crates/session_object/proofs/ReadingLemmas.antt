@@ -23,7 +23,7 @@ use Rattle.session_object.specs.declared.parts.Parts.{Parts}
 use Rattle.session_object.specs.declared.session_fault.SessionFault.{SessionFault}
 use Rattle.session_object.specs.declared.session_fault.SessionFault.TheVariants.{TooLong, Malformed, BadField, Movement, Deals, OutOfMemory}
 use Rattle.session_object.specs.Session.{Session, session_of, IsSession}
-use Rattle.session_object.specs.Reading.{section_of, IsAllowed, ReadsObject, HasNoBoards, IsRefusedObject, most_bytes, Reads, IsObjectText, IsRefused, session_of_parts, fault_of_deals, Fails}
+use Rattle.session_object.specs.Reading.{section_of, HasNoMovementError, ReadsObject, HasNoBoards, IsRefusedObject, most_bytes, ReadsSession, IsObjectText, IsSessionRefused, session_of_parts, fault_of_deals, FailsPart}
 use Rattle.session_object.proofs.SessionLemmas.{session_read, session_reads, one_session}
 
 -- ---- the elements of a list
@@ -39,7 +39,7 @@ none_from read (w ∷ values) (suc i) v below is none = none_from read values i 
 -- nor is the list
 pub each_fails : {A : Type 0} (read : Data → Option A) (front : List A) (values : List Value) (i : ℕ) (v : Value) (fault : SessionFault)
     → with_front front (each read (items_view (drop i values))) ≡ each read (items_view values)
-    → i < length values → v ≡ get_or values i v → Fails fault (read (view v)) → Fails fault (each read (items_view values))
+    → i < length values → v ≡ get_or values i v → FailsPart fault (read (view v)) → FailsPart fault (each read (items_view values))
 each_fails read front values i v TooLong kept below is fails = fails
 each_fails read front values i v Malformed kept below is fails = fails
 each_fails read front values i v BadField kept below is fails = sym kept ∙ ap (with_front front) (none_from read values i v below is fails)
@@ -66,7 +66,7 @@ each_end read front values i kept end =
 
 module _ (given : Option (List ℕ)) (d : Data) where
   -- a member is wrong, or memory was refused
-  pub refused_parts : (fault : SessionFault) → Fails fault (session_of given d) → IsRefusedObject fault given d
+  pub refused_parts : (fault : SessionFault) → FailsPart fault (session_of given d) → IsRefusedObject fault given d
   refused_parts TooLong fails = absurd fails
   refused_parts Malformed fails = absurd fails
   refused_parts BadField fails = λ session is. let found = session_reads given d session is in absurd (cc)
@@ -80,7 +80,7 @@ module _ (given : Option (List ℕ)) (d : Data) where
   refused_section parts error said refused =
       record { session = session_of_parts parts; says = session_read given d (session_of_parts parts) said; refused = refused }
 
-  module _ (session : Session) (says : IsSession given d session) (allowed : IsAllowed (section_of session)) where
+  module _ (session : Session) (says : IsSession given d session) (allowed : HasNoMovementError (section_of session)) where
     refused_by : (error : DealsError) → pbn.IsRefused error session.pbn (boards_of (section_of session)) → HasNoBoards given d error
     refused_by error refused = record { session = session; says = says; allowed = allowed; refused = refused }
 
@@ -97,22 +97,22 @@ module _ (given : Option (List ℕ)) (d : Data) where
 
   pub refused_boards : (parts : Parts) (section : Section) (boards : ℕ) (error : DealsError) (fault : SessionFault)
       → fault ≡ fault_of_deals error → session_of given d ≡ Some (session_of_parts parts)
-      → section ≡ section_of (session_of_parts parts) → IsAllowed section → boards ≡ boards_of section
+      → section ≡ section_of (session_of_parts parts) → HasNoMovementError section → boards ≡ boards_of section
       → pbn.IsRefused error parts.pbn.now boards → IsRefusedObject fault given d
   refused_boards parts section boards error fault is said same allowed many refused =
       subst (λ f. IsRefusedObject f given d) (sym is)
-      (by_error (session_of_parts parts) (session_read given d (session_of_parts parts) said) (subst IsAllowed same allowed) error
+      (by_error (session_of_parts parts) (session_read given d (session_of_parts parts) said) (subst HasNoMovementError same allowed) error
       (subst (pbn.IsRefused error parts.pbn.now) (many ∙ ap boards_of same) refused))
 
   pub reads_object : (parts : Parts) (section : Section) (many : ℕ) (boards : List Board) → session_of given d ≡ Some (session_of_parts parts)
-      → section ≡ section_of (session_of_parts parts) → IsAllowed section → many ≡ boards_of section
+      → section ≡ section_of (session_of_parts parts) → HasNoMovementError section → many ≡ boards_of section
       → pbn.Reads parts.pbn.now many boards
       → ReadsObject given d (record { config = record { movement = section; boards = boards; users = parts.users }; budget = parts.budget })
   reads_object parts section many boards said same allowed is_many read = record {
     session = session_of_parts parts;
     says = session_read given d (session_of_parts parts) said;
     movement = same;
-    allowed = subst IsAllowed same allowed;
+    allowed = subst HasNoMovementError same allowed;
     boards = subst (λ n. pbn.Reads parts.pbn.now n boards) (is_many ∙ ap boards_of same) read;
     users = refl;
     budget = refl;
@@ -121,7 +121,7 @@ module _ (given : Option (List ℕ)) (d : Data) where
 -- ---- texts
 
 pub refused_text : (fault : SessionFault) (given : Option (List ℕ)) (text : List ℕ) (d : Data) → IsObjectText text d
-    → IsRefusedObject fault given d → IsRefused fault given text
+    → IsRefusedObject fault given d → IsSessionRefused fault given text
 refused_text TooLong given text d is refused = absurd refused
 refused_text Malformed given text d is refused = absurd refused
 refused_text BadField given text d is refused = record { said = d; is = is; refused = refused }
@@ -140,12 +140,12 @@ object_text text d short utf8 reads members = record {
 }
 
 pub refused_in : {A : Type 0} (result : Result A SessionFault) (given : Option (List ℕ)) (text : List ℕ) (d : Data) → IsObjectText text d
-    → IfErr result (λ fault. IsRefusedObject fault given d) → IfErr result (λ fault. IsRefused fault given text)
+    → IfErr result (λ fault. IsRefusedObject fault given d) → IfErr result (λ fault. IsSessionRefused fault given text)
 refused_in (Ok x) given text d is refused = tt
 refused_in (Err fault) given text d is refused = refused_text fault given text d is refused
 
 pub read_in : (result : Result SessionObject SessionFault) (given : Option (List ℕ)) (text : List ℕ) (d : Data) → IsObjectText text d
-    → IfOk result (ReadsObject given d) → IfOk result (Reads given text)
+    → IfOk result (ReadsObject given d) → IfOk result (ReadsSession given text)
 read_in (Ok x) given text d is reads = record { said = d; is = is; reads = reads }
 read_in (Err fault) given text d is reads = tt
 
@@ -164,7 +164,7 @@ module _ (given : Option (List ℕ)) where
       let budget : one.budget ≡ other.budget = first.budget ∙ ap (λ (s : Session). s.budget) session ∙ sym second.budget in
       λ i. record { config = record { movement = movement i; boards = boards i; users = users i }; budget = budget i }
 
-  pub one_text : (text : List ℕ) (one other : SessionObject) → Reads given text one → Reads given text other → one ≡ other
+  pub one_text : (text : List ℕ) (one other : SessionObject) → ReadsSession given text one → ReadsSession given text other → one ≡ other
   one_text text one other first second =
       let same : first.said ≡ second.said = same_Some first.said second.said (sym first.is.object.reads ∙ second.is.object.reads) in
       one_object first.said one other first.reads (subst (λ d. ReadsObject given d other) (sym same) second.reads)

@@ -9,7 +9,7 @@ use Rattle.json_fields.specs.Field.{limited, numbered, written}
 use Rattle.json_fields.proofs.FormLemmas.{Agrees, AgreesForm, form_agrees, with_agrees, formed_read, formed_reads, numbered_agrees}
 use Rattle.json_fields.proofs.FormLemmas.{limited_agrees, called_agrees, written_agrees, listed_agrees}
 use Rattle.json_fields.proofs.UserLemmas.{digest_agrees, user_roles_agree, pair_agrees, place_agrees}
-use Rattle.session_object.specs.Session.{Session, seated, unseated, user_form, user_of, IsUser, users, most_visits, with_boards, beside_boards, session_form, session_of, IsSession}
+use Rattle.session_object.specs.Session.{Session, seated, unseated, user_form, new_user_of, IsUser, users, most_visits, with_boards, beside_boards, session_form, session_of, IsSession}
 
 -- ---- users
 
@@ -26,16 +26,16 @@ user_agrees : (o : Option Data) → AgreesForm (user_form o)
 user_agrees None = unseated_agrees
 user_agrees (Some _) = seated_agrees
 
-user_read : (d : Data) (user : NewUser) → user_of d ≡ Some user → IsUser d user
-unfolding user_of
+user_read : (d : Data) (user : NewUser) → new_user_of d ≡ Some user → IsUser d user
+unfolding new_user_of
 user_read d user h = formed_read [] (user_form (get (codes "pair") d)) (user_agrees (get (codes "pair") d)) d user h
 
-user_reads : (d : Data) (user : NewUser) → IsUser d user → user_of d ≡ Some user
-unfolding user_of
+user_reads : (d : Data) (user : NewUser) → IsUser d user → new_user_of d ≡ Some user
+unfolding new_user_of
 user_reads d user is = formed_reads [] (user_form (get (codes "pair") d)) (user_agrees (get (codes "pair") d)) d user is
 
 users_agree : Agrees users
-users_agree = listed_agrees (codes "users") user_of IsUser user_read user_reads
+users_agree = listed_agrees (codes "users") new_user_of IsUser user_read user_reads
 
 -- ---- sessions
 

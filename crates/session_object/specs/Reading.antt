@@ -25,8 +25,8 @@ abbrev pub section_of : Session → Section
 section_of session = record { tables = session.tables; rounds = session.rounds; per_set = session.per_set }
 
 -- there is such a section
-abbrev pub IsAllowed : Section → Type 0
-IsAllowed section = (error : MovementError) → ¬ Refuses error section
+abbrev pub HasNoMovementError : Section → Type 0
+HasNoMovementError section = (error : MovementError) → ¬ Refuses error section
 
 -- ---- objects
 
@@ -35,7 +35,7 @@ pub record ReadsObject (given : Option (List ℕ)) (d : Data) (object : SessionO
   pub session : Session
   pub says : IsSession given d session
   pub movement : object.config.movement ≡ section_of session
-  pub allowed : IsAllowed (section_of session)
+  pub allowed : HasNoMovementError (section_of session)
   pub boards : pbn.Reads session.pbn (boards_of (section_of session)) object.config.boards
   pub users : object.config.users ≡ session.users
   pub budget : object.budget ≡ session.budget
@@ -50,7 +50,7 @@ pub record IsNoSection (given : Option (List ℕ)) (d : Data) (error : MovementE
 pub record HasNoBoards (given : Option (List ℕ)) (d : Data) (error : DealsError) : Type 0 where
   pub session : Session
   pub says : IsSession given d session
-  pub allowed : IsAllowed (section_of session)
+  pub allowed : HasNoMovementError (section_of session)
   pub refused : pbn.IsRefused error session.pbn (boards_of (section_of session))
 
 -- why an object is refused
@@ -70,7 +70,7 @@ pub record IsObjectText (text : List ℕ) (d : Data) : Type 0 where
   pub object : IsObject text d
 
 -- what a session opens with, by a text
-pub record Reads (given : Option (List ℕ)) (text : List ℕ) (object : SessionObject) : Type 0 where
+pub record ReadsSession (given : Option (List ℕ)) (text : List ℕ) (object : SessionObject) : Type 0 where
   pub said : Data
   pub is : IsObjectText text said
   pub reads : ReadsObject given said object
@@ -87,13 +87,13 @@ pub record IsRefusedText (fault : SessionFault) (given : Option (List ℕ)) (tex
   pub refused : IsRefusedObject fault given said
 
 -- why a text is refused
-abbrev pub IsRefused : SessionFault → Option (List ℕ) → List ℕ → Type 0
-IsRefused TooLong given text = most_bytes < length text
-IsRefused Malformed given text = IsNoObject text
-IsRefused BadField given text = IsRefusedText BadField given text
-IsRefused (Movement error) given text = IsRefusedText (Movement error) given text
-IsRefused (Deals error) given text = IsRefusedText (Deals error) given text
-IsRefused OutOfMemory given text = Unit {0}
+abbrev pub IsSessionRefused : SessionFault → Option (List ℕ) → List ℕ → Type 0
+IsSessionRefused TooLong given text = most_bytes < length text
+IsSessionRefused Malformed given text = IsNoObject text
+IsSessionRefused BadField given text = IsRefusedText BadField given text
+IsSessionRefused (Movement error) given text = IsRefusedText (Movement error) given text
+IsSessionRefused (Deals error) given text = IsRefusedText (Deals error) given text
+IsSessionRefused OutOfMemory given text = Unit {0}
 
 -- ---- for private clauses
 
@@ -120,15 +120,15 @@ fault_of_deals (deals.InheritedForm offset) = Deals (deals.InheritedForm offset)
 fault_of_deals (deals.MissingBoard board) = Deals (deals.MissingBoard board)
 
 -- a function that answered with the fault found that something isn't as it should be, or memory was refused
-abbrev pub Fails : {A : Type 0} → SessionFault → Option A → Type 0
-Fails TooLong read = ⊥
-Fails Malformed read = ⊥
-Fails BadField read = read ≡ None
-Fails (Movement error) read = ⊥
-Fails (Deals error) read = ⊥
-Fails OutOfMemory read = Unit {0}
+abbrev pub FailsPart : {A : Type 0} → SessionFault → Option A → Type 0
+FailsPart TooLong read = ⊥
+FailsPart Malformed read = ⊥
+FailsPart BadField read = read ≡ None
+FailsPart (Movement error) read = ⊥
+FailsPart (Deals error) read = ⊥
+FailsPart OutOfMemory read = Unit {0}
 
 -- what a function answered is what is read, unless memory was refused
-abbrev pub Gives : {A : Type 0} → Result A SessionFault → Option A → Type 0
-Gives (Ok x) read = read ≡ Some x
-Gives (Err fault) read = Fails fault read
+abbrev pub GivesPart : {A : Type 0} → Result A SessionFault → Option A → Type 0
+GivesPart (Ok x) read = read ≡ Some x
+GivesPart (Err fault) read = FailsPart fault read

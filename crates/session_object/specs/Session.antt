@@ -28,8 +28,8 @@ user_form None = unseated
 user_form (Some _) = seated
 
 -- the user that an object says
-unfoldable pub user_of : Data → Option NewUser
-user_of d = formed [] (user_form (get (codes "pair") d)) d
+unfoldable pub new_user_of : Data → Option NewUser
+new_user_of d = formed [] (user_form (get (codes "pair") d)) d
 
 -- the object has the members of this user, and no other
 abbrev pub IsUser : Data → NewUser → Type 0
@@ -37,7 +37,7 @@ IsUser d user = HasForm [] (user_form (get (codes "pair") d)) d user
 
 -- the users, in the order of the list
 abbrev pub users : Member (List NewUser)
-users = listed (codes "users") user_of IsUser
+users = listed (codes "users") new_user_of IsUser
 
 -- ---- sessions
 

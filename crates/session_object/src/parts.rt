@@ -4,7 +4,7 @@ ghost use Rattle.std.specs.Prelude.{◌≡◌, [], Some, None, IfOk, IfErr, opti
 ghost use Rattle.serde_json.specs.View.{view};
 ghost use Rattle.json_fields.specs.Form.{formed};
 ghost use Rattle.session_object.specs.Session.{with_boards, beside_boards, session_of};
-ghost use Rattle.session_object.specs.Reading.{Fails, session_of_parts};
+ghost use Rattle.session_object.specs.Reading.{FailsPart, session_of_parts};
 
 use crate::session_fault::SessionFault;
 use crate::user::users_of;
@@ -30,7 +30,7 @@ pub(crate) struct Parts<'t> {
 
 fn with_boards<'t>(alloc: Global, value: &'t Value) -> Result<Parts<'t>, SessionFault>
     ensures parts { IfOk result (λ parts. formed [] with_boards (view value.now) ≡ Some (session_of_parts parts)) }
-    ensures fault { IfErr result (λ fault. Fails fault (formed [] with_boards (view value.now))) }
+    ensures fault { IfErr result (λ fault. FailsPart fault (formed [] with_boards (view value.now))) }
 {
     if !has_only(
         value,
@@ -67,7 +67,7 @@ fn with_boards<'t>(alloc: Global, value: &'t Value) -> Result<Parts<'t>, Session
 fn beside_boards<'t>(alloc: Global, value: &Value, pbn: &'t [u8]) -> Result<Parts<'t>, SessionFault>
     ensures parts { IfOk result (λ parts.
         formed [] (beside_boards pbn.now) (view value.now) ≡ Some (session_of_parts parts)) }
-    ensures fault { IfErr result (λ fault. Fails fault (formed [] (beside_boards pbn.now) (view value.now))) }
+    ensures fault { IfErr result (λ fault. FailsPart fault (formed [] (beside_boards pbn.now) (view value.now))) }
 {
     if !has_only(value, &["budget", "per_set", "rounds", "tables", "users"]) {
         return Err(SessionFault::BadField);
@@ -105,7 +105,7 @@ pub(crate) fn parts_of<'t>(
     ensures parts { IfOk result (λ parts.
         session_of (option_map (λ bytes. bytes.now) given.entry) (view value.now) ≡ Some (session_of_parts parts)) }
     ensures fault { IfErr result (λ fault.
-        Fails fault (session_of (option_map (λ bytes. bytes.now) given.entry) (view value.now))) }
+        FailsPart fault (session_of (option_map (λ bytes. bytes.now) given.entry) (view value.now))) }
 {
     match given {
         Some(pbn) => beside_boards(alloc, value, pbn),

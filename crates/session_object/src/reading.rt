@@ -2,7 +2,7 @@
 
 ghost use Rattle.std.specs.Prelude.{◌≡◌, IfOk, IfErr, option_map, ◌≤◌, length};
 ghost use Rattle.serde_json.specs.View.{view};
-ghost use Rattle.session_object.specs.Reading.{most_bytes, Reads, IsRefused, ReadsObject, IsRefusedObject, fault_of_deals};
+ghost use Rattle.session_object.specs.Reading.{most_bytes, ReadsSession, IsSessionRefused, ReadsObject, IsRefusedObject, fault_of_deals};
 
 use crate::object::SessionObject;
 use crate::parts::parts_of;
@@ -23,8 +23,8 @@ pub fn read_session(
     text: &[u8],
     given: Option<&[u8]>,
 ) -> Result<SessionObject, SessionFault>
-    ensures read { IfOk result (Reads (option_map (λ bytes. bytes.now) given.entry) text.now) }
-    ensures refused { IfErr result (λ fault. IsRefused fault (option_map (λ bytes. bytes.now) given.entry) text.now) }
+    ensures read { IfOk result (ReadsSession (option_map (λ bytes. bytes.now) given.entry) text.now) }
+    ensures refused { IfErr result (λ fault. IsSessionRefused fault (option_map (λ bytes. bytes.now) given.entry) text.now) }
 {
     if text.len() > MOST_BYTES {
         return Err(SessionFault::TooLong);
@@ -38,8 +38,8 @@ pub fn read_session(
 // Reads a text that isn't too long.
 fn read_text(alloc: Global, text: &str, given: Option<&[u8]>) -> Result<SessionObject, SessionFault>
     requires { length text.now ≤ most_bytes }
-    ensures read { IfOk result (Reads (option_map (λ bytes. bytes.now) given.entry) text.now) }
-    ensures refused { IfErr result (λ fault. IsRefused fault (option_map (λ bytes. bytes.now) given.entry) text.now) }
+    ensures read { IfOk result (ReadsSession (option_map (λ bytes. bytes.now) given.entry) text.now) }
+    ensures refused { IfErr result (λ fault. IsSessionRefused fault (option_map (λ bytes. bytes.now) given.entry) text.now) }
 {
     let value = match Value::from_str(alloc, text) {
         Ok(value) => value,

@@ -5,12 +5,12 @@ ghost use Rattle.serde_json.specs.Find.{get};
 ghost use Rattle.serde_json.specs.View.{view, items_view};
 ghost use Rattle.json_fields.specs.Form.{each, formed};
 ghost use Rattle.json_fields.specs.User.{role_of, user_roles};
-ghost use Rattle.session_object.specs.Session.{seated, unseated, user_of, users};
-ghost use Rattle.session_object.specs.Reading.{Gives, Fails};
+ghost use Rattle.session_object.specs.Session.{seated, unseated, new_user_of, users};
+ghost use Rattle.session_object.specs.Reading.{GivesPart, FailsPart};
 
 use crate::session_fault::SessionFault;
 use disclosure_rules::Seat;
-use json_fields::{digest_of, has_only, name_at, pair_of, place_of, role_of};
+use json_fields::{has_only, name_at, read_digest, read_pair, read_place, read_role};
 use serde_json::Value;
 use session_opening::{NewUser, NewUsers, RoleList};
 use session_roles::Role;
@@ -19,11 +19,11 @@ use user_names::{Digest, Name};
 
 fn roles_in(alloc: Global, list: &[Value]) -> Result<Vec<Role>, SessionFault>
     ensures roles { IfOk result (λ roles. each role_of (items_view list.now) ≡ Some roles.items) }
-    ensures fault { IfErr result (λ fault. Fails fault (each role_of (items_view list.now))) }
+    ensures fault { IfErr result (λ fault. FailsPart fault (each role_of (items_view list.now))) }
 {
     let mut roles = Vec::new(alloc);
     for value in list {
-        let Some(role) = role_of(value) else {
+        let Some(role) = read_role(value) else {
             return Err(SessionFault::BadField);
         };
         roles.push(role)?;
@@ -32,7 +32,7 @@ fn roles_in(alloc: Global, list: &[Value]) -> Result<Vec<Role>, SessionFault>
 }
 
 fn roles_of(alloc: Global, value: &Value) -> Result<RoleList, SessionFault>
-    ensures { Gives result (user_roles.value (get user_roles.name (view value.now))) }
+    ensures { GivesPart result (user_roles.value (get user_roles.name (view value.now))) }
 {
     let Some(member) = value.get("roles") else {
         return Err(SessionFault::BadField);
@@ -44,12 +44,12 @@ fn roles_of(alloc: Global, value: &Value) -> Result<RoleList, SessionFault>
 }
 
 fn unseated_user(alloc: Global, value: &Value) -> Result<NewUser, SessionFault>
-    ensures { Gives result (formed [] unseated (view value.now)) }
+    ensures { GivesPart result (formed [] unseated (view value.now)) }
 {
     if !has_only(value, &["digest", "name", "roles"]) {
         return Err(SessionFault::BadField);
     }
-    let Some(digest) = digest_of(value) else {
+    let Some(digest) = read_digest(value) else {
         return Err(SessionFault::BadField);
     };
     let Some(name) = name_at(value, "name") else {
@@ -65,21 +65,21 @@ fn unseated_user(alloc: Global, value: &Value) -> Result<NewUser, SessionFault>
 }
 
 fn seated_user(alloc: Global, value: &Value) -> Result<NewUser, SessionFault>
-    ensures { Gives result (formed [] seated (view value.now)) }
+    ensures { GivesPart result (formed [] seated (view value.now)) }
 {
     if !has_only(value, &["digest", "name", "pair", "place", "roles"]) {
         return Err(SessionFault::BadField);
     }
-    let Some(digest) = digest_of(value) else {
+    let Some(digest) = read_digest(value) else {
         return Err(SessionFault::BadField);
     };
     let Some(name) = name_at(value, "name") else {
         return Err(SessionFault::BadField);
     };
-    let Some(pair) = pair_of(value) else {
+    let Some(pair) = read_pair(value) else {
         return Err(SessionFault::BadField);
     };
-    let Some(place) = place_of(value) else {
+    let Some(place) = read_place(value) else {
         return Err(SessionFault::BadField);
     };
     let roles = roles_of(alloc, value)?;
@@ -91,9 +91,9 @@ fn seated_user(alloc: Global, value: &Value) -> Result<NewUser, SessionFault>
     })
 }
 
-#[tactic(auto, unfolding(crate::specs::Session::user_of))]
-fn user_of(alloc: Global, value: &Value) -> Result<NewUser, SessionFault>
-    ensures { Gives result (user_of (view value.now)) }
+#[tactic(auto, unfolding(crate::specs::Session::new_user_of))]
+fn new_user_of(alloc: Global, value: &Value) -> Result<NewUser, SessionFault>
+    ensures { GivesPart result (new_user_of (view value.now)) }
 {
     match value.get("pair") {
         Some(_) => seated_user(alloc, value),
@@ -102,19 +102,19 @@ fn user_of(alloc: Global, value: &Value) -> Result<NewUser, SessionFault>
 }
 
 fn users_in(alloc: Global, list: &[Value]) -> Result<NewUsers, SessionFault>
-    ensures users { IfOk result (λ users. each user_of (items_view list.now) ≡ Some users) }
-    ensures fault { IfErr result (λ fault. Fails fault (each user_of (items_view list.now))) }
+    ensures users { IfOk result (λ users. each new_user_of (items_view list.now) ≡ Some users) }
+    ensures fault { IfErr result (λ fault. FailsPart fault (each new_user_of (items_view list.now))) }
 {
     let mut users = Vec::new(alloc);
     for value in list {
-        let user = user_of(alloc, value)?;
+        let user = new_user_of(alloc, value)?;
         users.push(user)?;
     }
     Ok(NewUsers::new(users))
 }
 
 pub(crate) fn users_of(alloc: Global, value: &Value) -> Result<NewUsers, SessionFault>
-    ensures { Gives result (users.value (get users.name (view value.now))) }
+    ensures { GivesPart result (users.value (get users.name (view value.now))) }
 {
     let Some(member) = value.get("users") else {
         return Err(SessionFault::BadField);

@@ -7,7 +7,7 @@ use Rattle.movement.specs.Movement.{most_boards}
 use Rattle.pbn_records.specs.declared.board.Board.{Board}
 use Rattle.std.proofs.lemmas.List.Elements.{filter_map-append}
 use Rattle.session_opening.specs.declared.new_user.NewUser.{NewUser}
-use Rattle.session_opening.specs.NewUser.{seated_of}
+use Rattle.session_opening.specs.NewUser.{new_seated}
 use Rattle.session_opening.specs.Opening.{marks_of, no_marks, opening_marks, opening_seats}
 
 -- the places of the markings are filled
@@ -33,7 +33,7 @@ below_all n m k below within = omega (arith, below, within)
 pub seats_more : (users : List NewUser) (i : ℕ) (d : NewUser) → i < length users →
     opening_seats (take i users) ++ opening_seats (get_or users i d ∷ []) ≡ opening_seats (take (i + 1) users)
 seats_more users i d within =
-    sym (filter_map-append seated_of (take i users) (get_or users i d ∷ []))
+    sym (filter_map-append new_seated (take i users) (get_or users i d ∷ []))
     ∙ ap opening_seats (sym (take_more users i d within))
 
 -- one board more is marked

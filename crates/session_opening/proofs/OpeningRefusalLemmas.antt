@@ -22,14 +22,14 @@ use Rattle.session_opening.specs.declared.opening_refusal.OpeningRefusal.{Openin
 use Rattle.session_opening.specs.declared.opening_refusal.OpeningRefusal.TheVariants.{BadName, UserExists, TooManyUsers, AlreadyAssigned, Separation, LastAdministrator}
 use Rattle.session_state.specs.Accounts.{has_account, has_administrator}
 use Rattle.session_opening.specs.Joining.{MayJoin, JoinInTurn}
-use Rattle.session_opening.specs.NewUser.{account_of, seated_of, repeats, authorized_at_opening}
+use Rattle.session_opening.specs.NewUser.{account_of, new_seated, repeats, authorized_at_opening}
 use Rattle.session_opening.specs.Opening.{opening_roles, opening_seats}
 use Rattle.session_opening.specs.OpeningRefusal.{account_causes, seat_causes, user_causes, users_causes, opening_refusal}
-use Rattle.session_state.specs.Refusal.{first_of}
+use Rattle.session_state.specs.Refusal.{first_cause}
 use Rattle.session_state.specs.Seats.{same_seat, is_taken}
 
 -- the first of two lists is the first of the one or, where that has none, of the other
-pub first_append : {C : Type 0} (xs ys : List (Option C)) → first_of (xs ++ ys) ≡ option_or (first_of xs) (first_of ys)
+pub first_append : {C : Type 0} (xs ys : List (Option C)) → first_cause (xs ++ ys) ≡ option_or (first_cause xs) (first_cause ys)
 first_append [] ys = refl
 first_append (None ∷ xs) ys = first_append xs ys
 first_append (Some cause ∷ xs) ys = refl
@@ -43,13 +43,13 @@ none_parts (Some cause) rest none = absurd cc
 none_parts None rest none = (refl, none)
 
 -- where the first list has a cause, it is the first; where it has none, the first of the other is
-pub found_first : {C : Type 0} (xs ys : List (Option C)) (found : Option C) → found ≡ first_of xs → is_some found ≡ true → first_of (xs ++ ys) ≡ found
+pub found_first : {C : Type 0} (xs ys : List (Option C)) (found : Option C) → found ≡ first_cause xs → is_some found ≡ true → first_cause (xs ++ ys) ≡ found
 found_first xs ys None is some = absurd (false≢true some)
-found_first xs ys (Some cause) is some = first_append xs ys ∙ ap (λ found. option_or found (first_of ys)) (sym is)
+found_first xs ys (Some cause) is some = first_append xs ys ∙ ap (λ found. option_or found (first_cause ys)) (sym is)
 
-pub found_later : {C : Type 0} (xs ys : List (Option C)) (found : Option C) → found ≡ first_of xs → is_some found ≡ false → first_of (xs ++ ys) ≡ first_of ys
+pub found_later : {C : Type 0} (xs ys : List (Option C)) (found : Option C) → found ≡ first_cause xs → is_some found ≡ false → first_cause (xs ++ ys) ≡ first_cause ys
 found_later xs ys (Some cause) is some = absurd (false≢true (sym some))
-found_later xs ys None is some = first_append xs ys ∙ ap (λ found. option_or found (first_of ys)) (sym is)
+found_later xs ys None is some = first_append xs ys ∙ ap (λ found. option_or found (first_cause ys)) (sym is)
 
 -- the causes of the users from a place on
 abbrev pub causes_on : Section → List NewUser → ℕ → List (Option OpeningRefusal)
@@ -63,14 +63,14 @@ causes_more movement users place d within =
     ∙ ap (λ before. user_causes movement (take place users) (get_or users place d) ++ users_causes movement before (drop (place + 1) users)) (sym (take_more users place d within))
 
 -- where the users meet no cause, none of them meets one
-none_of_each : (movement : Section) (before users : List NewUser) → first_of (users_causes movement before users) ≡ None → (k : ℕ) (d : NewUser) → k < length users →
-    first_of (user_causes movement (before ++ take k users) (get_or users k d)) ≡ None
+none_of_each : (movement : Section) (before users : List NewUser) → first_cause (users_causes movement before users) ≡ None → (k : ℕ) (d : NewUser) → k < length users →
+    first_cause (user_causes movement (before ++ take k users) (get_or users k d)) ≡ None
 none_of_each movement before [] none k d within = absurd (omega arith)
 none_of_each movement before (user ∷ users) none zero d within =
-    ap (λ list. first_of (user_causes movement list user)) (append-nil before)
+    ap (λ list. first_cause (user_causes movement list user)) (append-nil before)
     ∙ (none_parts _ _ (sym (first_append (user_causes movement before user) (users_causes movement (before ++ user ∷ []) users)) ∙ none)).0
 none_of_each movement before (user ∷ users) none (suc k) d within =
-    ap (λ list. first_of (user_causes movement list (get_or users k d))) (sym (append_assoc before (user ∷ []) (take k users)))
+    ap (λ list. first_cause (user_causes movement list (get_or users k d))) (sym (append_assoc before (user ∷ []) (take k users)))
     ∙ none_of_each movement (before ++ user ∷ []) users
     (none_parts _ _ (sym (first_append (user_causes movement before user) (users_causes movement (before ++ user ∷ []) users)) ∙ none)).1 k d (omega (arith, within))
 
@@ -93,7 +93,7 @@ above n none = elim (cases_lt n most_users) [
 ]
 
 -- a user of whose account no cause is met may join
-account_joins : (before : List NewUser) (user : NewUser) → first_of (account_causes before user) ≡ None → MayJoin (opening_roles before) user
+account_joins : (before : List NewUser) (user : NewUser) → first_cause (account_causes before user) ≡ None → MayJoin (opening_roles before) user
 account_joins before user none =
     let a = none_parts (then_some (not (is_user_name user.name)) BadName) _ none in
     let b = none_parts (then_some (has_account (opening_roles before) user.name) UserExists) _ a.1 in
@@ -150,5 +150,5 @@ taken_first (Some seated) seats seat = ap (λ b. b || is_taken seats seat) (sym 
 pub taken_among : (users : List NewUser) (seat : Seat) → is_taken (opening_seats users) seat ≡ list_any (λ user. is_taken (opening_seats (user ∷ [])) seat) users
 taken_among [] seat = refl
 taken_among (user ∷ users) seat =
-    taken_first (seated_of user) (opening_seats users) seat
+    taken_first (new_seated user) (opening_seats users) seat
     ∙ ap (λ b. is_taken (opening_seats (user ∷ [])) seat || b) (taken_among users seat)

@@ -6,7 +6,7 @@ use Rattle.movement.specs.Movement.{most_boards}
 use Rattle.session_opening.specs.Opening.{opening_of}
 use Rattle.session_opening.specs.declared.config.Config.{Config}
 use Rattle.session_state.specs.OwnNumbers.{KeepsOwn}
-use Rattle.session_state.specs.SessionState.{place_of, most_cells}
+use Rattle.session_state.specs.SessionState.{cell_index, most_cells}
 use Rattle.session_state.specs.session_commands.declared.cell_state.CellState.{CellState}
 use Rattle.session_state.specs.session_commands.declared.cell_state.CellState.TheVariants.{Empty, Confirmed}
 
@@ -19,5 +19,5 @@ same_items (suc n) (suc i) a = same_items n i a
 pub opening_own : (config : Config) → KeepsOwn (opening_of config)
 opening_own config = record {
   tables = λ board table is. let never : None ≡ Some table = sym (same_items {A = Option Hands} most_boards (board - 1) None) ∙ is in absurd cc;
-  costs = λ cell outcome play costs placed is. let never : Empty ≡ Confirmed outcome play (Some costs) = sym (same_items most_cells (place_of cell) Empty) ∙ is in absurd cc;
+  costs = λ cell outcome play costs placed is. let never : Empty ≡ Confirmed outcome play (Some costs) = sym (same_items most_cells (cell_index cell) Empty) ∙ is in absurd cc;
 }

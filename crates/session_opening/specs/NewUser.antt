@@ -27,5 +27,5 @@ abbrev pub authorized_at_opening : NewUser → List Role
 authorized_at_opening user = reached opening_pairs (set_of user.roles)
 
 -- where the user sits, if the user has a seat
-abbrev pub seated_of : NewUser → Option Seated
-seated_of user = option_map (λ seat. record { name = user.name; seat = seat }) user.seat
+abbrev pub new_seated : NewUser → Option Seated
+new_seated user = option_map (λ seat. record { name = user.name; seat = seat }) user.seat

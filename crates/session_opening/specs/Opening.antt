@@ -14,7 +14,7 @@ use Rattle.session_state.specs.session_commands.declared.cell_state.CellState.Th
 use Rattle.session_opening.specs.declared.config.Config.{Config}
 use Rattle.session_opening.specs.declared.new_user.NewUser.{NewUser}
 use Rattle.session_state.specs.declared.seated.Seated.{Seated}
-use Rattle.session_opening.specs.NewUser.{account_of, seated_of}
+use Rattle.session_opening.specs.NewUser.{account_of, new_seated}
 use Rattle.session_state.specs.SessionState.{SessionState, most_cells}
 
 -- the users in their order, with the role hierarchy of a new session
@@ -23,7 +23,7 @@ opening_roles users = record { accounts = map account_of users; pairs = opening_
 
 -- where those users sit who have a seat, in the order of the users
 abbrev pub opening_seats : List NewUser → List Seated
-opening_seats users = filter_map seated_of users
+opening_seats users = filter_map new_seated users
 
 -- the boards that the section plays
 abbrev pub boards_in_play : Config → List Board

@@ -18,7 +18,7 @@ use Rattle.session_opening.specs.declared.opening_refusal.OpeningRefusal.TheVari
 use Rattle.session_state.specs.Accounts.{has_account, has_administrator}
 use Rattle.session_opening.specs.NewUser.{repeats, authorized_at_opening}
 use Rattle.session_opening.specs.Opening.{opening_roles, opening_seats}
-use Rattle.session_state.specs.Refusal.{first_of}
+use Rattle.session_state.specs.Refusal.{first_cause}
 use Rattle.session_state.specs.Seats.{is_pair, is_of_side, is_taken}
 
 -- the causes in a user's account, after the users before it; of several separation sets the first in their order is
@@ -60,4 +60,4 @@ opening_causes config =
 
 -- the first cause not to open a session, if one is met
 unfoldable pub opening_refusal : Config → Option OpeningRefusal
-opening_refusal config = first_of (opening_causes config)
+opening_refusal config = first_cause (opening_causes config)

@@ -9,7 +9,7 @@ ghost use Rattle.session_roles.specs.declared.role.Role.TheVariants.{Administrat
 ghost use Rattle.session_opening.specs.NewUser.{set_of, repeats, authorized_at_opening};
 ghost use Rattle.session_opening.specs.Opening.{opening_seats};
 ghost use Rattle.session_opening.specs.OpeningRefusal.{account_causes, seat_causes, user_causes, users_causes, opening_refusal};
-ghost use Rattle.session_state.specs.Refusal.{first_of};
+ghost use Rattle.session_state.specs.Refusal.{first_cause};
 ghost use Rattle.session_opening.specs.declared.opening_refusal.OpeningRefusal.TheVariants.{Separation};
 ghost use Rattle.session_state.specs.Seats.{is_pair, is_of_side, same_seat, is_taken};
 
@@ -20,7 +20,7 @@ use disclosure_rules::Seat;
 use movement::Movement;
 use rbac::{Roles, is_user_name};
 use session_roles::{Role, RoleSet, SeparationSet};
-use session_state::first_of;
+use session_state::first_cause;
 use table_terms::{Pair, Place};
 use user_names::Name;
 
@@ -38,7 +38,7 @@ pub fn opening_refusal(config: &Config) -> Option<OpeningRefusal>
 
 // The first cause in the users, one after another.
 fn users_refusal(movement: Movement, users: &[NewUser]) -> Option<OpeningRefusal>
-    ensures { result ≡ first_of (users_causes movement [] users.now) }
+    ensures { result ≡ first_cause (users_causes movement [] users.now) }
 {
     for place in 0..users.len() {
         let refused = user_refusal(movement, &users[..place], &users[place]);
@@ -51,7 +51,7 @@ fn users_refusal(movement: Movement, users: &[NewUser]) -> Option<OpeningRefusal
 
 // The first cause in a user, after the users before it.
 fn user_refusal(movement: Movement, before: &[NewUser], user: &NewUser) -> Option<OpeningRefusal>
-    ensures { result ≡ first_of (user_causes movement before.now user.now) }
+    ensures { result ≡ first_cause (user_causes movement before.now user.now) }
 {
     let refused = account_refusal(before, user);
     if refused.is_some() {
@@ -65,9 +65,9 @@ fn user_refusal(movement: Movement, before: &[NewUser], user: &NewUser) -> Optio
 
 // The first cause in a user's account.
 fn account_refusal(before: &[NewUser], user: &NewUser) -> Option<OpeningRefusal>
-    ensures { result ≡ first_of (account_causes before.now user.now) }
+    ensures { result ≡ first_cause (account_causes before.now user.now) }
 {
-    first_of(&[
+    first_cause(&[
         (!is_user_name(user.name.as_str())).then_some(OpeningRefusal::BadName),
         has_account(before, user.name).then_some(OpeningRefusal::UserExists),
         (before.len() >= Roles::MOST_USERS).then_some(OpeningRefusal::TooManyUsers),
@@ -93,10 +93,10 @@ fn seat_refusal(
     user: &NewUser,
     seat: Seat,
 ) -> Option<OpeningRefusal>
-    ensures { result ≡ first_of (seat_causes movement before.now user.now (Some seat)) }
+    ensures { result ≡ first_cause (seat_causes movement before.now user.now (Some seat)) }
 {
     let contestant = authorized_at_opening(user).has(Role::Contestant);
-    first_of(&[
+    first_cause(&[
         (!is_pair(movement, seat.pair)).then_some(OpeningRefusal::NoSuchPair),
         (!is_of_side(seat.pair, seat.place)).then_some(OpeningRefusal::WrongDirection),
         (!contestant).then_some(OpeningRefusal::NotContestant),

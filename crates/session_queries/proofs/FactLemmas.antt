@@ -5,15 +5,15 @@ use Rattle.std.specs.List.{flat_map, list_any, range_with_len}
 use Rattle.std.proofs.lemmas.Bool.{cases_Bool, cases_eq, eq-eqb, ne_eqb}
 use Rattle.std.proofs.lemmas.List.Folds.{list_any-append}
 use Rattle.movement.specs.declared.cell.Cell.{Cell}
-use Rattle.movement.specs.Movement.{Section, boards_of, IsCell}
+use Rattle.movement.specs.Movement.{Section, boards_of, IsCell, has_board}
 use Rattle.movement.specs.Row.{IsCellInRange}
 use Rattle.movement.specs.Schedule.{is_scheduled}
 use Rattle.movement.proofs.CellLemmas.{cell_in_range}
 use Rattle.movement.proofs.ScheduleTests.{scheduled-cell}
-use Rattle.denials.specs.Evidence.{board_number, table_number}
+use Rattle.denials.specs.Evidence.{denied_board, denied_table}
 use Rattle.disclosure_rules.specs.declared.fact.Fact.{Fact}
 use Rattle.disclosure_rules.specs.declared.fact.Fact.TheVariants as fact
-use Rattle.session_queries.specs.Facts.{cell_on, cells_of_board, facts_of_cell, facts_of_board, boards, facts, kind_of, same_fact, has_place, has_board}
+use Rattle.session_queries.specs.Facts.{cell_on, cells_of_board, facts_of_cell, facts_of_board, boards, facts, kind_of, same_fact, has_place}
 
 -- the fact of a kind, of a board and of a table
 abbrev fact_by : ℕ → ℕ → ℕ → Fact
@@ -27,7 +27,7 @@ fact_by (suc (suc (suc (suc (suc (suc zero)))))) board table = fact.Cost (cell_o
 fact_by (suc (suc (suc (suc (suc (suc (suc n))))))) board table = fact.Reason (cell_on board table)
 
 -- each fact is that of its kind, board and table
-fact_again : (a : Fact) → fact_by (kind_of a) (board_number a) (table_number a) ≡ a
+fact_again : (a : Fact) → fact_by (kind_of a) (denied_board a) (denied_table a) ≡ a
 fact_again fact.Public = refl
 fact_again fact.Accounts = refl
 fact_again (fact.Hands board) = refl
@@ -42,8 +42,8 @@ pub same_fact_is : (a b : Fact) → same_fact a b ≡ true → a ≡ b
 unfolding same_fact
 same_fact_is a b same =
     let kind : kind_of a ≡ kind_of b = search rules in
-    let board : board_number a ≡ board_number b = search rules in
-    let table : table_number a ≡ table_number b = search rules in
+    let board : denied_board a ≡ denied_board b = search rules in
+    let table : denied_table a ≡ denied_table b = search rules in
     sym (fact_again a) ∙ ((λ i. fact_by (kind i) (board i) (table i)) ∙ fact_again b)
 
 -- a fact is itself

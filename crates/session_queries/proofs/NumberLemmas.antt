@@ -10,7 +10,7 @@ use Rattle.session_state.specs.OwnNumbers.{KeepsOwn}
 use Rattle.session_state.specs.SessionState.{SessionState, cell_at, table_at, IsPlaced}
 use Rattle.session_state.specs.session_commands.declared.cell_state.CellState.{CellState}
 use Rattle.session_state.specs.session_commands.declared.cell_state.CellState.TheVariants.{Empty, Entered, Confirmed, Ruled}
-use Rattle.session_state.specs.solver_results.PlayAnswer.{answer_of}
+use Rattle.session_state.specs.solver_results.PlayAnswer.{answer_for_play}
 use Rattle.standings.specs.declared.cell_result.CellResult.TheVariants as cell_result
 use Rattle.session_queries.specs.Content.{analysis_of, costs_of, found_of, play_of, result_of, tricks_of_deal}
 use Rattle.session_queries.specs.Numbers.{IsAnalysisOf, IsCountOf}
@@ -44,7 +44,7 @@ costs_own state cell counted keeps placed said not_pending some_cards = by_known
     by_known (Confirmed outcome play None) is said = absurd (uncounted (has_card play) said)
     by_known (Confirmed outcome play (Some costs)) is said =
         let own = keeps.costs cell outcome play costs placed is in
-        let same : found_of (answer_of costs) ≡ counted = cc in
+        let same : found_of (answer_for_play costs) ≡ counted = cc in
         record {
           hands = costs.deal;
           contract = costs.contract;
@@ -53,6 +53,6 @@ costs_own state cell counted keeps placed said not_pending some_cards = by_known
           dealt = own.hands;
           result = ap result_of is ∙ ap (λ outcome. Some (cell_result.Confirmed outcome)) own.contract;
           play = ap play_of is;
-          numbers = sym same ∙ ap (λ cards. found_of (answer_of (record { deal = costs.deal; contract = costs.contract; play = cards }))) (sym own.play);
+          numbers = sym same ∙ ap (λ cards. found_of (answer_for_play (record { deal = costs.deal; contract = costs.contract; play = cards }))) (sym own.play);
         }
     by_known (Ruled north_south east_west reason) is said = absurd (uncounted false said)

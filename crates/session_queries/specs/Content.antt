@@ -14,7 +14,7 @@ use Rattle.disclosure_rules.specs.declared.fact.Fact.TheVariants as fact
 use Rattle.disclosure_rules.specs.declared.public.Public.{Public}
 use Rattle.query_filter.specs.declared.trick_table.StrainTricks.{StrainTricks}
 use Rattle.query_filter.specs.declared.trick_table.TrickTable.{TrickTable}
-use Rattle.session_state.specs.solver_results.PlayAnswer.{PlayedDeal, answer_of}
+use Rattle.session_state.specs.solver_results.PlayAnswer.{PlayedDeal, answer_for_play}
 use Rattle.session_state.specs.solver_results.declared.play_answer.PlayAnswer.{PlayAnswer}
 use Rattle.session_state.specs.solver_results.declared.play_answer.PlayAnswer.TheVariants as answer
 use Rattle.session_state.specs.session_commands.declared.cell_state.CellState.{CellState}
@@ -61,7 +61,7 @@ found_of (answer.NotAPlay number) = NotAPlay number
 -- what the cards of a play cost, once they are counted: where no card was noted there is nothing to count
 abbrev pub costs_of_play : List Card → Option PlayedDeal → CardCosts
 costs_of_play play None = if has_card play then Pending else NoCards
-costs_of_play play (Some counted) = found_of (answer_of counted)
+costs_of_play play (Some counted) = found_of (answer_for_play counted)
 
 -- what the cards that were played at a cell cost
 abbrev pub costs_of : CellState → Option CardCosts

@@ -2,9 +2,9 @@
 use Rattle.std.specs.Prelude.{ℕ, Bool, true, ◌&&◌, nat_eq, nat_le, List, [], ◌∷◌, ◌++◌, map, filter}
 use Rattle.std.specs.List.{flat_map, range_with_len}
 use Rattle.movement.specs.declared.cell.Cell.{Cell}
-use Rattle.movement.specs.Movement.{Section, boards_of}
+use Rattle.movement.specs.Movement.{Section, boards_of, has_board}
 use Rattle.movement.specs.Schedule.{is_scheduled}
-use Rattle.denials.specs.Evidence.{board_number, table_number}
+use Rattle.denials.specs.Evidence.{denied_board, denied_table}
 use Rattle.disclosure_rules.specs.declared.fact.Fact.{Fact}
 use Rattle.disclosure_rules.specs.declared.fact.Fact.TheVariants.{Public, Accounts, Hands, Analysis, Result, Play, Cost}
 use Rattle.disclosure_rules.specs.declared.fact.Fact.TheVariants.{Reason}
@@ -48,11 +48,7 @@ kind_of (Reason cell) = 7
 unfoldable pub same_fact : Fact → Fact → Bool
 same_fact a b =
     nat_eq (kind_of a) (kind_of b)
-    && (nat_eq (board_number a) (board_number b) && nat_eq (table_number a) (table_number b))
-
--- whether the section has the board
-abbrev pub has_board : Section → ℕ → Bool
-has_board section board = nat_le 1 board && nat_le board (boards_of section)
+    && (nat_eq (denied_board a) (denied_board b) && nat_eq (denied_table a) (denied_table b))
 
 -- whether the section has what a fact belongs to: its board, or its table on its board
 abbrev pub has_place : Section → Fact → Bool

@@ -1,4 +1,5 @@
--- Whose the double-dummy numbers are that facts say: those of the hands, the contract and the cards that other facts say.
+-- Whose the double-dummy numbers are that facts say: those of the hands, the contract and the cards that other facts
+-- say.
 use Rattle.std.specs.Prelude.{◌≡◌, ℕ, Some, List}
 use Rattle.cards.specs.Hands.{Hands}
 use Rattle.cards.specs.declared.card.Card.{Card}
@@ -8,7 +9,7 @@ use Rattle.scoring.specs.declared.contract.Contract.{Contract}
 use Rattle.scoring.specs.declared.outcome.Outcome.TheVariants.{Played}
 use Rattle.session_state.specs.OwnNumbers.{IsHandsOf}
 use Rattle.session_state.specs.SessionState.{SessionState, cell_at}
-use Rattle.session_state.specs.solver_results.PlayAnswer.{answer_of}
+use Rattle.session_state.specs.solver_results.PlayAnswer.{answer_for_play}
 use Rattle.session_queries.specs.Content.{found_of, play_of, result_of, tricks_of_deal}
 use Rattle.session_queries.specs.declared.card_costs.CardCosts.{CardCosts}
 use Rattle.standings.specs.declared.cell_result.CellResult.TheVariants.{Confirmed}
@@ -29,4 +30,4 @@ pub record IsCountOf (state : SessionState) (cell : Cell) (counted : CardCosts) 
   pub dealt : IsHandsOf state.deals cell.board hands
   pub result : result_of (cell_at state cell) ≡ Some (Confirmed (Played contract tricks))
   pub play : play_of (cell_at state cell) ≡ Some cards
-  pub numbers : counted ≡ found_of (answer_of (record { deal = hands; contract = contract; play = cards }))
+  pub numbers : counted ≡ found_of (answer_for_play (record { deal = hands; contract = contract; play = cards }))

@@ -1,4 +1,4 @@
--- The operations of a session, and the roles that hold them (core RBAC of INCITS 359-2012).
+-- The operations of a session, and the roles that permit them (core RBAC of INCITS 359-2012).
 use Rattle.std.specs.Prelude.{ℕ, Bool, ◌&&◌, nat_eq, List, [], ◌∷◌}
 use Rattle.std.specs.List.{list_any}
 use Rattle.session_roles.specs.declared.role.Role.{Role}
@@ -32,7 +32,7 @@ operation_number DeleteInheritance = 17
 abbrev pub same_operation : Operation → Operation → Bool
 same_operation a b = nat_eq (operation_number a) (operation_number b)
 
--- the operations that a role itself holds
+-- the operations that a role itself permits
 abbrev pub operations_of : Role → List Operation
 operations_of Member = []
 operations_of Spectator = []
@@ -43,10 +43,10 @@ operations_of Director =
 operations_of Administrator =
     AddUser ∷ Assign ∷ Deassign ∷ AddInheritance ∷ DeleteInheritance ∷ Audit ∷ []
 
--- whether a role itself holds an operation
-abbrev pub holds : Role → Operation → Bool
-holds role operation = list_any (λ held. same_operation held operation) (operations_of role)
+-- whether a role itself permits an operation
+abbrev pub permits : Role → Operation → Bool
+permits role operation = list_any (λ permitted. same_operation permitted operation) (operations_of role)
 
--- whether one of these roles holds an operation
-abbrev pub are_allowed : List Role → Operation → Bool
-are_allowed among operation = list_any (λ role. has among role && holds role operation) roles
+-- whether one of these roles permits an operation
+abbrev pub one_permits : List Role → Operation → Bool
+one_permits among operation = list_any (λ role. has among role && permits role operation) roles

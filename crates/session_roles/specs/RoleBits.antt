@@ -6,12 +6,12 @@ use Rattle.session_roles.specs.declared.role.Role.{Role}
 use Rattle.session_roles.specs.Role.{role_number, roles_that}
 
 -- whether the role's bit is set
-abbrev pub has_bit : ℕ → Role → Bool
-has_bit bits role = nat_eq (bit_at bits (role_number role)) 1
+abbrev pub has_role_bit : ℕ → Role → Bool
+has_role_bit bits role = nat_eq (bit_at bits (role_number role)) 1
 
 -- the roles whose bits are set
 unfoldable pub roles_of_bits : ℕ → List Role
-roles_of_bits bits = roles_that (has_bit bits)
+roles_of_bits bits = roles_that (has_role_bit bits)
 
 -- the number in which just the bits of these roles are set
 unfoldable pub bits_of_roles : List Role → ℕ

@@ -1,7 +1,7 @@
 ghost use Rattle.std.specs.Prelude.{◌≡◌, ◌<◌};
 ghost use Rattle.std.specs.List.{list_any};
 ghost use Rattle.session_roles.specs.Role.{has, roles};
-ghost use Rattle.session_roles.specs.Operation.{operation_number, are_allowed};
+ghost use Rattle.session_roles.specs.Operation.{operation_number, one_permits};
 
 use crate::role::Role;
 use crate::role_set::RoleSet;
@@ -38,13 +38,13 @@ impl Operation {
         self as u8
     }
 
-    /// Whether one of the roles holds the operation.
-    pub fn is_held_by(self, roles: RoleSet) -> bool
-        ensures { result ≡ are_allowed roles self }
+    /// Whether one of the roles permits the operation.
+    pub fn is_permitted_by(self, roles: RoleSet) -> bool
+        ensures { result ≡ one_permits roles self }
     {
         Role::ALL
             .iter()
-            .any(|role| roles.has(*role) && role.holds(self))
+            .any(|role| roles.has(*role) && role.permits(self))
     }
 }
 

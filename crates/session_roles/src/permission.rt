@@ -1,11 +1,11 @@
 ghost use Rattle.std.specs.Prelude.{◌≡◌};
-ghost use Rattle.session_roles.specs.Operation.{operations_of, holds};
+ghost use Rattle.session_roles.specs.Operation.{operations_of, permits};
 
 use crate::operation::Operation;
 use crate::role::Role;
 
 impl Role {
-    /// The operations that the role itself holds (the permission assignment of INCITS 359-2012).
+    /// The operations that the role itself permits (the permission assignment of INCITS 359-2012).
     pub fn operations(self) -> &'static [Operation]
         ensures { result.now ≡ operations_of self }
     {
@@ -36,9 +36,9 @@ impl Role {
         }
     }
 
-    /// Whether the role itself holds the operation.
-    pub fn holds(self, operation: Operation) -> bool
-        ensures { result ≡ holds self operation }
+    /// Whether the role itself permits the operation.
+    pub fn permits(self, operation: Operation) -> bool
+        ensures { result ≡ permits self operation }
     {
         self.operations().contains(&operation)
     }

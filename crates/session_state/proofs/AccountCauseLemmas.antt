@@ -33,18 +33,18 @@ use Rattle.user_names.specs.declared.digest.Digest.{Digest}
 use Rattle.session_commands.specs.declared.refusal.Refusal.{Refusal}
 use Rattle.session_commands.specs.declared.refusal.Refusal.TheVariants.{BadName, UserExists, TooManyUsers, AlreadyAssigned, Separation, NotAssigned, Cycle, AlreadyThere, NotThere}
 use Rattle.session_state.specs.Accounts.{has_account, is_assigned, first_broken, has_pair}
-use Rattle.session_state.specs.Refusal.{first_of, hindrance_of, needed_causes}
+use Rattle.session_state.specs.Refusal.{first_cause, hindrance_of, needed_causes}
 use Rattle.session_state.specs.SessionState.{SessionState}
 use Rattle.session_state.proofs.HindranceLemmas.{rest_none, first_unmet, not_met, user_unhindered, own_unhindered}
 use Rattle.session_state.proofs.SeatCauseLemmas.{was_not}
 
-two_unmet : (a b : Option Refusal) → first_of (a ∷ b ∷ []) ≡ None → (a ≡ None) × (b ≡ None)
+two_unmet : (a b : Option Refusal) → first_cause (a ∷ b ∷ []) ≡ None → (a ≡ None) × (b ≡ None)
 two_unmet a b none =
-    let rest = rest_none a (first_of (b ∷ [])) none in (rest.0, (rest_none b None rest.1).0)
+    let rest = rest_none a (first_cause (b ∷ [])) none in (rest.0, (rest_none b None rest.1).0)
 
-three_unmet : (a b c : Option Refusal) → first_of (a ∷ b ∷ c ∷ []) ≡ None → (a ≡ None) × ((b ≡ None) × (c ≡ None))
+three_unmet : (a b c : Option Refusal) → first_cause (a ∷ b ∷ c ∷ []) ≡ None → (a ≡ None) × ((b ≡ None) × (c ≡ None))
 three_unmet a b c none =
-    let rest = rest_none a (first_of (b ∷ c ∷ [])) none in (rest.0, two_unmet b c rest.1)
+    let rest = rest_none a (first_cause (b ∷ c ∷ [])) none in (rest.0, two_unmet b c rest.1)
 
 -- no set is broken where none is named
 none_named : (broken : Option SeparationSet) → option_map Separation broken ≡ None → None ≡ broken

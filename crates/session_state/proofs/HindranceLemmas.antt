@@ -14,8 +14,9 @@ use Rattle.session_commands.specs.declared.refusal.Refusal.{Refusal}
 use Rattle.session_commands.specs.declared.refusal.Refusal.TheVariants.{NoSuchUser, NoSuchCell, NoSuchBoard, WrongPhase, RoundNotStarted, BadResult, AlreadyLive, NoMoreRounds}
 use Rattle.session_state.specs.Accounts.{has_account}
 use Rattle.session_commands.specs.CellState.{has_result}
-use Rattle.session_commands.specs.Command.{phases_of, user_of, cell_of, board_of, is_among}
-use Rattle.session_state.specs.Refusal.{first_of, is_board, is_bad_result, is_early, own_causes, hindrance_of}
+use Rattle.session_commands.specs.Command.{phases_of, subject_user, subject_cell, subject_board, is_among}
+use Rattle.session_state.specs.movement.Movement.{has_board}
+use Rattle.session_state.specs.Refusal.{first_cause, is_bad_result, is_early, own_causes, hindrance_of}
 use Rattle.session_state.specs.SessionState.{SessionState, cell_at}
 
 -- what nothing refuses, no cause refuses
@@ -24,11 +25,11 @@ rest_none (Some cause) rest none = absurd cc
 rest_none None rest none = (refl, none)
 
 -- where none of a list of causes is met, neither is the first, nor one of the others
-pub first_unmet : (cause : Option Refusal) (causes : List (Option Refusal)) → first_of (cause ∷ causes) ≡ None → cause ≡ None
-first_unmet cause causes none = (rest_none cause (first_of causes) none).0
+pub first_unmet : (cause : Option Refusal) (causes : List (Option Refusal)) → first_cause (cause ∷ causes) ≡ None → cause ≡ None
+first_unmet cause causes none = (rest_none cause (first_cause causes) none).0
 
-pub rest_unmet : (cause : Option Refusal) (causes : List (Option Refusal)) → first_of (cause ∷ causes) ≡ None → first_of causes ≡ None
-rest_unmet cause causes none = (rest_none cause (first_of causes) none).1
+pub rest_unmet : (cause : Option Refusal) (causes : List (Option Refusal)) → first_cause (cause ∷ causes) ≡ None → first_cause causes ≡ None
+rest_unmet cause causes none = (rest_none cause (first_cause causes) none).1
 
 -- a cause that isn't met
 pub not_met : (met : Bool) (cause : Refusal) → then_some met cause ≡ None → met ≡ false
@@ -39,13 +40,13 @@ not_met false cause none = refl
 -- is met
 module _ (state : SessionState) (command : Command) (unhindered : hindrance_of state command ≡ None) where
   stranger : Option Refusal
-  stranger = then_some (some_that (user_of command) (λ name. not (has_account state.roles name))) NoSuchUser
+  stranger = then_some (some_that (subject_user command) (λ name. not (has_account state.roles name))) NoSuchUser
 
   no_cell : Option Refusal
-  no_cell = then_some (some_that (cell_of command) (λ cell. not (is_scheduled state.public.movement cell))) NoSuchCell
+  no_cell = then_some (some_that (subject_cell command) (λ cell. not (is_scheduled state.public.movement cell))) NoSuchCell
 
   no_board : Option Refusal
-  no_board = then_some (some_that (board_of command) (λ board. not (is_board state.public.movement board))) NoSuchBoard
+  no_board = then_some (some_that (subject_board command) (λ board. not (has_board state.public.movement board))) NoSuchBoard
 
   other_phase : Option Refusal
   other_phase = then_some (not (is_among (phases_of command) state.public.phase)) WrongPhase
@@ -53,19 +54,19 @@ module _ (state : SessionState) (command : Command) (unhindered : hindrance_of s
   too_early : Option Refusal
   too_early = then_some (is_early state command) RoundNotStarted
 
-  pub user_unhindered : some_that (user_of command) (λ name. not (has_account state.roles name)) ≡ false
+  pub user_unhindered : some_that (subject_user command) (λ name. not (has_account state.roles name)) ≡ false
   unfolding hindrance_of stranger no_cell no_board other_phase too_early
   user_unhindered =
       not_met _ NoSuchUser (first_unmet stranger (no_cell ∷ no_board ∷ other_phase ∷ too_early ∷ own_causes state command) unhindered)
 
-  pub cell_unhindered : some_that (cell_of command) (λ cell. not (is_scheduled state.public.movement cell)) ≡ false
+  pub cell_unhindered : some_that (subject_cell command) (λ cell. not (is_scheduled state.public.movement cell)) ≡ false
   unfolding hindrance_of stranger no_cell no_board other_phase too_early
   cell_unhindered =
       not_met _ NoSuchCell
       (first_unmet no_cell (no_board ∷ other_phase ∷ too_early ∷ own_causes state command)
       (rest_unmet stranger (no_cell ∷ no_board ∷ other_phase ∷ too_early ∷ own_causes state command) unhindered))
 
-  pub own_unhindered : first_of (own_causes state command) ≡ None
+  pub own_unhindered : first_cause (own_causes state command) ≡ None
   unfolding hindrance_of stranger no_cell no_board other_phase too_early
   own_unhindered =
       rest_unmet too_early (own_causes state command)

@@ -11,7 +11,7 @@ use Rattle.session_commands.specs.declared.cell_state.CellState.{CellState}
 use Rattle.session_commands.specs.declared.cell_state.CellState.TheVariants.{Empty, Entered, Confirmed, Ruled}
 use Rattle.session_state.specs.solver_results.PlayAnswer.{PlayedDeal}
 use Rattle.session_commands.specs.CellState.{has_result, with_costs}
-use Rattle.session_state.specs.SessionState.{most_cells, place_of, IsPlaced, AreLive}
+use Rattle.session_state.specs.SessionState.{most_cells, cell_index, IsPlaced, AreLive}
 
 -- nothing is live where nothing is known
 same_items : {A : Type 0} (n i : ℕ) (a : A) → get_or (replicate n a) i a ≡ a
@@ -26,10 +26,10 @@ no_tables n (suc board) table = ap (λ tables. has_number tables table) (same_it
 pub none_live : (live : List (List ℕ)) (cells : List CellState) → live ≡ replicate 64 [] → cells ≡ replicate most_cells Empty → AreLive live cells
 none_live live cells none empty cell placed =
     ap (λ bits. is_live bits cell) none ∙ no_tables 64 cell.board cell.table
-    ∙ sym (ap (λ known. has_result (get_or known (place_of cell) Empty)) empty ∙ ap has_result (same_items most_cells (place_of cell) Empty))
+    ∙ sym (ap (λ known. has_result (get_or known (cell_index cell) Empty)) empty ∙ ap has_result (same_items most_cells (cell_index cell) Empty))
 
 -- the place of a cell is its own
-pub own_place : (cell other : Cell) → IsPlaced cell → IsPlaced other → place_of other ≡ place_of cell → (other.board ≡ cell.board) × (other.table ≡ cell.table)
+pub own_place : (cell other : Cell) → IsPlaced cell → IsPlaced other → cell_index other ≡ cell_index cell → (other.board ≡ cell.board) × (other.table ≡ cell.table)
 own_place cell other placed placed_other same = (
   omega (arith, placed.from_table, placed.to_table, placed.from_board, placed_other.from_table, placed_other.to_table, placed_other.from_board),
   omega (arith, placed.from_table, placed.to_table, placed.from_board, placed_other.from_table, placed_other.to_table, placed_other.from_board),
@@ -67,17 +67,17 @@ module _ (live : List (List ℕ)) (cell other : Cell) (boards : length live ≡ 
   on_board : other.board ≡ cell.board → has_number (tables_at live cell.board) other.table ≡ is_live live other
   on_board same = ap (λ board. has_number (tables_at live board) other.table) (sym same)
 
-  another_table : place_of other ≢ place_of cell → other.board ≡ cell.board → nat_eq other.table cell.table ≡ false
+  another_table : cell_index other ≢ cell_index cell → other.board ≡ cell.board → nat_eq other.table cell.table ≡ false
   another_table differ same = ne_eqb other.table cell.table (λ table. differ (λ i. (same i - 1) * 16 + (table i - 1)))
 
   -- with a result at the cell
-  own_bit_set : place_of other ≡ place_of cell → is_live (with_live live cell) other ≡ true
+  own_bit_set : cell_index other ≡ cell_index cell → is_live (with_live live cell) other ≡ true
   own_bit_set same =
       let own = own_place cell other placed placed_other same in
       on_its_board (λ n. nat_eq n cell.table || has_number (tables_at live cell.board) n) own.0
       ∙ or_left (nat_eq other.table cell.table) _ (eq-eqb other.table cell.table own.1)
 
-  other_bit_with : place_of other ≢ place_of cell → is_live (with_live live cell) other ≡ is_live live other
+  other_bit_with : cell_index other ≢ cell_index cell → is_live (with_live live cell) other ≡ is_live live other
   other_bit_with differ =
       elim (cases_eq other.board cell.board) [
         | inl same ↦
@@ -88,13 +88,13 @@ module _ (live : List (List ℕ)) (cell other : Cell) (boards : length live ≡ 
       ]
 
   -- with no result at the cell
-  own_bit_clear : place_of other ≡ place_of cell → is_live (without_live live cell) other ≡ false
+  own_bit_clear : cell_index other ≡ cell_index cell → is_live (without_live live cell) other ≡ false
   own_bit_clear same =
       let own = own_place cell other placed placed_other same in
       on_its_board (λ n. not (nat_eq n cell.table) && has_number (tables_at live cell.board) n) own.0
       ∙ ap (λ b. not b && has_number (tables_at live cell.board) other.table) (eq-eqb other.table cell.table own.1)
 
-  other_bit_without : place_of other ≢ place_of cell → is_live (without_live live cell) other ≡ is_live live other
+  other_bit_without : cell_index other ≢ cell_index cell → is_live (without_live live cell) other ≡ is_live live other
   other_bit_without differ =
       elim (cases_eq other.board cell.board) [
         | inl same ↦
@@ -106,41 +106,41 @@ module _ (live : List (List ℕ)) (cell other : Cell) (boards : length live ≡ 
 
 -- what is known of a cell, once it is set
 module _ (cells : List CellState) (cell other : Cell) (known : CellState) where
-  known_there : place_of cell < length cells → place_of other ≡ place_of cell → get_or (slice_set cells (place_of cell) known) (place_of other) Empty ≡ known
+  known_there : cell_index cell < length cells → cell_index other ≡ cell_index cell → get_or (slice_set cells (cell_index cell) known) (cell_index other) Empty ≡ known
   known_there below same =
-      ap (λ place. get_or (slice_set cells (place_of cell) known) place Empty) same ∙ get_or-set_same cells (place_of cell) known Empty below
+      ap (λ place. get_or (slice_set cells (cell_index cell) known) place Empty) same ∙ get_or-set_same cells (cell_index cell) known Empty below
 
-  pub known_elsewhere : place_of other ≢ place_of cell → get_or (slice_set cells (place_of cell) known) (place_of other) Empty ≡ get_or cells (place_of other) Empty
-  known_elsewhere differ = get_or-set_other cells (place_of cell) (place_of other) known Empty differ
+  pub known_elsewhere : cell_index other ≢ cell_index cell → get_or (slice_set cells (cell_index cell) known) (cell_index other) Empty ≡ get_or cells (cell_index other) Empty
+  known_elsewhere differ = get_or-set_other cells (cell_index cell) (cell_index other) known Empty differ
 
 -- the live bits stay those of the results: where a result is set, where none is, and where
 -- there is one just where there was
 module _ (live : List (List ℕ)) (cells : List CellState) (cell : Cell) (known : CellState)
-    (placed : IsPlaced cell) (below : place_of cell < length cells) (boards : length live ≡ 64) (kept : AreLive live cells) where
-  pub result_live : has_result known ≡ true → AreLive (with_live live cell) (slice_set cells (place_of cell) known)
+    (placed : IsPlaced cell) (below : cell_index cell < length cells) (boards : length live ≡ 64) (kept : AreLive live cells) where
+  pub result_live : has_result known ≡ true → AreLive (with_live live cell) (slice_set cells (cell_index cell) known)
   result_live is_result other placed_other =
-      elim (cases_eq (place_of other) (place_of cell)) [
+      elim (cases_eq (cell_index other) (cell_index cell)) [
         | inl same ↦ own_bit_set live cell other boards placed placed_other same ∙ sym (ap has_result (known_there cells cell other known below same) ∙ is_result)
         | inr differ ↦ other_bit_with live cell other boards placed placed_other differ ∙ kept other placed_other ∙ sym (ap has_result (known_elsewhere cells cell other known differ))
       ]
 
-  pub cleared_live : has_result known ≡ false → AreLive (without_live live cell) (slice_set cells (place_of cell) known)
+  pub cleared_live : has_result known ≡ false → AreLive (without_live live cell) (slice_set cells (cell_index cell) known)
   cleared_live no_result other placed_other =
-      elim (cases_eq (place_of other) (place_of cell)) [
+      elim (cases_eq (cell_index other) (cell_index cell)) [
         | inl same ↦ own_bit_clear live cell other boards placed placed_other same ∙ sym (ap has_result (known_there cells cell other known below same) ∙ no_result)
         | inr differ ↦ other_bit_without live cell other boards placed placed_other differ ∙ kept other placed_other ∙ sym (ap has_result (known_elsewhere cells cell other known differ))
       ]
 
-  pub same_live : has_result known ≡ has_result (get_or cells (place_of cell) Empty) → AreLive live (slice_set cells (place_of cell) known)
+  pub same_live : has_result known ≡ has_result (get_or cells (cell_index cell) Empty) → AreLive live (slice_set cells (cell_index cell) known)
   same_live as_before other placed_other =
-      elim (cases_eq (place_of other) (place_of cell)) [
+      elim (cases_eq (cell_index other) (cell_index cell)) [
         | inl same ↦
             kept other placed_other ∙ ap (λ place. has_result (get_or cells place Empty)) same ∙ sym as_before
             ∙ sym (ap has_result (known_there cells cell other known below same))
         | inr differ ↦ kept other placed_other ∙ sym (ap has_result (known_elsewhere cells cell other known differ))
       ]
 
-  pub entered_live : has_result known ≡ false → has_result (get_or cells (place_of cell) Empty) ≡ false → AreLive live (slice_set cells (place_of cell) known)
+  pub entered_live : has_result known ≡ false → has_result (get_or cells (cell_index cell) Empty) ≡ false → AreLive live (slice_set cells (cell_index cell) known)
   entered_live no_result was_none = same_live (no_result ∙ sym was_none)
 
 -- costs make no result, and take none away

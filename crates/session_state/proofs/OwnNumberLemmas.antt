@@ -23,8 +23,8 @@ use Rattle.session_state.specs.solver_results.PlayAnswer.{PlayedDeal}
 use Rattle.session_state.specs.Apply.{apply, effect, confirmed}
 use Rattle.session_commands.specs.CellState.{has_result, is_contract_of, same_play, is_played_as, is_counted, with_costs}
 use Rattle.session_state.specs.OwnNumbers.{IsHandsOf, IsCostsOf, IsCounting, TellsOwn, KeepsOwn}
-use Rattle.session_state.specs.Refusal.{first_of, hindrance_of}
-use Rattle.session_state.specs.SessionState.{SessionState, cell_at, table_at, same_hands, is_dealt, place_of, IsPlaced}
+use Rattle.session_state.specs.Refusal.{first_cause, hindrance_of}
+use Rattle.session_state.specs.SessionState.{SessionState, cell_at, table_at, same_hands, is_dealt, cell_index, IsPlaced}
 use Rattle.session_commands.specs.declared.cell_state.CellState.{CellState}
 use Rattle.session_commands.specs.declared.cell_state.CellState.TheVariants.{Empty, Entered, Confirmed, Ruled}
 use Rattle.session_commands.specs.declared.command.Command.{Command}
@@ -80,7 +80,7 @@ solved_own : (state : SessionState) (board : ℕ) (table : Hands) → hindrance_
 solved_own state board table unhindered =
     let strange = then_some (not (is_dealt state board table)) StrangeDeal in
     let solved = then_some (is_some (table_at state board)) AlreadySolved in
-    let parts = rest_none strange (first_of (solved ∷ [])) (own_unhindered state (Solved board table) unhindered) in
+    let parts = rest_none strange (first_cause (solved ∷ [])) (own_unhindered state (Solved board table) unhindered) in
     let rest = rest_none solved None parts.1 in (
       own_hands _ table (was_not _ (not_met _ StrangeDeal parts.0)),
       none_there (table_at state board) (not_met _ AlreadySolved rest.0),
@@ -103,8 +103,8 @@ analysed_own state table board costs unhindered =
     let dead = then_some (not (has_result known)) NotLive in
     let strange = then_some (not (is_dealt state board costs.deal && is_played_as known costs.contract costs.play)) StrangePlay in
     let solved = then_some (is_counted known) AlreadySolved in
-    let first = rest_none dead (first_of (strange ∷ solved ∷ [])) (own_unhindered state (Analysed table board costs) unhindered) in
-    let second = rest_none strange (first_of (solved ∷ [])) first.1 in
+    let first = rest_none dead (first_cause (strange ∷ solved ∷ [])) (own_unhindered state (Analysed table board costs) unhindered) in
+    let second = rest_none strange (first_cause (solved ∷ [])) first.1 in
     let third = rest_none solved None second.1 in
     let own = both _ _ (was_not _ (not_met _ StrangePlay second.0)) in
     let found = counting known costs own.1 (not_met _ AlreadySolved third.0) in
@@ -171,11 +171,11 @@ module _ (state : SessionState) (keeps : KeepsOwn state) where
   unchanged roles digests seats public = record { tables = keeps.tables; costs = keeps.costs }
 
   with_known : (own : Cell) (known : CellState) (public : Public) → IsPlaced own → AreOwn state.deals own.board known →
-      KeepsOwn (record state { cells = slice_set state.cells (place_of own) known; public = public })
+      KeepsOwn (record state { cells = slice_set state.cells (cell_index own) known; public = public })
   with_known own known public placed_own are_own = record {
     tables = keeps.tables;
     costs = λ cell outcome play costs placed_cell is.
-        elim (one_set state.cells (place_of own) (place_of cell) known Empty (Confirmed outcome play (Some costs)) is) [
+        elim (one_set state.cells (cell_index own) (cell_index cell) known Empty (Confirmed outcome play (Some costs)) is) [
           | inl set ↦
               subst (λ board. IsCostsOf state.deals board outcome play costs) (sym (own_place own cell placed_own placed_cell set.1).0)
               (are_own outcome play costs set.0)

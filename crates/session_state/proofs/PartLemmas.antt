@@ -21,10 +21,10 @@ use Rattle.session_commands.specs.declared.entry.Entry.{Entry}
 use Rattle.session_commands.specs.declared.refusal.Refusal.{Refusal}
 use Rattle.session_state.specs.declared.seated.Seated.{Seated}
 use Rattle.session_state.specs.Apply.{apply, effect, confirmed}
-use Rattle.session_commands.specs.Command.{cell_of}
+use Rattle.session_commands.specs.Command.{subject_cell}
 use Rattle.session_state.specs.Parts.{Part, Results, HeldBoards, Seats, Rounds, Phases, Accounts, Hierarchy, Tables, part_of, IsSameBut}
 use Rattle.session_state.specs.Refusal.{hindrance_of}
-use Rattle.session_state.specs.SessionState.{SessionState, cell_at, with_cell, place_of, IsPlaced}
+use Rattle.session_state.specs.SessionState.{SessionState, cell_at, with_cell, cell_index, IsPlaced}
 use Rattle.session_state.proofs.HindranceLemmas.{cell_unhindered}
 use Rattle.session_state.proofs.LiveLemmas.{own_place, known_elsewhere}
 use Rattle.session_state.proofs.ScheduleLemmas.{placed}
@@ -221,7 +221,7 @@ entry_part state entry = by_hindrance (is_some (hindrance_of state entry.command
 
 -- another cell keeps what is known of it
 module _ (state : SessionState) (own cell : Cell) (placed_own : IsPlaced own) (placed_cell : IsPlaced cell) (other : own ≢ cell) where
-  apart : place_of cell ≢ place_of own
+  apart : cell_index cell ≢ cell_index own
   apart same = let both = own_place own cell placed_own placed_cell same in other (λ i. record { table = sym both.1 i; board = sym both.0 i })
 
   kept_elsewhere : (known : CellState) → cell_at (with_cell state own known) cell ≡ cell_at state cell
@@ -246,14 +246,14 @@ scheduled_placed state own is_section scheduled =
     placed state.public.movement own is_section (cell_in_range state.public.movement own (scheduled-cell state.public.movement own (not_false _ scheduled)))
 
 effect_elsewhere : (state : SessionState) (command : Command) (cell : Cell) → IsSection state.public.movement → IsPlaced cell → hindrance_of state command ≡ None →
-    cell_of command ≢ Some cell → cell_at (effect state command) cell ≡ cell_at state cell
+    subject_cell command ≢ Some cell → cell_at (effect state command) cell ≡ cell_at state cell
 effect_elsewhere state command cell is_section placed_cell unhindered other = by_command command (cell_unhindered state command unhindered) other
   where
     own_placed : (own : Cell) → not (is_scheduled state.public.movement own) ≡ false → IsPlaced own
     own_placed own scheduled = scheduled_placed state own is_section scheduled
 
-    by_command : (command : Command) → some_that (cell_of command) (λ own. not (is_scheduled state.public.movement own)) ≡ false →
-        cell_of command ≢ Some cell → cell_at (effect state command) cell ≡ cell_at state cell
+    by_command : (command : Command) → some_that (subject_cell command) (λ own. not (is_scheduled state.public.movement own)) ≡ false →
+        subject_cell command ≢ Some cell → cell_at (effect state command) cell ≡ cell_at state cell
     by_command (Enter table board outcome play) there other = kept_elsewhere state _ cell (own_placed _ there) placed_cell (no_other _ other) _
     by_command (Confirm table board outcome) there other = kept_confirmed state _ cell (own_placed _ there) placed_cell (no_other _ other) _
     by_command (Correct table board outcome play) there other = kept_elsewhere state _ cell (own_placed _ there) placed_cell (no_other _ other) _
@@ -276,7 +276,7 @@ effect_elsewhere state command cell is_section placed_cell unhindered other = by
 
 -- an entry changes what is known of its own cell alone
 pub entry_elsewhere : (state : SessionState) (entry : Entry) (cell : Cell) → IsSection state.public.movement → IsPlaced cell →
-    cell_of entry.command ≢ Some cell → cell_at (apply state entry) cell ≡ cell_at state cell
+    subject_cell entry.command ≢ Some cell → cell_at (apply state entry) cell ≡ cell_at state cell
 entry_elsewhere state entry cell is_section placed_cell other = by_hindrance (hindrance_of state entry.command) refl
   where
     by_hindrance : (found : Option Refusal) → hindrance_of state entry.command ≡ found → cell_at (if is_some found then state else effect state entry.command) cell ≡ cell_at state cell

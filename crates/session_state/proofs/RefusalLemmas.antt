@@ -19,7 +19,7 @@ use Rattle.session_commands.specs.declared.actor.Actor.TheVariants.{User, Solver
 use Rattle.session_roles.specs.declared.operation.Operation.{Operation}
 use Rattle.session_state.specs.disclosure_rules.Seating.{some_that}
 use Rattle.session_commands.specs.Refusal.{spoiled, is_out_of_memory}
-use Rattle.session_state.specs.Refusal.{is_permitted, IsPermitted, first_of, needed_causes, own_causes, hindrances, causes, hindrance_of, refusal_of, most_entries}
+use Rattle.session_state.specs.Refusal.{is_permitted, IsPermitted, first_cause, needed_causes, own_causes, hindrances, causes, hindrance_of, refusal_of, most_entries}
 use Rattle.session_state.specs.SessionState.{SessionState}
 
 or_false : (a b : Bool) → (a || b) ≡ false → (a ≡ false) × (b ≡ false)
@@ -27,10 +27,10 @@ or_false true b none = absurd (false≢true (sym none))
 or_false false b none = (refl, none)
 
 -- the first of two lists is the first of the one or, where that has none, of the other
-first_of-append : (xs ys : List (Option Refusal)) → first_of (xs ++ ys) ≡ option_or (first_of xs) (first_of ys)
-first_of-append [] ys = refl
-first_of-append (None ∷ xs) ys = first_of-append xs ys
-first_of-append (Some cause ∷ xs) ys = refl
+first_cause-append : (xs ys : List (Option Refusal)) → first_cause (xs ++ ys) ≡ option_or (first_cause xs) (first_cause ys)
+first_cause-append [] ys = refl
+first_cause-append (None ∷ xs) ys = first_cause-append xs ys
+first_cause-append (Some cause ∷ xs) ys = refl
 
 -- what stands after the hindrances: the spoiler, then the full journal
 abbrev pub last_causes : Option (List ℕ) → Command → ℕ → List (Option Refusal)
@@ -41,30 +41,30 @@ module _ (state : SessionState) (spoiler : Option (List ℕ)) (actor : Actor) (c
   pub refused_actor : is_permitted state.roles actor command ≡ false → refusal_of state spoiler actor command entries ≡ Some NotPermitted
   unfolding refusal_of
   refused_actor denied =
-      ap (λ b. option_or (then_some (not b) NotPermitted) (first_of (hindrances state command ++ last_causes spoiler command entries))) denied
+      ap (λ b. option_or (then_some (not b) NotPermitted) (first_cause (hindrances state command ++ last_causes spoiler command entries))) denied
 
   -- who has it is refused what the state hinders, or what is spoiled, or where the journal is full
   pub refused_else : is_permitted state.roles actor command ≡ true →
-      refusal_of state spoiler actor command entries ≡ option_or (hindrance_of state command) (first_of (last_causes spoiler command entries))
+      refusal_of state spoiler actor command entries ≡ option_or (hindrance_of state command) (first_cause (last_causes spoiler command entries))
   unfolding refusal_of hindrance_of
   refused_else allowed =
-      ap (λ b. option_or (then_some (not b) NotPermitted) (first_of (hindrances state command ++ last_causes spoiler command entries))) allowed
-      ∙ first_of-append (hindrances state command) (last_causes spoiler command entries)
+      ap (λ b. option_or (then_some (not b) NotPermitted) (first_cause (hindrances state command ++ last_causes spoiler command entries))) allowed
+      ∙ first_cause-append (hindrances state command) (last_causes spoiler command entries)
 
   pub refused_hindrance : (found : Option Refusal) → is_permitted state.roles actor command ≡ true →
       found ≡ hindrance_of state command → is_some found ≡ true → refusal_of state spoiler actor command entries ≡ found
   refused_hindrance None allowed hindered some = absurd (false≢true some)
   refused_hindrance (Some cause) allowed hindered some =
-      refused_else allowed ∙ ap (λ found. option_or found (first_of (last_causes spoiler command entries))) (sym hindered)
+      refused_else allowed ∙ ap (λ found. option_or found (first_cause (last_causes spoiler command entries))) (sym hindered)
 
   pub refused_last : (found : Option Refusal) → is_permitted state.roles actor command ≡ true →
-      found ≡ hindrance_of state command → is_some found ≡ false → refusal_of state spoiler actor command entries ≡ first_of (last_causes spoiler command entries)
+      found ≡ hindrance_of state command → is_some found ≡ false → refusal_of state spoiler actor command entries ≡ first_cause (last_causes spoiler command entries)
   refused_last (Some cause) allowed hindered none = absurd (false≢true (sym none))
   refused_last None allowed hindered none =
-      refused_else allowed ∙ ap (λ found. option_or found (first_of (last_causes spoiler command entries))) (sym hindered)
+      refused_else allowed ∙ ap (λ found. option_or found (first_cause (last_causes spoiler command entries))) (sym hindered)
 
 -- what nothing refuses is not spoiled, and finds a journal that is not full
-last_free : (found spoilt : Option Refusal) (full : Bool) → option_or found (first_of (spoilt ∷ then_some full JournalFull ∷ [])) ≡ None → (spoilt ≡ None) × (full ≡ false)
+last_free : (found spoilt : Option Refusal) (full : Bool) → option_or found (first_cause (spoilt ∷ then_some full JournalFull ∷ [])) ≡ None → (spoilt ≡ None) × (full ≡ false)
 last_free (Some cause) spoilt full none = absurd cc
 last_free None (Some cause) full none = absurd cc
 last_free None None true none = absurd cc
@@ -101,7 +101,7 @@ abbrev NoneApart : List (Option Refusal) → Type 0
 NoneApart [] = Unit {0}
 NoneApart (cause ∷ causes) = ((met : Refusal) → cause ≡ Some met → is_apart met ≡ false) × NoneApart causes
 
-first_not_apart : (causes : List (Option Refusal)) (cause : Refusal) → NoneApart causes → first_of causes ≡ Some cause → is_apart cause ≡ false
+first_not_apart : (causes : List (Option Refusal)) (cause : Refusal) → NoneApart causes → first_cause causes ≡ Some cause → is_apart cause ≡ false
 first_not_apart [] cause none found = absurd cc
 first_not_apart (None ∷ causes) cause none found = first_not_apart causes cause none.1 found
 first_not_apart (Some first ∷ causes) cause none found = none.0 cause found
@@ -167,7 +167,7 @@ never_memory state spoiler actor command entries cause found = by_permission (is
     by_permission true allowed =
         let later = hindrances state command ++ last_causes spoiler command entries in
         let apart = first_not_apart later cause (later_not_apart state spoiler command entries)
-        (sym (ap (λ b. option_or (then_some (not b) NotPermitted) (first_of later)) allowed) ∙ found) in
+        (sym (ap (λ b. option_or (then_some (not b) NotPermitted) (first_cause later)) allowed) ∙ found) in
         (or_false (is_out_of_memory cause) (is_not_permitted cause) apart).0
     by_permission false denied =
         let is : Some NotPermitted ≡ Some cause = sym (refused_actor state spoiler actor command entries denied) ∙ found in
@@ -180,7 +180,7 @@ pub permitted_else : (state : SessionState) (spoiler : Option (List ℕ)) (actor
 unfolding refusal_of
 permitted_else state spoiler actor command entries allowed refused =
     let later = hindrances state command ++ last_causes spoiler command entries in
-    let found = sym (ap (λ b. option_or (then_some (not b) NotPermitted) (first_of later)) allowed) ∙ refused in
+    let found = sym (ap (λ b. option_or (then_some (not b) NotPermitted) (first_cause later)) allowed) ∙ refused in
     false≢true (sym (first_not_apart later NotPermitted (later_not_apart state spoiler command entries) found))
 
 -- the test says whether it is permitted

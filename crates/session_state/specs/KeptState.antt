@@ -6,10 +6,10 @@ use Rattle.session_state.specs.Seats.{AreSeated}
 use Rattle.session_state.specs.SessionState.{most_cells, AreLive}
 use Rattle.session_state.specs.declared.state.State.TheInside.{Inside}
 
--- there is a place for each cell, a marking, a deal and a place for a table for each board, a digest for each user, and room for a digest and a
--- seat of each user that a session can have; users have at most one seat each, and there are not too many; and what every
--- member may see shows a result just where a cell has one
-pub record IsKept (state : Inside) : Type 0 where
+-- there is a place for each cell, a marking, a deal and a place for a table for each board, a digest for each user, and
+-- room for a digest and a seat of each user that a session can have; users have at most one seat each, and there are
+-- not too many; and what every member may see shows a result just where a cell has one
+pub record IsKeptState (state : Inside) : Type 0 where
   pub cells : vec_len state.cells ≡ most_cells
   pub marks : length state.public.marks ≡ most_boards
   pub boards : length state.public.live ≡ most_boards

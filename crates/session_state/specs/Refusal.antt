@@ -1,15 +1,15 @@
 -- When a command is refused: the causes, in the order in which they are looked at.
 --
--- own: the causes and their order are this project's. Nobody but who has the permission gives a command; a result is told only
--- of a board that the table is scheduled to play and that has come up, what is confirmed is what was entered, and nobody sits
--- there who was shown something of the board before.
+-- own: the causes and their order are this project's. Nobody but who has the permission gives a command; a result is
+-- told only of a board that the table is scheduled to play and that has come up, what is confirmed is what was entered,
+-- and nobody sits there who was shown something of the board before.
 use Rattle.std.specs.Prelude.{◌≡◌, ℕ, Bool, true, false, not, ◌&&◌, ◌||◌, nat_le, nat_lt, if◌then◌else◌}
 use Rattle.std.specs.Prelude.{Option, None, IsSomeAnd, is_some, option_map, List, [], ◌∷◌, ◌++◌, length}
 use Rattle.std.specs.Bool.{then_some}
 use Rattle.std.specs.List.{list_all, range_with_len}
 use Rattle.std.specs.Option.{option_or}
 use Rattle.session_state.specs.cards.declared.card.Card.{Card}
-use Rattle.session_state.specs.movement.Movement.{Section, boards_of}
+use Rattle.session_state.specs.movement.Movement.{Section, boards_of, has_board}
 use Rattle.session_state.specs.movement.Schedule.{is_scheduled, is_later}
 use Rattle.rbac.specs.Account.{most_users, is_user_name}
 use Rattle.rbac.specs.Authorization.{HasPermission, has_permission}
@@ -40,7 +40,7 @@ use Rattle.session_commands.specs.declared.refusal.Refusal.TheVariants.{JournalF
 use Rattle.session_state.specs.Accounts.{has_account, is_assigned, is_authorized_for, has_administrator, seats_a_stranger}
 use Rattle.session_state.specs.Accounts.{first_broken, has_pair}
 use Rattle.session_commands.specs.CellState.{has_result, is_empty, is_entered_otherwise, is_played_as, is_counted}
-use Rattle.session_commands.specs.Command.{operation_of, is_solvers, phases_of, user_of, cell_of, board_of}
+use Rattle.session_commands.specs.Command.{operation_of, is_solvers, phases_of, subject_user, subject_cell, subject_board}
 use Rattle.session_commands.specs.Command.{is_among}
 use Rattle.session_commands.specs.Refusal.{spoiled}
 use Rattle.session_commands.specs.declared.actor.Actor.{Actor}
@@ -54,13 +54,9 @@ abbrev pub most_entries : ℕ
 most_entries = 60000
 
 -- the first of the causes that is met; a cause that isn't met is none
-abbrev pub first_of : {Cause : Type 0} → List (Option Cause) → Option Cause
-first_of [] = None
-first_of (cause ∷ causes) = option_or cause (first_of causes)
-
--- whether the section has a board of this number
-abbrev pub is_board : Section → ℕ → Bool
-is_board section board = nat_le 1 board && nat_le board (boards_of section)
+abbrev pub first_cause : {Cause : Type 0} → List (Option Cause) → Option Cause
+first_cause [] = None
+first_cause (cause ∷ causes) = option_or cause (first_cause causes)
 
 -- whether all four players passed
 abbrev pub is_passed_out : Outcome → Bool
@@ -157,21 +153,21 @@ own_causes state (Analysed table board costs) =
 abbrev pub is_early : SessionState → Command → Bool
 is_early state command =
     not (is_solvers command)
-    && some_that (cell_of command) (λ cell. is_later state.public.movement cell state.public.round)
+    && some_that (subject_cell command) (λ cell. is_later state.public.movement cell state.public.round)
 
 -- the causes that lie in the command and the state, in their order: an entry that meets one of them leaves the state as
 -- it is
 abbrev pub hindrances : SessionState → Command → List (Option Refusal)
 hindrances state command =
-    then_some (some_that (user_of command) (λ name. not (has_account state.roles name))) NoSuchUser
-    ∷ then_some (some_that (cell_of command) (λ cell. not (is_scheduled state.public.movement cell))) NoSuchCell
-    ∷ then_some (some_that (board_of command) (λ board. not (is_board state.public.movement board))) NoSuchBoard
+    then_some (some_that (subject_user command) (λ name. not (has_account state.roles name))) NoSuchUser
+    ∷ then_some (some_that (subject_cell command) (λ cell. not (is_scheduled state.public.movement cell))) NoSuchCell
+    ∷ then_some (some_that (subject_board command) (λ board. not (has_board state.public.movement board))) NoSuchBoard
     ∷ then_some (not (is_among (phases_of command) state.public.phase)) WrongPhase
     ∷ then_some (is_early state command) RoundNotStarted
     ∷ own_causes state command
 
--- whether who gives a command may: a user who has the permission for its operation, or the solver for one of its own. No
--- role holds a permission for what is the solver's, so no user tells the numbers
+-- whether who gives a command may: a user who has the permission for its operation, or the solver for one of its own.
+-- No role holds a permission for what is the solver's, so no user tells the numbers
 abbrev pub is_permitted : RoleData → Actor → Command → Bool
 is_permitted roles (User name) command = some_that (operation_of command) (has_permission roles name)
 is_permitted roles Solver command = is_solvers command
@@ -190,9 +186,9 @@ causes state spoiler actor command entries =
 
 -- the first cause that leaves the state as it is, if one is met
 unfoldable pub hindrance_of : SessionState → Command → Option Refusal
-hindrance_of state command = first_of (hindrances state command)
+hindrance_of state command = first_cause (hindrances state command)
 
--- the first cause to refuse a command, over a state to which a journal of so many entries leads, if one is met; the spoiler
--- is the first user who sits at the command's cell and was shown something of its board, if there is one
+-- the first cause to refuse a command, over a state to which a journal of so many entries leads, if one is met; the
+-- spoiler is the first user who sits at the command's cell and was shown something of its board, if there is one
 unfoldable pub refusal_of : SessionState → Option (List ℕ) → Actor → Command → ℕ → Option Refusal
-refusal_of state spoiler actor command entries = first_of (causes state spoiler actor command entries)
+refusal_of state spoiler actor command entries = first_cause (causes state spoiler actor command entries)

@@ -64,8 +64,8 @@ abbrev pub most_cells : ℕ
 most_cells = most_tables * most_boards
 
 -- where a cell stands among the cells: the tables of board 1 come first, then those of board 2, and so on
-abbrev pub place_of : Cell → ℕ
-place_of cell = (cell.board - 1) * most_tables + (cell.table - 1)
+abbrev pub cell_index : Cell → ℕ
+cell_index cell = (cell.board - 1) * most_tables + (cell.table - 1)
 
 -- a place is kept for the cell
 pub record IsPlaced (cell : Cell) : Type 0 where
@@ -80,11 +80,11 @@ IsKeptBoard board = (1 ≤ board) × (board ≤ most_boards)
 
 -- what is known of a cell
 abbrev pub cell_at : SessionState → Cell → CellState
-cell_at state cell = slice_index_or state.cells (place_of cell) Empty
+cell_at state cell = slice_index_or state.cells (cell_index cell) Empty
 
 -- with something else known of a cell
 abbrev pub with_cell : SessionState → Cell → CellState → SessionState
-with_cell state cell known = record state { cells = slice_set state.cells (place_of cell) known }
+with_cell state cell known = record state { cells = slice_set state.cells (cell_index cell) known }
 
 -- the table of a board, if it is solved
 abbrev pub table_at : SessionState → ℕ → Option Hands
@@ -102,7 +102,7 @@ is_dealt state board hands = some_that (slice_get state.deals (board - 1)) (same
 -- the live bits are set just where a cell has a result
 abbrev pub AreLive : List (List ℕ) → List CellState → Type 0
 AreLive live cells =
-    (cell : Cell) → IsPlaced cell → is_live live cell ≡ has_result (slice_index_or cells (place_of cell) Empty)
+    (cell : Cell) → IsPlaced cell → is_live live cell ≡ has_result (slice_index_or cells (cell_index cell) Empty)
 
 -- the roles that a user is authorized for, if the user has an account
 abbrev pub authorized_of : SessionState → List ℕ → Option (List Role)

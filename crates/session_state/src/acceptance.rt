@@ -2,12 +2,12 @@
 ghost use Rattle.std.specs.Prelude.{◌≡◌, not, IfSome, IfNone};
 ghost use Rattle.session_state.specs.disclosure_rules.Seating.{some_that};
 ghost use Rattle.session_state.specs.Accounts.{has_account};
-ghost use Rattle.session_commands.specs.Command.{cell_of, board_of};
+ghost use Rattle.session_commands.specs.Command.{subject_cell, subject_board};
 ghost use Rattle.rbac.specs.Authorization.{has_permission};
-ghost use Rattle.session_state.specs.Refusal.{first_of, own_causes, is_permitted, hindrance_of, refusal_of};
+ghost use Rattle.session_state.specs.Refusal.{first_cause, own_causes, is_permitted, hindrance_of, refusal_of};
 ghost use Rattle.session_state.specs.SessionState.{IsPlaced, IsKeptBoard};
 
-use crate::causes::{accounts, first_of, progress, results, seats, solved};
+use crate::causes::{accounts, first_cause, progress, results, seats, solved};
 use crate::schedule::{awaits_round, misses_board, misses_cell};
 use crate::state::State;
 use disclosure_rules::{Cell, Seat};
@@ -36,7 +36,7 @@ pub fn refusal(
     if hindered.is_some() {
         return hindered;
     }
-    first_of(&[
+    first_cause(&[
         command.spoiled(spoiler),
         (entries >= MOST_ENTRIES).then_some(Refusal::JournalFull),
     ])
@@ -46,8 +46,8 @@ pub fn refusal(
 #[tactic(auto, unfolding(crate::specs::Refusal::hindrance_of))]
 pub fn hindrance(state: &State, command: &Command) -> Option<Refusal>
     ensures cause { result ≡ hindrance_of state.now command.now }
-    ensures placed { IfNone result (IfSome (cell_of command.now) IsPlaced) }
-    ensures board { IfNone result (IfSome (board_of command.now) IsKeptBoard) }
+    ensures placed { IfNone result (IfSome (subject_cell command.now) IsPlaced) }
+    ensures board { IfNone result (IfSome (subject_board command.now) IsKeptBoard) }
 {
     let public = state.public();
     let cell = command.cell();
@@ -101,9 +101,9 @@ fn misses_user(state: &State, user: Option<Name>) -> bool
 
 // The first of a command's own causes that is met.
 fn own_cause(state: &State, command: &Command) -> Option<Refusal>
-    requires cell { IfSome (cell_of command.now) IsPlaced }
-    requires board { IfSome (board_of command.now) IsKeptBoard }
-    ensures { result ≡ first_of (own_causes state.now command.now) }
+    requires cell { IfSome (subject_cell command.now) IsPlaced }
+    requires board { IfSome (subject_board command.now) IsKeptBoard }
+    ensures { result ≡ first_cause (own_causes state.now command.now) }
 {
     match command {
         Command::Enter {

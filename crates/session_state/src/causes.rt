@@ -6,11 +6,11 @@ pub mod seats;
 pub mod solved;
 
 ghost use Rattle.std.specs.Prelude.{◌≡◌};
-ghost use Rattle.session_state.specs.Refusal.{first_of};
+ghost use Rattle.session_state.specs.Refusal.{first_cause};
 
 /// The first of the causes that is met.
-pub fn first_of<T: Copy>(causes: &[Option<T>]) -> Option<T>
-    ensures { result ≡ first_of causes.now }
+pub fn first_cause<T: Copy>(causes: &[Option<T>]) -> Option<T>
+    ensures { result ≡ first_cause causes.now }
 {
     for cause in causes {
         if cause.is_some() {

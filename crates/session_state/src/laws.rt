@@ -6,7 +6,7 @@ ghost use Rattle.rbac.specs.Authorization.{IsValid};
 ghost use Rattle.session_state.specs.disclosure_rules.declared.public.Public.{Public};
 ghost use Rattle.session_state.specs.disclosure_rules.LiveCells.{is_live};
 ghost use Rattle.session_state.specs.Apply.{apply};
-ghost use Rattle.session_commands.specs.Command.{cell_of};
+ghost use Rattle.session_commands.specs.Command.{subject_cell};
 ghost use Rattle.session_state.specs.OwnNumbers.{TellsOwn, KeepsOwn};
 ghost use Rattle.session_state.specs.Parts.{part_of, IsSameBut};
 ghost use Rattle.session_state.specs.Refusal.{hindrance_of, refusal_of, are_all_live, IsPermitted};
@@ -16,9 +16,9 @@ ghost use Rattle.session_commands.specs.declared.entry.Entry.{Entry};
 ghost use Rattle.session_commands.specs.declared.command.Command.{Command};
 ghost use Rattle.session_commands.specs.declared.refusal.Refusal.TheVariants.{NotPermitted};
 
-/// A command is refused as not permitted just where who gives it may not: a user who is authorized for no role that holds the
-/// permission for its operation (CheckAccess of INCITS 359-2012), a user who gives what is the solver's, and the solver
-/// where it gives what is a user's.
+/// A command is refused as not permitted just where who gives it may not: a user who is authorized for no role that
+/// holds the permission for its operation (CheckAccess of INCITS 359-2012), a user who gives what is the solver's, and
+/// the solver where it gives what is a user's.
 pub fn permissions_guard_commands()
     ensures { (state : SessionState) (spoiler : Option (List ℕ)) (actor : Actor) (command : Command) (entries : ℕ) →
         IsValid state.roles →
@@ -26,13 +26,13 @@ pub fn permissions_guard_commands()
         ↔ (¬ IsPermitted state.roles actor command) }
 {}
 
-/// A command changes the part of the state that it is about, and no other; a command on a result changes what is known of its
-/// own cell alone. The movement, the marks and the deals never change.
+/// A command changes the part of the state that it is about, and no other; a command on a result changes what is known
+/// of its own cell alone. The movement, the marks and the deals never change.
 pub fn each_command_changes_its_own_part()
     ensures part { (state : SessionState) (entry : Entry) →
         IsSameBut (part_of entry.command) state (apply state entry) }
     ensures cell { (state : SessionState) (entry : Entry) (cell : Cell) → IsSection state.public.movement →
-        IsPlaced cell → cell_of entry.command ≢ Some cell → cell_at (apply state entry) cell ≡ cell_at state cell }
+        IsPlaced cell → subject_cell entry.command ≢ Some cell → cell_at (apply state entry) cell ≡ cell_at state cell }
 {}
 
 /// All results are there just where each cell that the movement schedules has one.
@@ -41,9 +41,9 @@ pub fn all_live_is_each_cell()
         ↔ ((cell : Cell) → IsCell public.movement cell → is_live public.live cell ≡ true) }
 {}
 
-/// What the solver tells is of its own: a table that nothing hinders is of its board's hands, and costs are of the hands, the
-/// contract and the play of a confirmed result. So are the table that is kept of a board, and the costs that are kept of a
-/// cell, after every entry. As their types keep the numbers, those are the exhaustive ones.
+/// What the solver tells is of its own: a table that nothing hinders is of its board's hands, and costs are of the
+/// hands, the contract and the play of a confirmed result. So are the table that is kept of a board, and the costs that
+/// are kept of a cell, after every entry. As their types keep the numbers, those are the exhaustive ones.
 pub fn numbers_are_of_their_own_deal()
     ensures told { (state : SessionState) (command : Command) →
         hindrance_of state command ≡ None → TellsOwn state command }

@@ -9,7 +9,7 @@ mod seated;
 mod state;
 
 pub use acceptance::MOST_ENTRIES;
-pub use causes::first_of;
+pub use causes::first_cause;
 pub use disclosure_rules::{
     Cell, Fact, Marks, Movement, Phase, Public, Rule, Seat, Viewer, decide,
 };

@@ -1,8 +1,7 @@
 ghost use Rattle.std.specs.Prelude.{◌≡◌, true, false, not, IfSome};
 ghost use Rattle.session_state.specs.disclosure_rules.Seating.{some_that};
-ghost use Rattle.session_state.specs.movement.Movement.{IsCell};
+ghost use Rattle.session_state.specs.movement.Movement.{IsCell, has_board};
 ghost use Rattle.session_state.specs.movement.Schedule.{is_scheduled, is_later};
-ghost use Rattle.session_state.specs.Refusal.{is_board};
 ghost use Rattle.session_state.specs.SessionState.{IsPlaced, IsKeptBoard};
 
 use disclosure_rules::{Cell, Movement};
@@ -51,18 +50,18 @@ pub fn awaits_round(movement: Movement, cell: Option<Cell>, round: u8) -> bool
 
 /// Whether there is a board that is not one of the section.
 pub fn misses_board(movement: Movement, board: Option<u8>) -> bool
-    ensures test { result ≡ some_that board (λ board. not (is_board movement board)) }
+    ensures test { result ≡ some_that board (λ board. not (has_board movement board)) }
     ensures kept { result ≡ false → IfSome board IsKeptBoard }
 {
     match board {
-        Some(board) => !is_board(movement, board),
+        Some(board) => !has_board(movement, board),
         None => false,
     }
 }
 
 // Whether the section has a board of this number.
-fn is_board(movement: Movement, board: u8) -> bool
-    ensures test { result ≡ is_board movement board }
+fn has_board(movement: Movement, board: u8) -> bool
+    ensures test { result ≡ has_board movement board }
     ensures kept { result ≡ true → IsKeptBoard board }
 {
     1 <= board && board <= movement.boards()

@@ -8,9 +8,9 @@ ghost use Rattle.session_state.specs.Accounts.{has_account};
 ghost use Rattle.session_state.specs.Seats.{is_taken, AreSeated};
 ghost use Rattle.session_state.specs.Apply.{apply, effect};
 ghost use Rattle.session_commands.specs.CellState.{has_result};
-ghost use Rattle.session_commands.specs.Command.{cell_of, board_of};
+ghost use Rattle.session_commands.specs.Command.{subject_cell, subject_board};
 ghost use Rattle.session_state.specs.Refusal.{hindrance_of, refusal_of};
-ghost use Rattle.session_state.specs.SessionState.{authorized_of, seat_of, viewer_of, cell_at, table_at, is_dealt, with_cell, place_of, most_cells, IsPlaced, IsKeptBoard, AreLive};
+ghost use Rattle.session_state.specs.SessionState.{authorized_of, seat_of, viewer_of, cell_at, table_at, is_dealt, with_cell, cell_index, most_cells, IsPlaced, IsKeptBoard, AreLive};
 ghost use Rattle.session_commands.specs.declared.cell_state.CellState.TheVariants.{Empty};
 
 mod accounts;
@@ -58,7 +58,7 @@ impl Model for State {
 
     ghost coded = { session_code };
 
-    ghost use Rattle.session_state.specs.KeptState.{IsKept};
+    ghost use Rattle.session_state.specs.KeptState.{IsKeptState};
 
     ghost view = { λ s. record {
       roles = s.roles;
@@ -70,7 +70,7 @@ impl Model for State {
       tables = s.tables.items;
     } };
 
-    ghost invariant = { IsKept };
+    ghost invariant = { IsKeptState };
 }
 
 impl State {
@@ -220,7 +220,7 @@ impl State {
         ensures known { result ≡ cell_at self.now cell }
         ensures live { is_live self.now.public.live cell ≡ has_result result }
     {
-        self.cells[place_of(cell)]
+        self.cells[cell_index(cell)]
     }
 
     /// The hands of a board.
@@ -305,8 +305,8 @@ impl State {
     // Does what a command does where nothing hinders it.
     fn take_effect(&mut self, command: &Command)
         requires unhindered { hindrance_of self.old command.now ≡ None }
-        requires cell { IfSome (cell_of command.now) IsPlaced }
-        requires board { IfSome (board_of command.now) IsKeptBoard }
+        requires cell { IfSome (subject_cell command.now) IsPlaced }
+        requires board { IfSome (subject_board command.now) IsKeptBoard }
         ensures { self.new ≡ effect self.old command.now }
     {
         match *command {
@@ -360,9 +360,9 @@ impl State {
 }
 
 // Where a cell stands among the cells.
-fn place_of(cell: Cell) -> usize
+fn cell_index(cell: Cell) -> usize
     requires { IsPlaced cell }
-    ensures place { result ≡ place_of cell }
+    ensures place { result ≡ cell_index cell }
     ensures below { result < most_cells }
 {
     (cell.board as usize - 1) * Movement::MOST_TABLES as usize + (cell.table as usize - 1)

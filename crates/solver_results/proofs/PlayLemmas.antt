@@ -3,17 +3,17 @@ use Rattle.std.proofs.Common.{◌≡◌, ℕ, ◌+◌, ◌-◌, ◌≤◌, List,
 use Rattle.std.proofs.Math.Seq.{drop-append_seam}
 use Rattle.std.proofs.lemmas.List.{drop-replicate}
 use Rattle.cards.specs.declared.card.Card.{Card}
-use Rattle.solver_results.specs.PlayPlaces.{IsPlay, no_card}
+use Rattle.solver_results.specs.PlayPlaces.{IsPlayInPlaces, no_card}
 
 back_up : (n : ℕ) → n ≤ 52 → n + (52 - n) ≡ 52
 back_up n h = omega arith
 
 -- the places of no card
-pub no_places : IsPlay (record { cards = replicate 52 no_card; len = 0 })
+pub no_places : IsPlayInPlaces (record { cards = replicate 52 no_card; len = 0 })
 no_places = record { places = refl; short = omega arith; rest = refl }
 
 -- the places, once the cards stand in their front
-pub places_filled : (front cards : List Card) → front ≡ cards → length cards ≤ 52 → IsPlay (record { cards = front ++ drop (length cards) (replicate 52 no_card); len = length cards })
+pub places_filled : (front cards : List Card) → front ≡ cards → length cards ≤ 52 → IsPlayInPlaces (record { cards = front ++ drop (length cards) (replicate 52 no_card); len = length cards })
 places_filled front cards is short = record {
   places =
       length-append front (drop (length cards) (replicate 52 no_card))

@@ -14,12 +14,12 @@ abbrev pub numbers_of : Inside → List ℕ
 numbers_of costs = take costs.len costs.numbers
 
 -- the places of so many numbers
-abbrev pub places_of : List ℕ → Inside
-places_of numbers = record { numbers = numbers ++ replicate (52 - length numbers) 0; len = length numbers }
+abbrev pub number_places : List ℕ → Inside
+number_places numbers = record { numbers = numbers ++ replicate (52 - length numbers) 0; len = length numbers }
 
 -- the numbers give the places back
-pub places_of-numbers_of : (costs : Inside) → IsCosts costs → places_of (numbers_of costs) ≡ costs
-places_of-numbers_of costs kept =
+pub number_places-numbers_of : (costs : Inside) → IsCosts costs → number_places (numbers_of costs) ≡ costs
+number_places-numbers_of costs kept =
     let len = length-take-le costs.len costs.numbers (subst (λ n. costs.len ≤ n) (sym kept.places) kept.short) in
     let numbers = ap (λ n. take costs.len costs.numbers ++ replicate (52 - n) 0) len
     ∙ ap (λ rest. take costs.len costs.numbers ++ rest) (sym kept.rest) ∙ take-append-drop costs.len costs.numbers in

@@ -7,13 +7,6 @@ use Rattle.solver_results.specs.cards.Hands.{Hands}
 use Rattle.solver_results.specs.declared.dd_table.DeclarerTricks.{DeclarerTricks}
 use Rattle.cards.specs.DoubleDummy.{declarer_tricks}
 
--- the number of a declarer
-abbrev pub tricks_of : DeclarerTricks → Place → ℕ
-tricks_of tricks North = tricks.north
-tricks_of tricks East = tricks.east
-tricks_of tricks South = tricks.south
-tricks_of tricks West = tricks.west
-
 -- the tricks of the four declarers in a strain
 abbrev pub tricks_in : Hands → Strain → DeclarerTricks
 tricks_in hands strain = record {
@@ -26,3 +19,12 @@ tricks_in hands strain = record {
 -- the four numbers are the deal's in this strain
 abbrev pub IsTricksIn : Hands → Strain → DeclarerTricks → Type 0
 IsTricksIn hands strain tricks = tricks ≡ tricks_in hands strain
+
+-- ---- for private clauses
+
+-- the number of a declarer
+abbrev pub tricks_by : DeclarerTricks → Place → ℕ
+tricks_by tricks North = tricks.north
+tricks_by tricks East = tricks.east
+tricks_by tricks South = tricks.south
+tricks_by tricks West = tricks.west

@@ -15,8 +15,8 @@ pub record IsTable (table : Inside) : Type 0 where
   pub no_trump : table.no_trump ≡ tricks_in table.deal NoTrump
 
 -- the table of a deal
-abbrev pub table_of : Hands → Inside
-table_of deal = record {
+abbrev pub dd_table_of : Hands → Inside
+dd_table_of deal = record {
   deal = deal;
   spades = tricks_in deal Spades;
   hearts = tricks_in deal Hearts;
@@ -26,8 +26,8 @@ table_of deal = record {
 }
 
 -- the deal gives the numbers back
-pub table_of-deal : (table : Inside) → IsTable table → table_of table.deal ≡ table
-table_of-deal table is i = record {
+pub dd_table_of-deal : (table : Inside) → IsTable table → dd_table_of table.deal ≡ table
+dd_table_of-deal table is i = record {
   deal = table.deal;
   spades = sym is.spades i;
   hearts = sym is.hearts i;

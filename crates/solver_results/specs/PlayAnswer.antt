@@ -32,7 +32,7 @@ answer_by None costs = Costs costs
 answer_by (Some number) costs = NotAPlay number
 
 -- the answer for a play: its first card that is not legal, and where all are legal, what each costs
-abbrev pub answer_of : PlayedDeal → PlayAnswer
-answer_of played =
+abbrev pub answer_for_play : PlayedDeal → PlayAnswer
+answer_for_play played =
     answer_by (first_illegal 1 (start played.deal played.contract.strain played.contract.declarer) played.play)
     (cost_list (start played.deal played.contract.strain played.contract.declarer) played.play)

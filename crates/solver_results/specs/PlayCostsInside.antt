@@ -1,7 +1,7 @@
 -- What is stored of a play that was solved: its deal, its contract, its cards, and the answer.
 use Rattle.std.specs.Prelude.{◌≡◌}
 use Rattle.std.proofs.Common.{sym}
-use Rattle.solver_results.specs.PlayAnswer.{PlayedDeal, answer_of}
+use Rattle.solver_results.specs.PlayAnswer.{PlayedDeal, answer_for_play}
 use Rattle.solver_results.specs.declared.play_costs.PlayCosts.TheInside.{Inside}
 
 -- the deal, the contract and the cards
@@ -10,12 +10,12 @@ played_of costs = record { deal = costs.deal; contract = costs.contract; play = 
 
 -- the answer is theirs
 abbrev pub IsAnswered : Inside → Type 0
-IsAnswered costs = costs.answer ≡ answer_of (played_of costs)
+IsAnswered costs = costs.answer ≡ answer_for_play (played_of costs)
 
 -- what is stored of a deal, a contract and cards
 abbrev pub inside_of : PlayedDeal → Inside
 inside_of played =
-    record { deal = played.deal; contract = played.contract; play = played.play; answer = answer_of played }
+    record { deal = played.deal; contract = played.contract; play = played.play; answer = answer_for_play played }
 
 -- the three give the answer back
 pub inside_of-played_of : (costs : Inside) → IsAnswered costs → inside_of (played_of costs) ≡ costs

@@ -11,7 +11,7 @@ abbrev pub no_card : Card
 no_card = record { suit = Spades; rank = Two }
 
 -- the cards fill the front of the 52 places
-pub record IsPlay (play : Inside) : Type 0 where
+pub record IsPlayInPlaces (play : Inside) : Type 0 where
   pub places : length play.cards ≡ 52
   pub short : play.len ≤ 52
   pub rest : drop play.len play.cards ≡ replicate (52 - play.len) no_card
@@ -21,12 +21,12 @@ abbrev pub cards_of : Inside → List Card
 cards_of play = take play.len play.cards
 
 -- the places of so many cards
-abbrev pub places_of : List Card → Inside
-places_of cards = record { cards = cards ++ replicate (52 - length cards) no_card; len = length cards }
+abbrev pub card_places : List Card → Inside
+card_places cards = record { cards = cards ++ replicate (52 - length cards) no_card; len = length cards }
 
 -- the cards give the places back
-pub places_of-cards_of : (play : Inside) → IsPlay play → places_of (cards_of play) ≡ play
-places_of-cards_of play kept =
+pub card_places-cards_of : (play : Inside) → IsPlayInPlaces play → card_places (cards_of play) ≡ play
+card_places-cards_of play kept =
     let len = length-take-le play.len play.cards (subst (λ n. play.len ≤ n) (sym kept.places) kept.short) in
     let cards =
     ap (λ n. take play.len play.cards ++ replicate (52 - n) no_card) len

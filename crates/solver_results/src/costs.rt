@@ -14,15 +14,15 @@ impl Model for Costs {
 
     ghost Value = { List ℕ };
 
-    ghost use Rattle.solver_results.specs.CostPlaces.{IsCosts, numbers_of, places_of, places_of-numbers_of};
+    ghost use Rattle.solver_results.specs.CostPlaces.{IsCosts, numbers_of, number_places, number_places-numbers_of};
 
     ghost view = { numbers_of };
 
     ghost invariant = { IsCosts };
 
-    ghost inverse = { places_of };
+    ghost inverse = { number_places };
 
-    ghost inverse_ok = { places_of-numbers_of };
+    ghost inverse_ok = { number_places-numbers_of };
 }
 
 impl Costs {

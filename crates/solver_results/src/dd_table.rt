@@ -1,7 +1,7 @@
 ghost use Rattle.std.specs.Prelude.{◌≡◌};
 ghost use Rattle.table_terms.specs.declared.strain.Strain.TheVariants.{Spades, Hearts, Diamonds, Clubs, NoTrump};
 ghost use Rattle.cards.specs.DoubleDummy.{declarer_tricks};
-ghost use Rattle.solver_results.specs.DdTable.{IsTricksIn, tricks_of};
+ghost use Rattle.solver_results.specs.DdTable.{IsTricksIn, tricks_by};
 
 use cards::Deal;
 use std::marker::Model;
@@ -35,15 +35,15 @@ impl Model for DdTable {
 
     ghost coded = { hands_code };
 
-    ghost use Rattle.solver_results.specs.DdTableInside.{IsTable, table_of, table_of-deal};
+    ghost use Rattle.solver_results.specs.DdTableInside.{IsTable, dd_table_of, dd_table_of-deal};
 
     ghost view = { λ table. table.deal };
 
     ghost invariant = { IsTable };
 
-    ghost inverse = { table_of };
+    ghost inverse = { dd_table_of };
 
-    ghost inverse_ok = { table_of-deal };
+    ghost inverse_ok = { dd_table_of-deal };
 }
 
 impl DdTable {
@@ -98,7 +98,7 @@ impl DdTable {
 impl DeclarerTricks {
     /// The number of this declarer.
     pub(crate) fn of(self, declarer: Place) -> u8
-        ensures { result ≡ tricks_of self declarer }
+        ensures { result ≡ tricks_by self declarer }
     {
         match declarer {
             Place::North => self.north,

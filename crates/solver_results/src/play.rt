@@ -19,15 +19,15 @@ impl Model for Play {
 
     ghost Value = { List Card };
 
-    ghost use Rattle.solver_results.specs.PlayPlaces.{IsPlay, cards_of, places_of, places_of-cards_of};
+    ghost use Rattle.solver_results.specs.PlayPlaces.{IsPlayInPlaces, cards_of, card_places, card_places-cards_of};
 
     ghost view = { cards_of };
 
-    ghost invariant = { IsPlay };
+    ghost invariant = { IsPlayInPlaces };
 
-    ghost inverse = { places_of };
+    ghost inverse = { card_places };
 
-    ghost inverse_ok = { places_of-cards_of };
+    ghost inverse_ok = { card_places-cards_of };
 }
 
 // What stands in the places that no card fills.

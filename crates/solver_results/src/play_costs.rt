@@ -1,5 +1,5 @@
 ghost use Rattle.std.specs.Prelude.{◌≡◌};
-ghost use Rattle.solver_results.specs.PlayAnswer.{answer_of};
+ghost use Rattle.solver_results.specs.PlayAnswer.{answer_for_play};
 
 use crate::play::Play;
 use crate::play_answer::PlayAnswer;
@@ -37,7 +37,7 @@ impl Model for PlayCosts {
 impl PlayCosts {
     /// The answer for a play, with its deal, its contract and its cards.
     pub fn new(deal: Deal, contract: Contract, play: Play, answer: PlayAnswer) -> PlayCosts
-        requires { answer ≡ answer_of (record { deal = deal; contract = contract; play = play }) }
+        requires { answer ≡ answer_for_play (record { deal = deal; contract = contract; play = play }) }
         ensures { result ≡ record { deal = deal; contract = contract; play = play } }
     {
         PlayCosts {
@@ -69,7 +69,7 @@ impl PlayCosts {
 
     /// What is found of them.
     pub fn answer(&self) -> PlayAnswer
-        ensures { result ≡ answer_of self.now }
+        ensures { result ≡ answer_for_play self.now }
     {
         self.answer
     }

@@ -7,7 +7,7 @@ use Rattle.scoring.specs.declared.outcome.Outcome.{Outcome}
 use Rattle.scoring.specs.Law77.{ns_score_of}
 use Rattle.standings.specs.declared.cell_result.CellResult.TheVariants.{Confirmed}
 use Rattle.standings.specs.declared.table_result.TableResult.{TableResult}
-use Rattle.standings.specs.Traveller.{score_of, scores_of}
+use Rattle.standings.specs.Traveller.{result_score, scores_of}
 
 -- what a list has, it has after one more element too, or none
 contains_more : {X : Type 0} (o : Option X) (xs : List X) (x : X) → Contains xs x → Contains (cons_option o xs) x
@@ -23,6 +23,6 @@ score_is_listed vulnerability results found outcome (k, below, is) played = at_i
     at_index [] k below is = absurd (omega arith)
     at_index (first ∷ rest) zero below is =
         subst (λ (o : Option ℤ). Contains (cons_option o (scores_of vulnerability rest)) (ns_score_of outcome vulnerability))
-        (sym (ap (score_of vulnerability) (ap (λ (found : TableResult). found.result) is ∙ played)))
+        (sym (ap (result_score vulnerability) (ap (λ (found : TableResult). found.result) is ∙ played)))
         (0, omega arith, refl)
-    at_index (first ∷ rest) (suc k) below is = contains_more (score_of vulnerability first.result) (scores_of vulnerability rest) _ (at_index rest k (omega arith) is)
+    at_index (first ∷ rest) (suc k) below is = contains_more (result_score vulnerability first.result) (scores_of vulnerability rest) _ (at_index rest k (omega arith) is)

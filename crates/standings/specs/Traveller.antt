@@ -1,5 +1,5 @@
--- A board's traveller: the results that are shown, each with what it scores by Law 77 and the units that this earns among
--- the others by Law 78A. An adjusted score (Law 12C2) has percentages in their place.
+-- A board's traveller: the results that are shown, each with what it scores by Law 77 and the units that this earns
+-- among the others by Law 78A. An adjusted score (Law 12C2) has percentages in their place.
 use Rattle.std.specs.Prelude.{ℤ, Option, Some, None, List, map}
 use Rattle.std.specs.List.{find, filter_map}
 use Rattle.table_terms.specs.declared.pair.Pair.{Pair}
@@ -21,7 +21,8 @@ use Rattle.standings.specs.declared.row_result.RowResult.TheVariants as row
 abbrev pub row_of_cell : Section → Cell → Option Row
 row_of_cell section cell = find (stands_in section cell) (rows section)
 
--- the North-South pair of a cell, by its row; a cell without a row, of which there is no result, gets its table's number
+-- the North-South pair of a cell, by its row; a cell without a row, of which there is no result, gets its table's
+-- number
 abbrev pub north_south_by : Cell → Option Row → Pair
 north_south_by cell None = record { side = NorthSouth; number = cell.table }
 north_south_by cell (Some row) = row.north_south
@@ -40,13 +41,13 @@ abbrev pub east_west_at : Section → Cell → Pair
 east_west_at section cell = east_west_by (row_of_cell section cell)
 
 -- what a result scores for North-South, if it was played
-abbrev pub score_of : Vulnerability → CellResult → Option ℤ
-score_of vulnerability (cell.Confirmed outcome) = Some (ns_score_of outcome vulnerability)
-score_of vulnerability (cell.Ruled north_south east_west) = None
+abbrev pub result_score : Vulnerability → CellResult → Option ℤ
+result_score vulnerability (cell.Confirmed outcome) = Some (ns_score_of outcome vulnerability)
+result_score vulnerability (cell.Ruled north_south east_west) = None
 
 -- the scores of the results that were played
 abbrev pub scores_of : Vulnerability → List TableResult → List ℤ
-scores_of vulnerability results = filter_map (λ (found : TableResult). score_of vulnerability found.result) results
+scores_of vulnerability results = filter_map (λ (found : TableResult). result_score vulnerability found.result) results
 
 -- a result with its score and its units among the scores, or with its percentages
 abbrev pub row_result : Vulnerability → List ℤ → CellResult → RowResult

@@ -1,7 +1,7 @@
 ghost use Rattle.std.specs.Prelude.{◌≡◌, ◌≤◌, length, All, IfOk, vec_len};
 ghost use Rattle.movement.specs.Movement.{IsCell, most_tables};
 ghost use Rattle.standings.specs.declared.cell_result.CellResult.TheVariants.{Confirmed};
-ghost use Rattle.standings.specs.Traveller.{north_south_at, east_west_at, row_result, score_of, scores_of, traveller_row, traveller_rows};
+ghost use Rattle.standings.specs.Traveller.{north_south_at, east_west_at, row_result, result_score, scores_of, traveller_row, traveller_rows};
 
 use crate::cell_result::CellResult;
 use crate::push::push_copy;
@@ -46,13 +46,13 @@ pub(crate) fn scores_of(
 {
     results
         .iter()
-        .filter_map(|found| score_of(vulnerability, found.result))
+        .filter_map(|found| result_score(vulnerability, found.result))
         .collect(alloc)
 }
 
 /// What a result scores for North-South, if it was played.
-fn score_of(vulnerability: Vulnerability, found: CellResult) -> Option<i32>
-    ensures { result ≡ score_of vulnerability found }
+fn result_score(vulnerability: Vulnerability, found: CellResult) -> Option<i32>
+    ensures { result ≡ result_score vulnerability found }
 {
     match found {
         CellResult::Confirmed(outcome) => Some(ns_score(outcome, vulnerability)),

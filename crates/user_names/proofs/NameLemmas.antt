@@ -3,12 +3,12 @@ use Rattle.std.proofs.Common.{◌≡◌, ℕ, ◌+◌, ◌-◌, ◌≤◌, List,
 use Rattle.std.specs.Prelude.{IsUtf8}
 use Rattle.std.proofs.Math.Seq.{drop-append_seam, take-append_seam}
 use Rattle.std.proofs.lemmas.List.{drop-replicate}
-use Rattle.user_names.specs.Name.{IsName}
+use Rattle.user_names.specs.Name.{IsNameInPlaces}
 
 back_up : (n : ℕ) → n ≤ 32 → n + (32 - n) ≡ 32
 back_up n h = omega arith
 
-pub name_of_text : (bytes text : List ℕ) → bytes ≡ text → length text ≤ 32 → IsUtf8 text → IsName (record { bytes = bytes ++ drop (length text) (replicate 32 0); len = length text })
+pub name_of_text : (bytes text : List ℕ) → bytes ≡ text → length text ≤ 32 → IsUtf8 text → IsNameInPlaces (record { bytes = bytes ++ drop (length text) (replicate 32 0); len = length text })
 name_of_text bytes text is short utf8 = record {
   places =
       length-append bytes (drop (length text) (replicate 32 0))

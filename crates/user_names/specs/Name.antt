@@ -4,7 +4,7 @@ use Rattle.std.proofs.Common.{sym, ap, subst, ◌∙◌, take-append-drop, lengt
 use Rattle.user_names.specs.declared.name.Name.TheInside.{Inside}
 
 -- the text fills the front of the 32 places, and zeros the rest
-pub record IsName (name : Inside) : Type 0 where
+pub record IsNameInPlaces (name : Inside) : Type 0 where
   pub places : length name.bytes ≡ 32
   pub short : name.len ≤ 32
   pub rest : drop name.len name.bytes ≡ replicate (32 - name.len) 0
@@ -23,7 +23,7 @@ abbrev pub name_of : List ℕ → Inside
 name_of text = record { bytes = in_places text; len = length text }
 
 -- the text gives the fields back
-pub name_of-text_of : (name : Inside) → IsName name → name_of (text_of name) ≡ name
+pub name_of-text_of : (name : Inside) → IsNameInPlaces name → name_of (text_of name) ≡ name
 name_of-text_of name kept =
     let len = length-take-le name.len name.bytes (subst (λ n. name.len ≤ n) (sym kept.places) kept.short) in
     let bytes = ap (λ n. take name.len name.bytes ++ replicate (32 - n) 0) len ∙ ap (λ rest. take name.len name.bytes ++ rest) (sym kept.rest) ∙ take-append-drop name.len name.bytes in

@@ -16,11 +16,11 @@ impl Model for Name {
 
     ghost Value = { List ℕ };
 
-    ghost use Rattle.user_names.specs.Name.{IsName, text_of, name_of, name_of-text_of};
+    ghost use Rattle.user_names.specs.Name.{IsNameInPlaces, text_of, name_of, name_of-text_of};
 
     ghost view = { text_of };
 
-    ghost invariant = { IsName };
+    ghost invariant = { IsNameInPlaces };
 
     ghost inverse = { name_of };
 

@@ -5,13 +5,13 @@ use Rattle.serde_json.specs.Written.{has_float, items_have_float}
 use Rattle.session_book.specs.declared.audit.AuditRow.{AuditRow}
 use Rattle.session_commands.specs.declared.actor.Actor.{Actor}
 use Rattle.session_commands.specs.declared.actor.Actor.TheVariants.{User, Solver}
-use Rattle.wire.specs.AuditText.{actor_data, row_data, audit_data}
+use Rattle.wire.specs.AuditText.{actor_data, audit_row_data, audit_data}
 
 no_float_in_an_actor : (actor : Actor) → has_float (actor_data actor) ≡ false
 no_float_in_an_actor (User name) = refl
 no_float_in_an_actor Solver = refl
 
-no_float_in_rows : (rows : List AuditRow) → items_have_float (items_of (map row_data rows)) ≡ false
+no_float_in_rows : (rows : List AuditRow) → items_have_float (items_of (map audit_row_data rows)) ≡ false
 no_float_in_rows [] = refl
 no_float_in_rows (row ∷ rows) = λ i. (no_float_in_an_actor row.entry.actor i || false) || no_float_in_rows rows i
 

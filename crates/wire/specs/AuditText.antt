@@ -79,8 +79,8 @@ actor_data (User name) = string name
 actor_data Solver = null
 
 -- an entry's number, who gave the command, how it is called, and what it is about
-abbrev pub row_data : AuditRow → Data
-row_data row =
+abbrev pub audit_row_data : AuditRow → Data
+audit_row_data row =
     array (items_of (number (unsigned row.number)
     ∷ actor_data row.entry.actor
     ∷ string (command_word row.entry.command)
@@ -90,7 +90,7 @@ row_data row =
 -- the rows, at a version
 abbrev pub audit_data : List AuditRow → ℕ → Data
 audit_data rows version =
-    object (member (codes "audit") (array (items_of (map row_data rows)))
+    object (member (codes "audit") (array (items_of (map audit_row_data rows)))
     (member (codes "version") (number (unsigned version)) no_members))
 
 -- the audit as it is written

@@ -3,7 +3,7 @@
 ghost use Rattle.std.specs.Prelude.{◌≡◌, map, IfOk, string_bytes};
 ghost use Rattle.serde_json.specs.Data.{array};
 ghost use Rattle.serde_json.specs.View.{view, items_of};
-ghost use Rattle.wire.specs.AuditText.{actor_data, command_word, target, row_data, audit_data, audit_text, refusal_data, audit_refusal_text};
+ghost use Rattle.wire.specs.AuditText.{actor_data, command_word, target, audit_row_data, audit_data, audit_text, refusal_data, audit_refusal_text};
 
 use json_fields::{ArrayWriter, ObjectWriter, array_value, string_value};
 use serde_json::{Value, push};
@@ -45,7 +45,7 @@ fn audit_value(alloc: Global, rows: &AuditRows, version: usize) -> Result<Value,
 }
 
 fn rows_value(alloc: Global, rows: &[AuditRow]) -> Result<Value, AllocError>
-    ensures { IfOk result (λ value. view value ≡ array (items_of (map row_data rows.now))) }
+    ensures { IfOk result (λ value. view value ≡ array (items_of (map audit_row_data rows.now))) }
 {
     let mut values = Vec::with_capacity(alloc, rows.len())?;
     for row in rows {
@@ -56,7 +56,7 @@ fn rows_value(alloc: Global, rows: &[AuditRow]) -> Result<Value, AllocError>
 }
 
 fn row_value(alloc: Global, row: &AuditRow) -> Result<Value, AllocError>
-    ensures { IfOk result (λ value. view value ≡ row_data row.now) }
+    ensures { IfOk result (λ value. view value ≡ audit_row_data row.now) }
 {
     ArrayWriter::new(alloc)
         .item(Ok(Value::from(row.number)))

@@ -8,7 +8,7 @@ ghost use Rattle.json_fields.specs.declared.request_fault.RequestFault.TheVarian
 ghost use Rattle.wire.specs.Query.{asking, queries, query_called, IsFiltered};
 
 use crate::list_reading::list_query;
-use json_fields::{RequestFault, board_of, has_only, is_one_of, table_of};
+use json_fields::{RequestFault, has_only, is_one_of, read_board, read_table};
 use movement::Cell;
 use serde_json::Value;
 use session_queries::Query;
@@ -68,7 +68,7 @@ fn board_query(value: &Value) -> Option<Query>
     if !has_only(value, &["ask", "as", "since", "board"]) {
         return None;
     }
-    let board = board_of(value)?;
+    let board = read_board(value)?;
     Some(Query::Board(board))
 }
 
@@ -78,7 +78,7 @@ fn traveller_query(value: &Value) -> Option<Query>
     if !has_only(value, &["ask", "as", "since", "board"]) {
         return None;
     }
-    let board = board_of(value)?;
+    let board = read_board(value)?;
     Some(Query::Traveller(board))
 }
 
@@ -88,7 +88,7 @@ fn analysis_query(value: &Value) -> Option<Query>
     if !has_only(value, &["ask", "as", "since", "board"]) {
         return None;
     }
-    let board = board_of(value)?;
+    let board = read_board(value)?;
     Some(Query::Analysis(board))
 }
 
@@ -98,8 +98,8 @@ fn play_query(value: &Value) -> Option<Query>
     if !has_only(value, &["ask", "as", "since", "table", "board"]) {
         return None;
     }
-    let table = table_of(value)?;
-    let board = board_of(value)?;
+    let table = read_table(value)?;
+    let board = read_board(value)?;
     Some(Query::Play(Cell { table, board }))
 }
 
@@ -109,8 +109,8 @@ fn costs_query(value: &Value) -> Option<Query>
     if !has_only(value, &["ask", "as", "since", "table", "board"]) {
         return None;
     }
-    let table = table_of(value)?;
-    let board = board_of(value)?;
+    let table = read_table(value)?;
+    let board = read_board(value)?;
     Some(Query::Costs(Cell { table, board }))
 }
 
@@ -120,8 +120,8 @@ fn reason_query(value: &Value) -> Option<Query>
     if !has_only(value, &["ask", "as", "since", "table", "board"]) {
         return None;
     }
-    let table = table_of(value)?;
-    let board = board_of(value)?;
+    let table = read_table(value)?;
+    let board = read_board(value)?;
     Some(Query::Reason(Cell { table, board }))
 }
 

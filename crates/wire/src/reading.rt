@@ -12,7 +12,7 @@ use crate::query_reading::{is_query_word, query_called};
 use crate::request::{Request, RequestBody};
 use crate::source::{Source, said_user};
 use command_object::{commands_in, has_unknown};
-use json_fields::{RequestFault, has_only, since_of};
+use json_fields::{RequestFault, has_only, read_since};
 use serde_json::Value;
 use session_book::Book;
 use std::alloc::Global;
@@ -31,7 +31,7 @@ fn query_of(
     ensures { Gives result (wanted (query_of source word.now (view value.now))) }
 {
     let user = said_user(value, source)?;
-    let since = since_of(value)?;
+    let since = read_since(value)?;
     let query = query_called(alloc, word, value)?;
     let body = RequestBody::Query { query, since };
     Ok(Request { user, body })

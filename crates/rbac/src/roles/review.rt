@@ -3,7 +3,7 @@
 ghost use Rattle.std.specs.Prelude.{◌≡◌, length};
 ghost use Rattle.rbac.specs.Inheritance.{reaches};
 ghost use Rattle.rbac.specs.Review.{is_assigned, has_user_for, first_broken, has_pair};
-ghost use Rattle.rbac.specs.RoleData.{assign_user, add_inheritance, after};
+ghost use Rattle.rbac.specs.RoleData.{assign_user, add_inheritance, after_change};
 
 use crate::change::Change;
 use crate::hierarchy::Hierarchy;
@@ -61,7 +61,7 @@ impl Roles {
 
     /// Whether some user would be authorized for a role after a change. A change that would be refused changes nothing.
     pub fn has_user_if(&self, role: Role, change: Change<'_>) -> bool
-        ensures { result ≡ has_user_for (after self.now change.entry) role }
+        ensures { result ≡ has_user_for (after_change self.now change.entry) role }
     {
         match change {
             Change::Deassign(name, taken) => {

@@ -1,12 +1,12 @@
 //! Why a command on users, roles and the role hierarchy is refused.
 ghost use Rattle.std.specs.Prelude.{◌≡◌};
-ghost use Rattle.rbac.specs.RoleData.{after};
+ghost use Rattle.rbac.specs.RoleData.{after_change};
 ghost use Rattle.session_state.specs.Accounts.{seats_a_stranger};
-ghost use Rattle.session_state.specs.Refusal.{first_of, own_causes, needed_causes};
+ghost use Rattle.session_state.specs.Refusal.{first_cause, own_causes, needed_causes};
 ghost use Rattle.session_commands.specs.declared.command.Command.TheVariants.{AddUser, Assign, Deassign, AddInheritance};
 ghost use Rattle.session_commands.specs.declared.command.Command.TheVariants.{DeleteInheritance};
 
-use crate::causes::first_of;
+use crate::causes::first_cause;
 use crate::state::State;
 use rbac::{Change, Roles, is_user_name};
 use session_commands::Refusal;
@@ -14,9 +14,9 @@ use session_roles::Role;
 use user_names::{Digest, Name};
 
 pub fn add_user_cause(state: &State, name: Name) -> Option<Refusal>
-    ensures { (digest : Digest) → result ≡ first_of (own_causes state.now (AddUser name digest)) }
+    ensures { (digest : Digest) → result ≡ first_cause (own_causes state.now (AddUser name digest)) }
 {
-    first_of(&[
+    first_cause(&[
         (!is_user_name(name.as_str())).then_some(Refusal::BadName),
         state.has_account(name).then_some(Refusal::UserExists),
         (state.roles().user_count() >= Roles::MOST_USERS).then_some(Refusal::TooManyUsers),
@@ -24,10 +24,10 @@ pub fn add_user_cause(state: &State, name: Name) -> Option<Refusal>
 }
 
 pub fn assign_cause(state: &State, name: Name, role: Role) -> Option<Refusal>
-    ensures { result ≡ first_of (own_causes state.now (Assign name role)) }
+    ensures { result ≡ first_cause (own_causes state.now (Assign name role)) }
 {
     let roles = state.roles();
-    first_of(&[
+    first_cause(&[
         roles
             .is_assigned(name.as_str(), role)
             .then_some(Refusal::AlreadyAssigned),
@@ -38,7 +38,7 @@ pub fn assign_cause(state: &State, name: Name, role: Role) -> Option<Refusal>
 }
 
 pub fn deassign_cause(state: &State, name: Name, role: Role) -> Option<Refusal>
-    ensures { result ≡ first_of (own_causes state.now (Deassign name role)) }
+    ensures { result ≡ first_cause (own_causes state.now (Deassign name role)) }
 {
     if !state.roles().is_assigned(name.as_str(), role) {
         return Some(Refusal::NotAssigned);
@@ -47,10 +47,10 @@ pub fn deassign_cause(state: &State, name: Name, role: Role) -> Option<Refusal>
 }
 
 pub fn add_inheritance_cause(state: &State, senior: Role, junior: Role) -> Option<Refusal>
-    ensures { result ≡ first_of (own_causes state.now (AddInheritance senior junior)) }
+    ensures { result ≡ first_cause (own_causes state.now (AddInheritance senior junior)) }
 {
     let roles = state.roles();
-    first_of(&[
+    first_cause(&[
         roles.reaches(junior, senior).then_some(Refusal::Cycle),
         roles
             .has_pair(senior, junior)
@@ -62,7 +62,7 @@ pub fn add_inheritance_cause(state: &State, senior: Role, junior: Role) -> Optio
 }
 
 pub fn delete_inheritance_cause(state: &State, senior: Role, junior: Role) -> Option<Refusal>
-    ensures { result ≡ first_of (own_causes state.now (DeleteInheritance senior junior)) }
+    ensures { result ≡ first_cause (own_causes state.now (DeleteInheritance senior junior)) }
 {
     if !state.roles().has_pair(senior, junior) {
         return Some(Refusal::NotThere);
@@ -72,10 +72,10 @@ pub fn delete_inheritance_cause(state: &State, senior: Role, junior: Role) -> Op
 
 // Why authorization may not be taken away by a change.
 fn needed_cause(state: &State, change: Change<'_>) -> Option<Refusal>
-    ensures { result ≡ first_of (needed_causes state.now (after state.now.roles change.entry)) }
+    ensures { result ≡ first_cause (needed_causes state.now (after_change state.now.roles change.entry)) }
 {
     let has_administrator = state.roles().has_user_if(Role::Administrator, change);
-    first_of(&[
+    first_cause(&[
         state
             .seats_a_stranger_if(change)
             .then_some(Refusal::StillSeated),

@@ -1,6 +1,6 @@
 //! Why a command on a held board, a round or a phase is refused.
 ghost use Rattle.std.specs.Prelude.{◌≡◌};
-ghost use Rattle.session_state.specs.Refusal.{first_of, are_all_live, own_causes};
+ghost use Rattle.session_state.specs.Refusal.{first_cause, are_all_live, own_causes};
 ghost use Rattle.session_commands.specs.declared.command.Command.TheVariants.{Hold, Release, NextRound, Close, Finalise};
 
 use crate::state::State;
@@ -8,7 +8,7 @@ use disclosure_rules::Public;
 use session_commands::Refusal;
 
 pub fn hold_cause(state: &State, board: u8) -> Option<Refusal>
-    ensures { result ≡ first_of (own_causes state.now (Hold board)) }
+    ensures { result ≡ first_cause (own_causes state.now (Hold board)) }
 {
     state
         .public()
@@ -18,13 +18,13 @@ pub fn hold_cause(state: &State, board: u8) -> Option<Refusal>
 }
 
 pub fn release_cause(state: &State, board: u8) -> Option<Refusal>
-    ensures { result ≡ first_of (own_causes state.now (Release board)) }
+    ensures { result ≡ first_cause (own_causes state.now (Release board)) }
 {
     (!state.public().held.contains(board)).then_some(Refusal::NotHeld)
 }
 
 pub fn next_round_cause(state: &State) -> Option<Refusal>
-    ensures { result ≡ first_of (own_causes state.now NextRound) }
+    ensures { result ≡ first_cause (own_causes state.now NextRound) }
 {
     let public = state.public();
     (public.round >= public.movement.rounds()).then_some(Refusal::NoMoreRounds)
@@ -32,8 +32,8 @@ pub fn next_round_cause(state: &State) -> Option<Refusal>
 
 /// Why a phase may not end.
 pub fn all_live_cause(state: &State) -> Option<Refusal>
-    ensures close { result ≡ first_of (own_causes state.now Close) }
-    ensures finalise { result ≡ first_of (own_causes state.now Finalise) }
+    ensures close { result ≡ first_cause (own_causes state.now Close) }
+    ensures finalise { result ≡ first_cause (own_causes state.now Finalise) }
 {
     (!are_all_live(state.public())).then_some(Refusal::NotAllLive)
 }

@@ -1,19 +1,19 @@
 //! Why a command on a result is refused.
 ghost use Rattle.std.specs.Prelude.{◌≡◌, ℕ};
-ghost use Rattle.session_state.specs.Refusal.{first_of, is_bad_result, is_bad_ruling, own_causes};
+ghost use Rattle.session_state.specs.Refusal.{first_cause, is_bad_result, is_bad_ruling, own_causes};
 ghost use Rattle.session_state.specs.SessionState.{SessionState, IsPlaced};
 ghost use Rattle.session_commands.specs.declared.command.Command.TheVariants.{Enter, Confirm, Correct, Rule, Void};
 
-use crate::causes::first_of;
+use crate::causes::first_cause;
 use crate::state::State;
 use disclosure_rules::Cell;
 use session_commands::{Outcome, Play, Refusal};
 
 pub fn enter_cause(state: &State, cell: Cell, outcome: Outcome, play: &Play) -> Option<Refusal>
     requires { IsPlaced cell }
-    ensures { result ≡ first_of (own_causes state.now (Enter cell.table cell.board outcome play.now)) }
+    ensures { result ≡ first_cause (own_causes state.now (Enter cell.table cell.board outcome play.now)) }
 {
-    first_of(&[
+    first_cause(&[
         is_bad_result(outcome, play).then_some(Refusal::BadResult),
         state
             .cell(cell)
@@ -24,10 +24,10 @@ pub fn enter_cause(state: &State, cell: Cell, outcome: Outcome, play: &Play) -> 
 
 pub fn confirm_cause(state: &State, cell: Cell, outcome: Outcome) -> Option<Refusal>
     requires { IsPlaced cell }
-    ensures { result ≡ first_of (own_causes state.now (Confirm cell.table cell.board outcome)) }
+    ensures { result ≡ first_cause (own_causes state.now (Confirm cell.table cell.board outcome)) }
 {
     let known = state.cell(cell);
-    first_of(&[
+    first_cause(&[
         known.has_result().then_some(Refusal::AlreadyLive),
         known.is_empty().then_some(Refusal::NothingEntered),
         known
@@ -38,9 +38,9 @@ pub fn confirm_cause(state: &State, cell: Cell, outcome: Outcome) -> Option<Refu
 
 pub fn correct_cause(state: &State, cell: Cell, outcome: Outcome, play: &Play) -> Option<Refusal>
     requires { IsPlaced cell }
-    ensures { result ≡ first_of (own_causes state.now (Correct cell.table cell.board outcome play.now)) }
+    ensures { result ≡ first_cause (own_causes state.now (Correct cell.table cell.board outcome play.now)) }
 {
-    first_of(&[
+    first_cause(&[
         is_bad_result(outcome, play).then_some(Refusal::BadResult),
         (!state.cell(cell).has_result()).then_some(Refusal::NotLive),
     ])
@@ -48,14 +48,14 @@ pub fn correct_cause(state: &State, cell: Cell, outcome: Outcome, play: &Play) -
 
 pub fn rule_cause(north_south: u8, east_west: u8, reason: u8) -> Option<Refusal>
     ensures { (state : SessionState) (table board : ℕ) →
-        result ≡ first_of (own_causes state (Rule table board north_south east_west reason)) }
+        result ≡ first_cause (own_causes state (Rule table board north_south east_west reason)) }
 {
     is_bad_ruling(north_south, east_west, reason).then_some(Refusal::BadRuling)
 }
 
 pub fn void_cause(state: &State, cell: Cell) -> Option<Refusal>
     requires { IsPlaced cell }
-    ensures { result ≡ first_of (own_causes state.now (Void cell.table cell.board)) }
+    ensures { result ≡ first_cause (own_causes state.now (Void cell.table cell.board)) }
 {
     (!state.cell(cell).has_result()).then_some(Refusal::NotLive)
 }

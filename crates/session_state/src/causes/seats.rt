@@ -1,10 +1,10 @@
 //! Why a command on a seat is refused.
 ghost use Rattle.std.specs.Prelude.{◌≡◌};
-ghost use Rattle.session_state.specs.Refusal.{first_of, own_causes};
+ghost use Rattle.session_state.specs.Refusal.{first_cause, own_causes};
 ghost use Rattle.session_state.specs.Seats.{is_pair, is_of_side, is_taken};
 ghost use Rattle.session_commands.specs.declared.command.Command.TheVariants as command;
 
-use crate::causes::first_of;
+use crate::causes::first_cause;
 use crate::state::State;
 use disclosure_rules::{Movement, Seat};
 use session_commands::Refusal;
@@ -13,9 +13,9 @@ use table_terms::{Pair, Place, Side};
 use user_names::Name;
 
 pub fn seat_cause(state: &State, name: Name, seat: Seat) -> Option<Refusal>
-    ensures { result ≡ first_of (own_causes state.now (command.Seat name seat.pair seat.place)) }
+    ensures { result ≡ first_cause (own_causes state.now (command.Seat name seat.pair seat.place)) }
 {
-    first_of(&[
+    first_cause(&[
         (!is_pair(state.public().movement, seat.pair)).then_some(Refusal::NoSuchPair),
         (!is_of_side(seat.pair, seat.place)).then_some(Refusal::WrongDirection),
         (!state.viewer(name).is_authorized(Role::Contestant)).then_some(Refusal::NotContestant),
@@ -25,7 +25,7 @@ pub fn seat_cause(state: &State, name: Name, seat: Seat) -> Option<Refusal>
 }
 
 pub fn unseat_cause(state: &State, name: Name) -> Option<Refusal>
-    ensures { result ≡ first_of (own_causes state.now (command.Unseat name)) }
+    ensures { result ≡ first_cause (own_causes state.now (command.Unseat name)) }
 {
     (!state.has_seat(name)).then_some(Refusal::NotSeated)
 }

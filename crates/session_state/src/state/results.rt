@@ -6,7 +6,7 @@ ghost use Rattle.session_state.specs.Refusal.{hindrance_of};
 ghost use Rattle.session_state.specs.SessionState.{IsPlaced};
 ghost use Rattle.session_commands.specs.declared.command.Command.TheVariants.{Enter, Confirm, Correct, Rule, Void};
 
-use crate::state::{State, place_of};
+use crate::state::{State, cell_index};
 use disclosure_rules::Cell;
 use session_commands::{CellState, Outcome, Play};
 
@@ -17,7 +17,7 @@ impl State {
         requires unhindered { hindrance_of self.old (Enter cell.table cell.board outcome play) ≡ None }
         ensures { self.new ≡ effect self.old (Enter cell.table cell.board outcome play) }
     {
-        let place = place_of(cell);
+        let place = cell_index(cell);
         self.cells[place] = CellState::Entered { outcome, play };
     }
 
@@ -75,7 +75,7 @@ impl State {
         requires placed { IsPlaced cell }
         ensures { self.new ≡ effect self.old (Void cell.table cell.board) }
     {
-        let place = place_of(cell);
+        let place = cell_index(cell);
         self.cells[place] = CellState::Empty;
         self.public.live.remove(cell);
     }
@@ -86,7 +86,7 @@ impl State {
         requires live { has_result known ≡ true }
         ensures { self.new ≡ with_result self.old cell known }
     {
-        let place = place_of(cell);
+        let place = cell_index(cell);
         self.cells[place] = known;
         self.public.live.insert(cell);
     }

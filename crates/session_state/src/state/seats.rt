@@ -1,6 +1,6 @@
 //! What the commands on seats do to a state.
 ghost use Rattle.std.specs.Prelude.{◌≡◌, None};
-ghost use Rattle.rbac.specs.RoleData.{after};
+ghost use Rattle.rbac.specs.RoleData.{after_change};
 ghost use Rattle.session_roles.specs.declared.role.Role.TheVariants.{Contestant};
 ghost use Rattle.session_state.specs.disclosure_rules.Policy.{is_authorized};
 ghost use Rattle.session_state.specs.Accounts.{is_authorized_for, seats_a_stranger};
@@ -42,7 +42,7 @@ impl State {
 
     /// Whether a seated user would not be authorized for Contestant after a change.
     pub(crate) fn seats_a_stranger_if(&self, change: Change<'_>) -> bool
-        ensures { result ≡ seats_a_stranger (after self.now.roles change.entry) self.now.seats }
+        ensures { result ≡ seats_a_stranger (after_change self.now.roles change.entry) self.now.seats }
     {
         self.seats.iter().any(|seated| !is_contestant_if(&self.roles, seated.name, change))
     }
@@ -50,7 +50,7 @@ impl State {
 
 // Whether a user would be authorized for Contestant after a change.
 fn is_contestant_if(roles: &Roles, name: Name, change: Change<'_>) -> bool
-    ensures { result ≡ is_authorized_for (after roles.now change.entry) name Contestant }
+    ensures { result ≡ is_authorized_for (after_change roles.now change.entry) name Contestant }
 {
     is_contestant(roles.authorized_if(name.as_str(), change))
 }

@@ -5,7 +5,7 @@ ghost use Rattle.session_state.specs.Refusal.{hindrance_of};
 ghost use Rattle.session_state.specs.SessionState.{IsPlaced, IsKeptBoard};
 ghost use Rattle.session_commands.specs.declared.command.Command.TheVariants.{Solved, Analysed};
 
-use crate::state::{State, place_of};
+use crate::state::{State, cell_index};
 use disclosure_rules::Cell;
 use session_commands::{DdTable, PlayCosts};
 
@@ -23,7 +23,7 @@ impl State {
         requires { IsPlaced cell }
         ensures { self.new ≡ effect self.old (Analysed cell.table cell.board costs) }
     {
-        let place = place_of(cell);
+        let place = cell_index(cell);
         let known = self.cell(cell);
         self.cells[place] = known.with_costs(costs);
     }

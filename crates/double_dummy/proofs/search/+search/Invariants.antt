@@ -4,13 +4,13 @@ use Rattle.cards.specs.declared.card.Card.{Card}
 use Rattle.std.specs.FinSet as set
 use Rattle.double_dummy.proofs.search.+search.Given as goal
 use Rattle.cards.specs.Play.{cards_left, legal}
-use Rattle.double_dummy.specs.Search.{IsRefused}
+use Rattle.double_dummy.specs.Search.{AreTriedInVain}
 
 abbrev pub invariant-explore-loop-card : goal.invariant-explore-loop-card
 invariant-explore-loop-card l = record {
   untried : (card : Card) → set.contains l.untried card ≡ true → set.contains (legal l.position) card ≡ true;
   spent : l.budget ≤ l.initial.budget;
-  refused : IsRefused l.position l.target l.untried l.known (not l.wanted);
+  refused : AreTriedInVain l.position l.target l.untried l.known (not l.wanted);
 }
 
 abbrev pub decreases-explore-loop-card : goal.decreases-explore-loop-card

@@ -3,7 +3,7 @@ use Rattle.std.specs.Bool.{then_some}
 use Rattle.rbac.specs.Account.{is_user_name}
 use Rattle.session_opening.specs.declared.opening_refusal.OpeningRefusal.TheVariants.{BadName, UserExists, AlreadyAssigned}
 use Rattle.session_opening.specs.NewUser.{repeats}
-use Rattle.session_state.specs.Refusal.{first_of}
+use Rattle.session_state.specs.Refusal.{first_cause}
 use Rattle.session_opening.proofs.OpeningRefusalLemmas.{account_among}
 use Rattle.session_opening.proofs.opening_acceptance.account_refusal.Goals as goal
 
@@ -12,8 +12,8 @@ returns c =
     let named = c.is_user_name.ensures ∙ ap is_user_name c.as_str.ensures.text in
     let there = c.has_account.ensures ∙ sym (account_among c.args.before.now c.args.user.now.name) in
     let again = c.repeats.ensures ∙ ap repeats c.as_slice.ensures in
-    c.first_of.ensures
-    ∙ (λ i. first_of (
+    c.first_cause.ensures
+    ∙ (λ i. first_cause (
     (c.then_some.ensures ∙ ap (λ b. then_some (not b) BadName) named) i
     ∷ (c.then_some-2.ensures ∙ ap (λ b. then_some b UserExists) there) i
     ∷ c.then_some-3.ensures i

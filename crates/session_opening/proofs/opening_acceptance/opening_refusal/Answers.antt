@@ -4,7 +4,7 @@ use Rattle.session_opening.specs.declared.opening_refusal.OpeningRefusal.TheVari
 use Rattle.session_state.specs.Accounts.{has_administrator}
 use Rattle.session_opening.specs.Opening.{opening_roles}
 use Rattle.session_opening.specs.OpeningRefusal.{users_causes, opening_refusal}
-use Rattle.session_state.specs.Refusal.{first_of}
+use Rattle.session_state.specs.Refusal.{first_cause}
 use Rattle.session_opening.proofs.OpeningRefusalLemmas.{found_first, found_later, or_none, administrator_among}
 use Rattle.session_opening.proofs.opening_acceptance.opening_refusal.Goals as goal
 
@@ -14,7 +14,7 @@ returns-then-is_some c =
     let config = c.args.config.now in
     let last = then_some (not (has_administrator (opening_roles config.users))) LastAdministrator in
     let causes = users_causes config.movement [] config.users in
-    let found = c.users_refusal-refused.ensures ∙ ap (λ users. first_of (users_causes config.movement [] users)) c.as_slice-users.ensures in
+    let found = c.users_refusal-refused.ensures ∙ ap (λ users. first_cause (users_causes config.movement [] users)) c.as_slice-users.ensures in
     sym (found_first causes (last ∷ []) c.users_refusal-refused.result found (sym c.is_some.ensures ∙ c.if-is_some.true))
 
 pub returns : goal.returns
@@ -23,7 +23,7 @@ returns c =
     let config = c.args.config.now in
     let last = then_some (not (has_administrator (opening_roles config.users))) LastAdministrator in
     let causes = users_causes config.movement [] config.users in
-    let found = c.users_refusal-refused.ensures ∙ ap (λ users. first_of (users_causes config.movement [] users)) c.as_slice-users.ensures in
+    let found = c.users_refusal-refused.ensures ∙ ap (λ users. first_cause (users_causes config.movement [] users)) c.as_slice-users.ensures in
     let somebody =
     c.has_administrator.ensures ∙ sym (administrator_among c.as_slice-users.result.now) ∙ ap (λ users. has_administrator (opening_roles users)) c.as_slice-users.ensures in
     c.then_some.ensures ∙ ap (λ b. then_some (not b) LastAdministrator) somebody ∙ sym (or_none last)

@@ -15,9 +15,9 @@ pub returns-then-round-self-clause-seat : goal.returns-then-round-self-clause-se
 returns-then-round-self-clause-seat c =
     let rounds = same_rounds c.self.view_is in
     let plays = rw (same_tables c.self.view_is) at c.round_of_east_west-round.ensures.plays in
-    let table = rw (same_tables c.self.view_is) at c.table_of-table.ensures in
+    let table = rw (same_tables c.self.view_is) at c.east_west_table-table.ensures in
     pair_cell c.args.self c.args.number c.args.board c.set_of-set.result c.round_of_east_west-round.result
-    c.table_of-table.result (omega arith) (omega arith) (omega arith) table plays c.set_of-set.ensures.board
+    c.east_west_table-table.result (omega arith) (omega arith) (omega arith) table plays c.set_of-set.ensures.board
 
 pub returns-else-round-self-clause-none : goal.returns-else-round-self-clause-none
 returns-else-round-self-clause-none c =

@@ -6,7 +6,7 @@ use Rattle.rbac.specs.Inheritance.{pair_of, without_pair}
 use Rattle.rbac.specs.Kept.{data_of}
 use Rattle.rbac.specs.Review.{assigned_without, has_user_for}
 use Rattle.session_roles.specs.Role.{has}
-use Rattle.rbac.specs.RoleData.{RoleData, deassign_user, delete_inheritance, after}
+use Rattle.rbac.specs.RoleData.{RoleData, deassign_user, delete_inheritance, after_change}
 use Rattle.rbac.proofs.ReviewLemmas.{user_by_table, user_without}
 use Rattle.rbac.proofs.roles.Roles.has_user_if.Goals as goal
 
@@ -18,7 +18,7 @@ returns-in-Deassign c =
     ∙ ap (λ (accounts : List Account). list_any (λ account. has (reached_from table (assigned_without account c.in-Deassign.name.now c.in-Deassign.taken)) c.args.role) accounts) c.deref.ensures.value
     ∙ user_without state.pairs table c.self.invariant.closure state.accounts c.args.role c.in-Deassign.name.now c.in-Deassign.taken
     ∙ ap (λ (now : RoleData). has_user_for (deassign_user now c.in-Deassign.name.now c.in-Deassign.taken) c.args.role) c.self.view_is
-    ∙ ap (λ change. has_user_for (after c.args.self.now change) c.args.role) (sym c.in-Deassign.is)
+    ∙ ap (λ change. has_user_for (after_change c.args.self.now change) c.args.role) (sym c.in-Deassign.is)
 
 pub returns-in-DeleteInheritance : goal.returns-in-DeleteInheritance
 returns-in-DeleteInheritance c =
@@ -31,4 +31,4 @@ returns-in-DeleteInheritance c =
     ∙ ap (λ (accounts : List Account). list_any (λ account. has (reached_from table account.assigned) c.args.role) accounts) c.deref-in-DeleteInheritance.ensures.value
     ∙ user_by_table (without_pair state.pairs (pair_of senior junior)) table closure state.accounts c.args.role
     ∙ ap (λ (now : RoleData). has_user_for (delete_inheritance now senior junior) c.args.role) c.self.view_is
-    ∙ ap (λ change. has_user_for (after c.args.self.now change) c.args.role) (sym c.in-DeleteInheritance.is)
+    ∙ ap (λ change. has_user_for (after_change c.args.self.now change) c.args.role) (sym c.in-DeleteInheritance.is)

@@ -5,7 +5,7 @@ use Rattle.session_commands.specs.declared.command.Command.TheVariants.{Enter}
 use Rattle.session_state.specs.contracts.state.State.{the_view}
 use Rattle.session_commands.specs.CellState.{has_result}
 use Rattle.session_state.specs.Refusal.{hindrance_of}
-use Rattle.session_state.specs.SessionState.{cell_at, place_of, AreLive}
+use Rattle.session_state.specs.SessionState.{cell_at, cell_index, AreLive}
 use Rattle.session_state.proofs.HindranceLemmas.{entry_is_free}
 use Rattle.session_state.proofs.LiveLemmas.{entered_live}
 use Rattle.session_state.proofs.state.State.enter.Goals as goal
@@ -16,7 +16,7 @@ invariant_of-self c =
     let kept = c.self.invariant in
     let cell = c.args.cell in
     let known = Entered c.args.outcome c.args.play in
-    let below : place_of cell < length inside.cells.items = omega (arith, inside.cells.ok.0, kept.cells, c.place_of-place.ensures.place, c.place_of-place.ensures.below) in
+    let below : cell_index cell < length inside.cells.items = omega (arith, inside.cells.ok.0, kept.cells, c.cell_index-place.ensures.place, c.cell_index-place.ensures.below) in
     let free : has_result (cell_at (the_view inside) cell) ≡ false =
     entry_is_free (the_view inside) cell.table cell.board c.args.outcome c.args.play
     (ap (λ state. hindrance_of state (Enter cell.table cell.board c.args.outcome c.args.play)) c.self.view_is ∙ c.requires.unhindered) in
@@ -32,6 +32,6 @@ invariant_of-self c =
       seated = kept.seated;
       boards = kept.boards;
       live =
-          subst (λ place. AreLive inside.public.live (slice_set inside.cells.items place known)) (sym c.place_of-place.ensures.place)
+          subst (λ place. AreLive inside.public.live (slice_set inside.cells.items place known)) (sym c.cell_index-place.ensures.place)
           (entered_live inside.public.live inside.cells.items cell known c.requires.placed below kept.boards kept.live refl free);
     }

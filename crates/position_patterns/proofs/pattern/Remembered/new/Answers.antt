@@ -1,7 +1,7 @@
 use Rattle.std.proofs.Common.{ap, arith, length, ◌≡◌, ◌*◌}
 use Rattle.cards.specs.Play.{cards_left}
 use Rattle.position_patterns.proofs.TopsLemmas.{each_suit, true_entry}
-use Rattle.position_patterns.proofs.pattern.Entry.new.Goals as goal
+use Rattle.position_patterns.proofs.pattern.Remembered.new.Goals as goal
 
 pub returns : goal.returns
 returns c =

@@ -1,7 +1,7 @@
 use Rattle.table_terms.specs.declared.suit.Suit.{Suit}
 use Rattle.std.proofs.Common.{subst, rules, ap, arith, length}
 use Rattle.table_terms.specs.declared.suit.Suit.TheVariants.{Spades, Hearts, Diamonds, Clubs}
-use Rattle.position_patterns.proofs.pattern.Entry.matches.Goals as goal
+use Rattle.position_patterns.proofs.pattern.Remembered.matches.Goals as goal
 use Rattle.position_patterns.proofs.TopsLemmas.{each_suit, has_tops}
 use Rattle.position_patterns.specs.Tops.{HasTops, tops_of}
 use Rattle.double_dummy_laws.specs.Pattern.{holding}

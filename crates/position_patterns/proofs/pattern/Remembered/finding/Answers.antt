@@ -1,6 +1,6 @@
 use Rattle.std.proofs.Common.{◌∙◌}
 use Rattle.std.specs.FinSet as set
-use Rattle.position_patterns.proofs.pattern.Entry.finding.Goals as goal
+use Rattle.position_patterns.proofs.pattern.Remembered.finding.Goals as goal
 use Rattle.position_patterns.proofs.TopsLemmas.{top_cards_in, tops_at}
 
 pub returns-clause-found : goal.returns-clause-found

@@ -4,7 +4,7 @@ use Rattle.json_fields.proofs.ReadingLemmas.{is_there}
 use Rattle.std.proofs.lemmas.Result.{err_from_is_err_and}
 use Rattle.command_object.specs.Play.{card_of}
 use Rattle.command_object.proofs.ListLemmas.{each_fails, fails}
-use Rattle.command_object.proofs.play.cards_in.Goals as goal
+use Rattle.command_object.proofs.play.cards_of_items.Goals as goal
 
 pub loop-value-preserved : goal.loop-value-preserved
 loop-value-preserved c =
