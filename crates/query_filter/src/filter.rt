@@ -54,14 +54,6 @@ impl Filter {
         }
     }
 
-    /// The filter's condition.
-    pub fn condition(&self) -> &Condition
-        ensures condition { formula result.now ≡ self.now }
-        ensures within { is_within_limits self.now ≡ true }
-    {
-        &self.condition
-    }
-
     /// Whether the filter holds of a board, by what was handed in of it.
     pub fn holds(&self, facts: &BoardFacts) -> bool
         ensures { result ≡ holds self.now facts.now }

@@ -32,11 +32,4 @@ impl Outcomes {
     {
         &self.outcomes
     }
-
-    /// The list of the results.
-    pub fn into_vec(self) -> Vec<Outcome>
-        ensures { result.items ≡ self }
-    {
-        self.outcomes
-    }
 }

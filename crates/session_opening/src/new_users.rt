@@ -31,10 +31,4 @@ impl NewUsers {
     {
         self.users.as_slice()
     }
-
-    pub fn into_vec(self) -> Vec<NewUser>
-        ensures { result.items ≡ self }
-    {
-        self.users
-    }
 }

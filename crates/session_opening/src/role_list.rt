@@ -31,10 +31,4 @@ impl RoleList {
     {
         self.roles.as_slice()
     }
-
-    pub fn into_vec(self) -> Vec<Role>
-        ensures { result.items ≡ self }
-    {
-        self.roles
-    }
 }

@@ -46,12 +46,4 @@ impl Done {
     {
         &self.found
     }
-
-    /// What was found of it, to keep.
-    pub fn into_found(self) -> Found
-        ensures found { result ≡ self.found }
-        ensures own { IsFoundOf self.job.work self.found }
-    {
-        self.found
-    }
 }

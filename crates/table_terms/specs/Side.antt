@@ -3,11 +3,6 @@ use Rattle.std.specs.Prelude.{ℕ, List, codes}
 use Rattle.table_terms.specs.declared.side.Side.{Side}
 use Rattle.table_terms.specs.declared.side.Side.TheVariants.{NorthSouth, EastWest}
 
--- the opponents of a side
-abbrev pub other_side : Side → Side
-other_side NorthSouth = EastWest
-other_side EastWest = NorthSouth
-
 -- `NS`, `EW`
 abbrev pub side_text : Side → List ℕ
 side_text NorthSouth = codes "NS"

@@ -1,5 +1,5 @@
 ghost use Rattle.std.specs.Prelude.{◌≡◌, Some};
-ghost use Rattle.table_terms.specs.Side.{other_side, side_text};
+ghost use Rattle.table_terms.specs.Side.{side_text};
 
 use std::fmt;
 
@@ -11,16 +11,6 @@ pub enum Side {
 }
 
 impl Side {
-    /// The opponents.
-    pub fn other(self) -> Side
-        ensures { result ≡ other_side self }
-    {
-        match self {
-            Side::NorthSouth => Side::EastWest,
-            Side::EastWest => Side::NorthSouth,
-        }
-    }
-
     /// `NS` or `EW`.
     pub fn text(self) -> &'static str
         ensures { result.now ≡ side_text self }

@@ -43,14 +43,14 @@ fn costs_work(second: Suit) -> Option<Work> {
     })
 }
 
-/// What a worker finds that has a job of this work, and so many visits.
-fn found(rt: &impl Wait, alloc: Global, work: &Work, visits: u64) -> Option<Found> {
-    found_first(rt, &results_of(rt, alloc, work, 1, visits)?)
+/// What a worker sends that has a job of this work, and so many visits.
+fn sent(rt: &impl Wait, alloc: Global, work: &Work, visits: u64) -> Option<Done> {
+    first_sent(rt, &results_of(rt, alloc, work, 1, visits)?)
 }
 
-fn found_first(rt: &impl Wait, results: &Receiver<Done>) -> Option<Found> {
+fn first_sent(rt: &impl Wait, results: &Receiver<Done>) -> Option<Done> {
     match results.recv(rt) {
-        Ok(done) => Some(done.into_found()),
+        Ok(done) => Some(done),
         Err(_) => None,
     }
 }
@@ -65,8 +65,8 @@ static NORTHS: [(Strain, u8); 5] = [
 ];
 
 /// Whether a table was found in which North takes the tricks of long suits.
-fn is_of_long_suits(found: &Option<Found>) -> bool {
-    let Some(Found::Table(table)) = found else {
+fn is_of_long_suits(found: &Found) -> bool {
+    let Found::Table(table) = found else {
         return false;
     };
     for &(strain, tricks) in &NORTHS {
@@ -78,29 +78,34 @@ fn is_of_long_suits(found: &Option<Found>) -> bool {
 }
 
 fn finds_table(rt: &impl Wait, alloc: Global) -> bool {
-    match table_work() {
-        Some(work) => is_of_long_suits(&found(rt, alloc, &work, MANY)),
+    let Some(work) = table_work() else {
+        return false;
+    };
+    match sent(rt, alloc, &work, MANY) {
+        Some(done) => is_of_long_suits(done.found()),
         None => false,
     }
 }
 
-/// Whether these costs of a play were found, or this card was named that is not legal.
-fn is_answered(found: &Option<Found>, costs: &[u8], illegal: usize) -> bool {
-    let Some(Found::Costs(found)) = found else {
-        return false;
-    };
-    match found.answer() {
-        PlayAnswer::Costs(numbers) => numbers.as_slice() == costs,
-        PlayAnswer::NotAPlay(number) => number == illegal,
+/// Whether these costs of a play were found, or this card was named that is not legal, or neither and the visits were
+/// too few.
+fn is_answered(found: &Found, costs: &[u8], illegal: usize) -> bool {
+    match found {
+        Found::OutOfBudget => costs.is_empty() && illegal == 0,
+        Found::Costs(found) => match found.answer() {
+            PlayAnswer::Costs(numbers) => numbers.as_slice() == costs,
+            PlayAnswer::NotAPlay(number) => number == illegal,
+        },
+        _ => false,
     }
 }
 
-/// The second card of a trick, how many visits a worker has, and what it answers: what each card costs, or the number of the
-/// card that is not legal; without both, that the visits are too few.
+/// The second card of a trick, how many visits a worker has, and what it answers: what each card costs, or the number
+/// of the card that is not legal; without both, that the visits are too few.
 type Row = (Suit, u64, &'static [u8], usize);
 
-/// East leads the two of spades, and gives away eleven tricks by it. Without a visit nothing is solved, but a card that is
-/// not legal is named.
+/// East leads the two of spades, and gives away eleven tricks by it. Without a visit nothing is solved, but a card that
+/// is not legal is named.
 static PLAYS: [Row; 3] = [
     (Suit::Diamonds, MANY, &[11, 0, 0, 0], 0),
     (Suit::Diamonds, 0, &[], 0),
@@ -112,10 +117,9 @@ fn is_answer(rt: &impl Wait, alloc: Global, row: &Row) -> bool {
     let Some(work) = costs_work(second) else {
         return false;
     };
-    let found = found(rt, alloc, &work, visits);
-    match found {
-        Some(Found::OutOfBudget) => costs.is_empty() && illegal == 0,
-        _ => is_answered(&found, costs, illegal),
+    match sent(rt, alloc, &work, visits) {
+        Some(done) => is_answered(done.found(), costs, illegal),
+        None => false,
     }
 }
 
@@ -152,8 +156,8 @@ fn loses_one_at_most(rt: &impl Wait, alloc: Global) -> bool {
     }
 }
 
-/// Holds whichever growth is refused: where there is room to begin, one of three jobs or results is lost at most, and the
-/// worker goes on.
+/// Holds whichever growth is refused: where there is room to begin, one of three jobs or results is lost at most, and
+/// the worker goes on.
 #[test]
 fn loses_no_more_than_one_result(rt: HostRuntime) {
     assert!(rt; loses_one_at_most(&rt, rt.alloc()));
