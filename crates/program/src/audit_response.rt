@@ -41,8 +41,6 @@ fn audit_reply(
 ) -> Result<String, AllocError>
     ensures { IfOk result (λ text. string_bytes text ≡ audit_reply keeper.now.opening keeper.now.journal user range) }
 {
-    // The reader's clause that the accounts are valid is what makes the test of a permission decide it.
-    let _accounts = keeper.state().accounts();
     match keeper.audit(user, range.from as usize, range.limit as usize) {
         Ok(rows) => audit_text(alloc, &rows, keeper.version()),
         Err(AuditError::NotPermitted) => audit_refusal_text(alloc),

@@ -1,6 +1,6 @@
 ghost use Rattle.std.specs.Prelude.{◌≡◌, ◌+◌, ◌<◌, ◌≤◌, ◌⊎◌, ◌↔◌, Bool, [], None, Some, length, IfOk, IfErr, OnOk, OnErr};
 ghost use Rattle.movement.specs.Movement.{boards_of};
-ghost use Rattle.rbac.specs.Authorization.{HasPermission};
+ghost use Rattle.rbac.specs.Authorization.{HasPermission, IsValid};
 ghost use Rattle.session_roles.specs.declared.operation.Operation.TheVariants.{Audit};
 ghost use Rattle.published_view.specs.session_book.Audit.{audit_rows};
 ghost use Rattle.published_view.specs.session_book.declared.audit.AuditError.TheVariants.{NotPermitted};
@@ -126,6 +126,7 @@ impl PlainKeeper {
         ensures ok { OnOk result (HasPermission (state_of self.now).roles actor Audit) }
         ensures err { IfErr result (λ error.
             (error ≡ NotPermitted) ↔ (¬ HasPermission (state_of self.now).roles actor Audit)) }
+        ensures valid { IsValid (state_of self.now).roles }
     {
         self.book.audit(actor, from, limit)
     }

@@ -223,6 +223,7 @@ impl Roles {
     pub fn check_access(&self, name: &str, operation: Operation) -> bool
         ensures permission { IsTrue result ↔ HasPermission self.now name.now operation }
         ensures test { result ≡ has_permission self.now name.now operation }
+        ensures valid { IsValid self.now }
     {
         match self.authorized(name) {
             Some(roles) => operation.is_permitted_by(roles),

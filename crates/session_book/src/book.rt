@@ -2,7 +2,7 @@ ghost use Rattle.std.specs.Prelude.{◌≡◌, ℕ, ◌+◌, ◌-◌, ◌≤◌,
 ghost use Rattle.std.specs.Option.{option_copied};
 ghost use Rattle.movement.specs.Movement.{IsCell, boards_of, most_boards};
 ghost use Rattle.rbac.specs.Account.{most_users};
-ghost use Rattle.rbac.specs.Authorization.{HasPermission};
+ghost use Rattle.rbac.specs.Authorization.{HasPermission, IsValid};
 ghost use Rattle.session_roles.specs.declared.operation.Operation.TheVariants.{Audit};
 ghost use Rattle.session_book.specs.Audit.{audit_rows};
 ghost use Rattle.session_book.specs.declared.audit.AuditError.TheVariants.{NotPermitted};
@@ -123,6 +123,7 @@ impl Book {
         ensures ok { OnOk result (HasPermission (state_of self.now).roles actor Audit) }
         ensures err { IfErr result (λ error.
             (error ≡ NotPermitted) ↔ (¬ HasPermission (state_of self.now).roles actor Audit)) }
+        ensures valid { IsValid (state_of self.now).roles }
     {
         if !self.state().check_access(actor, Operation::Audit) {
             return Err(AuditError::NotPermitted);

@@ -182,6 +182,7 @@ impl State {
     pub fn check_access(&self, name: Name, operation: Operation) -> bool
         ensures permission { IsTrue result ↔ HasPermission self.now.roles name operation }
         ensures test { result ≡ has_permission self.now.roles name operation }
+        ensures valid { IsValid self.now.roles }
     {
         self.roles.check_access(name.as_str(), operation)
     }
