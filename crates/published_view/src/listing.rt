@@ -7,10 +7,10 @@ ghost use Rattle.session_queries.specs.Shown.{shown};
 ghost use Rattle.published_view.specs.Listing.{facts_for, is_listed, listed_from, outcome_of, outcomes_of, tricks_shown};
 
 use disclosure_rules::{Fact, Marks, Viewer, decide};
-use query_filter::{BoardFacts, Filter, Outcomes, TrickTable};
+use query_filter::{BoardFacts, Filter, TrickTable};
 use scoring::Outcome;
 use session_book::State;
-use session_queries::{analysis_of, push_found, shown_results};
+use session_queries::{Items, analysis_of, push_found, shown_results};
 use standings::{CellResult, TableResult};
 use std::alloc::{AllocError, Global};
 
@@ -109,7 +109,7 @@ fn facts_for(
     Ok(BoardFacts {
         vulnerability: marks.vulnerability,
         dealer: marks.dealer,
-        outcomes: Outcomes::new(outcomes),
+        outcomes: Items::new(outcomes),
         tricks: tricks_shown(state, viewer, board),
     })
 }

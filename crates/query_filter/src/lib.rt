@@ -9,7 +9,6 @@ mod filter;
 mod holds;
 pub mod laws;
 mod limits;
-mod outcomes;
 mod trick_table;
 
 pub use atom::Atom;
@@ -17,5 +16,4 @@ pub use board_facts::BoardFacts;
 pub use bounds::{Bounds, ScoreBounds};
 pub use condition::Condition;
 pub use filter::Filter;
-pub use outcomes::Outcomes;
 pub use trick_table::{StrainTricks, TrickTable};

@@ -10,7 +10,7 @@ use crate::session_fault::SessionFault;
 use crate::user::users_of;
 use json_fields::{has_only, limited_at, small_number_at, text_at};
 use serde_json::Value;
-use session_opening::NewUsers;
+use session_opening::{Items, NewUser};
 use std::alloc::Global;
 
 /// The most visits of a solver's call.
@@ -25,7 +25,7 @@ pub(crate) struct Parts<'t> {
     pub(crate) per_set: u8,
     pub(crate) rounds: u8,
     pub(crate) tables: u8,
-    pub(crate) users: NewUsers,
+    pub(crate) users: Items<NewUser>,
 }
 
 fn with_boards<'t>(alloc: Global, value: &'t Value) -> Result<Parts<'t>, SessionFault>

@@ -12,7 +12,7 @@ use crate::session_fault::SessionFault;
 use disclosure_rules::Seat;
 use json_fields::{has_only, name_at, read_digest, read_pair, read_place, read_role};
 use serde_json::Value;
-use session_opening::{NewUser, NewUsers, RoleList};
+use session_opening::{Items, NewUser};
 use session_roles::Role;
 use std::alloc::Global;
 use user_names::{Digest, Name};
@@ -31,14 +31,14 @@ fn roles_in(alloc: Global, list: &[Value]) -> Result<Vec<Role>, SessionFault>
     Ok(roles)
 }
 
-fn roles_of(alloc: Global, value: &Value) -> Result<RoleList, SessionFault>
+fn roles_of(alloc: Global, value: &Value) -> Result<Items<Role>, SessionFault>
     ensures { GivesPart result (user_roles.value (get user_roles.name (view value.now))) }
 {
     let Some(member) = value.get("roles") else {
         return Err(SessionFault::BadField);
     };
     match member.as_array() {
-        Some(list) => Ok(RoleList::new(roles_in(alloc, list.as_slice())?)),
+        Some(list) => Ok(Items::new(roles_in(alloc, list.as_slice())?)),
         None => Err(SessionFault::BadField),
     }
 }
@@ -101,7 +101,7 @@ fn new_user_of(alloc: Global, value: &Value) -> Result<NewUser, SessionFault>
     }
 }
 
-fn users_in(alloc: Global, list: &[Value]) -> Result<NewUsers, SessionFault>
+fn users_in(alloc: Global, list: &[Value]) -> Result<Items<NewUser>, SessionFault>
     ensures users { IfOk result (λ users. each new_user_of (items_view list.now) ≡ Some users) }
     ensures fault { IfErr result (λ fault. FailsPart fault (each new_user_of (items_view list.now))) }
 {
@@ -110,10 +110,10 @@ fn users_in(alloc: Global, list: &[Value]) -> Result<NewUsers, SessionFault>
         let user = new_user_of(alloc, value)?;
         users.push(user)?;
     }
-    Ok(NewUsers::new(users))
+    Ok(Items::new(users))
 }
 
-pub(crate) fn users_of(alloc: Global, value: &Value) -> Result<NewUsers, SessionFault>
+pub(crate) fn users_of(alloc: Global, value: &Value) -> Result<Items<NewUser>, SessionFault>
     ensures { GivesPart result (users.value (get users.name (view value.now))) }
 {
     let Some(member) = value.get("users") else {

@@ -1,6 +1,7 @@
-use crate::new_users::NewUsers;
+use crate::new_user::NewUser;
 use movement::Movement;
 use pbn_records::BoardSet;
+use table_terms::Items;
 
 /// What a session opens with: who plays what where, the boards, and the users.
 #[derive(Drop)]
@@ -8,5 +9,5 @@ pub struct Config {
     pub movement: Movement,
     /// The boards of the movement, from 1.
     pub boards: BoardSet,
-    pub users: NewUsers,
+    pub users: Items<NewUser>,
 }

@@ -4,14 +4,11 @@
 mod config;
 pub mod laws;
 mod new_user;
-mod new_users;
 mod opening;
 mod opening_acceptance;
 mod opening_refusal;
-mod role_list;
 
 pub use config::Config;
 pub use new_user::NewUser;
-pub use new_users::NewUsers;
 pub use opening_refusal::OpeningRefusal;
-pub use role_list::RoleList;
+pub use table_terms::Items;

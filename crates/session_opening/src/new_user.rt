@@ -1,6 +1,7 @@
-use crate::role_list::RoleList;
 use disclosure_rules::Seat;
+use session_roles::Role;
 use session_state::Digest;
+use table_terms::Items;
 use user_names::Name;
 
 /// A user with whom a session opens.
@@ -8,8 +9,8 @@ use user_names::Name;
 pub struct NewUser {
     pub name: Name,
     pub digest: Digest,
-    /// The roles to be assigned, in their order.
-    pub roles: RoleList,
+    /// The roles to be assigned, as they were written: in their order, and some perhaps twice.
+    pub roles: Items<Role>,
     /// Where the user sits, if the user plays.
     pub seat: Option<Seat>,
 }

@@ -1,5 +1,4 @@
 use crate::card_costs::CardCosts;
-use crate::items::Items;
 use cards::Deal;
 use denials::Denial;
 use disclosure_rules::{Marks, Public};
@@ -9,6 +8,7 @@ use rbac::{Account, Inheritance};
 use scoring::Standing;
 use session_state::{Play, Seated};
 use standings::TravellerRow;
+use table_terms::Items;
 
 /// What a query is answered.
 #[derive(Drop)]

@@ -4,7 +4,6 @@
 
 mod body;
 mod card_costs;
-mod items;
 mod known;
 pub mod laws;
 mod push;
@@ -14,10 +13,10 @@ mod results;
 
 pub use body::Body;
 pub use card_costs::CardCosts;
-pub use items::Items;
 pub use known::{analysis_of, costs_of, play_of, reason_of, result_of};
 pub use push::push_found;
 pub use query::Query;
 pub use reply::Reply;
 pub use results::shown_results;
 pub use session_state::{Play, Seated};
+pub use table_terms::Items;

@@ -2,7 +2,7 @@ ghost use Rattle.std.specs.Prelude.{◌≡◌};
 
 use std::marker::Model;
 
-/// A list that a reply holds: clauses see its items.
+/// A list in its order, as a field of a struct: clauses see its items.
 #[derive(Drop)]
 pub struct Items<T>(Vec<T>);
 
