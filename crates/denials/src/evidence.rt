@@ -40,7 +40,15 @@ fn board_named(rule: Rule, fact: Fact) -> u8
 {
     match rule {
         Rule::NoAccount | Rule::NotAMember | Rule::AccountsAreClosed => 0,
-        _ => fact.board().unwrap_or(0),
+        Rule::BoardIsHeld
+        | Rule::StillToPlay
+        | Rule::OthersStillPlay
+        | Rule::NeitherContestantNorSpectator
+        | Rule::BoardIsIncomplete
+        | Rule::AnalysisWaits
+        | Rule::PlayWaits
+        | Rule::ReasonIsForThePairs
+        | Rule::NoResult => fact.board().unwrap_or(0),
     }
 }
 

@@ -54,27 +54,61 @@ impl Fact {
     pub fn is_accounts(self) -> bool
         ensures { result ≡ is_accounts self }
     {
-        matches!(self, Fact::Accounts)
+        match self {
+            Fact::Accounts => true,
+            Fact::Public
+            | Fact::Hands(_)
+            | Fact::Analysis(_)
+            | Fact::Result(_)
+            | Fact::Play(_)
+            | Fact::Cost(_)
+            | Fact::Reason(_) => false,
+        }
     }
 
     /// Whether the fact tells of the double-dummy value of the hands.
     pub fn is_analysed(self) -> bool
         ensures { result ≡ is_analysed self }
     {
-        matches!(self, Fact::Analysis(_) | Fact::Cost(_))
+        match self {
+            Fact::Analysis(_) | Fact::Cost(_) => true,
+            Fact::Public
+            | Fact::Accounts
+            | Fact::Hands(_)
+            | Fact::Result(_)
+            | Fact::Play(_)
+            | Fact::Reason(_) => false,
+        }
     }
 
     /// Whether the fact tells how the cards were played.
     pub fn is_of_play(self) -> bool
         ensures { result ≡ is_of_play self }
     {
-        matches!(self, Fact::Play(_) | Fact::Cost(_))
+        match self {
+            Fact::Play(_) | Fact::Cost(_) => true,
+            Fact::Public
+            | Fact::Accounts
+            | Fact::Hands(_)
+            | Fact::Analysis(_)
+            | Fact::Result(_)
+            | Fact::Reason(_) => false,
+        }
     }
 
     /// Whether the fact is the reason of a ruling.
     pub fn is_reason(self) -> bool
         ensures { result ≡ is_reason self }
     {
-        matches!(self, Fact::Reason(_))
+        match self {
+            Fact::Reason(_) => true,
+            Fact::Public
+            | Fact::Accounts
+            | Fact::Hands(_)
+            | Fact::Analysis(_)
+            | Fact::Result(_)
+            | Fact::Play(_)
+            | Fact::Cost(_) => false,
+        }
     }
 }

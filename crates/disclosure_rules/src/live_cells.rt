@@ -9,7 +9,7 @@ use std::marker::Model;
 /// Where there is a result: clauses see, for each board, the list of the tables, ascending.
 #[derive(Drop)]
 pub struct LiveCells {
-    words: [u16; 64],
+    words: [u16; Movement::MOST_BOARDS as usize],
 }
 
 impl Model for LiveCells {
@@ -27,7 +27,9 @@ impl LiveCells {
     pub fn new() -> LiveCells
         ensures { result ≡ replicate most_boards [] }
     {
-        LiveCells { words: [0; 64] }
+        LiveCells {
+            words: [0; Movement::MOST_BOARDS as usize],
+        }
     }
 
     pub fn copy(&self) -> LiveCells

@@ -12,7 +12,7 @@ use movement::Movement;
 pub struct Public {
     pub movement: Movement,
     /// The markings of board 1, 2, ..
-    pub marks: [Marks; 64],
+    pub marks: [Marks; Movement::MOST_BOARDS as usize],
     /// The present round, from 1.
     pub round: u8,
     pub phase: Phase,

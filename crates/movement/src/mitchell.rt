@@ -20,7 +20,7 @@ fn has_skipped(tables: u8, round: u8) -> bool
 
 /// How many tables the East-West pairs have moved up by a round.
 fn moved(tables: u8, round: u8) -> u8
-    requires { round < 16 }
+    requires { round < spec.most_tables }
     ensures { result ≡ round + (if spec.has_skipped tables round then 1 else 0) }
 {
     if has_skipped(tables, round) {

@@ -1,7 +1,7 @@
 //! The answers to queries, each for a user who is allowed the fact that decides it.
 ghost use Rattle.std.specs.Prelude.{◌≡◌, ◌≤◌, ◌+◌, ◌-◌, ◌++◌, true, Some, None, All, IfOk, OnOk, slice_get, vec_len};
 ghost use Rattle.disclosure_rules.specs.Policy.{first_rule};
-ghost use Rattle.movement.specs.Movement.{IsSection, has_board};
+ghost use Rattle.movement.specs.Movement.{IsSection, has_board, most_tables};
 ghost use Rattle.movement.specs.Schedule.{is_scheduled};
 ghost use Rattle.session_book.specs.session_state.SessionState.{cell_at};
 ghost use Rattle.session_book.specs.session_state.Readers.{seats_in_order};
@@ -202,7 +202,7 @@ fn add_board(
     requires there { has_board state.now.public.movement number ≡ true }
     ensures earnings { OnOk result (earnings.new.items ≡ earnings.old.items
         ++ board_earnings state.now.public.movement (shown state.now viewer.now) number) }
-    ensures few { OnOk result (vec_len earnings.new ≤ vec_len earnings.old + 16) }
+    ensures few { OnOk result (vec_len earnings.new ≤ vec_len earnings.old + most_tables) }
 {
     let public = state.public();
     if decide(public, viewer, Fact::Hands(number)).is_some() {

@@ -15,6 +15,7 @@ use crate::opening_acceptance::opening_refusal;
 use crate::opening_refusal::OpeningRefusal;
 use cards::Deal;
 use disclosure_rules::{Boards, LiveCells, Marks, Phase, Public};
+use movement::Movement;
 use rbac::Roles;
 use session_roles::Role;
 use session_state::room::push_within;
@@ -145,12 +146,12 @@ fn public(config: &Config) -> Public
 }
 
 // The markings of the boards.
-fn marks(config: &Config) -> [Marks; 64]
+fn marks(config: &Config) -> [Marks; Movement::MOST_BOARDS as usize]
     requires { boards_of config.now.movement ≤ length config.now.boards }
     ensures marks { result ≡ opening_marks (boards_in_play config.now) }
     ensures places { length result ≡ most_boards }
 {
-    let mut marks = [NO_MARKS; 64];
+    let mut marks = [NO_MARKS; Movement::MOST_BOARDS as usize];
     for place in 0..config.movement.boards() {
         marks[place as usize] = Marks {
             dealer: config.boards.dealer(place + 1),
