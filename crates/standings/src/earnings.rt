@@ -1,4 +1,4 @@
-ghost use Rattle.std.specs.Prelude.{◌≡◌, ◌≤◌, ◌+◌, ◌*◌, ◌++◌, length, All, OnOk, vec_len};
+ghost use Rattle.std.specs.Prelude.{◌≡◌, ◌≤◌, ◌+◌, ◌-◌, ◌*◌, ◌++◌, length, All, OnOk, vec_len};
 ghost use Rattle.movement.specs.Movement.{IsCell, most_tables};
 ghost use Rattle.standings.specs.Ranking.{top_of, earned_north_south, earned_east_west, earning_of, earnings_of};
 
@@ -45,11 +45,12 @@ fn earning_of(
     requires cell { IsCell movement found.now.cell }
     ensures { result ≡ earning_of movement vulnerability scores.now found.now }
 {
+    let for_north_south = earned_north_south(vulnerability, scores, &found.result);
     Earning {
         north_south: north_south_at(movement, found.cell),
         east_west: east_west_at(movement, found.cell),
-        for_north_south: earned_north_south(vulnerability, scores, &found.result),
-        for_east_west: earned_east_west(vulnerability, scores, &found.result),
+        for_north_south,
+        for_east_west: earned_east_west(for_north_south, scores, &found.result),
         top: 100 * top_of(scores),
     }
 }
@@ -67,17 +68,15 @@ fn earned_north_south(vulnerability: Vulnerability, scores: &[i32], found: &Cell
     }
 }
 
-/// What a result earns for East-West, in hundredths of a unit: of what was played, the rest of the top.
-fn earned_east_west(vulnerability: Vulnerability, scores: &[i32], found: &CellResult) -> u32
+/// What a result earns for East-West, in hundredths of a unit: of what was played, the rest of the top, by what it
+/// earns for North-South.
+fn earned_east_west(for_north_south: u32, scores: &[i32], found: &CellResult) -> u32
     requires { length scores.now ≤ most_tables }
-    ensures { result ≡ earned_east_west vulnerability scores.now found.now }
+    ensures { (vulnerability : Vulnerability) → for_north_south ≡ earned_north_south vulnerability scores.now found.now →
+        result ≡ earned_east_west vulnerability scores.now found.now }
 {
     match found {
-        CellResult::Confirmed(_) => (100 * top_of(scores)).saturating_sub(earned_north_south(
-            vulnerability,
-            scores,
-            found,
-        )),
+        CellResult::Confirmed(_) => (100 * top_of(scores)).saturating_sub(for_north_south),
         CellResult::Ruled { east_west, .. } => part_of_top(*east_west, scores),
     }
 }
@@ -95,7 +94,7 @@ fn part_of_top(percentage: u8, scores: &[i32]) -> u32
 fn top_of(scores: &[i32]) -> u32
     requires { length scores.now ≤ most_tables }
     ensures top { result ≡ top_of scores.now }
-    ensures few { result ≤ 30 }
+    ensures few { result ≤ 2 * (most_tables - 1) }
 {
     2 * (scores.len() as u32).saturating_sub(1)
 }
