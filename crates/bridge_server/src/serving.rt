@@ -6,6 +6,7 @@ ghost use Rattle.program.specs.Status.{IsStatus};
 
 use crate::files::read_file;
 use crate::session_server::SessionServer;
+use connections::MOST_MESSAGE_BYTES;
 use program::{Fault, Keeper, PlainKeeper, open_session, status_of_fault};
 use server_words::Serving;
 use std::io::{Read, Write};
@@ -13,7 +14,10 @@ use std::net::{Net, OpenListener};
 use std::rt::Files;
 use std::sync::Wait;
 use std::time::Clock;
-use websocket_server::{MessageServer, listen, serve_clients, serve_forever};
+use websocket_server::{LONGEST_MESSAGE, MessageServer, listen, serve_clients, serve_forever};
+
+// A message that is one byte too long is read whole, so that it can be answered.
+const _: () = prove!(LONGEST_MESSAGE == MOST_MESSAGE_BYTES + 1);
 
 /// Serves clients in a session of files, and answers the status after it, or where none could be served.
 pub(crate) fn status_of_serving<R: Files + Net + Clock + Wait + AllocGlobal, E: Write>(

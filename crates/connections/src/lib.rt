@@ -7,3 +7,4 @@ pub mod laws;
 mod message;
 
 pub use connection::Connection;
+pub use wire::MOST_MESSAGE_BYTES;

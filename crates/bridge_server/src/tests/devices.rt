@@ -49,8 +49,8 @@ pub(super) fn line_feeds(bytes: &[u8]) -> usize {
     count
 }
 
-/// A writer that keeps lines back until it is flushed, and then has room for so many in all. It tells how many have
-/// arrived.
+/// A writer that keeps lines back until it is flushed, and then has room for so many in all: where there are more, that
+/// flush fails, and another would not. It tells how many have arrived.
 #[derive(Drop)]
 pub(super) struct Holding<'c> {
     pub(super) held: usize,
@@ -67,7 +67,8 @@ impl Write for Holding<'_> {
     fn flush(&mut self) -> io::Result<()> {
         self.arrived.set(self.held.min(self.room));
         if self.held > self.room {
-            return Err(io::Error::from(ErrorKind::BrokenPipe));
+            self.room = usize::MAX;
+            return Err(io::Error::from(ErrorKind::Interrupted));
         }
         Ok(())
     }

@@ -4,6 +4,7 @@ use super::client::Turn::{Says, Sends, ShakesHands};
 use super::client::{Client, Turn, is_served};
 use super::running::{Ending, ends};
 use super::session::{deals, session, session_alone};
+use crate::files::MOST_FILE_BYTES;
 use std::alloc::{AllocError, Global};
 use std::net::{Ipv4Addr, Net, OpenListener, TcpListener};
 use std::rt::Files;
@@ -15,8 +16,9 @@ use std::{fs, io, thread};
 // A close without a reason, and its answer.
 const CLOSES: Turn = Sends(b"\x88\x80\0\0\0\0", b"\x88\0");
 
-// The first byte of a frame that is sent or heard as bytes says that it is a whole text (`\x81`), a whole binary message
-// (`\x82`), a close (`\x88`), a ping (`\x89`) or a pong (`\x8a`). Its length follows, and then in what is sent a mask.
+// The first byte of a frame that is sent or heard as bytes says that it is a whole text (`\x81`), a whole binary
+// message (`\x82`), a close (`\x88`), a ping (`\x89`) or a pong (`\x8a`). Its length follows, and then in what is sent
+// a mask.
 static CLIENTS: &[Client] = &[
     (
         "a player who signs in with a masked text, and asks for a board",
@@ -132,6 +134,14 @@ fn at_port(alloc: Global, words: &str, port: u16) -> Result<String, AllocError> 
     format!(in alloc; "{words} --port {port}")
 }
 
+// Writes a file of so many blanks.
+fn write_blanks<R: Files + AllocGlobal>(rt: &R, path: &str, length: usize) -> Result<(), Fail> {
+    let mut text = Vec::new(rt.alloc());
+    text.resize(length, b' ')?;
+    fs::write(rt, path, text.as_slice())?;
+    Ok(())
+}
+
 // Writes the files of the session, in the folder `out` of the one that the test is run in.
 fn write_files<R: Files>(rt: &R) -> io::Result<()> {
     let files = [
@@ -163,6 +173,15 @@ static ENDINGS: &[(&str, Ending)] = &[
         (1, "", "bridge_server: BadField\n"),
     ),
     ("serve --session out/session --deals out/deals", (3, "", "")),
+    // As many bytes as a file can have, and one more: what can't be read is told before anything else.
+    (
+        "serve --session out/session --deals out/longest",
+        (1, "", "bridge_server: MissingBoard(1)\n"),
+    ),
+    (
+        "serve --session out/with_deals --deals out/too_long",
+        (3, "", ""),
+    ),
 ];
 
 // Whether a row's words end so.
@@ -180,6 +199,8 @@ fn ends_at<R: Files + Net + Clock + Wait + AllocGlobal>(
 #[test]
 fn serves_nobody_where_another_listens(rt: HostRuntime) -> Result<(), Fail> {
     write_files(&rt)?;
+    write_blanks(&rt, "out/longest", MOST_FILE_BYTES)?;
+    write_blanks(&rt, "out/too_long", MOST_FILE_BYTES + 1)?;
     let listener = TcpListener::bind(&rt, (Ipv4Addr::LOCALHOST, 0))?;
     let port = listener.local_addr()?.port();
     for row in ENDINGS {
