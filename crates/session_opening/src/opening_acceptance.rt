@@ -11,7 +11,7 @@ ghost use Rattle.session_opening.specs.Opening.{opening_seats};
 ghost use Rattle.session_opening.specs.OpeningRefusal.{account_causes, seat_causes, user_causes, users_causes, opening_refusal};
 ghost use Rattle.session_state.specs.Refusal.{first_cause};
 ghost use Rattle.session_opening.specs.declared.opening_refusal.OpeningRefusal.TheVariants.{Separation};
-ghost use Rattle.session_state.specs.Seats.{is_pair, is_of_side, same_seat, is_taken};
+ghost use Rattle.session_state.specs.Seats.{same_seat, is_taken};
 
 use crate::config::Config;
 use crate::new_user::NewUser;
@@ -20,8 +20,7 @@ use disclosure_rules::Seat;
 use movement::Movement;
 use rbac::{Roles, is_user_name};
 use session_roles::{Role, RoleSet, SeparationSet};
-use session_state::first_cause;
-use table_terms::{Pair, Place};
+use session_state::{first_cause, is_of_side, is_pair};
 use user_names::Name;
 
 /// The first cause not to open a session, if one is met.
@@ -152,20 +151,6 @@ fn stands_in(role: Role, list: &[Role]) -> bool
     ensures { result ≡ has list.now role }
 {
     list.iter().any(|other| role == *other)
-}
-
-// Whether the section has the pair.
-fn is_pair(movement: Movement, pair: Pair) -> bool
-    ensures { result ≡ is_pair movement pair }
-{
-    1 <= pair.number && pair.number <= movement.tables()
-}
-
-// Whether the place is one of the pair's side.
-fn is_of_side(pair: Pair, place: Place) -> bool
-    ensures { result ≡ is_of_side pair place }
-{
-    pair.side == place.side()
 }
 
 // Whether somebody sits there.

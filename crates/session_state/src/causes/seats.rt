@@ -30,15 +30,15 @@ pub fn unseat_cause(state: &State, name: Name) -> Option<Refusal>
     (!state.has_seat(name)).then_some(Refusal::NotSeated)
 }
 
-// Whether the section has the pair.
-fn is_pair(movement: Movement, pair: Pair) -> bool
+/// Whether the section has the pair.
+pub fn is_pair(movement: Movement, pair: Pair) -> bool
     ensures { result ≡ is_pair movement pair }
 {
     1 <= pair.number && pair.number <= movement.tables()
 }
 
-// Whether the place is one of the pair's side.
-fn is_of_side(pair: Pair, place: Place) -> bool
+/// Whether the place is one of the pair's side.
+pub fn is_of_side(pair: Pair, place: Place) -> bool
     ensures { result ≡ is_of_side pair place }
 {
     match place {
