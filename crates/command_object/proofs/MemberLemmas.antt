@@ -17,7 +17,7 @@ use Rattle.scoring.specs.declared.outcome.Outcome.TheVariants.{PassedOut}
 use Rattle.scoring.specs.Doubling.{times_doubled}
 use Rattle.json_fields.specs.Form.{item_count, AreEach}
 use Rattle.json_fields.specs.Doubling.{doubling_numbered}
-use Rattle.json_fields.specs.Message.{declarer, trumps}
+use Rattle.json_fields.specs.Message.{declarer, strain}
 use Rattle.command_object.specs.Result.{doubled, level_numbered, level, tricks_numbered, tricks_won, played_contract, text_or_played, outcome_by, IsOutcome, outcome}
 use Rattle.command_object.specs.Play.{suit_named, rank_named, card_by, card_named, card_of, cards_of_items, cards_by, play_by, IsCard, IsPlay, play}
 use Rattle.json_fields.proofs.FormLemmas.{Agrees, AgreesForm, form_agrees, with_agrees, kept, both_true, formed_read, formed_reads, is_most, most_is, means_read, means_reads, named_read, named_agrees, doubling_is, doubling_small, doubling_back, each_read, each_reads, each_count}
@@ -73,7 +73,7 @@ tricks_agree = record {
 
 played_agrees : AgreesForm played_contract
 played_agrees =
-    with_agrees _ tricks_won (with_agrees _ trumps (with_agrees _ level (with_agrees _ doubled (with_agrees _ declarer (form_agrees [] _)
+    with_agrees _ tricks_won (with_agrees _ strain (with_agrees _ level (with_agrees _ doubled (with_agrees _ declarer (form_agrees [] _)
     (named_agrees _ _ _ place_reads place_found)) doubled_agrees) level_agrees) (named_agrees _ _ _ strain_reads strain_found)) tricks_agree
 
 text_read : (d : Data) (o : Option (List ℕ)) (ended : Outcome) → as_str d ≡ o → text_or_played o d ≡ Some ended

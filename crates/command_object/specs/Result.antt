@@ -10,7 +10,7 @@ use Rattle.scoring.specs.Doubling.{times_doubled}
 use Rattle.json_fields.specs.Doubling.{doubling_numbered}
 use Rattle.json_fields.specs.Form.{Member, Form, form, ◌with◌, formed, HasForm}
 use Rattle.json_fields.specs.Field.{number, small}
-use Rattle.json_fields.specs.Message.{declarer, trumps}
+use Rattle.json_fields.specs.Message.{declarer, strain}
 
 -- how often the contract was doubled
 abbrev pub doubled : Member Doubling
@@ -51,7 +51,7 @@ tricks_won = record { name = codes "tricks"; value = λ o. option_and_then trick
 abbrev pub played_contract : Form Outcome
 played_contract =
     form [] (λ by doubling n x won. Played (record { level = n; strain = x; declarer = by; doubling = doubling }) won)
-    with declarer with doubled with level with trumps with tricks_won
+    with declarer with doubled with level with strain with tricks_won
 
 -- the text `pass`, or a contract that was played
 abbrev pub text_or_played : Option (List ℕ) → Data → Option Outcome

@@ -6,7 +6,7 @@ ghost use Rattle.serde_json.specs.View.{view};
 ghost use Rattle.json_fields.specs.Form.{formed};
 ghost use Rattle.command_object.specs.Result.{doubled, level, tricks_won, played_contract, text_or_played, outcome};
 
-use json_fields::{doubling_numbered, has_only, read_declarer, read_trumps, small_number_at};
+use json_fields::{doubling_numbered, has_only, read_declarer, read_strain, small_number_at};
 use scoring::{Contract, Doubling, Level, Outcome, Tricks};
 use serde_json::Value;
 
@@ -37,7 +37,7 @@ fn played_of(value: &Value) -> Option<Outcome>
     let declarer = read_declarer(value)?;
     let doubling = doubling_of(value)?;
     let level = level_of(value)?;
-    let strain = read_trumps(value)?;
+    let strain = read_strain(value)?;
     let tricks = tricks_of(value)?;
     let contract = Contract {
         level,

@@ -11,7 +11,7 @@ use Rattle.json_fields.specs.Doubling.{doubling_numbered}
 use Rattle.json_fields.specs.Field.{limited, small}
 use Rattle.json_fields.specs.Form.{Form, Member, applied, form, ◌with◌, formed, has_only}
 use Rattle.json_fields.specs.Letter.{place_named, strain_named}
-use Rattle.json_fields.specs.Message.{declarer, trumps}
+use Rattle.json_fields.specs.Message.{declarer, strain}
 use Rattle.query_filter.specs.declared.atom.Atom.{Atom}
 use Rattle.query_filter.specs.declared.atom.Atom.TheVariants as atom
 use Rattle.query_filter.specs.declared.bounds.Bounds.{Bounds}
@@ -57,7 +57,7 @@ score_bounds d =
 abbrev pub double_dummy_bounds : Form Atom
 double_dummy_bounds =
     form [] (λ by high low x. atom.DoubleDummy by x (record { min = low; max = high }))
-    with declarer with most with least with trumps
+    with declarer with most with least with strain
 
 -- ---- atoms
 

@@ -21,8 +21,8 @@ board = numbered (codes "board")
 abbrev pub declarer : Member Place
 declarer = named (codes "by") place_named (λ place. place_letter place ∷ [])
 
-abbrev pub trumps : Member Strain
-trumps = named (codes "strain") strain_named (λ x. strain_letter x ∷ [])
+abbrev pub strain : Member Strain
+strain = named (codes "strain") strain_named (λ x. strain_letter x ∷ [])
 
 -- the user in whose name a message is
 abbrev pub user : Member (List ℕ)

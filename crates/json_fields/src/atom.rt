@@ -13,7 +13,7 @@ ghost use Rattle.json_fields.specs.Atom.{marking_named, most, least, bounds, sco
 use crate::doubling::doubling_numbered;
 use crate::field::{has_only, small_number_at, text_at};
 use crate::letter::{place_named, strain_named};
-use crate::message::{read_declarer, read_trumps};
+use crate::message::{read_declarer, read_strain};
 use query_filter::{Atom, Bounds, ScoreBounds};
 use scoring::Doubling;
 use serde_json::Value;
@@ -147,7 +147,7 @@ fn double_dummy_bounds(value: &Value) -> Option<Atom>
     let declarer = read_declarer(value)?;
     let max = most_of(value)?;
     let min = least_of(value)?;
-    let strain = read_trumps(value)?;
+    let strain = read_strain(value)?;
     let tricks = Bounds { min, max };
     Some(Atom::DoubleDummy {
         declarer,

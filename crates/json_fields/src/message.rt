@@ -4,7 +4,7 @@ ghost use Rattle.std.specs.Prelude.{◌≡◌};
 ghost use Rattle.serde_json.specs.Find.{get};
 ghost use Rattle.serde_json.specs.View.{view};
 ghost use Rattle.json_fields.specs.Reading.{wanted};
-ghost use Rattle.json_fields.specs.Message.{table, board, declarer, trumps, since};
+ghost use Rattle.json_fields.specs.Message.{table, board, declarer, strain, since};
 
 use crate::field::{small_number_at, text_at};
 use crate::letter::{place_named, strain_named};
@@ -34,8 +34,8 @@ pub fn read_declarer(value: &Value) -> Option<Place>
 }
 
 /// The strain in which a board is played, by the member `strain`.
-pub fn read_trumps(value: &Value) -> Option<Strain>
-    ensures { result ≡ trumps.value (get trumps.name (view value.now)) }
+pub fn read_strain(value: &Value) -> Option<Strain>
+    ensures { result ≡ strain.value (get strain.name (view value.now)) }
 {
     strain_named(text_at(value, "strain")?)
 }
