@@ -2,13 +2,14 @@ ghost use Rattle.std.specs.Prelude.{◌≡◌, ℕ, ◌||◌, ◌<◌, ◌≤◌
 ghost use Rattle.movement.specs.Movement.{boards_of, most_boards};
 ghost use Rattle.rbac.specs.Account.{most_users};
 ghost use Rattle.rbac.specs.Authorization.{IsValid};
+ghost use Rattle.session_state.specs.SessionState.{viewer_of};
 ghost use Rattle.session_book.specs.Exposure.{users_of};
 ghost use Rattle.session_book.specs.Touched.{touched_at, touched_before};
 ghost use Rattle.session_book.specs.declared.touched.Touched.TheVariants.{Board, User};
 ghost use Rattle.session_book.specs.ExposureTable.{is_noted, user_at, IsAsked, IsNoted, one_board, first_boards, first_users};
 
 use crate::touched::Touched;
-use disclosure_rules::Fact;
+use disclosure_rules::{Fact, Viewer, decide};
 use rbac::Roles;
 use session_state::State;
 use session_state::room::filled;
@@ -77,8 +78,8 @@ impl Exposure {
         self.words[place] |= 1 << (board - 1);
     }
 
-    /// Notes what the users are allowed, of so many boards: each that isn't noted yet is asked about.
-    pub fn ask_all(&mut self, state: &State, boards: u8)
+    // Notes what the users are allowed, of so many boards: each that isn't noted yet is asked about.
+    fn ask_all(&mut self, state: &State, boards: u8)
         requires { boards ≤ most_boards }
         ensures asked { IsAsked state.now (first_users (length (users_of state.now)) boards) self.old self.new }
         ensures valid { IsValid state.now.roles }
@@ -127,7 +128,7 @@ impl Exposure {
         if board < 1 || board > boards {
             return;
         }
-        self.ask(state, place, user, board);
+        self.ask(state, &state.viewer(user), place, board);
     }
 
     // Notes what the user at a place is allowed, if it has the name.
@@ -143,28 +144,30 @@ impl Exposure {
         self.ask_boards(state, place, user, boards);
     }
 
-    /// Notes what the user at a place is allowed, of so many boards: each that isn't noted yet is asked about.
-    pub fn ask_boards(&mut self, state: &State, place: usize, user: Name, boards: u8)
+    // Notes what the user at a place is allowed, of so many boards: each that isn't noted yet is asked about.
+    fn ask_boards(&mut self, state: &State, place: usize, user: Name, boards: u8)
         requires room { place < most_users }
         requires user { user ≡ user_at state.now place }
         requires boards { boards ≤ most_boards }
         ensures { IsAsked state.now (first_boards place boards) self.old self.new }
     {
+        let viewer = state.viewer(user);
         for k in 0..boards {
-            self.ask(state, place, user, k + 1);
+            self.ask(state, &viewer, place, k + 1);
         }
     }
 
-    /// Notes a board for the user at a place, where its hands are allowed. Who was shown something of it before isn't
-    /// asked about again.
-    pub fn ask(&mut self, state: &State, place: usize, user: Name, board: u8)
+    // Notes a board for the user at a place, where its hands are allowed. Who was shown something of it before isn't
+    // asked about again.
+    fn ask(&mut self, state: &State, viewer: &Viewer, place: usize, board: u8)
         requires room { place < most_users }
-        requires user { user ≡ user_at state.now place }
+        requires viewer { viewer.now ≡ viewer_of state.now (user_at state.now place) }
         requires from { 1 ≤ board }
         requires to { board ≤ most_boards }
         ensures { IsAsked state.now (one_board place board) self.old self.new }
     {
-        if !self.contains(place, board) && state.decide(user, Fact::Hands(board)).is_none() {
+        let hands = Fact::Hands(board);
+        if !self.contains(place, board) && decide(state.public(), viewer, hands).is_none() {
             self.insert(place, board);
         }
     }
