@@ -76,8 +76,10 @@ impl<K: Keeper> Connection<K> {
             ((fault ≡ NotKnown) × (¬ IsOwnToken self.new name token.now)) ⊎ (fault ≡ NoEntry)) }
         ensures adds { AddsNothing K.others self.old self.new }
     {
+        // The token is hashed whoever is named, so that the longest part of the work doesn't tell who has an account.
+        let hashed = Sha256::digest(token);
         match self.keeper.digest(name) {
-            Ok(Some(digest)) if is_digest_of(&digest, token) => {
+            Ok(Some(digest)) if is_digest(&digest, &hashed[..]) => {
                 self.user = Some(name);
                 Ok(())
             }
@@ -205,12 +207,11 @@ impl<K: Keeper> Connection<K> {
     }
 }
 
-// Whether a digest is that of a token's bytes.
-fn is_digest_of(digest: &TokenDigest, token: &[u8]) -> bool
-    ensures { IsTrue result ↔ (digest.now ≡ record { bytes = sha256 token.now }) }
+// Whether an account's digest has these bytes.
+fn is_digest(digest: &TokenDigest, bytes: &[u8]) -> bool
+    ensures { IsTrue result ↔ (digest.now ≡ record { bytes = bytes.now }) }
 {
-    let hashed = Sha256::digest(token);
-    digest.bytes[..] == hashed[..]
+    digest.bytes[..] == bytes[..]
 }
 
 // The text of a reply.
