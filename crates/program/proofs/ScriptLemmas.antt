@@ -11,7 +11,7 @@ use Rattle.script_lines.specs.declared.line_end.LineEnd.TheVariants.{LineFeed, E
 use Rattle.script_lines.specs.declared.reading.ReadFault.{ReadFault}
 use Rattle.script_lines.specs.declared.reading.ReadFault.TheVariants as read
 use Rattle.script_lines.specs.Lines.{pieces_of, ended_line, ended_lines, last_line, lines_of, first_line_of}
-use Rattle.script_lines.specs.Reading.{IsUnbroken, TakesLine, TakesLonger, FailsAtInput, FailsForMemory, FailsFor, FailsWithin}
+use Rattle.script_lines.specs.Reading.{IsUnbroken, TakesLine, TakesLonger, FailsAtInput, FailsForMemory, FailsFor}
 use Rattle.script_lines.specs.Writing.{WritesPart}
 use Rattle.script_lines.proofs.LineLemmas.{piece_more, ended_more, ended_same, all_ended, lines_rest, lines_more}
 use Rattle.script_lines.proofs.ShortLineLemmas.{at_most_one_less}
@@ -180,6 +180,10 @@ module _ (input before reader reader' writer writer' : Option (List ℕ)) (ledge
 
 -- ---- faults
 
+-- a byte that is lost ends no line
+with_lost : (line : List ℕ) (lost : ℕ) → IsUnbroken line → lost ≢ 10 → IsUnbroken (line ++ lost ∷ [])
+with_lost line lost unbroken other = All-append (λ byte. byte ≢ 10) line (lost ∷ []) unbroken (All-cons (λ byte. byte ≢ 10) lost [] other (All-nil (λ byte. byte ≢ 10)))
+
 module _ (input : List ℕ) (before reader reader' writer : Option (List ℕ)) (ledger : Ledger) (left left' most : ℕ) (taken text line : List ℕ) where
   module _ (whole : (pieces_of taken).rest ≡ []) (begun : 1 ≤ length (ended_lines taken)) (taken_first : Consumes (Some input) reader taken) (counted : left + length taken ≡ script_limit)
       (opened : Opens (first_line_of (ended_lines taken)) ledger.opening) (responses : RespondsToEach ledger.opening (messages_among (ended_lines taken)) ledger.journal text) (appended : Appends before writer text) where
@@ -227,7 +231,7 @@ module _ (input : List ℕ) (before reader reader' writer : Option (List ℕ)) (
           read = taken ++ piece;
           consumed = Consumes-trans (Some input) reader reader' taken piece taken_first fails.consumed;
           within = omega (arith, counted, fails.counted, length-append taken piece, length-append line (fails.lost ∷ []));
-          written = written_so_far piece (All-append (λ byte. byte ≢ 10) line (fails.lost ∷ []) fails.unbroken (All-cons (λ byte. byte ≢ 10) fails.lost [] fails.ends_no_line (All-nil (λ byte. byte ≢ 10))));
+          written = written_so_far piece (with_lost line fails.lost fails.unbroken fails.ends_no_line);
         }
 
     ends_of_read : (fault : ReadFault) → FailsFor fault reader reader' most line left left' → EndsWith (fault_of_read fault) input reader' before writer
@@ -249,31 +253,31 @@ nothing_written : (piece : List ℕ) (writer : Option (List ℕ)) → IsUnbroken
 nothing_written piece writer unbroken = subst (λ lines. WritesSoFar lines writer writer) (sym (none_ended piece unbroken)) (Appends-nil writer)
 
 -- the first line isn't read
-first_cut_short : (fault : ReadFault) (input : List ℕ) (reader' writer : Option (List ℕ)) → FailsWithin fault (Some input) reader' script_limit →
-    EndsWith (fault_of_read fault) input reader' writer writer
-first_cut_short read.Input input reader' writer fails = by fails.beyond fails.consumed fails.few fails.full
+first_cut_short : (fault : ReadFault) (input : List ℕ) (reader' writer : Option (List ℕ)) (room : ℕ) (line : List ℕ) (left' : ℕ) →
+    FailsFor fault (Some input) reader' room line script_limit left' → EndsWith (fault_of_read fault) input reader' writer writer
+first_cut_short read.Input input reader' writer room line left' fails = by fails.beyond fails.consumed fails.few fails.full
   where
-    by : (beyond : List ℕ) → Consumes (Some input) reader' (fails.piece ++ beyond) → length beyond ≤ 1 → (0 < length beyond → length fails.piece ≡ script_limit) →
+    by : (beyond : List ℕ) → Consumes (Some input) reader' (fails.piece ++ beyond) → length beyond ≤ 1 → (0 < length beyond → left' ≡ 0) →
         EndsWith Input input reader' writer writer
     by [] consumed few full = inl (record {
       read = fails.piece;
       consumed = subst (Consumes (Some input) reader') (append-nil fails.piece) consumed;
-      within = fails.within;
+      within = omega (arith, fails.counted);
       written = nothing_written fails.piece writer fails.unbroken;
     })
     by (byte ∷ []) consumed few full = inr (record {
       read = fails.piece;
       beyond = byte;
       consumed = consumed;
-      full = full (omega arith);
+      full = omega (arith, fails.counted, full (omega arith));
       written = nothing_written fails.piece writer fails.unbroken;
     })
     by (byte ∷ other ∷ bytes) consumed few full = absurd (omega arith)
-first_cut_short read.OutOfMemory input reader' writer fails = inr (record {
-  read = fails.piece;
+first_cut_short read.OutOfMemory input reader' writer room line left' fails = inr (record {
+  read = line ++ fails.lost ∷ [];
   consumed = fails.consumed;
-  within = fails.within;
-  written = nothing_written fails.piece writer fails.unbroken;
+  within = omega (arith, fails.counted, length-append line (fails.lost ∷ []));
+  written = nothing_written (line ++ fails.lost ∷ []) writer (with_lost line fails.lost fails.unbroken fails.ends_no_line);
 })
 
 -- a response was written in part alone
@@ -467,10 +471,11 @@ first_too_long (Some input) reader' writer left' takes = record {
 }
 
 -- reading the first line fails
-pub first_unread : (known reader' writer : Option (List ℕ)) (fault : ReadFault) (ended : Fault) → ended ≡ fault_of_read fault → FailsWithin fault known reader' script_limit →
-    IfSome known (λ input. EndsWith ended input reader' writer writer)
-first_unread None reader' writer fault ended same fails = tt
-first_unread (Some input) reader' writer fault ended same fails = subst (λ f. EndsWith f input reader' writer writer) (sym same) (first_cut_short fault input reader' writer fails)
+pub first_unread : (known reader' writer : Option (List ℕ)) (room : ℕ) (line : List ℕ) (left' : ℕ) (fault : ReadFault) (ended : Fault) → ended ≡ fault_of_read fault →
+    FailsFor fault known reader' room line script_limit left' → IfSome known (λ input. EndsWith ended input reader' writer writer)
+first_unread None reader' writer room line left' fault ended same fails = tt
+first_unread (Some input) reader' writer room line left' fault ended same fails =
+    subst (λ f. EndsWith f input reader' writer writer) (sym same) (first_cut_short fault input reader' writer room line left' fails)
 
 -- the whole input is read
 pub finished : (input : List ℕ) (before reader writer : Option (List ℕ)) (ledger : Ledger) (left : ℕ) → StandsAtEnd (Some input) before reader writer ledger left → IsDone input reader before writer

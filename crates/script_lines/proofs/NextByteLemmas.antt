@@ -5,6 +5,7 @@ use Rattle.std.specs.Result.{is_err}
 use Rattle.std.specs.Io.BufRead.{ends_with_byte}
 use Rattle.std.specs.Io.KnownBytes.{Consumes}
 use Rattle.std.proofs.KnownBytes.{Consumes-trans}
+use Rattle.std.proofs.Math.Seq.{take-append_seam}
 use Rattle.std.proofs.lemmas.List.{take_all}
 use Rattle.script_lines.specs.declared.reading.ReadFault.{ReadFault}
 use Rattle.script_lines.specs.declared.reading.ReadFault.TheVariants.{Input, OutOfMemory}
@@ -71,10 +72,10 @@ module _ (before reader after : Option (List ℕ)) (piece : List ℕ) (all left 
       }
 
   -- the reader fails
-  pub fails_for : (fault : ReadFault) → fault ≡ Input → FailsAtByte reader after left left' → (most : ℕ) (line : List ℕ) → line ≡ take (most + 2) piece
-      → FailsFor fault before after most line all left'
-  fails_for OutOfMemory is fails most line kept = absurd (cc)
-  fails_for Input is fails most line kept = record {
+  pub fails_for : (fault : ReadFault) → fault ≡ Input → FailsAtByte reader after left left' → (room : ℕ) (line : List ℕ) → line ≡ take room piece
+      → FailsFor fault before after room line all left'
+  fails_for OutOfMemory is fails room line kept = absurd (cc)
+  fails_for Input is fails room line kept = record {
     piece = piece;
     unbroken = unbroken;
     kept = kept;
@@ -98,9 +99,9 @@ module _ (before reader after : Option (List ℕ)) (piece : List ℕ) (all left 
       }
 
   -- there is no memory for that byte
-  pub fails_for_memory : (byte most : ℕ) → byte ≢ 10 → GoesOn before after piece byte all left left' → (line : List ℕ) → line ≡ piece
-      → length line ≤ most + 1 → FailsForMemory before after most line all left'
-  fails_for_memory byte most other more line same few = record {
+  pub fails_for_memory : (byte room : ℕ) → byte ≢ 10 → GoesOn before after piece byte all left left' → (line : List ℕ) → line ≡ piece
+      → length line < room → FailsForMemory before after room line all left'
+  fails_for_memory byte room other more line same few = record {
     unbroken = subst IsUnbroken (sym same) unbroken;
     lost = byte;
     ends_no_line = other;
@@ -108,3 +109,12 @@ module _ (before reader after : Option (List ℕ)) (piece : List ℕ) (all left 
     few = few;
     counted = omega (arith, ap length same, more.counted, length-append piece (byte ∷ []));
   }
+
+-- the reader fails after a CR that follows a line of which as much is kept as may be
+pub fails_after : (before reader after : Option (List ℕ)) (line : List ℕ) (room all left left' : ℕ) → IsUnbroken line → length line ≡ room
+    → Consumes before reader (line ++ 13 ∷ []) → left + (length line + 1) ≡ all → (fault : ReadFault) → fault ≡ Input
+    → FailsAtByte reader after left left' → FailsFor fault before after room line all left'
+fails_after before reader after line room all left left' unbroken full consumed counted fault is fails =
+    fails_for before reader after (line ++ 13 ∷ []) all left left' (unbroken_with line 13 unbroken (λ same. absurd (omega (arith, same)))) consumed
+    (omega (arith, counted, length-append line (13 ∷ []))) fault is fails room line
+    (sym (ap (λ n. take n (line ++ 13 ∷ [])) (sym full) ∙ take-append_seam line (13 ∷ [])))

@@ -7,11 +7,8 @@ use Rattle.std.proofs.KnownBytes.{Consumes-trans}
 use Rattle.std.proofs.Math.Seq.{get_or-append_seam, take-append_seam}
 use Rattle.std.proofs.lemmas.Bool.{ne_eqb}
 use Rattle.std.proofs.lemmas.List.Elements.{All-head, All-tail, All-cons, All-nil, All-append}
-use Rattle.script_lines.specs.declared.reading.ReadFault.{ReadFault}
-use Rattle.script_lines.specs.declared.reading.ReadFault.TheVariants.{Input, OutOfMemory}
 use Rattle.script_lines.specs.Lines.{CutText, before_rest, pieces_of, ended_line, ended_lines, last_line, lines_of, first_line_of}
-use Rattle.script_lines.specs.NextByte.{FailsAtByte}
-use Rattle.script_lines.specs.Reading.{IsUnbroken, TakesEnded, TakesLonger, FailsWithin}
+use Rattle.script_lines.specs.Reading.{IsUnbroken, TakesEnded, TakesLonger}
 use Rattle.script_lines.proofs.LineLemmas.{before_other}
 
 -- ---- the end of a line
@@ -189,28 +186,3 @@ module _ (before reader : Option (List ℕ)) (line : List ℕ) (most all left : 
     shortened = left_out line;
     counted = omega (arith, counted, length-append line (13 ∷ []));
   }
-
--- ---- faults
-
--- the reader fails, or has a byte too many, after these bytes of a line
-pub fails_in : (fault : ReadFault) (before reader reader' : Option (List ℕ)) (front : List ℕ) (all left left' : ℕ) → fault ≡ Input
-    → IsUnbroken front → Consumes before reader front → left + length front ≡ all → FailsAtByte reader reader' left left'
-    → FailsWithin fault before reader' all
-fails_in OutOfMemory before reader reader' front all left left' is unbroken consumed counted fails = absurd (cc)
-fails_in Input before reader reader' front all left left' is unbroken consumed counted fails = record {
-  piece = front;
-  unbroken = unbroken;
-  beyond = fails.beyond;
-  consumed = Consumes-trans before reader reader' front fails.beyond consumed fails.consumed;
-  few = fails.few;
-  within = omega (arith, counted);
-  full = λ some. omega (arith, counted, fails.full some, fails.uncounted);
-}
-
--- so after a line and a CR
-pub fails_after : (fault : ReadFault) (before reader reader' : Option (List ℕ)) (line : List ℕ) (all left left' : ℕ) → fault ≡ Input
-    → IsUnbroken line → Consumes before reader (line ++ 13 ∷ []) → left + (length line + 1) ≡ all → FailsAtByte reader reader' left left'
-    → FailsWithin fault before reader' all
-fails_after fault before reader reader' line all left left' is unbroken consumed counted fails =
-    fails_in fault before reader reader' (line ++ 13 ∷ []) all left left' is (unbroken_with line 13 unbroken (λ same. absurd (omega (arith, same))))
-    consumed (omega (arith, counted, length-append line (13 ∷ []))) fails

@@ -31,28 +31,18 @@ TakesLine LineFeed old new line left_old left_new = TakesEnded old new line left
 TakesLine EndOfInput old new line left_old left_new = TakesRest old new line left_old left_new
 
 -- a line that is taken whole, and of which no more is kept than shows whether it has more than so many bytes
-pub record TakesKept (end : LineEnd) (old new : Option (List ℕ)) (most : ℕ) (line : List ℕ) (left_old left_new : ℕ) : Type 0
-  where
-    pub whole : List ℕ
-    pub takes : TakesLine end old new whole left_old left_new
-    pub kept : line ≡ take (most + 1) whole
+pub record TakesKept (end : LineEnd) (old new : Option (List ℕ)) (most : ℕ) (line : List ℕ)
+    (left_old left_new : ℕ) : Type 0 where
+  pub whole : List ℕ
+  pub takes : TakesLine end old new whole left_old left_new
+  pub kept : line ≡ take (most + 1) whole
 
--- whichever fault it is: so many bytes of a line are taken, and no LF; or one byte more than may be read
-pub record FailsInLine (old new : Option (List ℕ)) (left_old : ℕ) : Type 0 where
+-- the reader failed, or had a byte more than may be read: what came before of the line is taken, as many of its bytes
+-- are kept as there is room for, and nothing else is lost
+pub record FailsAtInput (old new : Option (List ℕ)) (room : ℕ) (line : List ℕ) (left_old left_new : ℕ) : Type 0 where
   pub piece : List ℕ
   pub unbroken : IsUnbroken piece
-  pub beyond : List ℕ
-  pub consumed : Consumes old new (piece ++ beyond)
-  pub few : length beyond ≤ 1
-  pub within : length piece ≤ left_old
-  pub full : 0 < length beyond → length piece ≡ left_old
-
--- the reader failed, or had a byte more than may be read: what came before of the line is taken, its first bytes are
--- kept, and nothing else is lost
-pub record FailsAtInput (old new : Option (List ℕ)) (most : ℕ) (line : List ℕ) (left_old left_new : ℕ) : Type 0 where
-  pub piece : List ℕ
-  pub unbroken : IsUnbroken piece
-  pub kept : line ≡ take (most + 2) piece
+  pub kept : line ≡ take room piece
   pub beyond : List ℕ
   pub consumed : Consumes old new (piece ++ beyond)
   pub few : length beyond ≤ 1
@@ -61,18 +51,18 @@ pub record FailsAtInput (old new : Option (List ℕ)) (most : ℕ) (line : List 
 
 -- memory was refused for a byte of the line that was to be kept, which may be read and is lost: the line keeps what
 -- came before
-pub record FailsForMemory (old new : Option (List ℕ)) (most : ℕ) (line : List ℕ) (left_old left_new : ℕ) : Type 0 where
+pub record FailsForMemory (old new : Option (List ℕ)) (room : ℕ) (line : List ℕ) (left_old left_new : ℕ) : Type 0 where
   pub unbroken : IsUnbroken line
   pub lost : ℕ
   pub ends_no_line : lost ≢ 10
   pub consumed : Consumes old new (line ++ lost ∷ [])
-  pub few : length line ≤ most + 1
+  pub few : length line < room
   pub counted : left_new + (length line + 1) ≡ left_old
 
--- what each fault says of what was read
+-- what each fault says of what was read, and kept of a line of which so many bytes are kept at most
 abbrev pub FailsFor : ReadFault → Option (List ℕ) → Option (List ℕ) → ℕ → List ℕ → ℕ → ℕ → Type 0
-FailsFor Input old new most line left_old left_new = FailsAtInput old new most line left_old left_new
-FailsFor OutOfMemory old new most line left_old left_new = FailsForMemory old new most line left_old left_new
+FailsFor Input old new room line left_old left_new = FailsAtInput old new room line left_old left_new
+FailsFor OutOfMemory old new room line left_old left_new = FailsForMemory old new room line left_old left_new
 
 -- ---- a line that is to have so many bytes at most
 
@@ -90,15 +80,3 @@ abbrev pub TakesUpTo : Option LineEnd → Option (List ℕ) → Option (List ℕ
 TakesUpTo (Some end) old new line most left_old left_new =
     TakesLine end old new line left_old left_new × (length line ≤ most)
 TakesUpTo None old new line most left_old left_new = TakesLonger old new most left_old left_new
-
--- memory was refused in a line: so many bytes of it are taken, and no LF
-pub record FailsInPiece (old new : Option (List ℕ)) (left_old : ℕ) : Type 0 where
-  pub piece : List ℕ
-  pub unbroken : IsUnbroken piece
-  pub consumed : Consumes old new piece
-  pub within : length piece ≤ left_old
-
--- what each fault says of what was read
-abbrev pub FailsWithin : ReadFault → Option (List ℕ) → Option (List ℕ) → ℕ → Type 0
-FailsWithin Input old new left_old = FailsInLine old new left_old
-FailsWithin OutOfMemory old new left_old = FailsInPiece old new left_old

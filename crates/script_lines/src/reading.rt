@@ -1,5 +1,5 @@
 ghost use Rattle.std.specs.Prelude.{◌≡◌, ◌+◌, ◌≤◌, ◌∷◌, ◌++◌, [], ◌↔◌, ℕ, List, true, take, length, IfOk, IfErr, OnOk, OnErr};
-ghost use Rattle.script_lines.specs.Reading.{TakesKept, FailsInLine, FailsFor};
+ghost use Rattle.script_lines.specs.Reading.{TakesKept, FailsFor};
 ghost use Rattle.script_lines.specs.Lines.{ended_line};
 ghost use Rattle.script_lines.specs.NextByte.{TakesByte, FailsAtByte};
 ghost use Rattle.script_lines.specs.declared.reading.ReadFault.TheVariants.{Input};
@@ -39,9 +39,8 @@ pub fn read_line<R: Read>(
 ) -> Result<LineEnd, ReadFault>
     ensures line { IfOk result (λ end. TakesKept end
         (R.remaining reader.old) (R.remaining reader.new) most line.new.items left.old left.new) }
-    ensures fault { OnErr result (FailsInLine (R.remaining reader.old) (R.remaining reader.new) left.old) }
-    ensures which { IfErr result (λ fault. FailsFor fault
-        (R.remaining reader.old) (R.remaining reader.new) most line.new.items left.old left.new) }
+    ensures fault { IfErr result (λ fault. FailsFor fault
+        (R.remaining reader.old) (R.remaining reader.new) (most + 2) line.new.items left.old left.new) }
     ensures few { length line.new.items ≤ most + 2 }
 {
     line.clear();

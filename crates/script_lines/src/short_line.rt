@@ -2,7 +2,7 @@
 
 ghost use Rattle.std.specs.Prelude.{◌≡◌, ◌≢◌, ◌+◌, ◌≤◌, ◌∷◌, ◌++◌, [], ℕ, List, Option, IfOk, IfErr, length};
 ghost use Rattle.std.specs.Io.KnownBytes.{Consumes};
-ghost use Rattle.script_lines.specs.Reading.{IsUnbroken, TakesUpTo, FailsWithin};
+ghost use Rattle.script_lines.specs.Reading.{IsUnbroken, TakesUpTo, FailsFor};
 
 use crate::line_end::LineEnd;
 use crate::reading::{ReadFault, drop_return, next_byte};
@@ -18,8 +18,8 @@ pub fn read_short_line<R: Read>(
 ) -> Result<Option<LineEnd>, ReadFault>
     ensures line { IfOk result (λ found. TakesUpTo found
         (R.remaining reader.old) (R.remaining reader.new) line.new.items most left.old left.new) }
-    ensures fault { IfErr result (λ fault. FailsWithin fault
-        (R.remaining reader.old) (R.remaining reader.new) left.old) }
+    ensures fault { IfErr result (λ fault. FailsFor fault
+        (R.remaining reader.old) (R.remaining reader.new) most line.new.items left.old left.new) }
     ensures kept { length line.new.items ≤ most }
 {
     line.clear();
@@ -54,9 +54,9 @@ fn end_of_full_line<R: Read>(
     ensures line { (before : Option (List ℕ)) (line : List ℕ) (most all : ℕ) → IsUnbroken line → length line ≡ most →
         Consumes before (R.remaining reader.old) (line ++ byte ∷ []) → left.old + (length line + 1) ≡ all →
         IfOk result (λ found. TakesUpTo found before (R.remaining reader.new) line most all left.new) }
-    ensures fault { (before : Option (List ℕ)) (line : List ℕ) (all : ℕ) → IsUnbroken line →
+    ensures fault { (before : Option (List ℕ)) (line : List ℕ) (most all : ℕ) → IsUnbroken line → length line ≡ most →
         Consumes before (R.remaining reader.old) (line ++ byte ∷ []) → left.old + (length line + 1) ≡ all →
-        IfErr result (λ fault. FailsWithin fault before (R.remaining reader.new) all) }
+        IfErr result (λ fault. FailsFor fault before (R.remaining reader.new) most line all left.new) }
 {
     if byte != b'\r' {
         return Ok(None);

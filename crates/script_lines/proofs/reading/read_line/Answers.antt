@@ -1,10 +1,8 @@
-use Rattle.std.proofs.Common.{◌∷◌, [], ◌++◌, ◌∙◌, Some, length, refl, sym, ap, subst, append-nil, rules, arith}
+use Rattle.std.proofs.Common.{◌+◌, ◌∷◌, [], ◌++◌, ◌∙◌, Some, length, refl, sym, ap, subst, append-nil, rules, arith}
 use Rattle.std.specs.Io.KnownBytes.{Consumes}
 use Rattle.script_lines.specs.NextByte.{TakesByte}
 use Rattle.script_lines.specs.Lines.{ended_line}
-use Rattle.script_lines.specs.declared.reading.ReadFault.TheVariants.{Input}
 use Rattle.script_lines.proofs.NextByteLemmas.{at_ok, at_err, all_kept, ends_here, is_rest, goes_on, fails_for, fails_for_memory}
-use Rattle.script_lines.proofs.ShortLineLemmas.{fails_in}
 use Rattle.script_lines.proofs.reading.read_line.Goals as goal
 
 pub returns-in-Ok-Some-eq10-clause-line : goal.returns-in-Ok-Some-eq10-clause-line
@@ -41,30 +39,10 @@ returns-then-is_err-clause-fault g c =
     let more =
     goes_on before reader after so_far.piece c.args.left.now c.loop-line.left c.next_byte.new.left so_far.unbroken so_far.consumed so_far.counted
     c.in-Ok-Some.field-0 c.in-Ok-Some.byte c.in-Ok-Some.field-0-is c.in-Ok-Some.byte-test.1 c.in-Ok-Some.ensures.byte in
-    let piece = so_far.piece ++ c.in-Ok-Some.byte ∷ [] in
-    record {
-      piece = piece;
-      unbroken = more.unbroken;
-      beyond = [];
-      consumed = subst (Consumes before after) (sym (append-nil piece)) more.consumed;
-      few = omega arith;
-      within = omega (arith, more.counted);
-      full = λ some. absurd (omega (arith, some));
-    }
-
-pub returns-then-is_err-clause-which : goal.returns-then-is_err-clause-which
-returns-then-is_err-clause-which g c =
-    let so_far = c.loop-line.invariant in
-    let before = g.R.Read.remaining c.args.reader.now in
-    let reader = g.R.Read.remaining c.loop-line.reader in
-    let after = g.R.Read.remaining c.next_byte.new.reader in
-    let more =
-    goes_on before reader after so_far.piece c.args.left.now c.loop-line.left c.next_byte.new.left so_far.unbroken so_far.consumed so_far.counted
-    c.in-Ok-Some.field-0 c.in-Ok-Some.byte c.in-Ok-Some.field-0-is c.in-Ok-Some.byte-test.1 c.in-Ok-Some.ensures.byte in
     let refused = at_err c.keep.result (sym c.is_err.ensures.value ∙ c.if-is_err.true) c.keep.ensures.refused in
     let same = all_kept c.args.most c.loop-line.line.items so_far.piece so_far.kept refused.1 in
     fails_for_memory before reader after so_far.piece c.args.left.now c.loop-line.left c.next_byte.new.left so_far.unbroken so_far.consumed so_far.counted
-    c.in-Ok-Some.byte c.args.most c.in-Ok-Some.byte-test.1 more c.keep.new.line.items (refused.0 ∙ same) (omega (arith, refused.1, ap length refused.0))
+    c.in-Ok-Some.byte (c.args.most + 2) c.in-Ok-Some.byte-test.1 more c.keep.new.line.items (refused.0 ∙ same) (omega (arith, refused.1, ap length refused.0))
 
 pub returns-in-Err-clause-fault : goal.returns-in-Err-clause-fault
 returns-in-Err-clause-fault g c =
@@ -72,17 +50,8 @@ returns-in-Err-clause-fault g c =
     let before = g.R.Read.remaining c.args.reader.now in
     let reader = g.R.Read.remaining c.loop-line.reader in
     let after = g.R.Read.remaining c.next_byte.new.reader in
-    fails_in Input before reader after so_far.piece c.args.left.now c.loop-line.left c.next_byte.new.left
-    refl so_far.unbroken so_far.consumed so_far.counted c.in-Err.ensures.fault
-
-pub returns-in-Err-clause-which : goal.returns-in-Err-clause-which
-returns-in-Err-clause-which g c =
-    let so_far = c.loop-line.invariant in
-    let before = g.R.Read.remaining c.args.reader.now in
-    let reader = g.R.Read.remaining c.loop-line.reader in
-    let after = g.R.Read.remaining c.next_byte.new.reader in
     fails_for before reader after so_far.piece c.args.left.now c.loop-line.left c.next_byte.new.left so_far.unbroken so_far.consumed so_far.counted
-    c.in-Err.fault c.in-Err.ensures.input c.in-Err.ensures.fault c.args.most c.loop-line.line.items so_far.kept
+    c.in-Err.fault c.in-Err.ensures.input c.in-Err.ensures.fault (c.args.most + 2) c.loop-line.line.items so_far.kept
 
 pub loop-line-preserved : goal.loop-line-preserved
 loop-line-preserved g c =

@@ -2,7 +2,8 @@ use Rattle.std.proofs.Common.{ℕ, List, Option, Some, None, ◌++◌, ◌∷◌
 use Rattle.std.specs.Io.KnownBytes.{Consumes}
 use Rattle.std.proofs.KnownBytes.{Consumes-trans}
 use Rattle.script_lines.specs.NextByte.{TakesByte}
-use Rattle.script_lines.proofs.ShortLineLemmas.{longer_at_once, longer_after, longer_at_end, fails_after}
+use Rattle.script_lines.proofs.ShortLineLemmas.{longer_at_once, longer_after, longer_at_end}
+use Rattle.script_lines.proofs.NextByteLemmas.{fails_after}
 use Rattle.script_lines.proofs.short_line.end_of_full_line.Goals as goal
 
 pub returns-then-byte-ne13-clause-line : goal.returns-then-byte-ne13-clause-line
@@ -30,6 +31,7 @@ returns-in-Ok-None-clause-line g c before line most all unbroken full consumed c
     (subst (Consumes before after) (append-nil (line ++ 13 ∷ [])) (Consumes-trans before reader after (line ++ 13 ∷ []) [] first taken.0)) taken.1 (omega (arith, counted, taken.2))
 
 pub returns-in-Err-clause-fault : goal.returns-in-Err-clause-fault
-returns-in-Err-clause-fault g c before line all unbroken consumed counted =
-    fails_after c.in-Err.fault before (g.R.Read.remaining c.args.reader.now) (g.R.Read.remaining c.next_byte.new.reader) line all c.args.left.now c.next_byte.new.left
-    c.in-Err.ensures.input unbroken (subst (λ b. Consumes before (g.R.Read.remaining c.args.reader.now) (line ++ b ∷ [])) c.if-byte-ne13.false consumed) counted c.in-Err.ensures.fault
+returns-in-Err-clause-fault g c before line most all unbroken full consumed counted =
+    let reader : Option (List ℕ) = g.R.Read.remaining c.args.reader.now in
+    fails_after before reader (g.R.Read.remaining c.next_byte.new.reader) line most all c.args.left.now c.next_byte.new.left unbroken full
+    (subst (λ b. Consumes before reader (line ++ b ∷ [])) c.if-byte-ne13.false consumed) counted c.in-Err.fault c.in-Err.ensures.input c.in-Err.ensures.fault

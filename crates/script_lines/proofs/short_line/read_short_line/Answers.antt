@@ -1,9 +1,9 @@
-use Rattle.std.proofs.Common.{◌≡◌, ◌+◌, ◌≤◌, ◌∷◌, [], ◌++◌, Some, length, sym, ap, subst, length-append, rules, arith}
+use Rattle.std.proofs.Common.{◌≡◌, ◌+◌, ◌<◌, ◌≤◌, ◌∷◌, [], ◌++◌, Some, length, sym, ap, subst, length-append, rules, arith}
 use Rattle.script_lines.specs.NextByte.{TakesByte}
 use Rattle.script_lines.specs.Reading.{IsUnbroken}
 use Rattle.std.specs.Io.KnownBytes.{Consumes}
-use Rattle.script_lines.proofs.NextByteLemmas.{no_longer, ends_here, is_rest, goes_on}
-use Rattle.script_lines.proofs.ShortLineLemmas.{fails_in}
+use Rattle.std.proofs.lemmas.List.{take_all}
+use Rattle.script_lines.proofs.NextByteLemmas.{no_longer, ends_here, is_rest, goes_on, fails_for, fails_for_memory}
 use Rattle.script_lines.proofs.short_line.read_short_line.Goals as goal
 
 pub returns-in-Ok-Some-eq10-clause-line : goal.returns-in-Ok-Some-eq10-clause-line
@@ -53,7 +53,8 @@ returns-then-len-most-clause-fault g c =
     let more =
     goes_on before reader after c.loop-line.line.items c.args.left.now c.loop-line.left c.next_byte.new.left so_far.unbroken so_far.consumed so_far.counted
     c.in-Ok-Some.field-0 c.in-Ok-Some.byte c.in-Ok-Some.field-0-is c.in-Ok-Some.byte-test.1 c.in-Ok-Some.ensures.byte in
-    c.end_of_full_line.ensures.fault before c.loop-line.line.items c.args.left.now so_far.unbroken more.consumed
+    let full : length c.loop-line.line.items ≡ c.args.most = search rules in
+    c.end_of_full_line.ensures.fault before c.loop-line.line.items c.args.most c.args.left.now so_far.unbroken full more.consumed
     (omega (arith, more.counted, length-append c.loop-line.line.items (c.in-Ok-Some.byte ∷ [])))
 
 pub returns-then-is_err-clause-fault : goal.returns-then-is_err-clause-fault
@@ -65,12 +66,10 @@ returns-then-is_err-clause-fault g c =
     let more =
     goes_on before reader after c.loop-line.line.items c.args.left.now c.loop-line.left c.next_byte.new.left so_far.unbroken so_far.consumed so_far.counted
     c.in-Ok-Some.field-0 c.in-Ok-Some.byte c.in-Ok-Some.field-0-is c.in-Ok-Some.byte-test.1 c.in-Ok-Some.ensures.byte in
-    record {
-      piece = c.loop-line.line.items ++ c.in-Ok-Some.byte ∷ [];
-      unbroken = more.unbroken;
-      consumed = more.consumed;
-      within = omega (arith, more.counted);
-    }
+    let same : c.push.new.self.items ≡ c.loop-line.line.items = search rules in
+    let room : length c.loop-line.line.items < c.args.most = omega arith in
+    fails_for_memory before reader after c.loop-line.line.items c.args.left.now c.loop-line.left c.next_byte.new.left so_far.unbroken so_far.consumed so_far.counted
+    c.in-Ok-Some.byte c.args.most c.in-Ok-Some.byte-test.1 more c.push.new.self.items same (omega (arith, room, ap length same))
 
 pub returns-in-Err-clause-fault : goal.returns-in-Err-clause-fault
 returns-in-Err-clause-fault g c =
@@ -78,8 +77,8 @@ returns-in-Err-clause-fault g c =
     let before = g.R.Read.remaining c.args.reader.now in
     let reader = g.R.Read.remaining c.loop-line.reader in
     let after = g.R.Read.remaining c.next_byte.new.reader in
-    fails_in c.in-Err.fault before reader after c.loop-line.line.items c.args.left.now c.loop-line.left c.next_byte.new.left
-    c.in-Err.ensures.input so_far.unbroken so_far.consumed so_far.counted c.in-Err.ensures.fault
+    fails_for before reader after c.loop-line.line.items c.args.left.now c.loop-line.left c.next_byte.new.left so_far.unbroken so_far.consumed so_far.counted
+    c.in-Err.fault c.in-Err.ensures.input c.in-Err.ensures.fault c.args.most c.loop-line.line.items (sym (take_all c.args.most c.loop-line.line.items so_far.few))
 
 pub loop-line-preserved : goal.loop-line-preserved
 loop-line-preserved g c =

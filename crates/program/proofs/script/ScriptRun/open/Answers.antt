@@ -29,4 +29,5 @@ returns-in-Err-open_session-clause-ended g c writer =
 
 pub returns-in-Err-clause-ended : goal.returns-in-Err-clause-ended
 returns-in-Err-clause-ended g c writer =
-    first_unread (g.R.Read.remaining c.args.reader.now) (g.R.Read.remaining c.read_short_line.new.reader) writer c.in-Err.fault _ c.fault_of_read.ensures c.in-Err.ensures.fault
+    first_unread (g.R.Read.remaining c.args.reader.now) (g.R.Read.remaining c.read_short_line.new.reader) writer most_bytes c.read_short_line.new.line.items c.read_short_line.new.left
+    c.in-Err.fault _ c.fault_of_read.ensures c.in-Err.ensures.fault

@@ -49,4 +49,4 @@ returns-in-Err-clause-ends g c input before at =
     let reader = g.R.Read.remaining c.read_line.new.reader in
     let writer = g.W.Write.contents c.args.writer.now in
     subst (λ fault. EndsWith fault input reader before writer) (sym c.fault_of_read.ensures)
-    (cut_short c.in-Err.fault input before (g.R.Read.remaining c.args.reader.now) reader writer c.args.self.now.keeper c.args.self.now.left c.read_line.new.left _ c.read_line.new.line.items at c.in-Err.ensures.which)
+    (cut_short c.in-Err.fault input before (g.R.Read.remaining c.args.reader.now) reader writer c.args.self.now.keeper c.args.self.now.left c.read_line.new.left _ c.read_line.new.line.items at c.in-Err.ensures.fault)
