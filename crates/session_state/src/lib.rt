@@ -11,7 +11,7 @@ mod state;
 pub use acceptance::MOST_ENTRIES;
 pub use causes::first_cause;
 pub use causes::seats::{is_of_side, is_pair};
-pub use disclosure_rules::{Cell, Fact, Marks, Movement, Phase, Public, Seat, Viewer};
+pub use disclosure_rules::{Cell, Fact, Marks, Movement, Phase, Public, Rule, Seat, Viewer};
 pub use seated::Seated;
 pub use session_commands::{
     Actor, CellState, Command, Costs, DdTable, Deal, Entry, Outcome, Play, PlayAnswer, PlayCosts,

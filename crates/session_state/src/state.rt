@@ -3,6 +3,7 @@ ghost use Rattle.session_state.specs.movement.Movement.{boards_of, most_tables, 
 ghost use Rattle.rbac.specs.Account.{most_users};
 ghost use Rattle.rbac.specs.Authorization.{HasPermission, IsValid, has_permission};
 ghost use Rattle.session_state.specs.disclosure_rules.LiveCells.{is_live};
+ghost use Rattle.session_state.specs.disclosure_rules.Policy.{first_rule};
 ghost use Rattle.session_state.specs.Accounts.{has_account};
 ghost use Rattle.session_state.specs.Seats.{is_taken, AreSeated};
 ghost use Rattle.session_state.specs.Apply.{apply, effect};
@@ -21,7 +22,7 @@ mod solved;
 
 use crate::acceptance::{hindrance, refusal};
 use crate::seated::Seated;
-use disclosure_rules::{Cell, Marks, Movement, Public, Seat, Viewer};
+use disclosure_rules::{Cell, Fact, Marks, Movement, Public, Rule, Seat, Viewer, decide};
 use rbac::{Account, Roles};
 use session_commands::room::{filled, with_room};
 use session_commands::{
@@ -270,6 +271,14 @@ impl State {
             roles: self.authorized(name),
             seat: self.seat(name),
         }
+    }
+
+    /// The first rule that forbids a fact to a user, if one does: `decide` for a viewer who is looked up for this fact
+    /// alone. Who asks of several facts takes the viewer once.
+    pub fn decide(&self, name: Name, fact: Fact) -> Option<Rule>
+        ensures { result ≡ first_rule self.now.public (viewer_of self.now name) fact }
+    {
+        decide(&self.public, &self.viewer(name), fact)
     }
 
     /// Why a command is refused here, where the journal has so many entries, if it is. The spoiler is the first
