@@ -49,8 +49,16 @@ def many(strain, holds):
     return {"filter": atom if holds else {"not": atom}}
 
 
+# How a contestant is denied a board that is still to be played: by rule 5, which names the own table.
+told("check n1 1 5 1", "true")
+told("check n1 1 8 1", "false")
+told("check n1 1 5 2", "false")
+
 # A play whose first card isn't East's: it has no costs, and that is what is found of it.
 done("k", 2, {"cmd": "Enter", "play": ["S2"], "result": RESULT, **CELL}, {"cmd": "Confirm", "result": RESULT, **CELL})
+# Of this state a copy decides as the state does.
+told("decide n1 1", "allowed")
+told("decide n2 1", "rule 5")
 costs("pending", 2)
 told("analyse 4 1 1 S2", "NoSuchCell")
 told("analyse 2 1 1 S2", "NotLive")

@@ -275,6 +275,10 @@ CHANGES = [
     ('"per_set":1', '"per_set":256', "BadField"),
     ('"per_set":1', '"per_set":"1"', "BadField"),
     ('"tables":3', '"tables":3,"tables":2', "BadTables"),
+    # too few tables, more rounds than an even number of tables can play, more boards than there is room for
+    ('"per_set":1,"rounds":3,"tables":3', '"per_set":1,"rounds":1,"tables":2', "BadTables"),
+    ('"per_set":1,"rounds":3,"tables":3', '"per_set":1,"rounds":4,"tables":4', "BadRounds"),
+    ('"per_set":1,"rounds":3,"tables":3', '"per_set":5,"rounds":1,"tables":16', "BadSets"),
     # the budget
     ('"budget":0', '"budget":1000000000000000000', None),
     ('"budget":0', '"budget":"x","budget":7', None),

@@ -7,6 +7,7 @@
 
 mod connecting;
 mod opening;
+mod policy;
 mod repeating;
 mod session;
 mod solver;

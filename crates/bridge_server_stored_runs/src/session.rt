@@ -1,12 +1,15 @@
 //! A session between whose messages a solver tells what it found. The text begins with a session object; each line
 //! after it is a message, or one of the solver's: `solve BOARD DEAL` tells the table of the deal of board DEAL as that
 //! of board BOARD, and `analyse TABLE BOARD DEAL CARD..` tells what these cards cost in four spades by North with the
-//! deal of board DEAL, as those of the table.
+//! deal of board DEAL, as those of the table. Two lines ask about the hands of board BOARD: `decide NAME BOARD`, by
+//! which rule a copy of the state forbids them to a user, and `check NAME BOARD RULE TABLE`, whether that is how they
+//! are denied.
 
 ghost use Rattle.std.specs.Prelude.{◌≡◌, ◌≤◌, [], length, IfSome};
 ghost use Rattle.session_book.specs.Run.{most_commands};
 ghost use Rattle.wire.specs.Request.{HasFew};
 
+use crate::policy::{checked_text, decided_text};
 use crate::solver::{costs_told, table_told};
 use published_view::{Query, View};
 use reply_texts::reply_text;
@@ -75,6 +78,10 @@ impl Session {
             self.solve(alloc, words)
         } else if let Some(words) = line.strip_prefix("analyse ") {
             self.analyse(alloc, words)
+        } else if let Some(words) = line.strip_prefix("decide ") {
+            decided_text(alloc, self.book.state(), words)
+        } else if let Some(words) = line.strip_prefix("check ") {
+            checked_text(alloc, self.book.state(), words)
         } else {
             self.answer(alloc, line)
         };

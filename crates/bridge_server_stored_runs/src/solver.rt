@@ -59,8 +59,8 @@ fn costs_of(alloc: Global, deal: Deal, play: &Play) -> Option<PlayCosts> {
     play_costs(alloc, deal, contract, play, &mut Budget::new(VISITS)).ok()
 }
 
-// The number before the first blank, and what follows it.
-fn number_in(words: &str) -> Option<(u8, &str)> {
+/// The number before the first blank, and what follows it.
+pub(crate) fn number_in(words: &str) -> Option<(u8, &str)> {
     let Some((number, rest)) = words.split_once(" ") else {
         return None;
     };
