@@ -1,5 +1,5 @@
-//! What no clause says of the Laws, the movement, the roles and the policy: their definitions at worked values, and
-//! texts.
+//! What no clause says of the Laws, the movement, lines and workers: definitions at values from outside, faults that
+//! aren't tried again, workers beside one another.
 #![tactic(auto)]
 
 #[cfg(test)]

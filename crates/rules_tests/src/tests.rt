@@ -3,5 +3,6 @@ mod figures;
 mod lines;
 mod pool;
 mod ranking;
+mod roles;
 mod scores;
 mod walked;
