@@ -52,6 +52,7 @@ fn answers_what_was_read<R: Files + Net + Clock + Wait + AllocGlobal>(
     let mut reader = FailingReader {
         bytes: script,
         good,
+        fault: ErrorKind::Interrupted,
     };
     let mut written = Vec::new(rt.alloc());
     let status = status_of(rt, "script", &mut reader, &mut written, &mut io::sink());

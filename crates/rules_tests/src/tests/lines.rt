@@ -61,13 +61,15 @@ fn is_too_long(alloc: Global) -> bool {
 /// What is read before the fault, and after it.
 static CUTS: [(&[u8], &[u8]); 4] = [(b"", b"abc"), (b"a", b"bc"), (b"ab", b"c"), (b"abc", b"")];
 
-/// Whether a read of "abc" and an LF that fails after its first bytes keeps them, and the next call goes on after them.
-fn goes_on(alloc: Global, before: &[u8], after: &[u8]) -> bool {
+/// Whether a read of "abc" and an LF that fails so after its first bytes keeps them, and the next call goes on after
+/// them.
+fn goes_on(alloc: Global, fault: ErrorKind, before: &[u8], after: &[u8]) -> bool {
     let mut line = Vec::new(alloc);
     let mut left = 100;
     let mut reader = FailingReader {
         bytes: b"abc\n",
         good: before.len(),
+        fault,
     };
     reads(&mut reader, &mut line, 3, &mut left, FAULT, before)
         && reads(
@@ -85,7 +87,8 @@ fn reads_lines_and_goes_on_after_faults(rt: HostRuntime) {
     assert!(rt; keeps_long_text(rt.alloc()));
     assert!(rt; is_too_long(rt.alloc()));
     for (before, after) in &CUTS {
-        assert!(rt; goes_on(rt.alloc(), before, after));
+        assert!(rt; goes_on(rt.alloc(), ErrorKind::Interrupted, before, after));
+        assert!(rt; goes_on(rt.alloc(), ErrorKind::WouldBlock, before, after));
     }
 }
 
