@@ -13,10 +13,18 @@ use std::sync::Wait;
 /// North has the spades, East the hearts, South the diamonds and West the clubs.
 const SUITS: &str = "N:AKQJT98765432... .AKQJT98765432.. ..AKQJT98765432. ...AKQJT98765432";
 
-/// The table of that deal.
+/// East has the spades, South the hearts, West the diamonds and North the clubs.
+const TURNED: &str = "E:AKQJT98765432... .AKQJT98765432.. ..AKQJT98765432. ...AKQJT98765432";
+
+/// The table of the first of these deals.
 fn table_work() -> Option<Work> {
-    let deal = SUITS.parse::<Deal>().ok()?;
-    Some(Work::Table { board: 1, deal })
+    table_of(1, SUITS)
+}
+
+/// The table of a board.
+fn table_of(board: u8, deal: &str) -> Option<Work> {
+    let deal = deal.parse::<Deal>().ok()?;
+    Some(Work::Table { board, deal })
 }
 
 /// A channel to workers, and one from them.

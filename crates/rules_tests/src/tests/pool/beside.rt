@@ -1,9 +1,9 @@
 //! Two workers work beside one another: one of them finishes the second job while the first waits at the gate. They
 //! wait for each job, pass the gate, tell the gate, and send the result.
 
-use super::{channels, table_work};
+use super::{TURNED, channels, table_of, table_work};
 use crossbeam_channel::{Receiver, Sender};
-use solver_pool::{Done, Gate, Job, Work, run_worker};
+use solver_pool::{Done, Found, Gate, Job, Work, run_worker};
 use std::alloc::Global;
 use std::sync::Wait;
 use std::sync::atomic::{AtomicBool, AtomicU32, Ordering};
@@ -11,9 +11,9 @@ use std::thread;
 use std::thread::Threads;
 use std::time::{Clock, Duration};
 
-/// Two workers without visits, and their gate. It holds job 1 until job 2 is done, for at most a thousand turns of a
-/// millisecond. Job 2 is done once the gate is told of it, where the gate was passed before with as many jobs, and no
-/// more than the result of job 3 was sent by then.
+/// Two workers with a visit for each job, and their gate. It holds job 1 until job 2 is done, for at most a thousand
+/// turns of a millisecond. Job 2 is done once the gate is told of it, where the gate was passed before with as many
+/// jobs, and no more than the result of job 3 was sent by then.
 #[derive(Drop)]
 struct HoldsFirst<'a, R: Wait + Clock> {
     rt: &'a R,
@@ -29,7 +29,7 @@ struct HoldsFirst<'a, R: Wait + Clock> {
 
 impl<R: Wait + Clock> HoldsFirst<'_, R> {
     fn work(&self) {
-        run_worker(self.rt, self.alloc, self, self.jobs, self.from_workers, 0);
+        run_worker(self.rt, self.alloc, self, self.jobs, self.from_workers, 1);
     }
 
     fn awaits_second(&self) -> bool {
@@ -42,12 +42,24 @@ impl<R: Wait + Clock> HoldsFirst<'_, R> {
         false
     }
 
-    /// Whether job 1 was held until job 2 was done, and three jobs passed the gate, told it and were answered.
+    /// Whether job 1 was held until job 2 was done, and three jobs passed the gate, told it and were answered: a visit
+    /// is too few for each.
     fn is_satisfied(&self) -> bool {
         self.first_saw_it.load(Ordering::SeqCst)
             && self.passed.load(Ordering::SeqCst) == 3
             && self.told.load(Ordering::SeqCst) == 3
             && self.results.len() == 3
+            && self.are_unsolved()
+    }
+
+    fn are_unsolved(&self) -> bool {
+        for _ in 0..3 {
+            match self.results.try_recv(self.rt) {
+                Ok(done) if matches!(done.found(), Found::OutOfBudget) => {}
+                _ => return false,
+            }
+        }
+        true
     }
 }
 
@@ -68,9 +80,9 @@ impl<R: Wait + Clock> Gate for HoldsFirst<'_, R> {
     }
 }
 
-/// Sends jobs 3, 1 and 2 of this work, each after a while.
-fn send_slowly(rt: &(impl Wait + Clock), to_workers: Sender<Job>, work: &Work) {
-    for number in [3, 1, 2] {
+/// Sends jobs 3, 1 and 2, each after a while: the second is of another board.
+fn send_slowly(rt: &(impl Wait + Clock), to_workers: Sender<Job>, first: &Work, second: &Work) {
+    for (number, work) in [(3, first), (1, first), (2, second)] {
         thread::sleep(rt, Duration::from_millis(20));
         let work = *work;
         let _ = to_workers.send(rt, Job { number, work });
@@ -80,7 +92,7 @@ fn send_slowly(rt: &(impl Wait + Clock), to_workers: Sender<Job>, work: &Work) {
 /// Whether job 2 is done while job 1 waits. The first worker has each job but the last to itself, and waits for it: the
 /// other one sends the jobs, and then works too.
 fn work_beside<R: Threads + Wait + Clock + Sync>(rt: &R, alloc: Global) -> Option<bool> {
-    let work = table_work()?;
+    let (first, second) = (table_work()?, table_of(2, TURNED)?);
     let ((to_workers, jobs), (from_workers, results)) = channels(alloc)?;
     let workers = HoldsFirst {
         rt,
@@ -97,7 +109,7 @@ fn work_beside<R: Threads + Wait + Clock + Sync>(rt: &R, alloc: Global) -> Optio
         rt,
         || workers.work(),
         || {
-            send_slowly(rt, to_workers, &work);
+            send_slowly(rt, to_workers, &first, &second);
             workers.work();
         },
     );
