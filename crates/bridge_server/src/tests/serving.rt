@@ -225,8 +225,8 @@ fn unserved<R: Net + Clock>(rt: &R, port: u16) -> Option<&'static str> {
     None
 }
 
-// Serves as many connections as there are clients.
-const WORDS: &str = "serve --session out/session --deals out/deals --connections 13";
+// Serves as many connections as there are clients, one after another.
+const WORDS: &str = "serve --session out/session --deals out/deals --displays 1 --connections 13";
 
 // A port at which nothing listens, and the words that serve there.
 fn port_and_line<R: Files + Net + AllocGlobal>(rt: &R) -> Result<(u16, String), Fail> {
