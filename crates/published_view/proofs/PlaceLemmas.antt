@@ -9,7 +9,6 @@ use Rattle.disclosure_rules.specs.declared.fact.Fact.{Fact}
 use Rattle.disclosure_rules.specs.declared.fact.Fact.TheVariants as fact
 use Rattle.session_queries.specs.Facts.{cell_on, cells_of_board, facts_of_cell, facts_of_board, boards, facts, same_fact, has_place}
 use Rattle.session_queries.proofs.FactLemmas.{has_fact, same_fact_is}
-pub use Rattle.session_book.proofs.session_state_lemmas.ScheduleLemmas.{found_scheduled}
 use Rattle.published_view.proofs.ElementLemmas.{none_there, contains_first, contains_later, contains_cases, from_filter, from_flat, from_range}
 
 -- a fact that is among some is in their list

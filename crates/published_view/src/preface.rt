@@ -1,15 +1,15 @@
 ghost use Rattle.std.specs.Prelude.{◌≡◌, true, None, IfNone};
 ghost use Rattle.disclosure_rules.specs.Policy.{first_rule};
 ghost use Rattle.movement.specs.Movement.{IsSection};
-ghost use Rattle.movement.specs.Schedule.{is_scheduled};
 ghost use Rattle.session_queries.specs.Query.{no_such_place};
 ghost use Rattle.published_view.specs.Reply.{before_answer};
 ghost use Rattle.session_queries.specs.Facts.{has_place};
 
 use denials::deny;
 use disclosure_rules::{Fact, Public, Viewer};
-use movement::{Cell, Movement};
+use movement::Movement;
 use session_queries::Body;
+use session_state::has_cell;
 
 /// What comes before an answer that a fact decides, if anything does.
 #[tactic(auto, unfolding(crate::specs::Reply::before_answer))]
@@ -50,14 +50,6 @@ fn has_place(movement: Movement, asked: Fact) -> bool
             has_cell(movement, cell)
         }
     }
-}
-
-/// Whether the movement has the cell.
-#[tactic(auto, using(crate::proofs::PlaceLemmas::found_scheduled))]
-fn has_cell(movement: Movement, cell: Cell) -> bool
-    ensures { result ≡ is_scheduled movement cell }
-{
-    movement.cell(cell.table, cell.board).is_some()
 }
 
 /// What is answered where the movement hasn't what a fact belongs to.

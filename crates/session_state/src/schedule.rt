@@ -8,7 +8,7 @@ use disclosure_rules::{Cell, Movement};
 
 /// Whether the cell's table is scheduled to play its board.
 #[tactic(auto, using(crate::proofs::ScheduleLemmas::found_scheduled))]
-pub fn is_scheduled(movement: Movement, cell: Cell) -> bool
+pub fn has_cell(movement: Movement, cell: Cell) -> bool
     ensures test { result ≡ is_scheduled movement cell }
     ensures cell { result ≡ true → IsCell movement cell }
     ensures placed { result ≡ true → IsPlaced cell }
@@ -32,7 +32,7 @@ pub fn misses_cell(movement: Movement, cell: Option<Cell>) -> bool
     ensures placed { result ≡ false → IfSome cell IsPlaced }
 {
     match cell {
-        Some(cell) => !is_scheduled(movement, cell),
+        Some(cell) => !has_cell(movement, cell),
         None => false,
     }
 }
