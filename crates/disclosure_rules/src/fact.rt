@@ -51,7 +51,7 @@ impl Fact {
         }
     }
 
-    pub fn is_accounts(self) -> bool
+    pub(crate) fn is_accounts(self) -> bool
         ensures { result ≡ is_accounts self }
     {
         match self {
@@ -67,7 +67,7 @@ impl Fact {
     }
 
     /// Whether the fact tells of the double-dummy value of the hands.
-    pub fn is_analysed(self) -> bool
+    pub(crate) fn is_analysed(self) -> bool
         ensures { result ≡ is_analysed self }
     {
         match self {
@@ -82,7 +82,7 @@ impl Fact {
     }
 
     /// Whether the fact tells how the cards were played.
-    pub fn is_of_play(self) -> bool
+    pub(crate) fn is_of_play(self) -> bool
         ensures { result ≡ is_of_play self }
     {
         match self {
@@ -97,7 +97,7 @@ impl Fact {
     }
 
     /// Whether the fact is the reason of a ruling.
-    pub fn is_reason(self) -> bool
+    pub(crate) fn is_reason(self) -> bool
         ensures { result ≡ is_reason self }
     {
         match self {

@@ -14,7 +14,7 @@ pub enum Phase {
 
 impl Phase {
     /// Whether boards are being played.
-    pub fn is_running(self) -> bool
+    pub(crate) fn is_running(self) -> bool
         ensures { result ≡ is_running self }
     {
         matches!(self, Phase::Running)

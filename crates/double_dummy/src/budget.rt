@@ -23,7 +23,7 @@ impl Model for Budget {
 
 /// The budget is spent.
 #[derive(Clone, Copy)]
-pub struct BudgetSpent;
+pub(crate) struct BudgetSpent;
 
 impl Budget {
     /// A budget of so many visits.
@@ -41,7 +41,7 @@ impl Budget {
     }
 
     /// Takes one visit off what is left.
-    pub fn visit(&mut self) -> Result<(), BudgetSpent>
+    pub(crate) fn visit(&mut self) -> Result<(), BudgetSpent>
         ensures ok { OnOk result (self.new + 1 ≡ self.old) }
         ensures err { OnErr result (self.old ≡ 0) }
         ensures spent { self.new ≤ self.old }

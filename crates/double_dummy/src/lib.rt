@@ -17,10 +17,10 @@ mod solver;
 mod trick;
 mod weights;
 
-pub use budget::{Budget, BudgetSpent};
+pub use budget::Budget;
 pub use card_costs::costs;
 pub use dd_table::table;
 pub use error::{CostsError, SolveError};
 pub use played_costs::play_costs;
 pub use solver::solve;
-pub use solver_results::{Costs, DdTable, DeclarerTricks, PlayAnswer, PlayCosts};
+pub use solver_results::{Costs, DdTable, PlayAnswer, PlayCosts};

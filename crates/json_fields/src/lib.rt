@@ -27,7 +27,6 @@ pub use doubling::doubling_numbered;
 pub use field::{has_only, limited_at, name_at, small_number_at, text_at, whole_at};
 pub use filter_fault::FilterFault;
 pub use filter_reading::read_filter;
-pub use letter::{place_named, strain_named};
 pub use message::{read_board, read_declarer, read_since, read_strain, read_table};
 pub use object_writer::ObjectWriter;
 pub use request_fault::RequestFault;

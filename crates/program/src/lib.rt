@@ -12,6 +12,6 @@ mod statuses;
 pub use fault::Fault;
 pub use first_line::open_session;
 pub use published_view::{Keeper, PlainKeeper};
-pub use script::{SCRIPT_LIMIT, run_script};
+pub use script::run_script;
 pub use statuses::{status_of_fault, status_of_script};
 pub use wire::fault_text;

@@ -14,8 +14,8 @@ use std::alloc::Global;
 use std::io::{Read, Write};
 use wire::MOST_MESSAGE_BYTES;
 
-/// How many bytes a script has at most.
-pub const SCRIPT_LIMIT: usize = 1_073_741_824;
+// How many bytes a script has at most.
+const SCRIPT_LIMIT: usize = 1_073_741_824;
 
 /// Reads a script and responds to each message with a line, which is written before the next line is read. The first
 /// line opens the session.

@@ -13,7 +13,7 @@ mod results;
 
 pub use body::Body;
 pub use card_costs::CardCosts;
-pub use known::{analysis_of, costs_of, play_of, reason_of, result_of};
+pub use known::{analysis_of, costs_of, play_of, reason_of};
 pub use push::push_found;
 pub use query::Query;
 pub use reply::Reply;

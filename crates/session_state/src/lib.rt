@@ -8,7 +8,6 @@ mod schedule;
 mod seated;
 mod state;
 
-pub use acceptance::MOST_ENTRIES;
 pub use causes::first_cause;
 pub use causes::seats::{is_of_side, is_pair};
 pub use disclosure_rules::{Cell, Fact, Marks, Movement, Phase, Public, Rule, Seat, Viewer};
