@@ -5,6 +5,7 @@ ghost use Rattle.clap.specs.Words.{app_of, new_app, rule_of, shape_of, with_rule
 ghost use Rattle.clap.specs.declared.builder.command.Command.TheViews.{out-Command};
 ghost use Rattle.server_words.specs.CommandLine.{command_line, needing_one, serve_line, with_files, with_counts, option_rule, port_rule, file_rule, number_rule, default_rule};
 
+use crate::words::{MOST_CONNECTIONS, MOST_DISPLAYS, MOST_WORKERS};
 use clap::builder::ValueParser;
 use clap::{Arg, Command};
 use std::alloc::{AllocError, Global};
@@ -81,7 +82,7 @@ fn add_counts(alloc: Global, command: &mut Command<'_>) -> Result<(), AllocError
         alloc,
         command,
         "displays",
-        (1, 32),
+        (1, MOST_DISPLAYS as i64),
         "4",
         "How many clients are served at once",
     )?;
@@ -89,7 +90,7 @@ fn add_counts(alloc: Global, command: &mut Command<'_>) -> Result<(), AllocError
         alloc,
         command,
         "workers",
-        (0, 16),
+        (0, MOST_WORKERS as i64),
         "2",
         "How many threads solve deals",
     )?;
@@ -97,7 +98,7 @@ fn add_counts(alloc: Global, command: &mut Command<'_>) -> Result<(), AllocError
         alloc,
         command,
         "connections",
-        (0, 1_000_000),
+        (0, MOST_CONNECTIONS as i64),
         "0",
         "After how many connections each display ends (0: never)",
     )

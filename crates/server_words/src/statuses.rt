@@ -22,6 +22,8 @@ pub fn status_of_words<W: Write, E: Write>(
     ensures unwritten { result ≡ 2 → Appends (W.contents writer.old) (W.contents writer.new) [] }
     ensures silent { result ≢ 2 → Appends (E.contents errors.old) (E.contents errors.new) [] }
     ensures memory { kind_of error.now ≡ ErrorKind.OutOfMemory → result ≡ 4 }
+    ensures help { kind_of error.now ≡ ErrorKind.DisplayHelp → result ≢ 2 }
+    ensures version { kind_of error.now ≡ ErrorKind.DisplayVersion → result ≢ 2 }
     ensures mistaken { kind_of error.now ≢ ErrorKind.DisplayHelp → kind_of error.now ≢ ErrorKind.DisplayVersion →
         ((result ≡ 2) ⊎ (result ≡ 4)) × Appends (W.contents writer.old) (W.contents writer.new) [] }
 {

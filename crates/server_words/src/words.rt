@@ -1,6 +1,15 @@
 ghost use Rattle.std.specs.Prelude.{◌≡◌, true};
 ghost use Rattle.server_words.specs.Words.{AreNumbersInRange};
 
+/// How many displays there are at most.
+pub(crate) const MOST_DISPLAYS: u8 = 32;
+
+/// How many workers there are at most.
+pub(crate) const MOST_WORKERS: u8 = 16;
+
+/// After how many connections a display ends at most.
+pub(crate) const MOST_CONNECTIONS: u32 = 1_000_000;
+
 /// What the program's words ask for.
 #[derive(Clone, Copy, PartialEq)]
 pub enum Words<'a> {
@@ -33,8 +42,8 @@ impl Serving<'_> {
         ensures { result ≡ true → AreNumbersInRange self.now }
     {
         1 <= self.port
-            && (1..=32).contains(&self.displays)
-            && self.workers <= 16
-            && self.connections <= 1_000_000
+            && (1..=MOST_DISPLAYS).contains(&self.displays)
+            && self.workers <= MOST_WORKERS
+            && self.connections <= MOST_CONNECTIONS
     }
 }
