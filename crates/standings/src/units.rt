@@ -1,4 +1,4 @@
-ghost use Rattle.std.specs.Prelude.{◌≡◌, ◌≤◌, length, count_by, int_lt};
+ghost use Rattle.std.specs.Prelude.{◌≡◌, ◌≤◌, ◌*◌, length, count_by, int_lt};
 ghost use Rattle.std.specs.Ordering.{int_eq};
 ghost use Rattle.movement.specs.Movement.{most_tables};
 ghost use Rattle.standings.specs.Units.{units_of_score};
@@ -7,7 +7,7 @@ ghost use Rattle.standings.specs.Units.{units_of_score};
 pub(crate) fn units_of_score(scores: &[i32], score: i32) -> u32
     requires { length scores.now ≤ most_tables }
     ensures units { result ≡ units_of_score scores.now score }
-    ensures small { result ≤ 48 }
+    ensures small { result ≤ 3 * most_tables }
 {
     let others = equal(scores, score).saturating_sub(1);
     (2 * beaten(scores, score) + others) as u32
