@@ -1,4 +1,4 @@
--- Four hands on their way to a deal: what the functions behind `Deal::new` and the reading of a deal say to each other.
+-- For private clauses: four hands on their way to a deal, as what stands behind `Deal::new` and a deal's reading says.
 use Rattle.table_terms.specs.declared.place.Place.{Place}
 use Rattle.table_terms.specs.declared.place.Place.TheVariants.{North, East, South, West}
 use Rattle.cards.specs.Cards.{Cards, AreDisjoint}

@@ -1,4 +1,4 @@
--- A card that was played.
+-- For private clauses: a card that was played.
 use Rattle.std.specs.Prelude.{◌≡◌}
 use Rattle.cards.specs.declared.card.Card.{Card}
 use Rattle.cards.specs.Play.{Position, IsPosition, after}

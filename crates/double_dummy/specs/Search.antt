@@ -1,4 +1,4 @@
--- What a search keeps from card to card.
+-- For private clauses: what a search keeps from card to card.
 use Rattle.std.specs.Prelude.{◌≡◌, ◌≢◌, ℕ, suc, ◌⊎◌, Bool, true, false, nat_le}
 use Rattle.cards.specs.Cards.{Cards}
 use Rattle.cards.specs.declared.card.Card.{Card}
@@ -12,13 +12,15 @@ use Rattle.double_dummy_laws.specs.Renaming.{HasNames, IsRenaming, Ownership, kn
 
 -- a set that has all live cards of the other players
 abbrev pub HasOthers : Position → Cards → Type 0
-HasOthers position others = (ownership : Ownership) (card : Card) → IsOwned ownership position → IsTight ownership position →
+HasOthers position others =
+    (ownership : Ownership) (card : Card) → IsOwned ownership position → IsTight ownership position →
     ownership.is_live card ≡ true → ownership.owner card ≢ to_play position →
     set.contains others card ≡ true
 
 -- legal cards that are like this one
 abbrev pub IsRunOf : Position → Card → Cards → Type 0
-IsRunOf position card run = (ownership : Ownership) (other : Card) → IsOwned ownership position → IsTight ownership position →
+IsRunOf position card run =
+    (ownership : Ownership) (other : Card) → IsOwned ownership position → IsTight ownership position →
     set.contains run other ≡ true →
     (set.contains (legal position) other ≡ true) × ((card ≡ other) ⊎ IsLike ownership card other)
 
@@ -31,6 +33,7 @@ CardClaims ownership left position target card answer =
 -- each legal card that is not among these was tried, and gives the player the other answer
 abbrev pub AreTriedInVain : Position → ℕ → Cards → Cards → Bool → Type 0
 AreTriedInVain position target untried known answer =
-    (ownership : Ownership) (left : ℕ) → IsOwned ownership position → IsTight ownership position → cards_left position ≡ suc left →
+    (ownership : Ownership) (left : ℕ) → IsOwned ownership position → IsTight ownership position →
+    cards_left position ≡ suc left →
     (card : Card) → set.contains (legal position) card ≡ true → set.contains untried card ≡ false →
     CardClaims (knowing ownership known) left position target card answer

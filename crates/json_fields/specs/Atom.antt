@@ -64,11 +64,15 @@ double_dummy_bounds =
 -- what an atom's one member says, by its name
 unfoldable pub atom_called : List ℕ → Data → Option Atom
 atom_called name d =
-    if bytes_eq name (codes "vul") then option_map (λ x. atom.Vulnerability x) (option_and_then marking_named (as_str d))
-    else if bytes_eq name (codes "dealer") then option_map (λ x. atom.Dealer x) (option_and_then place_named (as_str d))
+    if bytes_eq name (codes "vul")
+    then option_map (λ x. atom.Vulnerability x) (option_and_then marking_named (as_str d))
+    else if bytes_eq name (codes "dealer")
+    then option_map (λ x. atom.Dealer x) (option_and_then place_named (as_str d))
     else if bytes_eq name (codes "level") then option_map (λ x. atom.Level x) (formed [] bounds d)
-    else if bytes_eq name (codes "strain") then option_map (λ x. atom.Strain x) (option_and_then strain_named (as_str d))
-    else if bytes_eq name (codes "doubled") then option_map (λ x. atom.Doubled x) (option_and_then doubling_numbered (small (Some d)))
+    else if bytes_eq name (codes "strain")
+    then option_map (λ x. atom.Strain x) (option_and_then strain_named (as_str d))
+    else if bytes_eq name (codes "doubled")
+    then option_map (λ x. atom.Doubled x) (option_and_then doubling_numbered (small (Some d)))
     else if bytes_eq name (codes "made") then option_map (λ x. atom.Made x) (as_bool d)
     else if bytes_eq name (codes "score") then option_map (λ x. atom.Score x) (score_bounds d)
     else if bytes_eq name (codes "dd") then formed [] double_dummy_bounds d

@@ -9,5 +9,5 @@ use Rattle.pbn_records.specs.declared.board.Board.{Board}
 -- its number, its dealer, who is vulnerable, and its deal, with a space between them and an LF
 abbrev pub line_text : ℕ → Board → List ℕ
 line_text number board =
-    decimal number ++ (codes " " ++ (place_letter board.dealer ∷ (codes " " ++ (vulnerability_text board.vulnerability ++
-    (codes " " ++ (deal_text board.deal ++ 10 ∷ []))))))
+    decimal number ++ (codes " " ++ (place_letter board.dealer ∷
+    (codes " " ++ (vulnerability_text board.vulnerability ++ (codes " " ++ (deal_text board.deal ++ 10 ∷ []))))))

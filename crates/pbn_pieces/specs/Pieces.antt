@@ -17,7 +17,8 @@ is_byte_between least most byte = nat_le least byte && nat_le byte most
 
 -- ASCII letters, digits and `_`
 abbrev pub is_tag_name_byte : ℕ → Bool
-is_tag_name_byte byte = is_byte_between 65 90 byte || (is_byte_between 97 122 byte || (is_byte_between 48 57 byte || byte == 95))
+is_tag_name_byte byte =
+    is_byte_between 65 90 byte || (is_byte_between 97 122 byte || (is_byte_between 48 57 byte || byte == 95))
 
 abbrev pub is_other_than : ℕ → ℕ → Bool
 is_other_than end byte = not (byte == end)

@@ -1,4 +1,4 @@
--- Where a reader's state stands in the games of a text.
+-- For private clauses: where a reader's state stands in the games of a text.
 use Rattle.std.specs.Prelude.{◌≡◌, ℕ, Bool, true, false, ◌∷◌, ◌++◌, [], List}
 use Rattle.pbn_records.specs.declared.used.Used.{Used}
 use Rattle.pbn_records.specs.declared.fault.Fault.{Fault}
@@ -28,7 +28,8 @@ pub record IsStateAfter (state : State) (walk : Walk) : Type 0 where
 
 -- the walk after a piece at an offset
 abbrev pub walk_on : Walk → ℕ → NextPiece → Walk
-walk_on walk offset (found.Tag name value) = after_mark walk (Named (record { offset = offset; name = name.now; value = value.now }))
+walk_on walk offset (found.Tag name value) =
+    after_mark walk (Named (record { offset = offset; name = name.now; value = value.now }))
 walk_on walk offset found.BlankLine = end_of walk
 walk_on walk offset found.BadTag = end_of walk
 walk_on walk offset (found.Skipped ends_line) = walk

@@ -1,4 +1,4 @@
--- The boards that are known, in a row.
+-- For private clauses: the boards that are known, in a row.
 use Rattle.std.specs.Prelude.{◌≡◌, ◌+◌, ◌<◌, ℕ, true, List, None, length, slice_get}
 use Rattle.std.specs.Option.{is_some}
 use Rattle.pbn_records.specs.declared.board.Board.{Board}

@@ -53,7 +53,8 @@ first_game_if_any boards games (Some board) = first_game boards board games
 abbrev pub IsFaultOf : ℕ → List Values → Values → Fault → ℕ → Type 0
 IsFaultOf boards before values fault offset =
     (used : Used) ×
-    FaultAtTag (game_board boards values) (first_game_if_any boards before (game_board boards values)) used (values used) fault offset
+    FaultAtTag (game_board boards values) (first_game_if_any boards before (game_board boards values))
+    used (values used) fault offset
 
 -- a fault of one of the games, where these are before them
 abbrev pub HasFault : ℕ → List Values → List Values → Fault → ℕ → Type 0

@@ -1,4 +1,4 @@
--- Where a reader is in a text.
+-- For private clauses: where a reader is in a text.
 use Rattle.std.specs.Prelude.{◌≡◌, ◌≤◌, ◌<◌, ℕ, ◌-◌, List, length}
 use Rattle.std.specs.List.{AllByRecursion}
 use Rattle.pbn_pieces.specs.Pieces.{Piece, Joins}

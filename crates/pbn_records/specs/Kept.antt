@@ -1,4 +1,4 @@
--- What the reader knows while it goes through a text.
+-- For private clauses: what the reader knows while it goes through a text.
 use Rattle.std.specs.Prelude.{◌≡◌, ◌≢◌, ◌≤◌, ℕ, if◌then◌else◌, nat_le, List, [], ◌∷◌, ◌++◌, Option, Some, None}
 use Rattle.pbn_records.specs.declared.known_boards.KnownBoards.{KnownBoards}
 use Rattle.pbn_records.specs.InOrder.{in_place}
@@ -113,7 +113,8 @@ add_to walk tag = record walk { game = walk.game ++ tag ∷ [] }
 -- one mark more
 abbrev pub after_mark : Walk → Mark → Walk
 after_mark walk Break = end_of walk
-after_mark walk (Named tag) = if has_already walk.game (used_of tag.name) then add_to (end_of walk) tag else add_to walk tag
+after_mark walk (Named tag) =
+    if has_already walk.game (used_of tag.name) then add_to (end_of walk) tag else add_to walk tag
 
 -- the values of all games, where these marks are still to come
 abbrev pub all_games : Walk → List Mark → List Values

@@ -1,4 +1,4 @@
--- How the reader's tags stand for those of the games.
+-- For private clauses: how the reader's tags stand for those of the games.
 use Rattle.std.specs.Prelude.{if◌then◌else◌, Option, Some, None, codes, bytes_eq}
 use Rattle.pbn_records.specs.declared.used.Used.{Used}
 use Rattle.pbn_records.specs.declared.used.Used.TheVariants.{Board, Dealer, Vulnerable, Deal}

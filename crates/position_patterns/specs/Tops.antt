@@ -73,10 +73,12 @@ pub record Matches (entry : Remembered) (position : Position) : Type 0 where
 
 -- the set has the top cards of each suit
 abbrev pub HasTopCards : Remembered → Position → Cards → Type 0
-HasTopCards entry position known = (card : Card) → IsTop (tops_of entry card.suit).count (holding position.hands card.suit) card →
+HasTopCards entry position known =
+    (card : Card) → IsTop (tops_of entry card.suit).count (holding position.hands card.suit) card →
     set.contains known card ≡ true
 
 -- what an entry says holds of every position of its pattern
 abbrev pub IsTruePattern : Remembered → Type 0
-IsTruePattern entry = (position : Position) (known : Cards) → Matches entry position → HasTopCards entry position known →
+IsTruePattern entry =
+    (position : Position) (known : Cards) → Matches entry position → HasTopCards entry position known →
     IsFound position entry.target known entry.holds

@@ -84,13 +84,13 @@ pub record IsDone (input : List ℕ) (left : Option (List ℕ)) (before after : 
   pub written : WritesResponses (lines_of input) before after
 
 -- the first line opens no session: nothing is written, and no more is read than shows this
-pub record IsUnopened (fault : Fault) (input : List ℕ) (left : Option (List ℕ)) (before after : Option (List ℕ)) : Type 0
-  where
-    pub read : List ℕ
-    pub consumed : Consumes (Some input) left read
-    pub few : length read ≤ most_bytes + 2
-    pub opens_none : OpensNone fault (first_line_of (lines_of input))
-    pub unwritten : Appends before after []
+pub record IsUnopened (fault : Fault) (input : List ℕ) (left : Option (List ℕ))
+    (before after : Option (List ℕ)) : Type 0 where
+  pub read : List ℕ
+  pub consumed : Consumes (Some input) left read
+  pub few : length read ≤ most_bytes + 2
+  pub opens_none : OpensNone fault (first_line_of (lines_of input))
+  pub unwritten : Appends before after []
 
 -- there was no memory for the session of the first line: nothing is written, and no second line is read
 pub record IsWithoutMemory (input : List ℕ) (left : Option (List ℕ)) (before after : Option (List ℕ)) : Type 0 where

@@ -13,6 +13,8 @@ pub record IsUpToDate (keeper : Inside) : Type 0 where
   pub version : keeper.view.version ≡ length keeper.book.journal
   pub accepted : IsAccepted keeper.book.opening keeper.book.journal
 
+-- ---- for private clauses
+
 -- a view has taken in the first entries of a journal
 pub record IsBehind (opening : SessionState) (journal : List Entry) (seen : Seen) : Type 0 where
   pub within : seen.version ≤ length journal

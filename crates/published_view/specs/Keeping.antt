@@ -27,7 +27,8 @@ pub record IsReceiptOf (opening : SessionState) (actor : List ℕ) (batch : List
   pub before : List Entry
   pub after : List Entry
   pub stopped : Bool
-  pub ran : Runs stopped opening before actor batch (record { journal = after; answers = receipt.submission.answers.items })
+  pub ran :
+      Runs stopped opening before actor batch (record { journal = after; answers = receipt.submission.answers.items })
   pub first : receipt.submission.first ≡ first_number (length before) (length after)
   pub last : receipt.submission.last ≡ last_number (length before) (length after)
   pub version : receipt.version ≡ length after
@@ -46,8 +47,8 @@ pub record RanOnce (Others : List Entry → List Entry → Type 0) (opening : Se
   pub went : Others last now
 
 -- the audit of some journal, which is the beginning of the one that is known now
-pub record IsAuditOf (opening : SessionState) (actor : List ℕ) (from limit : ℕ) (receipt : AuditReceipt) (now : List Entry)
-    : Type 0 where
+pub record IsAuditOf (opening : SessionState) (actor : List ℕ) (from limit : ℕ) (receipt : AuditReceipt)
+    (now : List Entry) : Type 0 where
   pub journal : List Entry
   pub rows : IfOk receipt.rows (λ rows. rows ≡ audit_rows journal from limit)
   pub permitted : OnOk receipt.rows (HasPermission (replay opening journal).roles actor Audit)

@@ -140,4 +140,5 @@ pub record MayGoOn (opening : SessionState) (world : World) : Type 0 where
   pub version : (display version : ℕ) → Contains world.published version →
       (after : World) × Learns world display version after
   pub query : (display : ℕ) (user : List ℕ) (query : Query) (since : ℕ) →
-      (reply : Reply) × (after : World) × ReadsVersion opening world (newest world display user query since (Some reply)) after
+      (reply : Reply) × (after : World)
+      × ReadsVersion opening world (newest world display user query since (Some reply)) after

@@ -73,7 +73,8 @@ mutual
   heap_of-signs (And members) rest = ap (after_sign (inr 1)) (heap_of-signs_of_all members rest)
   heap_of-signs (Or members) rest = ap (after_sign (inr 2)) (heap_of-signs_of_all members rest)
 
-  pub heap_of-signs_of_all : (fs : Formulas) (rest : List Sign) → heap_of (signs_of_all fs ++ rest) ≡ with_list fs (heap_of rest)
+  pub heap_of-signs_of_all : (fs : Formulas) (rest : List Sign)
+      → heap_of (signs_of_all fs ++ rest) ≡ with_list fs (heap_of rest)
   heap_of-signs_of_all no_formula rest = refl
   heap_of-signs_of_all (formula_then f fs) rest =
       ap (λ s. after_sign (inr 4) (heap_of s)) (append_assoc (signs f) (signs_of_all fs) rest)
@@ -87,4 +88,5 @@ first-signs f = rw (← append-nil (signs f)) (ap (λ heap. first heap.0) (heap_
 -- a formula is stored as its signs
 abbrev pub formula_code : Coded Formula
 formula_code =
-    code_by (List Sign) (coded_list (coded⊎ the_atom.the_row.coded coded_ℕ)) signs (λ s. first (heap_of s).0) first-signs
+    code_by (List Sign) (coded_list (coded⊎ the_atom.the_row.coded coded_ℕ))
+    signs (λ s. first (heap_of s).0) first-signs

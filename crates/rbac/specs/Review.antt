@@ -17,7 +17,8 @@ has_account roles name = list_any (λ account. same_name account.name name) role
 
 -- whether the role is assigned to the user
 abbrev pub is_assigned : RoleData → List ℕ → Role → Bool
-is_assigned roles name role = list_any (λ account. same_name account.name name && has account.assigned role) roles.accounts
+is_assigned roles name role =
+    list_any (λ account. same_name account.name name && has account.assigned role) roles.accounts
 
 -- the roles that are assigned to an account, but for one role of the user of a name
 abbrev pub assigned_without : Account → List ℕ → Role → List Role

@@ -1,4 +1,4 @@
--- The table in which a book keeps who was shown something of which board.
+-- For private clauses: the table in which a book keeps who was shown something of which board.
 use Rattle.std.specs.Prelude.{◌≡◌, ℕ, ◌<◌, ◌≤◌, Bool, false, ◌||◌, ◌&&◌, nat_eq, nat_le, nat_lt, List, [], length, slice_index_or}
 use Rattle.movement.specs.Movement.{boards_of, most_boards}
 use Rattle.disclosure_rules.specs.Numbers.{has_number}

@@ -55,8 +55,8 @@ pub record RunsUntil (opening : SessionState) (before : List Entry) (actor : Lis
   pub split : batch ≡ tried ++ command ∷ later
   pub accepted : refusal_after opening (run opening before actor tried).journal (User actor) command ≡ None
   pub journal : after.journal ≡ (run opening before actor tried).journal
-  pub answers :
-      after.answers ≡ (run opening before actor tried).answers ++ Refused OutOfMemory ∷ map (λ _. Refused NotTried) later
+  pub answers : after.answers ≡ (run opening before actor tried).answers
+      ++ Refused OutOfMemory ∷ map (λ _. Refused NotTried) later
 
 -- what becomes of a batch: all its commands are run, or memory is refused at one of them
 abbrev pub Runs : Bool → SessionState → List Entry → List ℕ → List Command → Progress → Type 0

@@ -76,10 +76,12 @@ abbrev pub session_form : Option (List ℕ) → Form Session
 session_form None = with_boards
 session_form (Some deals) = beside_boards deals
 
--- the session that an object says
-unfoldable pub session_of : Option (List ℕ) → Data → Option Session
-session_of deals d = formed [] (session_form deals) d
-
 -- the object has the members of this session, and no other
 abbrev pub IsSession : Option (List ℕ) → Data → Session → Type 0
 IsSession deals d session = HasForm [] (session_form deals) d session
+
+-- ---- for private clauses
+
+-- the session that an object says
+unfoldable pub session_of : Option (List ℕ) → Data → Option Session
+session_of deals d = formed [] (session_form deals) d

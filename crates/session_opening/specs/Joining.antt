@@ -1,4 +1,4 @@
--- A new user joins the users of a new session, and when nothing refuses the user.
+-- For private clauses: a new user joins the users of a new session, and when nothing refuses the user.
 use Rattle.std.specs.Prelude.{◌≡◌, ◌<◌, ℕ, false, true, None, List, [], ◌∷◌, ◌++◌, length, find, take, slice_index_or}
 use Rattle.rbac.specs.Account.{most_users, is_user_name}
 use Rattle.rbac.specs.Authorization.{reached}

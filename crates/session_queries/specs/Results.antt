@@ -22,7 +22,8 @@ allowed_at state viewer cell =
 -- the result of a table on a board, where the table plays it, there is one and the user may see it
 unfoldable pub allowed_result : SessionState → Viewer → ℕ → ℕ → Option TableResult
 allowed_result state viewer board table =
-    if is_scheduled state.public.movement (cell_on board table) then allowed_at state viewer (cell_on board table) else None
+    if is_scheduled state.public.movement (cell_on board table)
+    then allowed_at state viewer (cell_on board table) else None
 
 -- the results on a board of so many tables that the user may see, table by table
 unfoldable pub allowed_results : SessionState → Viewer → ℕ → ℕ → List TableResult

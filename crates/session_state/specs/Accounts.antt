@@ -20,4 +20,5 @@ has_administrator roles = has_user_for roles Administrator
 
 -- whether a seated user is not authorized for Contestant
 abbrev pub seats_a_stranger : RoleData → List Seated → Bool
-seats_a_stranger roles seats = list_any (λ (seated : Seated). not (is_authorized_for roles seated.name Contestant)) seats
+seats_a_stranger roles seats =
+    list_any (λ (seated : Seated). not (is_authorized_for roles seated.name Contestant)) seats

@@ -17,12 +17,12 @@ abbrev pub IsHandsOf : List Hands → ℕ → Hands → Type 0
 IsHandsOf deals board hands = slice_get deals (board - 1) ≡ Some hands
 
 -- the costs are of the board's hands, and of the contract and the play of a result
-pub record IsCostsOf (deals : List Hands) (board : ℕ) (outcome : Outcome) (cards : List Card) (costs : PlayedDeal) : Type 0
-  where
-    pub tricks : ℕ
-    pub hands : IsHandsOf deals board costs.deal
-    pub contract : outcome ≡ Played costs.contract tricks
-    pub play : cards ≡ costs.play
+pub record IsCostsOf (deals : List Hands) (board : ℕ) (outcome : Outcome) (cards : List Card)
+    (costs : PlayedDeal) : Type 0 where
+  pub tricks : ℕ
+  pub hands : IsHandsOf deals board costs.deal
+  pub contract : outcome ≡ Played costs.contract tricks
+  pub play : cards ≡ costs.play
 
 -- the costs are of a confirmed result of the cell, whose costs weren't there yet
 pub record IsCounting (state : SessionState) (cell : Cell) (costs : PlayedDeal) : Type 0 where

@@ -42,7 +42,8 @@ pub record SessionState : Type 0 where
 -- a state is stored as the tuple of its parts
 abbrev pub session_code : Coded SessionState
 session_code =
-    code_by (RoleData × (List Digest × (List Seated × (Public × (List CellState × (List Hands × List (Option Hands)))))))
+    code_by
+    (RoleData × (List Digest × (List Seated × (Public × (List CellState × (List Hands × List (Option Hands)))))))
     (coded× the_roles.the_row.coded (coded× (coded_list the_digest.the_row.coded)
     (coded× (coded_list the_seated.the_row.coded) (coded× the_public.the_row.coded
     (coded× (coded_list the_cell_state.the_row.coded) (coded× (coded_list hands_code)

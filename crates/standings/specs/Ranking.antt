@@ -82,7 +82,8 @@ pair_on side number = record { side = side; number = number }
 -- the pairs of a section: on each side a pair for each table
 abbrev pub pairs_of : Section → List Pair
 pairs_of section =
-    map (pair_on NorthSouth) (range_with_len 1 section.tables) ++ map (pair_on EastWest) (range_with_len 1 section.tables)
+    map (pair_on NorthSouth) (range_with_len 1 section.tables)
+    ++ map (pair_on EastWest) (range_with_len 1 section.tables)
 
 -- others that are in their order, with a standing in its place among them
 abbrev pub placed : Standing → List Standing → List Standing

@@ -9,7 +9,9 @@ module _ {S A : Type 0} (remaining contents : S → Option (List ℕ)) (answers 
   -- an accept returned: a client is served by a server that is signed out, or the accept had a fault
   abbrev pub ServesOne : A → A → Type 0
   ServesOne server after =
-      (after ≡ server) ⊎ ((ready : A) × leaves server ready × ServesStream remaining contents answers binary_text memory_text ready after)
+      (after ≡ server)
+      ⊎ ((ready : A) × leaves server ready
+      × ServesStream remaining contents answers binary_text memory_text ready after)
 
   -- so many accepts returned
   abbrev pub ServesMany : ℕ → A → A → Type 0
