@@ -16,14 +16,20 @@ ROOT = pathlib.Path(__file__).resolve().parent.parent / "crates"
 SAID_TWICE = {"table"}
 
 DEFINITION = re.compile(r"(?:abbrev |unfoldable )?pub (?:record |data )?([^\s:({]+)")
+BLOCK = re.compile(r"(?:abbrev |unfoldable )?(?:module|mutual)\b")
 EXPORT = re.compile(r"^pub use (\w+)(?:::\w+)*::(\{[^}]*\}|\w+);", re.MULTILINE)
 
 
 def definitions(crate):
-    """The public definitions of a crate, with the file of each."""
+    """The public definitions of a crate, with the file of each: also those of a module or of a mutual block, two blanks in."""
     for path in sorted((crate / "specs").rglob("*.antt")):
+        indent = ""
         for line in path.read_text().split("\n"):
-            found = DEFINITION.match(line)
+            if BLOCK.match(line):
+                indent = "  "
+            elif re.match(r"[^\s-]", line):
+                indent = ""
+            found = DEFINITION.match(line) or indent and line.startswith(indent) and DEFINITION.match(line[len(indent):])
             if found and found[1] not in ("mod", "use"):
                 yield found[1], path
 

@@ -9,7 +9,7 @@ use Rattle.std.specs.Map.{lookup}
 use Rattle.indexmap.specs.IndexMap.{IndexMap, get}
 use Rattle.pbn_pieces.proofs.CutLemmas.{some_same, none_some}
 use Rattle.pbn_records.specs.declared.board.Board.{Board}
-use Rattle.pbn_records.specs.InOrder.{HasOneMore, in_place}
+use Rattle.pbn_records.specs.InOrder.{HasOneMoreBoard, in_place}
 
 module _ {S : Type 0} where
   -- no board is read yet, and none is in a place
@@ -23,7 +23,7 @@ module _ {S : Type 0} where
   pub one_read : (held before after : Option (IndexMap ℕ Board S)) (places : List (Option Board)) (place number : ℕ) (board : Board) →
       before ≡ held → place ≡ number → number < length places →
       ForSome held (λ boards. (other : ℕ) → get nat_eq boards other ≡ in_place places other) →
-      IfSome after (λ more. ForSome before (λ boards. HasOneMore boards number board more)) → IfNone before (after ≡ None) →
+      IfSome after (λ more. ForSome before (λ boards. HasOneMoreBoard boards number board more)) → IfNone before (after ≡ None) →
       ForSome after (λ boards. (other : ℕ) → get nat_eq boards other ≡ in_place (slice_set places place (Some board)) other)
   one_read held None (Some after) places place number board was at within same more none = absurd (none_some after (sym none))
   one_read held (Some before) (Some after) places place number board was at within same more none = λ boards is other.

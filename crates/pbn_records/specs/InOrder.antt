@@ -9,6 +9,6 @@ in_place places number = slice_index_or places number None
 
 module _ {S : Type 0} where
   -- one board more, at its number
-  abbrev pub HasOneMore : IndexMap ℕ Board S → ℕ → Board → IndexMap ℕ Board S → Type 0
-  HasOneMore old number board new = (other : ℕ) →
+  abbrev pub HasOneMoreBoard : IndexMap ℕ Board S → ℕ → Board → IndexMap ℕ Board S → Type 0
+  HasOneMoreBoard old number board new = (other : ℕ) →
       get nat_eq new other ≡ cond (nat_eq number other) (Some board) (get nat_eq old other)

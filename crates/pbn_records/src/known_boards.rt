@@ -1,7 +1,7 @@
 ghost use Rattle.std.specs.Prelude.{◌≡◌, ◌≢◌, ℕ, Some, None, IfSome, IfNone, nat_eq};
 ghost use Rattle.std.specs.Option.{ForSome};
 ghost use Rattle.indexmap.specs.IndexMap.{get};
-ghost use Rattle.pbn_records.specs.InOrder.{HasOneMore, in_place};
+ghost use Rattle.pbn_records.specs.InOrder.{HasOneMoreBoard, in_place};
 
 use crate::board::Board;
 use indexmap::IndexMap;
@@ -62,7 +62,7 @@ fn one_more(
     number: u8,
     board: &Board,
 ) -> Option<IndexMap<u8, Board>>
-    ensures more { IfSome result (λ more. ForSome boards (λ before. HasOneMore before number board.now more)) }
+    ensures more { IfSome result (λ more. ForSome boards (λ before. HasOneMoreBoard before number board.now more)) }
     ensures none { IfNone boards (result ≡ None) }
 {
     let mut boards = boards?;

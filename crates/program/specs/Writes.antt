@@ -83,7 +83,7 @@ pub record IsDone (input : List ℕ) (left : Option (List ℕ)) (before after : 
   pub consumed : Consumes (Some input) left input
   pub written : WritesResponses (lines_of input) before after
 
--- the first line opens no session: nothing is written, and no more is read than shows this
+-- the first line opens no session: nothing is written, and no more bytes are read than show one that is too long
 pub record IsUnopened (fault : Fault) (input : List ℕ) (left : Option (List ℕ))
     (before after : Option (List ℕ)) : Type 0 where
   pub read : List ℕ

@@ -18,16 +18,16 @@ mutual
     formula_then : Formula → Formulas → Formulas
 
 -- the formulas of a list
-abbrev pub formulas_of : List Formula → Formulas
-formulas_of [] = no_formula
-formulas_of (f ∷ fs) = formula_then f (formulas_of fs)
+abbrev pub formulas_from : List Formula → Formulas
+formulas_from [] = no_formula
+formulas_from (f ∷ fs) = formula_then f (formulas_from fs)
 
 -- one level, with each condition inside already seen as its formula
 abbrev pub formula_step : Condition-F Formula → Formula
 formula_step (Condition-F.Atom atom) = Is atom
 formula_step (Condition-F.Not other) = Not other.value
-formula_step (Condition-F.And members) = And (formulas_of members.items)
-formula_step (Condition-F.Or members) = Or (formulas_of members.items)
+formula_step (Condition-F.And members) = And (formulas_from members.items)
+formula_step (Condition-F.Or members) = Or (formulas_from members.items)
 
 -- what a condition says
 abbrev pub formula : Condition → Formula
@@ -35,4 +35,4 @@ formula = fold-Condition Formula formula_step
 
 -- and what conditions say
 abbrev pub formulas : List Condition → Formulas
-formulas members = formulas_of (map formula members)
+formulas members = formulas_from (map formula members)
