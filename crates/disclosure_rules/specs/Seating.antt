@@ -1,5 +1,5 @@
 -- Who plays which board, and which boards are complete: each as a test, with what it means in terms of the rows of the
--- movement beside it. To have played a board is to have a confirmed result on it.
+-- movement beside it. To have played a board is to have a confirmed result, or a ruling, on it.
 use Rattle.std.specs.Prelude.{◌≡◌, ℕ, Bool, true, false, not, ◌&&◌, ◌||◌, Option, Some, None, Any, IsSomeAnd}
 use Rattle.std.specs.List.{list_any, list_all}
 use Rattle.movement.specs.declared.cell.Cell.{Cell}

@@ -14,10 +14,6 @@ pub enum MovementError {
 
 impl fmt::Display for MovementError {
     fn fmt<W: fmt::Write>(&self, f: &mut fmt::Formatter<W>) -> fmt::Result {
-        f.write_str(match self {
-            MovementError::BadTables => "a section has 3 to 16 tables",
-            MovementError::BadRounds => "no movement of so many tables has so many rounds",
-            MovementError::BadSets => "a set has 1 to 8 boards, and a section 64 at most",
-        })
+        fmt::Debug::fmt(self, f)
     }
 }

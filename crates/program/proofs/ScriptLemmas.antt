@@ -431,6 +431,7 @@ module _ (input : List ℕ) (reader' writer : Option (List ℕ)) (line : List �
     read = reads.read;
     consumed = reads.consumed;
     few = reads.few;
+    first = reads.one;
     opens_none = subst (OpensNone fault) (sym reads.first) none;
     unwritten = Appends-nil writer;
   }
@@ -461,11 +462,13 @@ first_refused (Some input) reader' writer end line left' fault takes short none 
 -- a longer line
 pub first_too_long : (known reader' writer : Option (List ℕ)) (left' : ℕ) → TakesLonger known reader' most_bytes script_limit left' →
     IfSome known (λ input. EndsWith (Session session.TooLong) input reader' writer writer)
+unfolding ended_lines
 first_too_long None reader' writer left' takes = tt
 first_too_long (Some input) reader' writer left' takes = record {
   read = takes.piece;
   consumed = takes.consumed;
   few = takes.few;
+  first = subst (λ ls. length ls ≤ 1) (sym (lines_rest [] takes.piece refl takes.unbroken)) (at_most_one takes.piece);
   opens_none = (λ same. absurd (cc), takes.longer);
   unwritten = Appends-nil writer;
 }

@@ -83,12 +83,13 @@ pub record IsDone (input : List ℕ) (left : Option (List ℕ)) (before after : 
   pub consumed : Consumes (Some input) left input
   pub written : WritesResponses (lines_of input) before after
 
--- the first line opens no session: nothing is written, and no more bytes are read than show one that is too long
+-- the first line opens no session: nothing is written, and no more is read than shows this, nor a second line
 pub record IsUnopened (fault : Fault) (input : List ℕ) (left : Option (List ℕ))
     (before after : Option (List ℕ)) : Type 0 where
   pub read : List ℕ
   pub consumed : Consumes (Some input) left read
   pub few : length read ≤ most_bytes + 2
+  pub first : length (lines_of read) ≤ 1
   pub opens_none : OpensNone fault (first_line_of (lines_of input))
   pub unwritten : Appends before after []
 

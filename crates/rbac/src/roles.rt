@@ -30,7 +30,8 @@ use std::marker::Model;
 use user_names::Name;
 
 /// The users of a session, the roles that are assigned to them, and the role hierarchy. Clauses see the accounts and
-/// the inheritance pairs, each in the order of adding. After `new` no call takes memory, and a refusal changes nothing.
+/// the inheritance pairs, each in the order of adding. After `new` no call but `copy` takes memory, and a refusal changes
+/// nothing.
 ///
 /// A name is looked for among the accounts in turn, and what each role reaches is kept as a table of six bytes. So
 /// `authorized` costs one scan of the names and at most six unions of a byte, `add_inheritance` that union for each

@@ -44,11 +44,11 @@ is_touched (Board touched) user board = nat_eq board touched
 is_touched (User name) user board = same_name user name
 is_touched Everything user board = true
 
+-- ---- for private clauses
+
 -- whether it touches what the user at a place sees of a board, from 1 to the last
 abbrev pub is_touched_at : SessionState → Touched → ℕ → ℕ → ℕ → Bool
 is_touched_at state touched last p b = (nat_le 1 b && nat_le b last) && is_touched touched (user_at state p) b
-
--- ---- for private clauses
 
 -- about what is touched, for the user at a place
 abbrev pub touched_at : SessionState → Touched → ℕ → ℕ → ℕ → ℕ → Bool
