@@ -1,0 +1,2 @@
+pub mod PublishingLemmas
+pub mod ReadingLemmas

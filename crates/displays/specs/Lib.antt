@@ -1,0 +1,4 @@
+pub mod Copies
+pub mod NoSession
+pub mod Publishing
+pub mod Reading

@@ -1,0 +1,23 @@
+-- A session that nobody keeps: where a call picks its server by the name `Brand`, this stands in place of its opening, and
+-- no copy is ever opened for it.
+use Rattle.std.specs.Prelude.{[]}
+use Rattle.session_state.specs.SessionState.{SessionState}
+use Rattle.session_state.specs.disclosure_rules.declared.phase.Phase.TheVariants.{Running}
+
+abbrev pub no_session : SessionState
+no_session = record {
+  roles = record { accounts = []; pairs = [] };
+  digests = [];
+  seats = [];
+  public = record {
+    movement = record { tables = 0; rounds = 0; per_set = 0 };
+    marks = [];
+    round = 0;
+    phase = Running;
+    held = [];
+    live = [];
+  };
+  cells = [];
+  deals = [];
+  tables = [];
+}

@@ -1,0 +1,217 @@
+//! A reader of the copy that is shown.
+
+ghost use Rattle.std.specs.Prelude.{◌≡◌, List, [], length, IfOk, IfErr, OnErr, Err, IfSome, MatchBool};
+ghost use mathlib.Core.List.{IsPrefix};
+ghost use Rattle.session_state.specs.session_commands.declared.entry.Entry.{Entry};
+ghost use Rattle.history.specs.Prefixes.{Prefix, prefix_in, entries_of};
+ghost use Rattle.published_view.specs.declared.keeping.QueryFault.TheVariants as fault;
+ghost use Rattle.published_view.specs.View.{reply_after, digest_after};
+ghost use Rattle.displays.specs.Copies.{IsPublished};
+ghost use Rattle.displays.specs.Publishing.{Receipted, longer};
+ghost use Rattle.displays.specs.Reading.{GetsAnAnswer, NoForeknowledge};
+
+use crate::publisher::Publisher;
+use crate::receipt::Receipt;
+use crate::rule::{CopyReader, Looks, Server};
+use core::mem::replace_with;
+use history::HistoryPrefix;
+use published_view::{NoEntry, Query, QueryFault, Reply};
+use session_state::Digest;
+use std::alloc::{AllocError, Global};
+use std::marker::Model;
+use user_names::Name;
+
+/// Answers queries by the copy that is shown. Contracts see it as the publications that it has seen or been told of: no
+/// answer is older.
+#[derive(Drop)]
+pub struct Display<N: Server> {
+    reader: CopyReader<N>,
+    prefix: HistoryPrefix,
+}
+
+impl<N: Server> Model for Display<N> {
+    ghost use Rattle.std.specs.Prelude.{◌≡◌, List};
+    ghost use Rattle.session_state.specs.session_commands.declared.entry.Entry.{Entry};
+    ghost use Rattle.displays.specs.Copies.{IsPublished, publications_code};
+
+    ghost Value = { List (List Entry) };
+
+    ghost coded = { publications_code };
+
+    ghost view = { λ d. d.prefix.publications };
+
+    ghost invariant = { λ d. (d.prefix.history ≡ N.history) × IsPublished N.opening d.prefix.publications };
+}
+
+impl<N: Server> Display<N> {
+    pub(crate) fn over(reader: CopyReader<N>, prefix: HistoryPrefix) -> Display<N>
+        requires { prefix ≡ prefix_in N.history [] }
+        ensures { result ≡ [] }
+    {
+        Display { reader, prefix }
+    }
+
+    /// The reply to a user's query by the copy that is shown; the user wants no version older than `since`. It waits for
+    /// nobody, and has then seen what the copy shows, also where memory is refused for an answer that nothing comes
+    /// before.
+    pub fn query(
+        &mut self,
+        alloc: Global,
+        user: Name,
+        query: &Query,
+        since: u64,
+    ) -> Result<Reply, QueryFault>
+        ensures later { IsPrefix self.old self.new }
+        ensures published { IsPublished N.opening self.new }
+        ensures reply { IfOk result (λ reply.
+            reply ≡ reply_after N.opening (entries_of self.new) user query.now since) }
+        ensures none { result ≡ Err fault.NoEntry → self.new ≡ self.old }
+        ensures memory { result ≡ Err fault.OutOfMemory →
+            GetsAnAnswer N.opening (entries_of self.new) user query.now since }
+    {
+        let Some((answer, prefix)) = replace_with(
+            &mut self.reader,
+            (),
+            |reader, ()| ask(reader, alloc, user, query, since),
+        ) else {
+            return Err(QueryFault::NoEntry);
+        };
+        if !self.goes_to(prefix) {
+            return Err(QueryFault::NoEntry);
+        }
+        match answer {
+            Ok(answer) => Ok(answer),
+            Err(_) => Err(QueryFault::OutOfMemory),
+        }
+    }
+
+    /// The digest of the token with which a user signs in, by the copy that is shown. It takes no memory and waits for
+    /// nobody.
+    pub fn digest(&mut self, name: Name) -> Result<Option<Digest>, NoEntry>
+        ensures later { IsPrefix self.old self.new }
+        ensures published { IsPublished N.opening self.new }
+        ensures digest { IfOk result (λ digest. digest ≡ digest_after N.opening (entries_of self.new) name) }
+        ensures none { OnErr result (self.new ≡ self.old) }
+    {
+        let Some((digest, prefix)) = replace_with(&mut self.reader, name, ask_digest) else {
+            return Err(NoEntry);
+        };
+        if self.goes_to(prefix) {
+            Ok(digest)
+        } else {
+            Err(NoEntry)
+        }
+    }
+
+    /// From now on no answer is older than what the receipt tells. It takes no memory and waits for nobody. Where a user
+    /// was shown something of a board before, the receipt tells of no result of that board that was then entered or
+    /// confirmed where the user sits.
+    pub fn learn(&mut self, receipt: &Receipt<N>)
+        ensures longer { self.new ≡ longer self.old receipt.now.published }
+        ensures own { IsPrefix self.old self.new }
+        ensures told { IsPrefix receipt.now.published self.new }
+        ensures published { IsPublished N.opening self.new }
+        ensures no_foreknowledge { (seen : List (List Entry)) → IsPrefix seen self.old →
+            NoForeknowledge N.opening (entries_of seen) (entries_of receipt.now.published) }
+    {
+        self.go_to_longer(receipt.prefix());
+    }
+
+    /// Whether what it has seen is among what is published. Of the two one begins the other.
+    pub fn is_behind(&self, publisher: &Publisher<N>) -> bool
+        ensures begins { MatchBool result (IsPrefix self.now publisher.now.published)
+            (IsPrefix publisher.now.published self.now) }
+        ensures published { IsPublished N.opening self.now }
+    {
+        let told = publisher.tell();
+        let published = told.prefix();
+        if self.prefix.count() <= published.count() {
+            self.prefix.begins(published);
+            return true;
+        }
+        published.begins(&self.prefix);
+        false
+    }
+
+    // Has seen what a copy shows. A copy is shown before a receipt tells of it, so it is never behind what was learned.
+    fn goes_to(&mut self, prefix: HistoryPrefix) -> bool
+        requires history { prefix.history ≡ N.history }
+        requires published { IsPublished N.opening prefix.publications }
+        ensures published { IsPublished N.opening self.new }
+        ensures later { IsPrefix self.old self.new }
+        ensures stands { MatchBool result (self.new ≡ prefix.publications) (self.new ≡ self.old) }
+    {
+        if prefix.count() < self.prefix.count() {
+            return false;
+        }
+        self.prefix.begins(&prefix);
+        self.prefix = prefix;
+        true
+    }
+
+    // Has seen the longer of its own publications and those that were told.
+    fn go_to_longer(&mut self, told: &HistoryPrefix)
+        requires history { told.now.history ≡ N.history }
+        requires published { IsPublished N.opening told.now.publications }
+        ensures longer { self.new ≡ longer self.old told.now.publications }
+        ensures own { IsPrefix self.old self.new }
+        ensures told { IsPrefix told.now.publications self.new }
+        ensures published { IsPublished N.opening self.new }
+    {
+        if self.prefix.count() < told.count() {
+            self.prefix.begins(told);
+            self.prefix = told.again();
+        } else {
+            told.begins(&self.prefix);
+        }
+    }
+}
+
+// Enters the copy that is shown, asks it, and leaves it.
+fn ask<N: Server>(
+    reader: CopyReader<N>,
+    alloc: Global,
+    user: Name,
+    query: &Query,
+    since: u64,
+) -> (
+    CopyReader<N>,
+    Option<(Result<Reply, AllocError>, HistoryPrefix)>,
+)
+    ensures history { IfSome result.1 (λ t. t.1.history ≡ N.history) }
+    ensures published { IfSome result.1 (λ t. IsPublished N.opening t.1.publications) }
+    ensures reply { IfSome result.1 (λ t. IfOk t.0 (λ reply.
+        reply ≡ reply_after N.opening (entries_of t.1.publications) user query.now since)) }
+    ensures memory { IfSome result.1 (λ t. IfErr t.0 (λ _.
+        GetsAnAnswer N.opening (entries_of t.1.publications) user query.now since)) }
+{
+    match reader.enter_as::<Looks<N>>() {
+        Ok(reading) => {
+            let copy = reading.get();
+            let answer = copy.answer(alloc, user, query, since);
+            let prefix = copy.prefix().again();
+            (reading.leave(), Some((answer, prefix)))
+        }
+        Err(reader) => (reader, None),
+    }
+}
+
+// Enters the copy that is shown, looks a user's digest up, and leaves it.
+fn ask_digest<N: Server>(
+    reader: CopyReader<N>,
+    name: Name,
+) -> (CopyReader<N>, Option<(Option<Digest>, HistoryPrefix)>)
+    ensures history { IfSome result.1 (λ t. t.1.history ≡ N.history) }
+    ensures published { IfSome result.1 (λ t. IsPublished N.opening t.1.publications) }
+    ensures digest { IfSome result.1 (λ t. t.0 ≡ digest_after N.opening (entries_of t.1.publications) name) }
+{
+    match reader.enter_as::<Looks<N>>() {
+        Ok(reading) => {
+            let copy = reading.get();
+            let digest = copy.digest(name);
+            let prefix = copy.prefix().again();
+            (reading.leave(), Some((digest, prefix)))
+        }
+        Err(reader) => (reader, None),
+    }
+}
