@@ -1,0 +1,60 @@
+-- What a batch publishes.
+use Rattle.std.proofs.Common.{◌≡◌, ◌⊎◌, ℕ, Bool, false, ◌+◌, ◌<◌, List, [], ◌∷◌, ◌++◌, append-nil, length-append, length, ap, sym, subst, ◌∙◌, arith}
+use Rattle.std.proofs.lemmas.Bool.Decides.{nat_tests}
+use Rattle.session_state.specs.session_commands.declared.entry.Entry.{Entry}
+use Rattle.std.specs.Prelude.{Option, Some, None, ◌||◌}
+use Rattle.session_state.specs.SessionState.{SessionState}
+use Rattle.session_state.specs.session_commands.declared.actor.Actor.TheVariants.{User}
+use Rattle.session_state.specs.session_commands.declared.command.Command.{Command}
+use Rattle.session_state.specs.session_commands.declared.refusal.Refusal.{Refusal}
+use Rattle.session_state.specs.session_commands.declared.refusal.Refusal.TheVariants.{OutOfMemory}
+use Rattle.session_book.specs.declared.answer.Answer.{Answer}
+use Rattle.session_book.specs.declared.answer.Answer.TheVariants.{Accepted, Refused}
+use Rattle.session_book.specs.Journal.{Ledger, refusal_at}
+use Rattle.session_book.specs.Run.{Runs, IsTried, stops, first_number, last_number}
+use Rattle.published_view.specs.World.{book_with}
+use Rattle.session_state.specs.session_commands.declared.actor.Actor.{Actor}
+use Rattle.session_book.proofs.RunLemmas.{runs_accepted, runs_refused}
+use Rattle.history.specs.Prefixes.{entries_of}
+use Rattle.displays.proofs.PublishingLemmas.{entries_of_more}
+use Rattle.desks.specs.Batch.{with_publication}
+
+pub entries_of_with_publication : (bs : List (List Entry)) (more : List Entry) → entries_of (with_publication bs more) ≡ entries_of bs ++ more
+entries_of_with_publication bs [] = sym (append-nil (entries_of bs))
+entries_of_with_publication bs (e ∷ es) = entries_of_more bs (e ∷ es)
+
+-- the numbers of a publication that is not empty
+pub first_grown : (m n : ℕ) → m < n → first_number m n ≡ m + 1
+first_grown m n less = grind (arith, nat_tests)
+
+pub last_grown : (m n : ℕ) → m < n → last_number m n ≡ n
+last_grown m n less = grind (arith, nat_tests)
+
+pub entries_of_grows : (bs : List (List Entry)) (more : List Entry) → 0 < length more → length (entries_of bs) < length (entries_of (bs ++ more ∷ []))
+entries_of_grows bs more some = omega (arith, ap (λ (l : List Entry). length l) (entries_of_more bs more), length-append (entries_of bs) more, some)
+
+-- what the book's answer to one command makes of a batch, in a session that opened so
+module _ (opening : SessionState) (book : Ledger) (before : List Entry) (actor : List ℕ) (tried : List Command) (command : Command) (answers : List Answer) (stopped : Bool) where
+  pub accepted_here : (after : List Entry) → book.opening ≡ opening → stopped ≡ false → refusal_at book (User actor) command ≡ None →
+      after ≡ book.journal ++ record { actor = User actor; command = command } ∷ [] →
+      Runs stopped opening before actor tried (record { journal = book.journal; answers = answers }) →
+      Runs (stopped || stops None) opening before actor (tried ++ command ∷ []) (record { journal = after; answers = answers ++ Accepted ∷ [] })
+  accepted_here after opened goes_on accepted more ran =
+      runs_accepted opening before actor tried command book.journal answers stopped after goes_on
+      (subst (λ (o : SessionState). refusal_at (record { opening = o; journal = book.journal; spare = book.spare }) (User actor) command ≡ None) opened accepted) more ran
+
+  pub refused_here : (after : List Entry) (cause : Refusal) → book.opening ≡ opening → stopped ≡ false → after ≡ book.journal →
+      (refusal_at book (User actor) command ≡ Some cause) ⊎ ((cause ≡ OutOfMemory) × (refusal_at book (User actor) command ≡ None)) →
+      Runs stopped opening before actor tried (record { journal = book.journal; answers = answers }) →
+      Runs (stopped || stops (Some cause)) opening before actor (tried ++ command ∷ []) (record { journal = after; answers = answers ++ Refused cause ∷ [] })
+  refused_here after cause opened goes_on same err ran =
+      runs_refused opening before actor tried command book.journal answers stopped after cause goes_on same
+      (subst (λ (o : SessionState). (refusal_at (record { opening = o; journal = book.journal; spare = book.spare }) (User actor) command ≡ Some cause) ⊎ ((cause ≡ OutOfMemory) × (refusal_at (record { opening = o; journal = book.journal; spare = book.spare }) (User actor) command ≡ None))) opened err) ran
+
+-- what a book is told, by its opening and its journal alone
+pub tried_so : (before after : Ledger) (actor : Actor) (command : Command) (answer : Answer) (opening : SessionState) (journal : List Entry) → before.opening ≡ opening → after.journal ≡ journal →
+    IsTried before actor command answer after → IsTried (book_with opening before.journal) actor command answer (book_with opening journal)
+tried_so before after actor command Accepted opening journal opened same tried =
+    (subst (λ (o : SessionState). refusal_at (book_with o before.journal) actor command ≡ None) opened tried.0, sym same ∙ tried.1)
+tried_so before after actor command (Refused cause) opening journal opened same tried =
+    (subst (λ (o : SessionState). (refusal_at (book_with o before.journal) actor command ≡ Some cause) ⊎ ((cause ≡ OutOfMemory) × (refusal_at (book_with o before.journal) actor command ≡ None))) opened tried.0, sym same ∙ tried.1)

@@ -1,0 +1,61 @@
+-- What desks do: a batch, or a command of the solver's, is tried after some journal, and what was accepted is published as
+-- one publication.
+use Rattle.std.specs.Prelude.{◌≡◌, ℕ, Bool, List, [], ◌∷◌, ◌++◌, length, refl}
+use Rattle.std.specs.Coded.{Coded, code_by, coded×, coded_list}
+use Rattle.session_state.specs.SessionState.{SessionState}
+use Rattle.session_state.specs.session_commands.declared.actor.Actor.TheVariants.{Solver}
+use Rattle.session_state.specs.session_commands.declared.command.Command.{Command}
+use Rattle.session_state.specs.session_commands.declared.entry.Entry.{Entry}
+use Rattle.session_state.specs.session_commands.contracts.entry.Entry as the_entry
+use Rattle.session_book.specs.declared.answer.Answer.{Answer}
+use Rattle.session_book.specs.Run.{Runs, IsTried, first_number, last_number}
+use Rattle.history.specs.Prefixes.{entries_of}
+use Rattle.published_view.specs.World.{book_with}
+use Rattle.displays.specs.Copies.{IsPublished, publications_code}
+use Rattle.displays.specs.Publishing.{Outgoing, Receipted, receipted}
+
+-- one publication more, of these entries, where there are any
+abbrev pub with_publication : List (List Entry) → List Entry → List (List Entry)
+with_publication publications [] = publications
+with_publication publications (entry ∷ more) = publications ++ (entry ∷ more) ∷ []
+
+-- the receipt for what joined a journal: the numbers of the first and the last entry, or twice 0 where none joined it, and
+-- all that is published, which is that journal now
+abbrev pub receipt_after : List Entry → List (List Entry) → Receipted
+receipt_after before published =
+    receipted (first_number (length before) (length (entries_of published)))
+    (last_number (length before) (length (entries_of published))) published
+
+-- a user's batch was run after a journal, whole or up to a command for which memory was refused, with these answers; its
+-- accepted entries stand behind that journal in what was published then, and the receipt tells their numbers
+pub record IsSubmitted (opening : SessionState) (before : List Entry) (actor : List ℕ) (batch : List Command)
+    (answers : List Answer) (receipt : Receipted) : Type 0 where
+  pub stopped : Bool
+  pub ran :
+      Runs stopped opening before actor batch (record { journal = entries_of receipt.published; answers = answers })
+  pub published : IsPublished opening receipt.published
+  pub told : receipt ≡ receipt_after before receipt.published
+
+-- the same of one command of the solver's
+pub record IsEntered (opening : SessionState) (before : List Entry) (command : Command) (answer : Answer)
+    (receipt : Receipted) : Type 0 where
+  pub tried :
+      IsTried (book_with opening before) Solver command answer (book_with opening (entries_of receipt.published))
+  pub published : IsPublished opening receipt.published
+  pub told : receipt ≡ receipt_after before receipt.published
+
+-- what lies under the lock: a journal, and the publications of it
+pub record PublishedJournal : Type 0 where
+  pub journal : List Entry
+  pub published : List (List Entry)
+
+abbrev pub published_journal_code : Coded PublishedJournal
+published_journal_code =
+    code_by (List Entry × List (List Entry)) (coded× (coded_list the_entry.the_row.coded) publications_code)
+    (λ s. (s.journal, s.published)) (λ p. record { journal = p.0; published = p.1 }) (λ _. refl)
+
+-- ---- for private clauses
+
+-- once what is pending is published, if anything is
+abbrev pub after_showing : Outgoing → Outgoing
+after_showing outgoing = record { published = with_publication outgoing.published outgoing.pending; pending = [] }

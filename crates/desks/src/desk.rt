@@ -1,0 +1,136 @@
+//! A desk, from which batches come.
+
+ghost use Rattle.std.specs.Prelude.{◌≡◌, ◌≤◌, ◌↔◌, List, length, IfOk, IfErr, OnOk};
+ghost use mathlib.Core.List.{IsPrefix};
+ghost use Rattle.rbac.specs.Authorization.{HasPermission};
+ghost use Rattle.session_roles.specs.declared.operation.Operation.TheVariants.{Audit};
+ghost use Rattle.session_state.specs.session_commands.declared.command.Command.TheVariants.{Solved, Analysed};
+ghost use Rattle.session_state.specs.session_commands.declared.entry.Entry.{Entry};
+ghost use Rattle.session_book.specs.Audit.{audit_rows};
+ghost use Rattle.session_book.specs.declared.audit.AuditError.TheVariants.{NotPermitted};
+ghost use Rattle.session_book.specs.Journal.{replay};
+ghost use Rattle.session_book.specs.Run.{most_commands};
+ghost use Rattle.history.specs.Prefixes.{entries_of};
+ghost use Rattle.displays.specs.Copies.{IsPublished};
+ghost use Rattle.displays.specs.Publishing.{receipted};
+ghost use Rattle.desks.specs.Batch.{IsSubmitted, IsEntered};
+
+use crate::locked_book::LockedBook;
+use crate::work::work_of;
+use displays::{Display, Receipt, Server};
+use session_book::{Answer, AuditError, AuditRows};
+use session_state::{Cell, Command, DdTable, PlayCosts};
+use solver_pool::Work;
+use std::alloc::AllocError;
+use std::sync::{Mutex, Wait};
+use user_names::Name;
+
+/// Puts commands into the book that it shares with other desks. Each call waits for the lock; one that publishes waits
+/// for displays that still read the older copy.
+#[derive(Drop)]
+pub struct Desk<'a, N: Server> {
+    lock: &'a Mutex<LockedBook<N>>,
+}
+
+impl<'a, N: Server> Desk<'a, N> {
+    pub(crate) fn over(lock: &'a Mutex<LockedBook<N>>) -> Desk<'a, N> {
+        Desk { lock }
+    }
+
+    /// Tries the commands of a user, one after another, behind all that was entered before. Where memory is refused for
+    /// the answers, none is tried.
+    pub fn submit<R: Wait>(
+        &self,
+        rt: &R,
+        actor: Name,
+        batch: &[Command],
+    ) -> Result<(Vec<Answer>, Receipt<N>), AllocError>
+        requires { length batch.now ≤ most_commands }
+        ensures { IfOk result (λ t. (before : List Entry) ×
+            IsSubmitted N.opening before actor batch.now t.0.items t.1) }
+    {
+        let mut locked = self.lock.lock(rt);
+        locked.submit(rt, actor, batch)
+    }
+
+    /// The same, behind all that a display of this server has seen.
+    pub fn submit_from<R: Wait>(
+        &self,
+        rt: &R,
+        display: &Display<N>,
+        actor: Name,
+        batch: &[Command],
+    ) -> Result<(Vec<Answer>, Receipt<N>), AllocError>
+        requires { length batch.now ≤ most_commands }
+        ensures published { IsPublished N.opening display.now }
+        ensures receipt { IfOk result (λ t. (before : List Entry) × IsPrefix (entries_of display.now) before
+            × IsSubmitted N.opening before actor batch.now t.0.items t.1) }
+    {
+        // A display sees nothing that isn't published, so the first turn does.
+        for _ in rt.forever() {
+            let mut locked = self.lock.lock(rt);
+            if locked.has_seen(display) {
+                return locked.submit(rt, actor, batch);
+            }
+        }
+        unreachable!()
+    }
+
+    /// Tries what the solver found of a board.
+    pub fn submit_solved<R: Wait>(&self, rt: &R, board: u8, table: DdTable) -> (Answer, Receipt<N>)
+        ensures { (before : List Entry) × IsEntered N.opening before (Solved board table) result.0 result.1 }
+    {
+        let mut locked = self.lock.lock(rt);
+        locked.submit_found(rt, &Command::Solved { board, table })
+    }
+
+    /// Tries what the solver found of the cards that were played at a cell.
+    pub fn submit_analysed<R: Wait>(
+        &self,
+        rt: &R,
+        cell: Cell,
+        costs: PlayCosts,
+    ) -> (Answer, Receipt<N>)
+        ensures { (before : List Entry) ×
+            IsEntered N.opening before (Analysed cell.table cell.board costs) result.0 result.1 }
+    {
+        let Cell { table, board } = cell;
+        let mut locked = self.lock.lock(rt);
+        locked.submit_found(
+            rt,
+            &Command::Analysed {
+                table,
+                board,
+                costs,
+            },
+        )
+    }
+
+    /// The entries of the journal from a number on, at most so many, for a user who has the permission for the audit; and
+    /// a receipt for just this journal.
+    pub fn audit<R: Wait>(
+        &self,
+        rt: &R,
+        actor: Name,
+        from: usize,
+        limit: usize,
+    ) -> (Result<AuditRows, AuditError>, Receipt<N>)
+        ensures rows { IfOk result.0 (λ rows. rows ≡ audit_rows (entries_of result.1.published) from limit) }
+        ensures permitted { OnOk result.0
+            (HasPermission (replay N.opening (entries_of result.1.published)).roles actor Audit) }
+        ensures refused { IfErr result.0 (λ error. (error ≡ NotPermitted)
+            ↔ (¬ HasPermission (replay N.opening (entries_of result.1.published)).roles actor Audit)) }
+        ensures published { IsPublished N.opening result.1.published }
+        ensures receipt { result.1 ≡ receipted 0 0 result.1.published }
+    {
+        let locked = self.lock.lock(rt);
+        locked.audit(actor, from, limit)
+    }
+
+    /// The work that is left at a table on a board: the costs of a confirmed result with a contract and a play, which
+    /// aren't there yet. It takes no memory.
+    pub fn work_of<R: Wait>(&self, rt: &R, table: u8, board: u8) -> Option<Work> {
+        let locked = self.lock.lock(rt);
+        work_of(locked.state(), table, board)
+    }
+}

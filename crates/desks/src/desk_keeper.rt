@@ -1,0 +1,89 @@
+//! A desk and a display of one server, as a connection sees them.
+
+ghost use Rattle.std.specs.Prelude.{◌≡◌};
+
+use crate::desk::Desk;
+use displays::{Display, Server};
+use published_view::{
+    AuditReceipt, BatchReceipt, Keeper, NoEntry, Query, QueryFault, Reply, Submission,
+};
+use session_state::{Command, Digest};
+use solver_pool::Work;
+use std::alloc::{AllocError, Global};
+use std::sync::Wait;
+use user_names::Name;
+
+/// Keeps a session for a connection beside others: a desk, to which its commands go, and a display, which answers its
+/// queries and learns of each receipt. It stands for what the display has seen.
+#[derive(Drop)]
+pub struct DeskKeeper<'a, N: Server> {
+    desk: Desk<'a, N>,
+    display: Display<N>,
+}
+
+impl<'a, N: Server> DeskKeeper<'a, N> {
+    /// A keeper of what the display has seen.
+    pub fn new(desk: Desk<'a, N>, display: Display<N>) -> DeskKeeper<'a, N>
+        ensures { result.display ≡ display }
+    {
+        DeskKeeper { desk, display }
+    }
+
+    /// The work that is left at a table on a board.
+    pub fn work_of<R: Wait>(&self, rt: &R, table: u8, board: u8) -> Option<Work> {
+        self.desk.work_of(rt, table, board)
+    }
+}
+
+impl<'a, N: Server> Keeper for DeskKeeper<'a, N> {
+    ghost use mathlib.Core.List.{IsPrefix};
+    ghost use Rattle.history.specs.Prefixes.{entries_of};
+
+    ghost opening = { λ _. N.opening };
+
+    ghost journal = { λ r. entries_of r.display };
+
+    ghost others = { λ before after. IsPrefix before after };
+
+    fn submit<R: Wait>(
+        &mut self,
+        rt: &R,
+        actor: Name,
+        batch: &[Command],
+    ) -> Result<BatchReceipt, AllocError> {
+        let (answers, receipt) = self.desk.submit_from(rt, &self.display, actor, batch)?;
+        self.display.learn(&receipt);
+        let submission = Submission {
+            answers,
+            first: receipt.first(),
+            last: receipt.last(),
+        };
+        Ok(BatchReceipt {
+            submission,
+            version: receipt.version(),
+        })
+    }
+
+    fn audit<R: Wait>(&mut self, rt: &R, actor: Name, from: usize, limit: usize) -> AuditReceipt {
+        let (rows, receipt) = self.desk.audit(rt, actor, from, limit);
+        self.display.learn(&receipt);
+        AuditReceipt {
+            rows,
+            version: receipt.version(),
+        }
+    }
+
+    fn query(
+        &mut self,
+        alloc: Global,
+        user: Name,
+        query: &Query,
+        since: u64,
+    ) -> Result<Reply, QueryFault> {
+        self.display.query(alloc, user, query, since)
+    }
+
+    fn digest(&mut self, name: Name) -> Result<Option<Digest>, NoEntry> {
+        self.display.digest(name)
+    }
+}
