@@ -6,7 +6,7 @@ use crate::conversation::serve_stream;
 use crate::message_server::MessageServer;
 use std::alloc::Global;
 use std::io::{self, Read, Write};
-use std::net::{Ipv4Addr, Net, OpenListener, SocketAddr, TcpListener};
+use std::net::{Ipv4Addr, Net, OpenListener, OpenStream, SocketAddr, TcpListener};
 use std::sync::Wait;
 use std::thread;
 use std::time::{Clock, Duration};
@@ -28,7 +28,7 @@ pub fn serve_clients<R: Wait + Clock, L: OpenListener, A: MessageServer + Drop>(
     server: A,
 ) -> A
 where
-    L::Stream: Read + Write,
+    L::Stream: Read + Write + OpenStream,
     ensures { ServesMany L.Stream.remaining L.Stream.contents A.answers A.binary_text A.memory_text A.leaves clients server result }
 {
     let mut server = server;
@@ -46,7 +46,7 @@ pub fn serve_forever<R: Wait + Clock, L: OpenListener, A: MessageServer + Drop>(
     server: A,
 )
 where
-    L::Stream: Read + Write,
+    L::Stream: Read + Write + OpenStream,
 {
     let mut server = server;
     for _ in rt.forever() {
@@ -62,11 +62,14 @@ fn serve_client<R: Wait + Clock, L: OpenListener, A: MessageServer + Drop>(
     server: A,
 ) -> A
 where
-    L::Stream: Read + Write,
+    L::Stream: Read + Write + OpenStream,
     ensures { ServesOne L.Stream.remaining L.Stream.contents A.answers A.binary_text A.memory_text A.leaves server result }
 {
     match listener.accept() {
         Ok((stream, _)) => {
+            // Each answer is sent at once, and not only when the client has acknowledged the one before it. Where the
+            // stream can't, the client is served all the same.
+            let _unheard = stream.set_nodelay(true);
             let mut server = server.signed_out();
             serve_stream(rt, alloc, stream, &mut server);
             server
