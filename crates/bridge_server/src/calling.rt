@@ -17,16 +17,19 @@ use std::io::{self, BufReader, Read, Write};
 use std::net::Net;
 use std::rt::{Files, Runtime};
 use std::sync::Wait;
+use std::thread::Threads;
 use std::time::Clock;
 
 /// Runs the program with these words, its name first, and answers the status with which it ends.
-pub(crate) fn run_words<R: Files + Net + Clock + Wait + AllocGlobal, I: Read, W: Write, E: Write>(
-    rt: &R,
-    words: &[String],
-    reader: &mut I,
-    writer: &mut W,
-    errors: &mut E,
-) -> u8
+pub(crate) fn run_words<
+    R: Files + Net + Clock + Wait + Threads + AllocGlobal + Sync,
+    I: Read,
+    W: Write,
+    E: Write,
+>(rt: &R, words: &[String], reader: &mut I, writer: &mut W, errors: &mut E) -> u8
+where
+    R::Listener: Sync,
+    R::Stream: Send,
     ensures statuses { IsStatus result }
     ensures unread { ¬ AsksFor (map string_bytes words.now) Script →
         Consumes (I.remaining reader.old) (I.remaining reader.new) [] }
@@ -60,10 +63,13 @@ pub(crate) fn run_words<R: Files + Net + Clock + Wait + AllocGlobal, I: Read, W:
 }
 
 /// Hands over the words that the program was called with, and its standard streams but the one for errors.
-pub(crate) fn run_program<R: Runtime + Net + Wait + AllocGlobal, E: Write>(
+pub(crate) fn run_program<R: Runtime + Net + Wait + Threads + AllocGlobal + Sync, E: Write>(
     rt: &R,
     errors: &mut E,
 ) -> u8
+where
+    R::Listener: Sync,
+    R::Stream: Send,
     ensures { IsStatus result }
 {
     let Ok(words) = called_with(rt) else {

@@ -5,7 +5,6 @@
 mod calling;
 mod files;
 mod serving;
-mod session_server;
 #[cfg(test)]
 mod tests;
 

@@ -1,30 +1,34 @@
 //! Clients that are served over WebSockets.
 
-ghost use Rattle.std.specs.Prelude.{◌≡◌, ◌≢◌, []};
+ghost use Rattle.std.specs.Prelude.{◌≡◌, ◌≢◌, [], IfOk};
 ghost use Rattle.std.specs.Io.KnownBytes.{Appends};
 ghost use Rattle.program.specs.Status.{IsStatus};
 
 use crate::files::read_file;
-use crate::session_server::SessionServer;
 use connections::MOST_MESSAGE_BYTES;
-use program::{Fault, Keeper, PlainKeeper, open_session, status_of_fault};
+use program::{Fault, open_book, status_of_fault};
 use server_words::Serving;
-use std::io::{Read, Write};
-use std::net::{Net, OpenListener};
+use session_book::Book;
+use session_threads::{ServingError, ServingPlan, serve_book};
+use std::io::Write;
+use std::net::Net;
 use std::rt::Files;
 use std::sync::Wait;
+use std::thread::Threads;
 use std::time::Clock;
-use websocket_server::{LONGEST_MESSAGE, MessageServer, listen, serve_clients, serve_forever};
+use websocket_server::LONGEST_MESSAGE;
 
 // A message that is one byte too long is read whole, so that it can be answered.
 const _: () = prove!(LONGEST_MESSAGE == MOST_MESSAGE_BYTES + 1);
 
 /// Serves clients in a session of files, and answers the status after it, or where none could be served.
-pub(crate) fn status_of_serving<R: Files + Net + Clock + Wait + AllocGlobal, E: Write>(
-    rt: &R,
-    serving: &Serving<'_>,
-    errors: &mut E,
-) -> u8
+pub(crate) fn status_of_serving<
+    R: Files + Net + Clock + Wait + Threads + AllocGlobal + Sync,
+    E: Write,
+>(rt: &R, serving: &Serving<'_>, errors: &mut E) -> u8
+where
+    R::Listener: Sync,
+    R::Stream: Send,
     ensures statuses { IsStatus result }
     ensures silent { result ≢ 1 → Appends (E.contents errors.old) (E.contents errors.new) [] }
     ensures understood { result ≢ 2 }
@@ -35,61 +39,58 @@ pub(crate) fn status_of_serving<R: Files + Net + Clock + Wait + AllocGlobal, E: 
     }
 }
 
-// Serves clients one after another, in a session of files.
-fn serve<R: Files + Net + Clock + Wait + AllocGlobal>(
+// Serves clients in a session of files.
+fn serve<R: Files + Net + Clock + Wait + Threads + AllocGlobal + Sync>(
     rt: &R,
     serving: &Serving<'_>,
-) -> Result<(), Fault> {
-    match keeper_of_files(rt, serving) {
-        Ok(keeper) => serve_session(rt, serving, keeper),
+) -> Result<(), Fault>
+where
+    R::Listener: Sync,
+    R::Stream: Send,
+{
+    match book_of_files(rt, serving) {
+        Ok((book, budget)) => serve_session(rt, serving, book, budget),
         Err(fault) => Err(fault),
     }
 }
 
-// Serves clients in an open session, whoever keeps it.
-fn serve_session<R: Net + Clock + Wait + AllocGlobal, K: Keeper>(
+// Serves clients in an open session. For want of places or of threads it ends as for want of memory.
+fn serve_session<R: Net + Clock + Wait + Threads + AllocGlobal + Sync>(
     rt: &R,
     serving: &Serving<'_>,
-    keeper: K,
-) -> Result<(), Fault> {
-    match listen(rt, serving.port) {
-        Ok(listener) => {
-            serve_at(
-                rt,
-                &listener,
-                serving.connections,
-                SessionServer::new(keeper),
-            );
-            Ok(())
-        }
-        Err(_) => Err(Fault::Input),
-    }
-}
-
-// Serves so many clients of a listener, or where that is 0 all of them.
-fn serve_at<R: Clock + Wait + AllocGlobal, L: OpenListener, S: MessageServer + Drop>(
-    rt: &R,
-    listener: &L,
-    connections: u32,
-    server: S,
-)
+    book: Book,
+    budget: u64,
+) -> Result<(), Fault>
 where
-    L::Stream: Read + Write,
+    R::Listener: Sync,
+    R::Stream: Send,
+    requires { book.journal ≡ [] }
 {
-    match connections {
-        0 => serve_forever(rt, rt.alloc(), listener, server),
-        _ => {
-            serve_clients(rt, rt.alloc(), listener, connections, server);
+    let plan = ServingPlan {
+        port: serving.port,
+        displays: serving.displays,
+        workers: serving.workers,
+        connections: serving.connections,
+        budget,
+    };
+    match serve_book(rt, rt.alloc(), book, plan) {
+        Ok(()) => Ok(()),
+        Err(ServingError::NotListening) => Err(Fault::Input),
+        Err(ServingError::OutOfMemory | ServingError::NoPlace | ServingError::NoThread) => {
+            Err(Fault::OutOfMemory)
         }
     }
 }
 
-// The session that the files open: the session object's is read first.
-fn keeper_of_files<R: Files + AllocGlobal>(
+// The book of the session that the files open, with how many visits a solver's call may make: the session object's file
+// is read first.
+fn book_of_files<R: Files + AllocGlobal>(
     rt: &R,
     serving: &Serving<'_>,
-) -> Result<PlainKeeper, Fault> {
+) -> Result<(Book, u64), Fault>
+    ensures { IfOk result (λ t. t.0.journal ≡ []) }
+{
     let session = read_file(rt, serving.session)?;
     let deals = read_file(rt, serving.deals)?;
-    open_session(rt.alloc(), session.as_slice(), Some(deals.as_slice()))
+    open_book(rt.alloc(), session.as_slice(), Some(deals.as_slice()))
 }

@@ -1,3 +1,4 @@
+mod analysing;
 mod calling;
 mod client;
 mod devices;

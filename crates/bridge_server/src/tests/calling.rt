@@ -8,6 +8,7 @@ use std::io::{self, ErrorKind};
 use std::net::Net;
 use std::rt::Files;
 use std::sync::Wait;
+use std::thread::Threads;
 use std::time::Clock;
 
 const MISSING: Ending = (2, "", "error: the following required arguments were");
@@ -165,10 +166,14 @@ static NO_SESSIONS: &[(&str, Ending)] = &[
 ];
 
 // Whether a row's script ends so.
-fn script_ends<R: Files + Net + Clock + Wait + AllocGlobal>(
+fn script_ends<R: Files + Net + Clock + Wait + Threads + AllocGlobal + Sync>(
     rt: &R,
     (length, rest, ending): &(usize, &str, Ending),
-) -> bool {
+) -> bool
+where
+    R::Listener: Sync,
+    R::Stream: Send,
+{
     match script_of(rt.alloc(), *length, rest) {
         Ok(script) => ends(rt, "script", &mut script.as_slice(), ending),
         Err(_) => false,
@@ -198,11 +203,15 @@ fn ends_by_its_script(rt: HostRuntime) {
 
 // Whether a word, which leaves its script alone, ends so over writers that fail after seven bytes: the status, and
 // how much is written and said.
-fn ends_in_little_room<R: Files + Net + Clock + Wait + AllocGlobal>(
+fn ends_in_little_room<R: Files + Net + Clock + Wait + Threads + AllocGlobal + Sync>(
     rt: &R,
     word: &str,
     (status, written, said): (u8, usize, usize),
-) -> bool {
+) -> bool
+where
+    R::Listener: Sync,
+    R::Stream: Send,
+{
     let mut writer = FailingWriter::new(rt.alloc(), 7, ErrorKind::BrokenPipe);
     let mut errors = FailingWriter::new(rt.alloc(), 7, ErrorKind::BrokenPipe);
     status_of(rt, word, &mut io::empty(), &mut writer, &mut errors) == status

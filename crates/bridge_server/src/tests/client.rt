@@ -26,27 +26,56 @@ pub(super) enum Turn {
 /// What a client is, and its turns. It hears no more after them.
 pub(super) type Client = (&'static str, &'static [Turn]);
 
-/// Whether the server, which may still have to open its session, answers a client so.
-pub(super) fn is_served<R: Net + Clock>(rt: &R, port: u16, (_, turns): &Client) -> bool {
+/// A connection to the server, which may still have to open its session.
+pub(super) fn connect<R: Net + Clock>(rt: &R, port: u16) -> Option<R::Stream> {
     for _ in 0..1000 {
-        if let Ok(mut stream) = TcpStream::connect(rt, (Ipv4Addr::LOCALHOST, port)) {
-            return is_answered(&mut stream, turns);
+        if let Ok(stream) = TcpStream::connect(rt, (Ipv4Addr::LOCALHOST, port)) {
+            return Some(stream);
         }
         thread::sleep(rt, Duration::from_millis(10));
     }
-    false
+    None
 }
 
-// Whether each turn is so, and then the server has no more to say.
-fn is_answered<S: Read + Write + OpenStream>(stream: &mut S, turns: &[Turn]) -> bool {
+/// Whether the server answers a client so, and then has no more to say.
+pub(super) fn is_served<R: Net + Clock>(rt: &R, port: u16, (_, turns): &Client) -> bool {
+    match connect(rt, port) {
+        Some(mut stream) => is_answered(&mut stream, turns) && is_ended(&mut stream),
+        None => false,
+    }
+}
+
+/// Whether each turn is so.
+pub(super) fn is_answered<S: Read + Write>(stream: &mut S, turns: &[Turn]) -> bool {
     for turn in turns {
         if !takes(stream, turn) {
             return false;
         }
     }
+    true
+}
+
+/// Whether the server has no more to say, once it is told that the client hasn't.
+pub(super) fn is_ended<S: Read + OpenStream>(stream: &mut S) -> bool {
     // The server may be gone.
     let _told = stream.shutdown(Shutdown::Write);
     stream.read(&mut [0]).unwrap_or(0) == 0
+}
+
+/// Whether a short text is answered by this one, and not by another one that is short too.
+pub(super) fn is_told<S: Read + Write>(stream: &mut S, said: &str, answer: &str) -> bool {
+    let said_length = said.len().min(125) as u8;
+    let mut head = [0; 2];
+    let mut heard = [0; 125];
+    if !is_heard(stream, &[0x81, 0x80 | said_length, 0, 0, 0, 0], b"")
+        || !is_heard(stream, said.as_bytes(), b"")
+        || stream.read_exact(&mut head).is_err()
+    {
+        return false;
+    }
+    let length = (head[1] as usize).min(125);
+    stream.read_exact(&mut heard[..length]).is_ok()
+        && heard.get(..length) == Some(answer.as_bytes())
 }
 
 // Whether a turn is so.

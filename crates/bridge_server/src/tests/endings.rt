@@ -10,6 +10,7 @@ use std::net::Net;
 use std::rt::Files;
 use std::sync::Wait;
 use std::test::Fail;
+use std::thread::Threads;
 use std::time::Clock;
 use test_devices::FailingReader;
 
@@ -44,11 +45,15 @@ fn after_lines(text: &[u8], lines: usize) -> &[u8] {
 
 // Whether the answers to the messages whose lines had ended are written, and no more, where a read fails after so
 // many bytes.
-fn answers_what_was_read<R: Files + Net + Clock + Wait + AllocGlobal>(
+fn answers_what_was_read<R: Files + Net + Clock + Wait + Threads + AllocGlobal + Sync>(
     rt: &R,
     script: &[u8],
     good: usize,
-) -> bool {
+) -> bool
+where
+    R::Listener: Sync,
+    R::Stream: Send,
+{
     let mut reader = FailingReader {
         bytes: script,
         good,
@@ -63,11 +68,15 @@ fn answers_what_was_read<R: Files + Net + Clock + Wait + AllocGlobal>(
 }
 
 // Whether so many bytes of the answers are written, where a write fails after them, and no line is read after it.
-fn writes_a_first_part<R: Files + Net + Clock + Wait + AllocGlobal>(
+fn writes_a_first_part<R: Files + Net + Clock + Wait + Threads + AllocGlobal + Sync>(
     rt: &R,
     script: &[u8],
     room: usize,
-) -> bool {
+) -> bool
+where
+    R::Listener: Sync,
+    R::Stream: Send,
+{
     let mut reader = script;
     let mut writer = FailingWriter::new(rt.alloc(), room, ErrorKind::Interrupted);
     let status = status_of(rt, "script", &mut reader, &mut writer, &mut io::sink());
@@ -99,12 +108,16 @@ fn ends_where_a_read_or_a_write_fails(rt: HostRuntime) -> Result<(), Fail> {
 
 // Whether a script ends so, each line of which but the last is answered before the next is read, through a writer
 // that keeps its lines back until it is flushed, and has room for so many, which arrive.
-fn answers_in_turn<R: Files + Net + Clock + Wait + AllocGlobal>(
+fn answers_in_turn<R: Files + Net + Clock + Wait + Threads + AllocGlobal + Sync>(
     rt: &R,
     script: &[u8],
     room: usize,
     status: u8,
-) -> bool {
+) -> bool
+where
+    R::Listener: Sync,
+    R::Stream: Send,
+{
     let arrived = Cell::new(0usize);
     let mut reader = Waiting {
         script,

@@ -6,6 +6,7 @@ use std::io::{Read, Write};
 use std::net::Net;
 use std::rt::Files;
 use std::sync::Wait;
+use std::thread::Threads;
 use std::time::Clock;
 
 /// The words of a line, as the program is called with them: after its name.
@@ -26,13 +27,16 @@ fn push_word(words: &mut Vec<String>, alloc: Global, word: &str) {
 }
 
 /// The status with which the program ends that is called with the words of a line.
-pub(super) fn status_of<R: Files + Net + Clock + Wait + AllocGlobal, I: Read, W: Write, E: Write>(
-    rt: &R,
-    line: &str,
-    reader: &mut I,
-    writer: &mut W,
-    errors: &mut E,
-) -> u8 {
+pub(super) fn status_of<
+    R: Files + Net + Clock + Wait + Threads + AllocGlobal + Sync,
+    I: Read,
+    W: Write,
+    E: Write,
+>(rt: &R, line: &str, reader: &mut I, writer: &mut W, errors: &mut E) -> u8
+where
+    R::Listener: Sync,
+    R::Stream: Send,
+{
     let words = words_of(rt.alloc(), line);
     run_words(rt, words.as_slice(), reader, writer, errors)
 }
@@ -42,12 +46,16 @@ pub(super) type Ending<'t> = (u8, &'t str, &'t str);
 
 /// Whether the program that is called with the words of a line ends so. A text that doesn't end a line is how one
 /// begins.
-pub(super) fn ends<R: Files + Net + Clock + Wait + AllocGlobal, I: Read>(
+pub(super) fn ends<R: Files + Net + Clock + Wait + Threads + AllocGlobal + Sync, I: Read>(
     rt: &R,
     line: &str,
     reader: &mut I,
     (status, answers, faults): &Ending,
-) -> bool {
+) -> bool
+where
+    R::Listener: Sync,
+    R::Stream: Send,
+{
     let mut written = Vec::new(rt.alloc());
     let mut said = Vec::new(rt.alloc());
     status_of(rt, line, reader, &mut written, &mut said) == *status

@@ -10,6 +10,7 @@ use std::net::{Ipv4Addr, Net, OpenListener, TcpListener};
 use std::rt::Files;
 use std::sync::Wait;
 use std::test::Fail;
+use std::thread::Threads;
 use std::time::Clock;
 use std::{fs, io, thread};
 
@@ -185,11 +186,15 @@ static ENDINGS: &[(&str, Ending)] = &[
 ];
 
 // Whether a row's words end so.
-fn ends_at<R: Files + Net + Clock + Wait + AllocGlobal>(
+fn ends_at<R: Files + Net + Clock + Wait + Threads + AllocGlobal + Sync>(
     rt: &R,
     port: u16,
     (words, ending): &(&str, Ending),
-) -> bool {
+) -> bool
+where
+    R::Listener: Sync,
+    R::Stream: Send,
+{
     match at_port(rt.alloc(), words, port) {
         Ok(line) => ends(rt, line.as_str(), &mut io::empty(), ending),
         Err(_) => false,
@@ -228,18 +233,21 @@ fn unserved<R: Net + Clock>(rt: &R, port: u16) -> Option<&'static str> {
 // Serves as many connections as there are clients, one after another.
 const WORDS: &str = "serve --session out/session --deals out/deals --displays 1 --connections 13";
 
-// A port at which nothing listens, and the words that serve there.
-fn port_and_line<R: Files + Net + AllocGlobal>(rt: &R) -> Result<(u16, String), Fail> {
+/// A port at which nothing listens, and words that serve there.
+pub(super) fn port_and_line<R: Files + Net + AllocGlobal>(
+    rt: &R,
+    words: &str,
+) -> Result<(u16, String), Fail> {
     write_files(rt)?;
     let port = free_port(rt)?;
-    let line = at_port(rt.alloc(), WORDS, port)?;
+    let line = at_port(rt.alloc(), words, port)?;
     Ok((port, line))
 }
 
 /// Where a client isn't served so, the test stops: the server would wait for another.
 #[test]
 fn serves_one_client_after_another(rt: HostRuntime) -> Result<(), Fail> {
-    let (port, line) = port_and_line(&rt)?;
+    let (port, line) = port_and_line(&rt, WORDS)?;
     let server_rt = rt.clone()?;
     let server = thread::spawn(&rt, move || {
         ends(&server_rt, line.as_str(), &mut io::empty(), &(0, "", ""))

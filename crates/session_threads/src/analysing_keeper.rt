@@ -1,0 +1,105 @@
+//! A keeper that has analysed what it is told.
+
+use crate::job_queue::JobQueue;
+use desks::DeskKeeper;
+use displays::Server;
+use published_view::{AuditReceipt, BatchReceipt, Keeper, NoEntry, Query, QueryFault, Reply};
+use session_book::Answer;
+use session_state::{Command, Digest};
+use std::alloc::{AllocError, Global};
+use std::sync::Wait;
+use user_names::Name;
+
+/// A desk and a display that keep a session, and the queue of jobs, if anybody solves: what a confirmed or a corrected
+/// result leaves to find is queued before the batch is answered.
+#[derive(Drop)]
+pub(crate) struct AnalysingKeeper<'a, N: Server> {
+    keeper: DeskKeeper<'a, N>,
+    queue: Option<JobQueue<'a>>,
+}
+
+impl<'a, N: Server> AnalysingKeeper<'a, N> {
+    pub(crate) fn new(
+        keeper: DeskKeeper<'a, N>,
+        queue: Option<JobQueue<'a>>,
+    ) -> AnalysingKeeper<'a, N> {
+        AnalysingKeeper { keeper, queue }
+    }
+
+    // Queues what is left to find of each result that was accepted.
+    fn analyse<R: Wait>(&self, rt: &R, batch: &[Command], answers: &[Answer]) {
+        if let Some(queue) = &self.queue {
+            for (command, answer) in batch.iter().zip(answers.iter()) {
+                self.analyse_one(rt, queue, command, answer);
+            }
+        }
+    }
+
+    // Queues what is left to find of a result that a command made, if it was accepted.
+    fn analyse_one<R: Wait>(
+        &self,
+        rt: &R,
+        queue: &JobQueue<'_>,
+        command: &Command,
+        answer: &Answer,
+    ) {
+        if let Answer::Refused(_) = answer {
+            return;
+        }
+        if let Some((table, board)) = result_of(command)
+            && let Some(work) = self.keeper.work_of(rt, table, board)
+        {
+            queue.add(rt, work);
+        }
+    }
+}
+
+impl<'a, N: Server> Keeper for AnalysingKeeper<'a, N> {
+    ghost use mathlib.Core.List.{IsPrefix};
+    ghost use Rattle.history.specs.Prefixes.{entries_of};
+
+    ghost opening = { λ _. N.opening };
+
+    ghost journal = { λ k. entries_of k.keeper.display };
+
+    ghost others = { λ before after. IsPrefix before after };
+
+    fn submit<R: Wait>(
+        &mut self,
+        rt: &R,
+        actor: Name,
+        batch: &[Command],
+    ) -> Result<BatchReceipt, AllocError> {
+        let receipt = self.keeper.submit(rt, actor, batch)?;
+        self.analyse(rt, batch, receipt.submission.answers.as_slice());
+        Ok(receipt)
+    }
+
+    fn audit<R: Wait>(&mut self, rt: &R, actor: Name, from: usize, limit: usize) -> AuditReceipt {
+        self.keeper.audit(rt, actor, from, limit)
+    }
+
+    fn query(
+        &mut self,
+        alloc: Global,
+        user: Name,
+        query: &Query,
+        since: u64,
+    ) -> Result<Reply, QueryFault> {
+        self.keeper.query(alloc, user, query, since)
+    }
+
+    fn digest(&mut self, name: Name) -> Result<Option<Digest>, NoEntry> {
+        self.keeper.digest(name)
+    }
+}
+
+// The table and the board of a result that a command makes.
+fn result_of(command: &Command) -> Option<(u8, u8)> {
+    match command {
+        Command::Confirm { table, board, .. } | Command::Correct { table, board, .. } => {
+            Some((*table, *board))
+        }
+        _ => None,
+    }
+}

@@ -1,0 +1,63 @@
+//! The jobs of a session, on their way to the workers.
+
+use crossbeam_channel::Sender;
+use session_book::Book;
+use solver_pool::{Done, Job, Pool, Work};
+use std::alloc::AllocError;
+use std::sync::{Mutex, Wait};
+
+/// Numbers jobs in a pool that threads share, and sends them to the workers.
+#[derive(Drop)]
+pub(crate) struct JobQueue<'a> {
+    pool: &'a Mutex<Pool>,
+    jobs: Sender<Job>,
+}
+
+impl<'a> JobQueue<'a> {
+    pub(crate) fn new(pool: &'a Mutex<Pool>, jobs: Sender<Job>) -> JobQueue<'a> {
+        JobQueue { pool, jobs }
+    }
+
+    /// Another way to the same workers. As long as there is one, more jobs can come.
+    pub(crate) fn another(&self) -> Result<JobQueue<'a>, AllocError> {
+        let jobs = self.jobs.clone()?;
+        Ok(JobQueue {
+            pool: self.pool,
+            jobs,
+        })
+    }
+
+    /// The pool that numbers the jobs.
+    pub(crate) fn pool(&self) -> &'a Mutex<Pool> {
+        self.pool
+    }
+
+    /// Gives work to the workers. Where it can't be numbered or sent, it is dropped.
+    pub(crate) fn add<R: Wait>(&self, rt: &R, work: Work) {
+        if let Some(job) = number(rt, self.pool, work) {
+            let _unsent = self.jobs.send(rt, job);
+        }
+    }
+
+    /// Gives the workers each board's table to find, in the order of the boards.
+    pub(crate) fn add_tables<R: Wait>(&self, rt: &R, book: &Book) {
+        let state = book.state();
+        for before in 0..state.public().movement.boards() {
+            let board = before + 1;
+            let deal = state.deal(board);
+            self.add(rt, Work::Table { board, deal });
+        }
+    }
+}
+
+// The job of some work, if the pool has room for one more.
+fn number<R: Wait>(rt: &R, pool: &Mutex<Pool>, work: Work) -> Option<Job> {
+    let mut pool = pool.lock(rt);
+    pool.add(work).ok()
+}
+
+/// Whether what was found is of a job that was given, and comes for the first time.
+pub(crate) fn is_collected<R: Wait>(rt: &R, pool: &Mutex<Pool>, done: &Done) -> bool {
+    let mut pool = pool.lock(rt);
+    pool.collect(done).is_ok()
+}
