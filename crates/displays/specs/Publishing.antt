@@ -5,9 +5,9 @@ use Rattle.session_state.specs.session_commands.declared.entry.Entry.{Entry}
 use Rattle.session_state.specs.session_commands.contracts.entry.Entry as the_entry
 use Rattle.displays.specs.Copies.{publications_code}
 
--- how many displays a server has at most
-abbrev pub most_displays : ℕ
-most_displays = 32
+-- how many places for displays a server has
+abbrev pub most_places : ℕ
+most_places = 32
 
 -- the publications, each as the list of its entries, and the entries that are still to be published
 pub record Outgoing : Type 0 where

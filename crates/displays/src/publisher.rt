@@ -6,7 +6,7 @@ ghost use Rattle.session_book.specs.Journal.{IsAccepted, MayFollow};
 ghost use Rattle.history.specs.Prefixes.{Prefix, prefix_in, entries_of};
 ghost use Rattle.published_view.specs.View.{StandsFor};
 ghost use Rattle.displays.specs.Copies.{ShowsPublished, IsPublished, with_addition};
-ghost use Rattle.displays.specs.Publishing.{Outgoing, Receipted, after_publishing, receipted, most_displays, nothing_outgoing};
+ghost use Rattle.displays.specs.Publishing.{Outgoing, Receipted, after_publishing, receipted, most_places, nothing_outgoing};
 
 use crate::display::Display;
 use crate::receipt::Receipt;
@@ -236,7 +236,7 @@ pub fn open_displays<N: Server, R: Wait>(
     ensures publisher { IfOk result (λ t. t.0 ≡ nothing_outgoing) }
     ensures count { IfOk result (λ t. length t.1.items ≡ displays) }
     ensures displays { IfOk result (λ t. All (λ d. d ≡ []) t.1.items) }
-    ensures none { (displays ≡ 0) ⊎ (most_displays < displays) → result ≡ Err NoPlace }
+    ensures none { (displays ≡ 0) ⊎ (most_places < displays) → result ≡ Err NoPlace }
 {
     if displays == 0 || displays > MOST_DISPLAYS {
         return Err(OpenError::NoPlace);

@@ -12,5 +12,5 @@ abbrev pub head_of : Book → Named
 head_of book = record { tracked = true; key = 0; book = book }
 
 -- the publication was added behind all that was known; or the history is longer, and nothing was added
-abbrev pub Adds : Step (List Entry) → View (List Entry) ℕ → ℕ → View (List Entry) ℕ → Type 0
-Adds step before found after = MatchBool (found == step.old) (after.0 ≡ before.0 ++ step.ask ∷ []) (Unit {0})
+abbrev pub AddsPublication : Step (List Entry) → View (List Entry) ℕ → ℕ → View (List Entry) ℕ → Type 0
+AddsPublication step before found after = MatchBool (found == step.old) (after.0 ≡ before.0 ++ step.ask ∷ []) (Unit {0})

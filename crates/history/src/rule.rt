@@ -37,9 +37,9 @@ impl Gain<[Entry; 0], u64> for NothingTraded {
 pub struct Add;
 
 impl Play<[Entry; 0], u64> for Add {
-    ghost use Rattle.history.specs.Counting.{Adds};
+    ghost use Rattle.history.specs.Counting.{AddsPublication};
 
-    ghost then = { Adds };
+    ghost then = { AddsPublication };
 }
 
 /// What a step asks for: the entries of the publication.
