@@ -5,6 +5,8 @@
 
 mod running;
 mod task;
+#[cfg(test)]
+mod tests;
 
 pub use running::run_tasks;
 pub use task::Task;
