@@ -1,0 +1,8 @@
+mod batches;
+mod beside;
+mod opening;
+mod serving;
+mod session;
+mod telling;
+mod texts;
+mod works;

@@ -1,0 +1,96 @@
+//! A session that desks and displays share, for as long as a part of a test takes.
+
+ghost use Rattle.std.specs.Prelude.{◌≡◌, [], IfSome};
+
+use super::session::session;
+use desks::Shared;
+use displays::{Display, Server, open_displays};
+use history::History;
+use program::open_book;
+use published_view::View;
+use session_book::Book;
+use std::alloc::Global;
+use std::marker::Brand;
+use std::sync::Wait;
+
+/// What is done in a session that desks and displays share.
+pub(super) trait Part {
+    /// Whether it goes as it should.
+    fn goes<N: Server, R: Wait>(
+        &self,
+        rt: &R,
+        alloc: Global,
+        shared: &Shared<N>,
+        displays: Vec<Display<N>>,
+    ) -> bool;
+}
+
+/// Whether a part goes as it should in a session that was just opened, with so many displays.
+pub(super) fn is_served<R: Wait, P: Part>(
+    rt: &R,
+    alloc: Global,
+    displays: usize,
+    part: &P,
+) -> bool {
+    match opened_book(alloc) {
+        Some(book) => {
+            let history = History::new();
+            is_served_by::<Brand, R, P>(rt, alloc, book, history, displays, part)
+        }
+        None => false,
+    }
+}
+
+// The same, under a server's name.
+fn is_served_by<N: Server, R: Wait, P: Part>(
+    rt: &R,
+    alloc: Global,
+    book: Book,
+    history: History,
+    displays: usize,
+    part: &P,
+) -> bool
+    requires journal { book.journal ≡ [] }
+    requires opening { book.opening ≡ N.opening }
+    requires history { history ≡ N.history }
+{
+    match shared_by::<N, R>(rt, alloc, book, history, displays) {
+        Some((shared, displays)) => {
+            let goes = part.goes(rt, alloc, &shared, displays);
+            shared.close(rt);
+            goes
+        }
+        None => false,
+    }
+}
+
+/// The book of the session, just opened.
+pub(super) fn opened_book(alloc: Global) -> Option<Book>
+    ensures { IfSome result (λ book. book.journal ≡ []) }
+{
+    match open_book(alloc, session().as_bytes(), None) {
+        Ok((book, _)) => Some(book),
+        Err(_) => None,
+    }
+}
+
+/// A book as desks share it, and so many displays, if there is a place for them.
+pub(super) fn shared_by<N: Server, R: Wait>(
+    rt: &R,
+    alloc: Global,
+    book: Book,
+    history: History,
+    displays: usize,
+) -> Option<(Shared<N>, Vec<Display<N>>)>
+    requires journal { book.journal ≡ [] }
+    requires opening { book.opening ≡ N.opening }
+    requires history { history ≡ N.history }
+{
+    let (Ok(first), Ok(second)) = (View::open(alloc, &book), View::open(alloc, &book)) else {
+        return None;
+    };
+    match open_displays::<N, R>(rt, alloc, history, first, second, displays) {
+        Ok((publisher, displays)) => Some((Shared::new(alloc, book, publisher), displays)),
+        Err(_) => None,
+    }
+}

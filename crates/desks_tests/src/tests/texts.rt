@@ -1,0 +1,139 @@
+//! The texts by which a desk and a display answer messages of a script.
+
+ghost use Rattle.std.specs.Prelude.{◌≡◌, ◌≤◌, length};
+ghost use Rattle.session_book.specs.Run.{most_commands};
+ghost use Rattle.wire.specs.Request.{HasFew};
+
+use desks::Desk;
+use displays::{Display, Receipt, Server};
+use reply_texts::reply_text;
+use session_book::Submission;
+use session_state::Command;
+use std::alloc::Global;
+use std::sync::Wait;
+use user_names::Name;
+use wire::{
+    AuditRange, Request, RequestBody, Source, audit_refusal_text, audit_text, read_request,
+    receipt_text,
+};
+
+/// What is told of a batch or of an audit, and the receipt; if the message is one.
+pub(super) type Told<N> = Option<(String, Receipt<N>)>;
+
+/// What a desk answers a message.
+pub(super) fn told<N: Server, R: Wait>(
+    rt: &R,
+    alloc: Global,
+    desk: &Desk<'_, N>,
+    message: &str,
+) -> Told<N> {
+    let Ok(request) = read_request(alloc, message.as_bytes(), Source::Script) else {
+        return None;
+    };
+    told_of(rt, alloc, desk, &request)
+}
+
+fn told_of<N: Server, R: Wait>(
+    rt: &R,
+    alloc: Global,
+    desk: &Desk<'_, N>,
+    request: &Request,
+) -> Told<N>
+    requires { HasFew request.now.body }
+{
+    let user = request.user?;
+    match &request.body {
+        RequestBody::Batch { commands } => {
+            told_of_batch(rt, alloc, desk, user, commands.as_slice())
+        }
+        RequestBody::Audit { range } => told_of_audit(rt, alloc, desk, user, range),
+        RequestBody::Query { .. } | RequestBody::Hello { .. } => None,
+    }
+}
+
+fn told_of_batch<N: Server, R: Wait>(
+    rt: &R,
+    alloc: Global,
+    desk: &Desk<'_, N>,
+    user: Name,
+    batch: &[Command],
+) -> Told<N>
+    requires { length batch.now ≤ most_commands }
+{
+    let Ok((answers, receipt)) = desk.submit(rt, user, batch) else {
+        return None;
+    };
+    let submission = Submission {
+        answers,
+        first: receipt.first(),
+        last: receipt.last(),
+    };
+    let Ok(text) = receipt_text(alloc, &submission, receipt.version()) else {
+        return None;
+    };
+    Some((text, receipt))
+}
+
+fn told_of_audit<N: Server, R: Wait>(
+    rt: &R,
+    alloc: Global,
+    desk: &Desk<'_, N>,
+    user: Name,
+    range: &AuditRange,
+) -> Told<N> {
+    let (rows, receipt) = desk.audit(rt, user, range.from as usize, range.limit as usize);
+    let text = match &rows {
+        Ok(rows) => audit_text(alloc, rows, receipt.version()),
+        Err(_) => audit_refusal_text(alloc),
+    };
+    match text {
+        Ok(text) => Some((text, receipt)),
+        Err(_) => None,
+    }
+}
+
+/// What a display answers a query.
+pub(super) fn shown<N: Server>(
+    alloc: Global,
+    display: &mut Display<N>,
+    message: &str,
+) -> Option<String> {
+    let Ok(request) = read_request(alloc, message.as_bytes(), Source::Script) else {
+        return None;
+    };
+    let user = request.user?;
+    let RequestBody::Query { query, since } = &request.body else {
+        return None;
+    };
+    match display.query(alloc, user, query, *since) {
+        Ok(reply) => reply_text(alloc, &reply).ok(),
+        Err(_) => None,
+    }
+}
+
+/// Whether a display answers a query so.
+pub(super) fn shows<N: Server>(
+    alloc: Global,
+    display: &mut Display<N>,
+    message: &str,
+    answer: &str,
+) -> bool {
+    match shown(alloc, display, message) {
+        Some(text) => text.as_str() == answer,
+        None => false,
+    }
+}
+
+/// Whether a desk answers a message so.
+pub(super) fn tells<N: Server, R: Wait>(
+    rt: &R,
+    alloc: Global,
+    desk: &Desk<'_, N>,
+    message: &str,
+    answer: &str,
+) -> bool {
+    match told(rt, alloc, desk, message) {
+        Some((text, _)) => text.as_str() == answer,
+        None => false,
+    }
+}
