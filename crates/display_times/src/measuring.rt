@@ -1,0 +1,159 @@
+//! A session that is opened, asked in threads, and closed.
+
+ghost use Rattle.std.specs.Prelude.{◌≡◌, []};
+
+use crate::tasks::{Counts, End, Read, Rest, Write};
+use desks::Shared;
+use displays::{Display, Server, open_displays};
+use history::History;
+use program::open_book;
+use published_view::View;
+use service_threads::run_tasks;
+use session_book::Book;
+use std::alloc::{AllocError, Global};
+use std::marker::Brand;
+use std::sync::Wait;
+use std::sync::atomic::{AtomicBool, AtomicU64, Ordering};
+use std::thread::Threads;
+use std::time::Clock;
+
+// How many bytes the stack of each thread has.
+const STACK: usize = 1_048_576;
+
+/// What is to be measured: how many displays, for how many milliseconds, and how many of them the desk waits between two
+/// batches, if there is more than one.
+#[derive(Clone, Copy)]
+pub(crate) struct Plan {
+    pub(crate) readers: usize,
+    pub(crate) milliseconds: u64,
+    pub(crate) pause: Option<u64>,
+}
+
+/// How many queries had a reply and how many had none, and how many batches were told what became of them.
+#[derive(Clone, Copy)]
+pub(crate) struct Figures {
+    pub(crate) replies: u64,
+    pub(crate) refused: u64,
+    pub(crate) batches: u64,
+}
+
+// What displays are asked and the desk is told.
+#[derive(Clone, Copy)]
+struct Messages<'a> {
+    query: &'a str,
+    batch: &'a str,
+}
+
+/// What is measured in the session of a text's first line, by the messages of the next two.
+pub(crate) fn measured<R: Threads + Wait + Clock + Sync>(
+    rt: &R,
+    alloc: Global,
+    text: &str,
+    plan: Plan,
+) -> Option<Figures> {
+    let (object, messages) = text.split_once('\n')?;
+    let (query, rest) = messages.split_once('\n')?;
+    let (batch, _) = rest.split_once('\n')?;
+    match open_book(alloc, object.as_bytes(), None) {
+        Ok((book, _)) => measure(rt, alloc, book, Messages { query, batch }, plan),
+        Err(_) => None,
+    }
+}
+
+fn measure<R: Threads + Wait + Clock + Sync>(
+    rt: &R,
+    alloc: Global,
+    book: Book,
+    messages: Messages<'_>,
+    plan: Plan,
+) -> Option<Figures>
+    requires { book.journal ≡ [] }
+{
+    let history = History::new();
+    measure_named::<Brand, R>(rt, alloc, book, history, messages, plan)
+}
+
+// The same, under a server's name.
+fn measure_named<N: Server + Send + Sync, R: Threads + Wait + Clock + Sync>(
+    rt: &R,
+    alloc: Global,
+    book: Book,
+    history: History,
+    messages: Messages<'_>,
+    plan: Plan,
+) -> Option<Figures>
+    requires journal { book.journal ≡ [] }
+    requires opening { book.opening ≡ N.opening }
+    requires history { history ≡ N.history }
+{
+    let (Ok(first), Ok(second)) = (View::open(alloc, &book), View::open(alloc, &book)) else {
+        return None;
+    };
+    match open_displays::<N, R>(rt, alloc, history, first, second, plan.readers) {
+        Ok((publisher, displays)) => {
+            let shared = Shared::new(alloc, book, publisher);
+            let figures = measure_shared(rt, alloc, &shared, displays, messages, plan);
+            shared.close(rt);
+            figures
+        }
+        Err(_) => None,
+    }
+}
+
+// Asks each display in a thread of its own, and gives the desk its batches in one more.
+fn measure_shared<N: Server + Send + Sync, R: Threads + Wait + Clock + Sync>(
+    rt: &R,
+    alloc: Global,
+    shared: &Shared<N>,
+    displays: Vec<Display<N>>,
+    messages: Messages<'_>,
+    plan: Plan,
+) -> Option<Figures> {
+    let counts = Counts {
+        replies: AtomicU64::new(0),
+        refused: AtomicU64::new(0),
+        batches: AtomicU64::new(0),
+        is_over: AtomicBool::new(false),
+    };
+    let readers = readers(alloc, displays, messages.query, plan, &counts);
+    let mut writers = Vec::new(alloc);
+    let pushed = writers.push(Write {
+        alloc,
+        desk: shared.desk(),
+        message: messages.batch,
+        pause: plan.pause,
+        counts: &counts,
+    });
+    let (Ok(readers), Ok(())) = (readers, pushed) else {
+        return None;
+    };
+    let started = run_tasks(rt, STACK, Rest, writers, readers, End { counts: &counts });
+    if started < plan.readers {
+        return None;
+    }
+    Some(Figures {
+        replies: counts.replies.load(Ordering::SeqCst),
+        refused: counts.refused.load(Ordering::SeqCst),
+        batches: counts.batches.load(Ordering::SeqCst),
+    })
+}
+
+fn readers<'a, N: Server>(
+    alloc: Global,
+    displays: Vec<Display<N>>,
+    message: &'a str,
+    plan: Plan,
+    counts: &'a Counts,
+) -> Result<Vec<Read<'a, N>>, AllocError> {
+    let mut readers = Vec::with_capacity(alloc, displays.len())?;
+    for display in displays {
+        readers.push(Read {
+            alloc,
+            display,
+            message,
+            milliseconds: plan.milliseconds,
+            counts,
+        })?;
+    }
+    Ok(readers)
+}
