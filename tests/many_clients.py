@@ -4,7 +4,7 @@
     /usr/bin/python3 tests/many_clients.py crates/bridge_server/out/bridge_server
     /usr/bin/python3 tests/many_clients.py PROGRAM --seed 7 --seconds 5 [PART ..]
 
-It needs Debian's package python3-websockets (10.4 or later), and is not part of the gate. It takes about a minute. The parts are
+It needs Debian's package python3-websockets (10.4 or later), and is not part of the gate. It takes about half a minute. The parts are
 `8`, `32`, `silent`, `closing`, `solver`, `memory` and `handshake`; without a word all of them run.
 
 In `8` and `32` so many clients are served at once. Some send batches, the others ask queries of every kind as fast as they can.
@@ -83,7 +83,8 @@ def some_hands(rng):
 
 
 def deal_text(hands):
-    return "N:" + " ".join(".".join("".join(rank for rank in RANKS if suit + rank in hands[place]) for suit in SUITS) for place in SEATS_IN_TURN)
+    texts = [".".join("".join(rank for rank in RANKS if suit + rank in hands[place]) for suit in SUITS) for place in SEATS_IN_TURN]
+    return "N:" + " ".join(texts)
 
 
 def pbn_text(deals):
@@ -222,8 +223,8 @@ class JudgedSession(Session):
 
     def spoiled(self, row, board):
         """The first user who sits there and was shown something of the board."""
-        return next((f"Spoiled({name})" for name in self.users if self.seats.get(name, ("", ""))[0] in row[3:] and (name, board) in self.shown),
-                    None)
+        there = [name for name in self.users if self.seats.get(name, ("", ""))[0] in row[3:]]
+        return next((f"Spoiled({name})" for name in there if (name, board) in self.shown), None)
 
     def bad_result(self, command):
         play = command.get("play", [])
@@ -283,7 +284,9 @@ class JudgedSession(Session):
 
     def why_assign(self, command):
         has = self.users[command["name"]]
-        return "AlreadyAssigned" if command["role"] in has else self.tried(lambda: has.add(command["role"]), self.broken, lambda: has.remove(command["role"]))
+        if command["role"] in has:
+            return "AlreadyAssigned"
+        return self.tried(lambda: has.add(command["role"]), self.broken, lambda: has.remove(command["role"]))
 
     def why_deassign(self, command):
         has = self.users[command["name"]]
@@ -374,7 +377,8 @@ class Sender:
         elif ask == "list":
             query |= self.some_list()
         if rng.random() < 0.3:
-            query["since"] = rng.choice([0, self.version, self.version, self.version + 1, self.version + rng.randint(1, 30), max(0, self.version - 5)])
+            newest = self.version
+            query["since"] = rng.choice([0, newest, newest, newest + 1, newest + rng.randint(1, 30), max(0, newest - 5)])
         return query
 
     def some_list(self):
@@ -416,11 +420,10 @@ class Sender:
     def some_commands(self):
         rng = self.rng
         if rng.random() < 0.04:
-            return self.commands_of(rng.choice(["scorer", "director", "administrator"]))
-        return self.commands_of("administrator" if self.name in ("a", "a2") else "scorer" if self.name in SCORERS or rng.random() < 0.2 else "director")
-
-    def commands_of(self, kind):
-        return {"scorer": self.scoring, "director": self.directing, "administrator": self.administering}[kind]()
+            return rng.choice([self.scoring, self.directing, self.administering])()
+        if self.name in ("a", "a2"):
+            return self.administering()
+        return self.scoring() if self.name in SCORERS or rng.random() < 0.2 else self.directing()
 
     def some_cell(self, live):
         """A cell that had a result, or had none, when the status was last told; now and then any other."""
@@ -435,7 +438,9 @@ class Sender:
         rng = self.rng
         if rng.random() < 0.1:
             return "pass", ["SA"] if rng.random() < 0.1 else None
-        result = contract(rng.choice(SEATS_IN_TURN), rng.randint(1, 7), rng.choice("SHDCN"), rng.choice([0, 0, 0, 1, 2]), rng.randint(0, 13))
+        level = rng.randint(1, 7)
+        tricks = min(13, level + 6 + rng.randint(-3, 2)) if rng.random() < 0.9 else rng.randint(0, 13)
+        result = contract(rng.choice(SEATS_IN_TURN), level, rng.choice("SHDCN"), rng.choice([0, 0, 0, 1, 2]), tricks)
         if rng.random() < 0.04:
             return result, ["SA", "SA"]
         return result, some_play(rng, self.hands[board - 1], result) if board in BOARDS and rng.random() < 0.4 else None
@@ -629,8 +634,8 @@ async def converse(address, hands, clients, all_in, seconds):
     all_in.wait(30)
     begin = time.time()
     until = begin + seconds
-    await asyncio.wait_for(asyncio.gather(*(talk.write(begin, until) if writes else talk.read(until, name == "*") for talk, name, writes in talks)),
-                           seconds + 30)
+    turns = [talk.write(begin, until) if writes else talk.read(until, name == "*") for talk, name, writes in talks]
+    await asyncio.wait_for(asyncio.gather(*turns), seconds + 30)
     for talk, _, _ in talks:
         await talk.client.close()
     return [talk.said for talk, _, _ in talks]
@@ -672,10 +677,6 @@ async def whole_audit(address):
 
 # ---- the comparison
 
-def version_of(answer):
-    return json.loads(answer).get("version")
-
-
 def compare(title, talks, audit, hands):
     """Replays the batches in the order of their receipts, and compares all that was said."""
     said = [entry for talk in talks for entry in talk]
@@ -706,8 +707,8 @@ def compare(title, talks, audit, hands):
         published.append(model.version)
         compare_version(model, refused.pop(last, []), looks.pop(last, []), wrong, counts)
     check(f"{title}: each batch has the answers of the model ({counts['batches']} batches)", [], wrong["batches"])
-    check(f"{title}: the audit tells the commands of the receipts, and what the solver entered", (len(audit), None), (len(model.journal), next(
-        ((row, own) for row, own in zip(audit, model.journal) if row != own), None)))
+    other = next(((row, own) for row, own in zip(audit, model.journal) if row != own), None)
+    check(f"{title}: the audit tells the commands of the receipts, and what the solver entered", (len(audit), None), (len(model.journal), other))
     check(f"{title}: each reply is the model's at its version, byte for byte ({counts['replies']} replies)", [], wrong["replies"][:3])
     strange = [entry for version in [*looks, *refused] for entry in [*looks[version], *refused[version]]]
     check(f"{title}: each version that is named is one at which a batch had ended", [], strange[:3])
@@ -748,7 +749,8 @@ def check_order(title, accepted, entries):
         if answer and last - first + 1 != json.loads(answer)["answers"].count("ok"):
             gaps.append(("as many numbers as commands that were accepted", name, message, answer))
         after = last
-    check(f"{title}: the numbers of the {len(accepted)} batches lie apart and leave none out, from 1 to {entries}", ([], entries), (gaps[:3], after))
+    check(f"{title}: the numbers of the {len(accepted)} batches lie apart and leave none out, from 1 to {entries}",
+          ([], entries), (gaps[:3], after))
 
 
 def check_connections(title, talks):
@@ -762,9 +764,9 @@ def check_connections(title, talks):
             version = heard.get("version", newest)
             back += [entry] * (version < newest)
             below_receipt += [entry] * (version < receipt)
-            asked = message.get("since", 0)
-            since += [entry] * (heard.get("error") not in ("NoSuchBoard", "NoSuchCell") and (version < asked) != (heard.get("error") == "Behind"))
-            errors += [entry] * (heard.get("error", "Behind") not in ("Behind", "NoSuchBoard", "NoSuchCell"))
+            error, is_behind = heard.get("error"), version < message.get("since", 0)
+            since += [entry] * (error not in ("NoSuchBoard", "NoSuchCell") and is_behind != (error == "Behind"))
+            errors += [entry] * (error not in (None, "Behind", "NoSuchBoard", "NoSuchCell"))
             newest, receipt = max(newest, version), version if "do" in message else receipt
     check(f"{title}: no version on a connection is lower than one before it", [], back[:3])
     check(f"{title}: no reply is below the receipt that came before it", [], below_receipt[:3])
@@ -775,8 +777,8 @@ def check_connections(title, talks):
 def tell_counts(said, audit, published, counts):
     heard = [json.loads(answer) for _, _, answer in said]
     answers = collections.Counter(answer.split("(")[0] for one in heard for answer in one.get("answers", []))
-    tell("queries: " + ", ".join(f"{word} {count}" for word, count in
-                                 sorted(collections.Counter(message.get("ask", "audit") for _, message, _ in said if "do" not in message).items())))
+    asked = collections.Counter(message.get("ask", "audit") for _, message, _ in said if "do" not in message)
+    tell("queries: " + ", ".join(f"{word} {count}" for word, count in sorted(asked.items())))
     tell(f"replies: {counts['not empty']} that show something, {sum('denied' in one for one in heard)} denials by rules "
          f"{sorted({one['denied']['rule'] for one in heard if 'denied' in one})}, "
          + ", ".join(f"{count} {word}" for word, count in collections.Counter(one["error"] for one in heard if "error" in one).items()))
@@ -875,7 +877,8 @@ async def closing(seed):
 
 async def solver(seed):
     """Double-dummy tables come while clients are served."""
-    # Each player has a whole suit: who declares in a suit wins 13 tricks if the side holds it, else none; without trumps the leader wins all.
+    # Each player has a whole suit: who declares in a suit wins 13 tricks if the side holds it, else none; without trumps whoever
+    # leads wins them all.
     whole = {"E": [0, 13, 0, 13, 0], "N": [13, 0, 13, 0, 0], "S": [13, 0, 13, 0, 0], "W": [0, 13, 0, 13, 0]}
     deals = ["N:" + WHOLE_SUITS, *some_deals(seed, 4)]
     with Server(small_session(10**18, 5), deals, "--displays", 4, "--workers", 2) as server:
@@ -893,12 +896,15 @@ async def solver(seed):
         tell(f"seconds after which each was seen: { {board: seen for board, (seen, _) in found.items()} }; "
              f"{asked} queries meanwhile, the slowest {1000 * slowest:.1f} ms")
         newest = max((reply["version"] for _, reply in found.values()), default=0)
-        both = [[(await ask(reader, {"ask": "analysis", "board": board, "since": newest}))["analysis"] for board in found] for reader in readers]
+        queries = [{"ask": "analysis", "board": board, "since": newest} for board in found]
+        both = [[(await ask(reader, query))["analysis"] for query in queries] for reader in readers]
         check("solver: both readers are told the same numbers", both[0], both[1])
         check("solver: and they are those that came first", [reply["analysis"] for _, reply in found.values()], both[0])
-        check("solver: where each player has a whole suit, they are as worked by hand", whole, found.get(1, (0, {"analysis": {"tricks": None}}))[1]["analysis"]["tricks"])
+        first = found[1][1]["analysis"]["tricks"] if 1 in found else None
+        check("solver: where each player has a whole suit, they are as worked by hand", whole, first)
         rows = (await ask(readers[0], {"audit": {"from": 1, "limit": 1000}}))["audit"]
-        check("solver: the audit tells each of them", set(), {("Solved", str(board)) for board in found} - {(row[2], row[3]) for row in rows if row[1] is None})
+        solved = {int(row[3]) for row in rows if row[1:3] == [None, "Solved"]}
+        check("solver: the audit tells each of them", set(), set(found) - solved)
         for reader in readers:
             await reader.close()
 
@@ -924,14 +930,14 @@ async def memory(seed):
             clients, more = [], ""
             if server.listens():
                 clients, more = await as_many_as_there_can(server.address(), 33)
-            told = [text_of(await ask(client, {"ask": "status"})) for client in clients]
-            check(f"memory: with {megabytes} MiB of addresses each of the {len(clients)} clients that are served is told the same", True, len(set(told)) <= 1)
+            told = {text_of(await ask(client, {"ask": "status"})) for client in clients} - {'{"error":"OutOfMemory"}'}
             for client in clients:
                 await client.close()
             await asyncio.sleep(0.05)
             status = server.process.poll()
             # 127 is the loader's, where there is no room for the program itself.
-            check(f"memory: and the program runs on, or ended with status 4 ({status})", True, status is None or (status in (4, 127) and not clients))
+            check(f"memory: with {megabytes} MiB of addresses it runs on, and tells all the same, or it ended with status 4", (True, True),
+                  (status is None or (status in (4, 127) and not clients), len(told) <= 1))
             seen.append((megabytes, status, len(clients), more))
     for megabytes, status, count, more in seen:
         tell(f"{megabytes:3} MiB: " + (f"{count} clients at once, {more}" if status is None else f"status {status}"))
@@ -953,7 +959,7 @@ async def handshake(seed):
                   [head_of(stream).startswith(b"HTTP/1.1 101 ") for stream in streams])
             for stream in streams:
                 stream.close()
-        check("handshake: and so is the next client on each", [True] * 2, [await is_served(server.address(), 5) for _ in range(2)])
+        check("handshake: and so are the next clients", [True] * 2, [await is_served(server.address(), 5) for _ in range(2)])
         for _ in range(2):
             stream = server.stream()
             stream.close()
@@ -974,10 +980,12 @@ def main():
 if __name__ == "__main__":
     words = argparse.ArgumentParser(allow_abbrev=False)
     words.add_argument("program", nargs="?", default="crates/bridge_server/out/bridge_server")
-    words.add_argument("parts", nargs="*")
+    words.add_argument("parts", nargs="*", help="8, 32, silent, closing, solver, memory, handshake")
     words.add_argument("--seed", type=int, default=int.from_bytes(os.urandom(2), "big"))
     words.add_argument("--seconds", type=float, default=4)
     given = words.parse_intermixed_args()
     PROGRAM, PARTS, SEED, SECONDS = given.program, given.parts, given.seed, given.seconds
+    if strange := set(PARTS) - {"8", "32", "silent", "closing", "solver", "memory", "handshake"}:
+        words.error(f"no such part: {', '.join(strange)}")
     print(f"        seed {SEED}, {SECONDS:g} s of traffic in each of the first two parts")
     main()
