@@ -1,9 +1,9 @@
 #!/usr/bin/env python3
 """Refuses each growth in turn of a run of messages on connections.
 
-    tests/refuse_connection_growths.py crates/bridge_server_stored_runs/out/bridge_server_stored_runs ['connections through a desk']
+    tests/refuse_connection_growths.py crates/bridge_server_stored_runs/out/bridge_server_stored_runs
 
-Runs the program on the messages of its part `connections`, or of the part that is named, first with ample memory, and then with the Nth request for memory refused, for N from 1 until a
+Runs the program on the messages of its part `connections`, first with ample memory, and then with the Nth request for memory refused, for N from 1 until a
 run asks less often. What each of these must do:
 
 - In the first line, while the session is opened: write nothing, and end with a status of its own.
@@ -20,9 +20,8 @@ import json, subprocess, sys, tempfile
 from refuse_growths import NO_MEMORY, REFUSING, compact, object_of, run
 from stored_runs import read
 
-PART = sys.argv[2] if len(sys.argv) > 2 else "connections"
 # The line before the part, which the program reads and writes.
-NAME = f"\n== {PART}\n".encode()
+NAME = b"\n== connections\n"
 
 
 def kind_of(line, answer):
@@ -84,12 +83,12 @@ class Connections:
 
 
 def main():
-    program = sys.argv[1]
+    (program,) = sys.argv[1:]
     with tempfile.TemporaryDirectory() as room:
         with open(f"{room}/refusing.c", "w") as it:
             it.write(REFUSING)
         subprocess.run(["cc", "-O1", "-shared", "-fPIC", "-o", f"{room}/refusing.so", f"{room}/refusing.c", "-ldl"], check=True)
-        lines = read("stdin")[PART].encode().splitlines(keepends=True)
+        lines = read("stdin")["connections"].encode().splitlines(keepends=True)
         connections, kinds = Connections(program, room, lines), {}
         status, ample, err, asked = connections.run(lines, 0)
         assert (status, len(ample), err) == (0, len(lines) - 1, b""), f"with ample memory: status {status}, {len(ample)} answers, {err!r}"

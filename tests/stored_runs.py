@@ -6,7 +6,7 @@ wanted.
     tests/stored_runs.py desk               # the script of a part, for `bridge_server script`
     tests/stored_runs.py desk answers       # the answers to it
 
-The last five parts are no scripts: the program knows them by their names.
+The last four parts are no scripts: the program knows them by their names.
 
 The crate's files stdin and stdout have one form: before each part stand an LF and a line with its name, `== desk`. So a script
 may end without an LF of its own, and no message begins so.
@@ -38,7 +38,6 @@ PARTS = {
     "audit": "worked out apart, from the words of docs/PROTOCOL.md",
     "traveller": "worked out apart, from the printed tables of Law 77 and Law 78A",
     "connections": "tests/write_connection_run.py: by hand, from docs/PROTOCOL.md and docs/POLICY.md",
-    "connections through a desk": "those of the part before it: whoever keeps the session, they are the same",
     "solver": "tests/write_solved_run.py: by hand, of deals that give each player a whole suit",
     "session objects": "tests/write_stored_runs.py: from the rules of docs/SESSION.md",
     "full journal": RULES,

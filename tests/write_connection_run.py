@@ -1,6 +1,6 @@
 #!/usr/bin/env python3
-"""Writes two parts of the stored runs of crates/bridge_server_stored_runs, `connections` and `connections through a desk`: messages on
-connections, and what each is answered. Both are the same: the first is kept by a book and a view, the second by a desk and a display.
+"""Writes the part `connections` of the stored runs of crates/bridge_server_stored_runs: messages on connections, and what each is
+answered.
 
     python3 tests/write_connection_run.py
 
@@ -135,8 +135,7 @@ def main():
         if number:
             run.end()
         part(run)
-    for part in ("connections", "connections through a desk"):
-        put(part, "".join(line + "\n" for line in run.asked), "".join(line + "\n" for line in run.told))
+    put("connections", "".join(line + "\n" for line in run.asked), "".join(line + "\n" for line in run.told))
 
 
 if __name__ == "__main__":

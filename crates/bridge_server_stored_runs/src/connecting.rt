@@ -33,8 +33,8 @@ fn opened(alloc: Global, object: &str) -> Option<PlainKeeper> {
     }
 }
 
-/// Answers one connection after another.
-pub(crate) fn answer_one_by_one<R: Wait + AllocGlobal, K: Keeper, O: Write>(
+// Answers one connection after another.
+fn answer_one_by_one<R: Wait + AllocGlobal, K: Keeper, O: Write>(
     rt: &R,
     keeper: K,
     text: &str,

@@ -1,12 +1,11 @@
 //! The results server once more, for a stored run of words that it doesn't understand, and of many sessions. Called
 //! with words that aren't understood it first explains them as `bridge_server` does, and ends with that status.
 //! Standard input has parts, and each is an LF, a line with its name and then its text. Most parts are a whole script,
-//! which begins with a session object of its own; of five kinds that are none, the name says which it is. Where a part
+//! which begins with a session object of its own; of four kinds that are none, the name says which it is. Where a part
 //! isn't answered to its end, whatever the cause, nothing follows, and the status is 1.
 #![tactic(auto)]
 
 mod connecting;
-mod desk;
 mod opening;
 mod policy;
 mod repeating;
@@ -14,7 +13,6 @@ mod session;
 mod solver;
 
 use crate::connecting::answer_connections;
-use crate::desk::answer_through_a_desk;
 use crate::opening::open_all;
 use crate::repeating::answer_repeated;
 use crate::session::answer_beside_solver;
@@ -92,7 +90,6 @@ fn answer_part<R: Runtime + Wait + AllocGlobal, O: Write>(
 ) -> bool {
     match name {
         "connections" => answer_connections(rt, text, writer),
-        "connections through a desk" => answer_through_a_desk(rt, text, writer),
         "solver" => answer_beside_solver(rt.alloc(), text, writer),
         "session objects" => open_all(rt.alloc(), text, writer),
         "full journal" => answer_repeated(rt.alloc(), text, writer),

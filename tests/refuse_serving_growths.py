@@ -1,0 +1,189 @@
+#!/usr/bin/env python3
+"""Refuses each growth in turn of a run of `bridge_server serve`.
+
+    tests/refuse_serving_growths.py crates/bridge_server/out/bridge_server
+
+Starts the program with one display and no worker, for two connections, first with ample memory, and then with the Nth request for
+memory refused, for N from 1 until a run asks less often. On the first connection a director signs in, has board 1 held and released in
+turn by one batch of 64 commands, and asks for the board; on the second one a director signs in and asks again. What each must do:
+
+- Before it listens, and where the display's thread has no room to begin: end with status 4. Nothing is half open.
+- Later: that connection ends, or one message is answered {"error":"OutOfMemory"}, or the command that found no room is answered
+  OutOfMemory, the ones before it `ok` and those after it NotTried, with the numbers of those before. All else is as with ample
+  memory: the second connection is served, unless it is the one that ended, and names the version that stands. The program then ends with
+  status 0.
+
+It needs a C compiler, as refuse_growths.py does.
+"""
+import json
+import os
+import pathlib
+import socket
+import subprocess
+import sys
+import tempfile
+import time
+
+from refuse_growths import REFUSING
+from write_stored_runs import BOARDS, USERS, text_of
+
+SESSION = {"budget": 0, "per_set": 1, "rounds": 3, "tables": 3, "users": USERS}
+COMMANDS = 64
+HELLO = {"hello": "d", "token": "abc"}
+BATCH = {"do": [{"board": 1, "cmd": "Hold" if k % 2 == 0 else "Release"} for k in range(COMMANDS)]}
+ASK = {"ask": "analysis", "board": 1}
+NO_MEMORY = {"error": "OutOfMemory"}
+HANDSHAKE = ("GET / HTTP/1.1\r\nHost: 127.0.0.1\r\nUpgrade: websocket\r\nConnection: Upgrade\r\n"
+             "Sec-WebSocket-Key: dGhlIHNhbXBsZSBub25jZQ==\r\nSec-WebSocket-Version: 13\r\n\r\n").encode()
+
+
+def free_port():
+    with socket.socket() as listener:
+        listener.bind(("127.0.0.1", 0))
+        return listener.getsockname()[1]
+
+
+def exactly(stream, count):
+    got = b""
+    while len(got) < count:
+        more = stream.recv(count - len(got))
+        if not more:
+            raise ConnectionError("ended")
+        got += more
+    return got
+
+
+def answer(stream, message):
+    """The answer to a message; its frame's mask is 0."""
+    data = text_of(message).encode()
+    length = bytes([0x80 | len(data)]) if len(data) < 126 else b"\xfe" + len(data).to_bytes(2, "big")
+    stream.sendall(b"\x81" + length + bytes(4) + data)
+    first, size = exactly(stream, 2)
+    if first != 0x81:
+        raise ConnectionError("closed")
+    if size == 126:
+        size = int.from_bytes(exactly(stream, 2), "big")
+    return json.loads(exactly(stream, size))
+
+
+def connection(process, port, messages):
+    """What a client is answered, as far as the connection goes; or None where nobody listens any more."""
+    for _ in range(1000):
+        if process.poll() is not None:
+            return None
+        try:
+            stream = socket.create_connection(("127.0.0.1", port), timeout=10)
+            break
+        except ConnectionRefusedError:
+            time.sleep(0.002)
+    else:
+        raise SystemExit("the program neither listens nor ends")
+    told = []
+    with stream:
+        try:
+            stream.sendall(HANDSHAKE)
+            head = b""
+            while not head.endswith(b"\r\n\r\n"):
+                head += exactly(stream, 1)
+            for message in messages:
+                told.append(answer(stream, message))
+        except (ConnectionError, BrokenPipeError):
+            pass
+    return told
+
+
+def run(program, room, n):
+    """What the two clients are told, the status, what is written, and how often memory was asked for."""
+    port = free_port()
+    env = {**os.environ, "LD_PRELOAD": f"{room}/refusing.so", "ASKED_TO": f"{room}/asked", "REFUSED_AT": str(n)}
+    process = subprocess.Popen(
+        [program, "serve", "--session", f"{room}/session.json", "--deals", f"{room}/deals.pbn", "--port", str(port), "--displays", "1",
+         "--workers", "0", "--connections", "2"], env=env, stdin=subprocess.DEVNULL, stdout=subprocess.PIPE, stderr=subprocess.PIPE)
+    told = [connection(process, port, [HELLO, BATCH, ASK]), connection(process, port, [HELLO, ASK])]
+    out, err = process.communicate(timeout=20)
+    return told, process.returncode, out + err, int(pathlib.Path(f"{room}/asked").read_text())
+
+
+def standing(receipt):
+    """How many commands stand after a batch, as its receipt tells."""
+    answers = receipt["answers"]
+    place = answers.index("OutOfMemory") if "OutOfMemory" in answers else COMMANDS
+    assert answers == ["ok"] * place + (["OutOfMemory"] + ["NotTried"] * (COMMANDS - place - 1) if place < COMMANDS else []), answers
+    assert (receipt["first"], receipt["last"], receipt["version"]) == (min(place, 1), place, place), receipt
+    return place
+
+
+def outcome(ample, told, status):
+    """What a run with one request refused did, in a word."""
+    first, second = told
+    if status == 4:
+        assert told == [None, None] or first == [], told
+        return "status 4"
+    assert status == 0, f"status {status}"
+    faults = 0
+    # how many commands may stand after the batch: where its receipt was lost, any number
+    stands = {0} if len(first) < 1 or first[0] == NO_MEMORY else set(range(COMMANDS + 1))
+    word = "as with ample memory"
+    if first[:1] == [NO_MEMORY]:
+        faults, word, stands = 1, "a greeting found no memory", {0}
+        assert first[1:] == [{"error": "NotSignedIn"}] * 2, first
+    elif len(first) < 3:
+        faults, word = 1, "the first connection ended"
+        assert first == ample[0][: len(first)] or len(first) == 2, first
+        if len(first) == 2:
+            stands = {standing(first[1])}
+    else:
+        assert first[0] == ample[0][0], first
+        if first[1] == NO_MEMORY:
+            faults, word = 1, "a batch's answer or room found no memory"
+            stands = {0, COMMANDS}
+        else:
+            stands = {standing(first[1])}
+            if stands != {COMMANDS}:
+                faults, word = 1, "a command found no room"
+        if first[2] == NO_MEMORY:
+            faults, word = faults + 1, "a query found no memory"
+        else:
+            assert first[2] == {**ample[0][2], "version": first[2]["version"]} and first[2]["version"] in stands, (first, stands)
+            stands = {first[2]["version"]}
+    if second == ample[1][:1] or second == [] or second is None:
+        faults, word = faults + 1, "the second connection ended"
+    elif NO_MEMORY in second:
+        faults, word = faults + 1, "the second connection's message found no memory"
+    else:
+        assert second[0] == ample[1][0] and second[1] == {**ample[1][1], "version": second[1]["version"]}, second
+        assert second[1]["version"] in stands, (second, stands)
+    assert faults <= 1, (told, faults)
+    return word
+
+
+def main():
+    (program,) = sys.argv[1:]
+    with tempfile.TemporaryDirectory() as room:
+        path = pathlib.Path(room)
+        (path / "refusing.c").write_text(REFUSING)
+        (path / "session.json").write_text(text_of(SESSION))
+        (path / "deals.pbn").write_text(BOARDS)
+        subprocess.run(["cc", "-O1", "-shared", "-fPIC", "-o", f"{room}/refusing.so", f"{room}/refusing.c", "-ldl"], check=True)
+        ample, status, said, asked = run(program, room, 0)
+        shown = {"analysis": {"board": 1, "tricks": None}, "version": COMMANDS}
+        receipt = {"answers": ["ok"] * COMMANDS, "first": 1, "last": COMMANDS, "version": COMMANDS}
+        assert (ample, status, said) == ([[{"hello": "d"}, receipt, shown], [{"hello": "d"}, shown]], 0, b""), (ample, status, said)
+        assert asked > 0, "the program asked for no memory through this allocator: nothing is tried"
+        kinds = {}
+        for n in range(1, asked + 1):
+            told, status, said, _ = run(program, room, n)
+            try:
+                # the first requests are for the words
+                assert said == b"" or (status == 2 and n <= 40), (status, said)
+                kind = f"status {status}" if told == [None, None] else outcome(ample, told, status)
+            except AssertionError as fault:
+                raise SystemExit(f"with request {n} of {asked} refused: {fault}")
+            kinds.setdefault(kind, []).append(n)
+        print(f"{asked} requests for memory, each refused in turn:")
+        for kind, numbers in kinds.items():
+            print(f"    {kind}: {len(numbers)}, from request {numbers[0]} to {numbers[-1]}")
+
+
+if __name__ == "__main__":
+    main()
