@@ -116,10 +116,9 @@ def standing(receipt):
 def outcome(ample, told, status):
     """What a run with one request refused did, in a word."""
     first, second = told
-    if status == 4:
-        assert told == [None, None] or first == [], told
+    if status != 0:
+        assert status == 4 and not first and not second, (status, told)
         return "status 4"
-    assert status == 0, f"status {status}"
     faults = 0
     # how many commands may stand after the batch: where its receipt was lost, any number
     stands = {0} if len(first) < 1 or first[0] == NO_MEMORY else set(range(COMMANDS + 1))
@@ -174,9 +173,8 @@ def main():
         for n in range(1, asked + 1):
             told, status, said, _ = run(program, room, n)
             try:
-                # the first requests are for the words
-                assert said == b"" or (status == 2 and n <= 40), (status, said)
-                kind = f"status {status}" if told == [None, None] else outcome(ample, told, status)
+                assert said == b"", (status, said)
+                kind = outcome(ample, told, status)
             except AssertionError as fault:
                 raise SystemExit(f"with request {n} of {asked} refused: {fault}")
             kinds.setdefault(kind, []).append(n)
