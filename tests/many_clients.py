@@ -936,8 +936,9 @@ async def memory(seed):
             await asyncio.sleep(0.05)
             status = server.process.poll()
             # 127 is the loader's, where there is no room for the program itself.
-            check(f"memory: with {megabytes} MiB of addresses it runs on, and tells all the same, or it ended with status 4", (True, True),
-                  (status is None or (status in (4, 127) and not clients), len(told) <= 1))
+            ended = 127 if megabytes < 4 else 4
+            check(f"memory: with {megabytes} MiB of addresses it runs on, and tells all the same, or it ended with status {ended}", (True, True),
+                  (status is None or (status == ended and not clients), len(told) <= 1))
             seen.append((megabytes, status, len(clients), more))
     for megabytes, status, count, more in seen:
         tell(f"{megabytes:3} MiB: " + (f"{count} clients at once, {more}" if status is None else f"status {status}"))
