@@ -5,10 +5,8 @@ pub mod BodyLemmas
 pub mod ElementLemmas
 pub mod EveryRunLemmas
 pub mod ExactLemmas
-pub mod GrowthLemmas
 pub mod HiddenLemmas
 pub mod HistoryLemmas
-pub mod KeepingLemmas
 pub mod ListLemmas
 pub mod PlaceLemmas
 pub mod StandingLemmas

@@ -10,14 +10,17 @@ use Rattle.session_state.specs.session_commands.declared.command.Command.{Comman
 use Rattle.session_state.specs.session_commands.declared.entry.Entry.{Entry}
 use Rattle.session_state.specs.session_commands.declared.refusal.Refusal.{Refusal}
 use Rattle.session_state.specs.SessionState.{SessionState}
-use Rattle.published_view.specs.session_book.Journal.{Ledger, state_of, entry_of, refusal_after}
-use Rattle.published_view.specs.session_book.Run.{Progress, answered, after_command, run, Runs}
-use Rattle.published_view.specs.session_book.Replay.{replay}
-use Rattle.published_view.proofs.session_book_lemmas.JournalLemmas.{replayed_more}
+use Rattle.session_book.specs.Journal.{Ledger, entry_of, refusal_after, IsAccepted}
+use Rattle.session_book.specs.Run.{Progress, answered, after_command, run, Runs, IsTried}
+use Rattle.session_book.specs.declared.answer.Answer.{Answer}
+use Rattle.session_book.specs.declared.answer.Answer.TheVariants.{Accepted, Refused}
+use Rattle.session_state.specs.session_commands.declared.actor.Actor.{Actor}
+use Rattle.session_book.specs.Replay.{replay}
+use Rattle.session_book.proofs.JournalLemmas.{replayed_more, accepted_length}
 use Rattle.session_state.specs.Apply.{apply}
 use Rattle.session_state.specs.Refusal.{most_entries}
-use Rattle.published_view.specs.View.{Seen, seen_after, most_versions}
-use Rattle.published_view.specs.Keeper.{IsBehind}
+use Rattle.published_view.specs.View.{Seen, StandsFor, seen_after, most_versions, version_of}
+use Rattle.session_keeper.specs.PlainKeeping.{IsBehind}
 
 -- a list with others after it
 abbrev pub Extends : List Entry → List Entry → Type 0
@@ -62,21 +65,30 @@ behind_by : (before after : List Entry) → Extends before after → (take (leng
 behind_by before after (more, is) =
     (ap (take (length before)) is ∙ take-append_seam before more, omega (arith, ap length is, length-append before more))
 
--- a view of the journal before a batch has taken in the first entries of the journal after it
-pub behind_after : (stopped : Bool) (opening : SessionState) (before : List Entry) (actor : List ℕ) (batch : List Command) (after : Progress) (seen : Seen) →
-    Runs stopped opening before actor batch after → seen.state ≡ replay opening before → seen.version ≡ length before → IsBehind opening after.journal seen
-behind_after stopped opening before actor batch after seen ran state version =
-    let both = behind_by before after.journal (runs_extend stopped opening before actor batch after ran) in
-    record {
-      within = subst (λ n. n ≤ length after.journal) (sym version) both.1;
-      state = state ∙ ap (replay opening) (sym both.0 ∙ ap (λ n. take n after.journal) (sym version));
-    }
+-- so does what is tried by itself
+pub tried_extends : (before after : Ledger) (actor : Actor) (command : Command) (answer : Answer) →
+    IsTried before actor command answer after → Extends before.journal after.journal
+tried_extends before after actor command Accepted tried = (record { actor = actor; command = command } ∷ [], tried.1)
+tried_extends before after actor command (Refused cause) tried =
+    subst (Extends before.journal) (sym tried.1) (same_extends before.journal)
 
--- what holds of a view's state and version holds of those of its book
-pub as_book : (P : SessionState → ℕ → Type 0) (book other : Ledger) (seen : Seen) → other ≡ book → seen.state ≡ replay book.opening book.journal →
-    seen.version ≡ length book.journal → P seen.state seen.version → P (state_of other) (length other.journal)
-as_book P book other seen same state version holds =
-    subst (λ (l : Ledger). P (state_of l) (length l.journal)) (sym same) (subst (λ v. P (state_of book) v) version (subst (λ s. P s seen.version) state holds))
+-- the version of an accepted journal is how many entries it has
+pub exact_version : (opening : SessionState) (journal : List Entry) → IsAccepted opening journal →
+    version_of journal ≡ length journal
+exact_version opening journal accepted =
+    let few = accepted_length opening journal accepted in
+    omega (arith, few)
+
+-- a view of a journal has taken in the first entries of each journal that begins with it
+pub behind_extends : (opening : SessionState) (before after : List Entry) (seen : Seen) → Extends before after →
+    StandsFor opening before seen → IsAccepted opening before → IsBehind opening after seen
+behind_extends opening before after seen extends stands accepted =
+    let both = behind_by before after extends in
+    let version : seen.version ≡ length before = stands.version ∙ exact_version opening before accepted in
+    record {
+      within = subst (λ n. n ≤ length after) (sym version) both.1;
+      state = stands.state ∙ ap (replay opening) (sym both.0 ∙ ap (λ n. take n after) (sym version));
+    }
 
 take_more : (journal : List Entry) (number : ℕ) (entry : Entry) → slice_get journal number ≡ Some entry → take (number + 1) journal ≡ take number journal ++ entry ∷ []
 take_more journal number entry found =

@@ -2,15 +2,14 @@
 use Rattle.std.specs.Prelude.{◌≡◌, ◌≤◌, List, take, length}
 use Rattle.session_state.specs.session_commands.declared.entry.Entry.{Entry}
 use Rattle.session_state.specs.SessionState.{SessionState}
-use Rattle.published_view.specs.session_book.Journal.{IsAccepted}
-use Rattle.published_view.specs.session_book.Replay.{replay}
-use Rattle.published_view.specs.View.{Seen}
-use Rattle.published_view.specs.declared.keeper.PlainKeeper.TheInside.{Inside}
+use Rattle.session_book.specs.Journal.{IsAccepted}
+use Rattle.session_book.specs.Replay.{replay}
+use Rattle.published_view.specs.View.{Seen, StandsFor}
+use Rattle.session_keeper.specs.declared.plain_keeper.PlainKeeper.TheInside.{Inside}
 
--- the view has the state to which the book's journal leads, and the journal's version; the journal is accepted
+-- the view stands for the book's journal, which is accepted
 pub record IsUpToDate (keeper : Inside) : Type 0 where
-  pub state : keeper.view.state ≡ replay keeper.book.opening keeper.book.journal
-  pub version : keeper.view.version ≡ length keeper.book.journal
+  pub stands : StandsFor keeper.book.opening keeper.book.journal keeper.view
   pub accepted : IsAccepted keeper.book.opening keeper.book.journal
 
 -- ---- for private clauses

@@ -1,6 +1,6 @@
 use Rattle.std.proofs.Common.{◌≡◌}
-use Rattle.published_view.specs.Keeper.{IsBehind}
-use Rattle.published_view.proofs.keeper.absorb_new.Given as goal
+use Rattle.session_keeper.specs.PlainKeeping.{IsBehind}
+use Rattle.session_keeper.proofs.plain_keeper.absorb_new.Given as goal
 
 abbrev pub invariant-loop-number : goal.invariant-loop-number
 invariant-loop-number l = record {

@@ -1,7 +1,7 @@
 use Rattle.std.proofs.Common.{sym, subst, ◌∙◌}
-use Rattle.published_view.specs.Keeper.{IsBehind}
-use Rattle.published_view.proofs.GrowthLemmas.{one_more, entry_after, entry_there}
-use Rattle.published_view.proofs.keeper.absorb_next.Goals as goal
+use Rattle.session_keeper.specs.PlainKeeping.{IsBehind}
+use Rattle.session_keeper.proofs.GrowthLemmas.{one_more, entry_after, entry_there}
+use Rattle.session_keeper.proofs.plain_keeper.absorb_next.Goals as goal
 
 pub returns-in-Some-clause-behind : goal.returns-in-Some-clause-behind
 returns-in-Some-clause-behind c =

@@ -1,0 +1,52 @@
+//! Who keeps a session, as commands see it.
+
+ghost use Rattle.std.specs.Prelude.{◌≡◌, ◌≤◌, length, IfOk, OnErr};
+ghost use Rattle.session_state.specs.session_commands.declared.command.Command.TheVariants.{Solved, Analysed};
+ghost use Rattle.session_book.specs.Journal.{IsAccepted};
+ghost use Rattle.session_book.specs.Run.{most_commands};
+ghost use Rattle.session_keeper.specs.Keeping.{GoesOn, RanOnce, TriedOnce, IsAuditOf};
+
+use crate::keeper::Keeper;
+use crate::receipt::{AuditReceipt, BatchReceipt};
+use session_book::Answer;
+use session_state::{Cell, Command, DdTable, PlayCosts};
+use std::alloc::AllocError;
+use user_names::Name;
+
+/// A keeper that takes commands. `H` is what it waits by: a handle of the runtime, where it may wait for others who
+/// submit, and anything, where it waits for nobody.
+pub trait CommandKeeper<H>: Keeper {
+    /// Tries the commands of a user, one after another. Where memory is refused for the answers, none is tried.
+    fn submit(&mut self, rt: &H, actor: Name, batch: &[Command]) -> Result<BatchReceipt, AllocError>
+        requires { length batch.now ≤ most_commands }
+        ensures later { GoesOn (Self.opening self.old) (Self.journal self.old)
+            (Self.opening self.new) (Self.journal self.new) }
+        ensures accepted { IsAccepted (Self.opening self.new) (Self.journal self.new) }
+        ensures receipt { IfOk result (λ receipt. RanOnce Self.others (Self.opening self.new) (Self.journal self.old)
+            actor batch.now receipt (Self.journal self.new)) }
+        ensures untried { OnErr result (Self.others (Self.journal self.old) (Self.journal self.new)) };
+
+    /// Tries what the solver found of a board.
+    fn submit_solved(&mut self, rt: &H, board: u8, table: DdTable) -> Answer
+        ensures later { GoesOn (Self.opening self.old) (Self.journal self.old)
+            (Self.opening self.new) (Self.journal self.new) }
+        ensures accepted { IsAccepted (Self.opening self.new) (Self.journal self.new) }
+        ensures tried { TriedOnce Self.others (Self.opening self.new) (Self.journal self.old)
+            (Solved board table) result (Self.journal self.new) };
+
+    /// Tries what the solver found of the cards that were played at a cell.
+    fn submit_analysed(&mut self, rt: &H, cell: Cell, costs: PlayCosts) -> Answer
+        ensures later { GoesOn (Self.opening self.old) (Self.journal self.old)
+            (Self.opening self.new) (Self.journal self.new) }
+        ensures accepted { IsAccepted (Self.opening self.new) (Self.journal self.new) }
+        ensures tried { TriedOnce Self.others (Self.opening self.new) (Self.journal self.old)
+            (Analysed cell.table cell.board costs) result (Self.journal self.new) };
+
+    /// The entries from a number on, at most so many, for a user who has the permission for the audit.
+    fn audit(&mut self, rt: &H, actor: Name, from: usize, limit: usize) -> AuditReceipt
+        ensures later { GoesOn (Self.opening self.old) (Self.journal self.old)
+            (Self.opening self.new) (Self.journal self.new) }
+        ensures accepted { IsAccepted (Self.opening self.new) (Self.journal self.new) }
+        ensures receipt { IsAuditOf Self.others (Self.opening self.new) (Self.journal self.old)
+            actor from limit result (Self.journal self.new) };
+}

@@ -1,0 +1,56 @@
+//! Who keeps a session, as queries see it.
+
+ghost use Rattle.std.specs.Prelude.{◌≡◌, IfOk, IfErr, OnErr};
+ghost use Rattle.published_view.specs.View.{reply_after, digest_after};
+ghost use Rattle.published_view.specs.declared.query_fault.QueryFault.TheVariants as fault;
+ghost use Rattle.session_book.specs.Journal.{IsAccepted};
+ghost use Rattle.session_keeper.specs.Keeping.{GoesOn};
+
+use published_view::{NoEntry, QueryFault};
+use session_queries::{Query, Reply};
+use session_state::Digest;
+use std::alloc::Global;
+use user_names::Name;
+
+/// One who keeps a session. It stands for an accepted journal, which each call replaces by one that begins with it. None
+/// of these calls waits.
+pub trait Keeper: Drop {
+    ghost use Rattle.std.specs.Prelude.{List};
+    ghost use Rattle.session_state.specs.SessionState.{SessionState};
+    ghost use Rattle.session_state.specs.session_commands.declared.entry.Entry.{Entry};
+
+    ghost opening: { Self → SessionState };
+
+    ghost journal: { Self → List Entry };
+
+    // What others may add to the journal while this one is asked: from this journal to that one.
+    ghost others: { List Entry → List Entry → Type 0 };
+
+    // What it takes for no version to be entered; where that never happens nothing does.
+    ghost no_entry: { Type 0 };
+
+    /// The reply to a user's query; the user wants no version older than `since`.
+    fn query(
+        &mut self,
+        alloc: Global,
+        user: Name,
+        query: &Query,
+        since: u64,
+    ) -> Result<Reply, QueryFault>
+        ensures later { GoesOn (opening self.old) (journal self.old) (opening self.new) (journal self.new) }
+        ensures accepted { IsAccepted (opening self.new) (journal self.new) }
+        ensures reply { IfOk result (λ reply.
+            reply ≡ reply_after (opening self.new) (journal self.new) user query.now since) }
+        ensures unchanged { others (journal self.old) (journal self.new) }
+        ensures none { IfErr result (λ why.
+            why ≡ fault.NoEntry → no_entry × (journal self.new ≡ journal self.old)) };
+
+    /// The digest of the token with which a user signs in, if there is such a user. It takes no memory.
+    fn digest(&mut self, name: Name) -> Result<Option<Digest>, NoEntry>
+        ensures later { GoesOn (opening self.old) (journal self.old) (opening self.new) (journal self.new) }
+        ensures accepted { IsAccepted (opening self.new) (journal self.new) }
+        ensures digest { IfOk result (λ digest.
+            digest ≡ digest_after (opening self.new) (journal self.new) name) }
+        ensures unchanged { others (journal self.old) (journal self.new) }
+        ensures none { OnErr result (no_entry × (journal self.new ≡ journal self.old)) };
+}

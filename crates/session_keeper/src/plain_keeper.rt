@@ -1,0 +1,173 @@
+//! The plain keeper: it keeps its session alone, waits for nobody, and each version can be entered.
+
+ghost use Rattle.std.specs.Prelude.{◌≡◌, ◌+◌, ◌<◌, ◌≤◌, ◌⊎◌, [], None, Some, length, IfOk, IfErr};
+ghost use Rattle.movement.specs.Movement.{boards_of};
+ghost use Rattle.session_state.specs.Refusal.{most_entries};
+ghost use Rattle.session_book.specs.Journal.{IsAccepted, state_of};
+ghost use Rattle.session_opening.specs.Opening.{opening_of};
+ghost use Rattle.session_opening.specs.OpeningRefusal.{opening_refusal};
+ghost use Rattle.session_opening.specs.declared.opening_refusal.OpeningRefusal.TheVariants as opening_cause;
+ghost use Rattle.published_view.specs.View.{StandsFor};
+ghost use Rattle.session_keeper.specs.PlainKeeping.{IsBehind};
+
+use crate::command_keeper::CommandKeeper;
+use crate::keeper::Keeper;
+use crate::receipt::{AuditReceipt, BatchReceipt};
+use published_view::{NoEntry, QueryFault, View};
+use session_book::{Answer, Book, State};
+use session_opening::{Config, OpeningRefusal};
+use session_queries::{Query, Reply};
+use session_state::{Cell, Command, DdTable, Digest, PlayCosts};
+use std::alloc::{AllocError, Global};
+use std::marker::Model;
+use user_names::Name;
+
+/// One book and one view of it: what the book accepts, the view takes in before the next call.
+#[derive(Drop)]
+pub struct PlainKeeper {
+    book: Book,
+    view: View,
+}
+
+impl Model for PlainKeeper {
+    ghost use Rattle.session_book.specs.Journal.{Ledger, ledger_code};
+
+    ghost Value = { Ledger };
+
+    ghost coded = { ledger_code };
+
+    ghost use Rattle.session_keeper.specs.PlainKeeping.{IsUpToDate};
+
+    ghost view = { λ k. k.book };
+
+    ghost invariant = { IsUpToDate };
+}
+
+impl PlainKeeper {
+    /// Opens a session, in which nothing is entered yet, with all the room that its state can need.
+    pub fn open(alloc: Global, config: Config) -> Result<PlainKeeper, OpeningRefusal>
+        requires { boards_of config.movement ≤ length config.boards }
+        ensures opening { IfOk result (λ keeper. keeper.opening ≡ opening_of config) }
+        ensures journal { IfOk result (λ keeper. keeper.journal ≡ []) }
+        ensures ok { IfOk result (λ keeper. opening_refusal config ≡ None) }
+        ensures err { IfErr result (λ cause. (opening_refusal config ≡ Some cause)
+            ⊎ ((cause ≡ opening_cause.OutOfMemory) × (opening_refusal config ≡ None))) }
+    {
+        match config.open(alloc) {
+            Ok(opening) => PlainKeeper::of(alloc, opening),
+            Err(cause) => Err(cause),
+        }
+    }
+
+    // The keeper of a session that opens in a state.
+    fn of(alloc: Global, opening: State) -> Result<PlainKeeper, OpeningRefusal>
+        ensures opening { IfOk result (λ keeper. keeper.opening ≡ opening) }
+        ensures journal { IfOk result (λ keeper. keeper.journal ≡ []) }
+        ensures err { IfErr result (λ cause. cause ≡ opening_cause.OutOfMemory) }
+    {
+        let Ok(book) = Book::open(alloc, opening) else {
+            return Err(OpeningRefusal::OutOfMemory);
+        };
+        let Ok(view) = View::open(alloc, &book) else {
+            return Err(OpeningRefusal::OutOfMemory);
+        };
+        Ok(PlainKeeper { book, view })
+    }
+
+    /// The state that the journal leads to.
+    pub fn state(&self) -> &State
+        ensures state { result.now ≡ state_of self.now }
+        ensures accepted { IsAccepted self.now.opening self.now.journal }
+    {
+        self.book.state()
+    }
+}
+
+impl Keeper for PlainKeeper {
+    ghost use Rattle.std.specs.Prelude.{◌≡◌};
+
+    ghost opening = { λ k. k.opening };
+
+    ghost journal = { λ k. k.journal };
+
+    ghost others = { λ before after. after ≡ before };
+
+    ghost no_entry = { ⊥ };
+
+    fn query(
+        &mut self,
+        alloc: Global,
+        user: Name,
+        query: &Query,
+        since: u64,
+    ) -> Result<Reply, QueryFault> {
+        match self.view.answer(alloc, user, query, since) {
+            Ok(reply) => Ok(reply),
+            Err(_) => Err(QueryFault::OutOfMemory),
+        }
+    }
+
+    fn digest(&mut self, name: Name) -> Result<Option<Digest>, NoEntry> {
+        Ok(self.view.digest(name))
+    }
+}
+
+impl<H> CommandKeeper<H> for PlainKeeper {
+    fn submit(
+        &mut self,
+        _rt: &H,
+        actor: Name,
+        batch: &[Command],
+    ) -> Result<BatchReceipt, AllocError> {
+        let submission = self.book.submit(actor, batch)?;
+        absorb_new(&mut self.view, &self.book);
+        Ok(BatchReceipt {
+            submission,
+            version: self.book.version(),
+        })
+    }
+
+    fn submit_solved(&mut self, _rt: &H, board: u8, table: DdTable) -> Answer {
+        let answer = self.book.submit_solved(board, table);
+        absorb_new(&mut self.view, &self.book);
+        answer
+    }
+
+    fn submit_analysed(&mut self, _rt: &H, cell: Cell, costs: PlayCosts) -> Answer {
+        let answer = self.book.submit_analysed(cell, costs);
+        absorb_new(&mut self.view, &self.book);
+        answer
+    }
+
+    fn audit(&mut self, _rt: &H, actor: Name, from: usize, limit: usize) -> AuditReceipt {
+        AuditReceipt {
+            rows: self.book.audit(actor, from, limit),
+            version: self.book.version(),
+        }
+    }
+}
+
+// Has the view take in the entries that it hasn't taken in yet.
+fn absorb_new(view: &mut View, book: &Book)
+    requires behind { IsBehind book.now.opening book.now.journal view.old }
+    ensures stands { StandsFor book.now.opening book.now.journal view.new }
+    ensures accepted { IsAccepted book.now.opening book.now.journal }
+{
+    for number in view.version()..book.version() {
+        absorb_next(view, book, number);
+    }
+}
+
+// Has the view take in the entry after so many.
+fn absorb_next(view: &mut View, book: &Book, number: usize)
+    requires at { view.old.version ≡ number }
+    requires more { number < length book.now.journal }
+    requires few { length book.now.journal ≤ most_entries }
+    requires behind { IsBehind book.now.opening book.now.journal view.old }
+    ensures at { view.new.version ≡ number + 1 }
+    ensures behind { IsBehind book.now.opening book.now.journal view.new }
+{
+    if let Some(entry) = book.entry(number + 1) {
+        view.absorb(entry);
+    }
+}
