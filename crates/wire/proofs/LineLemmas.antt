@@ -13,13 +13,14 @@ use Rattle.wire.specs.declared.audit_range.AuditRange.{AuditRange}
 use Rattle.wire.specs.declared.request.Request.{Request}
 use Rattle.wire.specs.declared.request.RequestBody.{RequestBody}
 use Rattle.wire.specs.declared.request.RequestBody.TheVariants as body
+use Rattle.wire.specs.declared.request.UserRequest.TheVariants as wanting
 use Rattle.wire.specs.declared.source.Source.{Source}
 use Rattle.wire.specs.declared.source.Source.TheVariants.{Script, Connection}
 use Rattle.json_fields.specs.declared.request_fault.RequestFault.{RequestFault}
 use Rattle.json_fields.specs.declared.request_fault.RequestFault.TheVariants.{TooLong, Malformed, UnknownRequest, BadField, OutOfMemory}
 use Rattle.json_fields.specs.Reading.{Gives}
 use Rattle.wire.specs.Audit.{an_audit}
-use Rattle.wire.specs.Request.{most_message_bytes, a_query, a_batch, request_of, object_of, text_meaning, bytes_meaning, meaning, HasFew, IsSaid}
+use Rattle.wire.specs.Request.{most_message_bytes, a_query, a_batch, request_of, object_of, text_meaning, bytes_meaning, meaning, HasFewIn, IsSaid}
 use Rattle.json_fields.specs.Object.{IsObject}
 use Rattle.wire.specs.Grammar.{IsMessage, IsUnknownRequest, IsQuery, IsBatch, IsAudit, IsGreeting, IsNoRequest}
 use Rattle.wire.proofs.RequestLemmas.{query_object, batch_object, audit_object, greeting_object, few_in_request, user_in_script, no_user_on_connection, object_fault, unknown_object}
@@ -84,8 +85,8 @@ module _ (source : Source) (P : Request → Type 0) (all : (d : Data) (y : Reque
 
 -- a batch that is read has at most 64 commands
 pub few_given : (source : Source) (line : List ℕ) (answer : Result Request RequestFault) → Gives answer (meaning source line)
-    → IfOk answer (λ request. HasFew request.body)
-few_given source line (Ok y) given = holds_in_line source (λ request. HasFew request.body) (few_in_request source) line y given
+    → IfOk answer (λ request. HasFewIn request.body)
+few_given source line (Ok y) given = holds_in_line source (λ request. HasFewIn request.body) (few_in_request source) line y given
 few_given source line (Err fault) given = tt
 
 pub said_line : (line : List ℕ) (y : Request) → meaning Script line ≡ Ok y → IsSaid y
@@ -197,9 +198,9 @@ module _ (source : Source) (line : List ℕ) (d : Data) (message : IsMessage lin
 
   no_body : (user : Option (List ℕ)) (b : RequestBody) → meaning source line ≡ Ok (record { user = user; body = b })
       → IsNoRequest source d → ⊥
-  no_body user (body.Query query since) is none = none.no_query user query since ((query_line user query since).0 is)
-  no_body user (body.Batch commands) is none = none.no_batch user commands ((batch_line user commands).0 is)
-  no_body user (body.Audit range) is none = none.no_audit user range ((audit_line user range).0 is)
+  no_body user (body.OfUser (wanting.Query query since)) is none = none.no_query user query since ((query_line user query since).0 is)
+  no_body user (body.OfUser (wanting.Batch commands)) is none = none.no_batch user commands ((batch_line user commands).0 is)
+  no_body user (body.OfUser (wanting.Audit range)) is none = none.no_audit user range ((audit_line user range).0 is)
   no_body user (body.Hello name token) is none = none.no_greeting user name token ((greeting_line user name token).0 is)
 
   only_bad : (said : Result Request RequestFault) → meaning source line ≡ said → ¬ IsUnknownRequest source d

@@ -8,6 +8,7 @@ use Rattle.session_queries.specs.declared.query.Query.{Query}
 use Rattle.wire.specs.declared.request.Request.{Request}
 use Rattle.wire.specs.declared.request.RequestBody.{RequestBody}
 use Rattle.wire.specs.declared.request.RequestBody.TheVariants as body
+use Rattle.wire.specs.declared.request.UserRequest.TheVariants as wanting
 use Rattle.wire.specs.declared.source.Source.{Source}
 use Rattle.wire.specs.declared.source.Source.TheVariants.{Script, Connection}
 use Rattle.json_fields.specs.declared.request_fault.RequestFault.{RequestFault}
@@ -21,7 +22,7 @@ use Rattle.command_object.specs.Command.{command_of, has_unknown, commands_in, I
 use Rattle.wire.specs.Query.{queries, asking, query_called}
 use Rattle.wire.specs.Audit.{audit_range, auditing, an_audit, audit_of}
 use Rattle.wire.specs.Greeting.{a_greeting, greeting}
-use Rattle.wire.specs.Request.{a_query, query_of, query_by, doing, few_commands_in, a_batch, batch_of, batch_by, greeting_by, one_of, request_of, HasFew, IsNoGreeting, IsSaid}
+use Rattle.wire.specs.Request.{a_query, query_of, query_by, doing, few_commands_in, a_batch, batch_of, batch_by, greeting_by, one_of, request_of, HasFewIn, IsNoGreeting, IsSaid}
 use Rattle.wire.specs.Source.{said_user}
 use Rattle.wire.specs.Grammar.{IsOf, IsUnknownRequest, IsQuery, IsBatch, IsAudit, IsGreeting}
 use Rattle.wire.proofs.AuditLemmas.{audits, audited}
@@ -171,15 +172,15 @@ greeter_is_there d y has = let name = has.made.2.3 in is_there (get (codes "hell
 
 -- what makes a message the request that it is
 abbrev Makes : Source → (ask list audit hello : Option Data) → Data → Option (List ℕ) → RequestBody → Type 0
-Makes source ask list audit hello d user (body.Query query version) =
+Makes source ask list audit hello d user (body.OfUser (wanting.Query query version)) =
     (count_by (λ member. is_some member) (ask ∷ list ∷ audit ∷ hello ∷ []) ≡ 1)
     × ((word : List ℕ) × (option_and_then as_str ask ≡ Some word) × HasFormOf asking queries word d query)
     × IsOf source d user × since.Is (get since.name d) version
-Makes source ask list audit hello d user (body.Batch xs) =
+Makes source ask list audit hello d user (body.OfUser (wanting.Batch xs)) =
     (count_by (λ member. is_some member) (ask ∷ list ∷ audit ∷ hello ∷ []) ≡ 1)
     × ((elements : Items) × (option_and_then as_array list ≡ Some elements) × AreEach IsCommand elements xs)
     × (length xs ≤ 64) × (has_only doing d ≡ true) × IsOf source d user
-Makes source ask list audit hello d user (body.Audit range) =
+Makes source ask list audit hello d user (body.OfUser (wanting.Audit range)) =
     (count_by (λ member. is_some member) (ask ∷ list ∷ audit ∷ hello ∷ []) ≡ 1)
     × ((rows : Data) × (audit ≡ Some rows) × HasForm [] audit_range rows range)
     × (has_only auditing d ≡ true) × IsOf source d user
@@ -236,7 +237,7 @@ made source None None None (Some name) d y h = greeting_made source name d y h
 made source None None None None d y h = absurd (cc)
 
 query_says : (source : Source) (ask : Data) (d : Data) (name : Option (List ℕ)) (query : Query) (version : ℕ)
-    → Makes source (Some ask) None None None d name (body.Query query version)
+    → Makes source (Some ask) None None None d name (body.OfUser (wanting.Query query version))
     → query_by source (as_str ask) d ≡ Ok (a_query name version query)
 query_says source ask d name query version (one, (word, is, has), named, from) =
     ap (λ o. query_by source o d) is
@@ -244,7 +245,7 @@ query_says source ask d name query version (one, (word, is, has), named, from) =
     ∙ ap wanted (asked source word d name query version has named from)
 
 batch_says : (source : Source) (list : Data) (d : Data) (name : Option (List ℕ)) (xs : List Command)
-    → Makes source None (Some list) None None d name (body.Batch xs)
+    → Makes source None (Some list) None None d name (body.OfUser (wanting.Batch xs))
     → batch_by source (as_array list) d ≡ Ok (a_batch name xs)
 batch_says source list d name xs (one, (elements, is, all), few, listed, named) =
     ap (λ o. batch_by source o d) is
@@ -252,7 +253,7 @@ batch_says source list d name xs (one, (elements, is, all), few, listed, named) 
     ∙ ap wanted (wanted_batch source elements d name xs listed named all few)
 
 audit_says : (source : Source) (rows d : Data) (name : Option (List ℕ)) (range : AuditRange)
-    → Makes source None None (Some rows) None d name (body.Audit range)
+    → Makes source None None (Some rows) None d name (body.OfUser (wanting.Audit range))
     → wanted (audit_of source rows d) ≡ Ok (an_audit name range)
 audit_says source rows d name range (one, (asked, is, has), listed, named) =
     let same : asked ≡ rows = cc in
@@ -267,7 +268,7 @@ greeting_says source hello d user name token (one, is, from, has, nobody) =
     ∙ (λ i. Ok (record { user = sym nobody i; body = body.Hello name token }))
 
 query_said : (source : Source) (ask list audit hello : Option Data) (d : Data) (name : Option (List ℕ)) (query : Query)
-    (version : ℕ) → Makes source ask list audit hello d name (body.Query query version)
+    (version : ℕ) → Makes source ask list audit hello d name (body.OfUser (wanting.Query query version))
     → one_of source ask list audit hello d ≡ Ok (a_query name version query)
 query_said source None list audit hello d name query version m = let none = m.1.1 in absurd (cc)
 query_said source (Some ask) (Some list) audit hello d name query version m = absurd (omega (arith, m.0))
@@ -276,7 +277,7 @@ query_said source (Some ask) None None (Some x) d name query version m = absurd 
 query_said source (Some ask) None None None d name query version m = query_says source ask d name query version m
 
 batch_said : (source : Source) (ask list audit hello : Option Data) (d : Data) (name : Option (List ℕ))
-    (xs : List Command) → Makes source ask list audit hello d name (body.Batch xs)
+    (xs : List Command) → Makes source ask list audit hello d name (body.OfUser (wanting.Batch xs))
     → one_of source ask list audit hello d ≡ Ok (a_batch name xs)
 batch_said source ask None audit hello d name xs m = let none = m.1.1 in absurd (cc)
 batch_said source (Some ask) (Some list) audit hello d name xs m = absurd (omega (arith, m.0))
@@ -285,7 +286,7 @@ batch_said source None (Some list) None (Some x) d name xs m = absurd (omega (ar
 batch_said source None (Some list) None None d name xs m = batch_says source list d name xs m
 
 audit_said : (source : Source) (ask list audit hello : Option Data) (d : Data) (name : Option (List ℕ))
-    (range : AuditRange) → Makes source ask list audit hello d name (body.Audit range)
+    (range : AuditRange) → Makes source ask list audit hello d name (body.OfUser (wanting.Audit range))
     → one_of source ask list audit hello d ≡ Ok (an_audit name range)
 audit_said source ask list None hello d name range m = let none = m.1.1 in absurd (cc)
 audit_said source (Some ask) (Some list) (Some rows) hello d name range m = absurd (omega (arith, m.0))
@@ -351,29 +352,29 @@ module _ (source : Source) (d : Data) where
     λ g. greeting_said source ask_member do_member audit_member hello_member d user name token (g.one, greeter_is_there d _ g.form, g.from, g.form, g.nobody),
   )
 
-  few_in_body : (user : Option (List ℕ)) (b : RequestBody) → request_of source d ≡ Ok (record { user = user; body = b }) → HasFew b
-  few_in_body user (body.Query query version) h = tt
-  few_in_body user (body.Batch xs) h = ((batch_object user xs).0 h).few
-  few_in_body user (body.Audit range) h = tt
+  few_in_body : (user : Option (List ℕ)) (b : RequestBody) → request_of source d ≡ Ok (record { user = user; body = b }) → HasFewIn b
+  few_in_body user (body.OfUser (wanting.Query query version)) h = tt
+  few_in_body user (body.OfUser (wanting.Batch xs)) h = ((batch_object user xs).0 h).few
+  few_in_body user (body.OfUser (wanting.Audit range)) h = tt
   few_in_body user (body.Hello name token) h = tt
 
-  pub few_in_request : (y : Request) → request_of source d ≡ Ok y → HasFew y.body
+  pub few_in_request : (y : Request) → request_of source d ≡ Ok y → HasFewIn y.body
   few_in_request y h = few_in_body y.user y.body h
 
 -- ---- whose it is
 
 said_by : (d : Data) (user : Option (List ℕ)) (b : RequestBody)
     → request_of Script d ≡ Ok (record { user = user; body = b }) → IsSome user × IsNoGreeting b
-said_by d user (body.Query query version) h = (said_in_script _ user ((query_object Script d user query version).0 h).user, tt)
-said_by d user (body.Batch xs) h = (said_in_script _ user ((batch_object Script d user xs).0 h).user, tt)
-said_by d user (body.Audit range) h = (said_in_script _ user ((audit_object Script d user range).0 h).user, tt)
+said_by d user (body.OfUser (wanting.Query query version)) h = (said_in_script _ user ((query_object Script d user query version).0 h).user, tt)
+said_by d user (body.OfUser (wanting.Batch xs)) h = (said_in_script _ user ((batch_object Script d user xs).0 h).user, tt)
+said_by d user (body.OfUser (wanting.Audit range)) h = (said_in_script _ user ((audit_object Script d user range).0 h).user, tt)
 said_by d user (body.Hello name token) h = let from = ((greeting_object Script d user name token).0 h).from in absurd (cc)
 
 unsaid_by : (d : Data) (user : Option (List ℕ)) (b : RequestBody)
     → request_of Connection d ≡ Ok (record { user = user; body = b }) → user ≡ None
-unsaid_by d user (body.Query query version) h = unsaid_on_connection _ user ((query_object Connection d user query version).0 h).user
-unsaid_by d user (body.Batch xs) h = unsaid_on_connection _ user ((batch_object Connection d user xs).0 h).user
-unsaid_by d user (body.Audit range) h = unsaid_on_connection _ user ((audit_object Connection d user range).0 h).user
+unsaid_by d user (body.OfUser (wanting.Query query version)) h = unsaid_on_connection _ user ((query_object Connection d user query version).0 h).user
+unsaid_by d user (body.OfUser (wanting.Batch xs)) h = unsaid_on_connection _ user ((batch_object Connection d user xs).0 h).user
+unsaid_by d user (body.OfUser (wanting.Audit range)) h = unsaid_on_connection _ user ((audit_object Connection d user range).0 h).user
 unsaid_by d user (body.Hello name token) h = ((greeting_object Connection d user name token).0 h).nobody
 
 pub user_in_script : (d : Data) (y : Request) → request_of Script d ≡ Ok y → IsSaid y

@@ -6,6 +6,7 @@ use Rattle.serde_json.specs.Find.{get}
 use Rattle.wire.specs.declared.audit_range.AuditRange.{AuditRange}
 use Rattle.wire.specs.declared.request.Request.{Request}
 use Rattle.wire.specs.declared.request.RequestBody.TheVariants as body
+use Rattle.wire.specs.declared.request.UserRequest.TheVariants as wanting
 use Rattle.wire.specs.declared.source.Source.{Source}
 use Rattle.json_fields.specs.Form.{Member, Form, form, ◌with◌, applied, has_only, formed}
 use Rattle.json_fields.specs.Field.{number}
@@ -50,7 +51,7 @@ auditing = codes "audit" ∷ codes "as" ∷ []
 
 -- the request for an audit, and whose it is
 abbrev pub an_audit : Option (List ℕ) → AuditRange → Request
-an_audit user range = record { user = user; body = body.Audit range }
+an_audit user range = record { user = user; body = body.OfUser (wanting.Audit range) }
 
 -- an audit of the rows that the first value says, and whose it is: these members and no other
 unfoldable pub audit_of : Source → Data → Data → Option Request

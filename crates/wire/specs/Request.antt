@@ -2,7 +2,7 @@
 -- own: of the faults the first in this order that applies: it has too many bytes; they are no object's text; it isn't
 -- exactly one of these, or a word in it names none; a member is missing, isn't listed, or hasn't the type or the range
 -- that it should.
-use Rattle.std.specs.Prelude.{ℕ, ◌≤◌, List, [], ◌∷◌, ◌==◌, length, is_some, IsSome, nat_le, if◌then◌else◌, codes, Option, Some, None, Result, Err}
+use Rattle.std.specs.Prelude.{ℕ, ◌≤◌, List, [], ◌∷◌, ◌==◌, length, is_some, IsSome, nat_le, if◌then◌else◌, codes, Option, Some, None, Result, Ok, Err}
 use Rattle.std.specs.Str.Lossy.{utf8_valid_len}
 use Rattle.serde_json.specs.Data.{Data, Items}
 use Rattle.serde_json.specs.Read.{read}
@@ -12,7 +12,10 @@ use Rattle.session_commands.specs.declared.command.Command.{Command}
 use Rattle.session_queries.specs.declared.query.Query.{Query}
 use Rattle.wire.specs.declared.request.Request.{Request}
 use Rattle.wire.specs.declared.request.RequestBody.{RequestBody}
+use Rattle.wire.specs.declared.request.UserRequest.{UserRequest}
+use Rattle.wire.specs.declared.request.ScriptRequest.{ScriptRequest}
 use Rattle.wire.specs.declared.request.RequestBody.TheVariants as body
+use Rattle.wire.specs.declared.request.UserRequest.TheVariants as wanting
 use Rattle.wire.specs.declared.source.Source.{Source}
 use Rattle.wire.specs.declared.source.Source.TheVariants.{Script, Connection}
 use Rattle.json_fields.specs.declared.request_fault.RequestFault.{RequestFault}
@@ -34,7 +37,7 @@ most_message_bytes = 65536
 
 -- the request for a query, whose it is, and from which version on
 abbrev pub a_query : Option (List ℕ) → ℕ → Query → Request
-a_query user version query = record { user = user; body = body.Query query version }
+a_query user version query = record { user = user; body = body.OfUser (wanting.Query query version) }
 
 -- the query of a word, its user and its version
 unfoldable pub query_of : Source → List ℕ → Data → Option Request
@@ -62,7 +65,7 @@ few_commands_in ds = if nat_le (item_count ds) most_commands then commands_in ds
 
 -- the request for a batch, and whose it is
 abbrev pub a_batch : Option (List ℕ) → List Command → Request
-a_batch user commands = record { user = user; body = body.Batch commands }
+a_batch user commands = record { user = user; body = body.OfUser (wanting.Batch commands) }
 
 -- a batch and whose it is: these members and no other
 unfoldable pub batch_of : Source → Items → Data → Option Request
@@ -117,19 +120,47 @@ meaning source bytes =
     if nat_le (length bytes) most_message_bytes then bytes_meaning source bytes else Err TooLong
 
 -- a batch has few commands
-abbrev pub HasFew : RequestBody → Type 0
-HasFew (body.Query query version) = Unit {0}
-HasFew (body.Batch commands) = length commands ≤ most_commands
-HasFew (body.Audit range) = Unit {0}
-HasFew (body.Hello name token) = Unit {0}
+abbrev pub HasFew : UserRequest → Type 0
+HasFew (wanting.Query query version) = Unit {0}
+HasFew (wanting.Batch commands) = length commands ≤ most_commands
+HasFew (wanting.Audit range) = Unit {0}
+
+-- so has what a user's message wants
+abbrev pub HasFewIn : RequestBody → Type 0
+HasFewIn (body.OfUser request) = HasFew request
+HasFewIn (body.Hello name token) = Unit {0}
 
 -- it is no greeting
 abbrev pub IsNoGreeting : RequestBody → Type 0
-IsNoGreeting (body.Query query version) = Unit {0}
-IsNoGreeting (body.Batch commands) = Unit {0}
-IsNoGreeting (body.Audit range) = Unit {0}
+IsNoGreeting (body.OfUser request) = Unit {0}
 IsNoGreeting (body.Hello name token) = ⊥
 
 -- a request that says its user, and is no greeting
 abbrev pub IsSaid : Request → Type 0
 IsSaid request = IsSome request.user × IsNoGreeting request.body
+
+-- ---- by where a message comes from
+
+-- what a message of a script wants, and for whom. Each that is a request names its user, and none is a greeting
+abbrev pub said_by : Option (List ℕ) → RequestBody → Result ScriptRequest RequestFault
+said_by (Some user) (body.OfUser request) = Ok (record { user = user; request = request })
+said_by (Some user) (body.Hello name token) = Err UnknownRequest
+said_by None wanted = Err UnknownRequest
+
+abbrev pub said_request : Request → Result ScriptRequest RequestFault
+said_request request = said_by request.user request.body
+
+abbrev pub said_of : Result Request RequestFault → Result ScriptRequest RequestFault
+said_of (Ok request) = said_request request
+said_of (Err fault) = Err fault
+
+unfoldable pub script_meaning : List ℕ → Result ScriptRequest RequestFault
+script_meaning bytes = said_of (meaning Script bytes)
+
+-- what a message on a connection wants, which names no user
+abbrev pub body_of : Result Request RequestFault → Result RequestBody RequestFault
+body_of (Ok request) = Ok request.body
+body_of (Err fault) = Err fault
+
+unfoldable pub connection_meaning : List ℕ → Result RequestBody RequestFault
+connection_meaning bytes = body_of (meaning Connection bytes)

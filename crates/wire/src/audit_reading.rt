@@ -8,7 +8,7 @@ ghost use Rattle.json_fields.specs.Form.{formed};
 ghost use Rattle.json_fields.specs.Reading.{wanted};
 
 use crate::audit_range::AuditRange;
-use crate::request::{Request, RequestBody};
+use crate::request::{Request, RequestBody, UserRequest};
 use crate::source::{Source, said_user};
 use json_fields::{RequestFault, has_only, whole_at};
 use serde_json::Value;
@@ -57,6 +57,6 @@ pub(crate) fn audit_of(rows: &Value, value: &Value, source: Source) -> Result<Re
     }
     let user = said_user(value, source)?;
     let range = range_of(rows)?;
-    let body = RequestBody::Audit { range };
+    let body = RequestBody::OfUser(UserRequest::Audit { range });
     Ok(Request { user, body })
 }

@@ -7,6 +7,7 @@ ghost use Rattle.session_queries.specs.declared.query.Query.{Query};
 ghost use Rattle.wire.specs.declared.audit_range.AuditRange.{AuditRange};
 ghost use Rattle.wire.specs.declared.request.Request.{Request};
 ghost use Rattle.wire.specs.declared.request.RequestBody.TheVariants as body;
+ghost use Rattle.wire.specs.declared.request.UserRequest.TheVariants as wanting;
 ghost use Rattle.wire.specs.declared.source.Source.{Source};
 ghost use Rattle.wire.specs.declared.source.Source.TheVariants.{Script, Connection};
 ghost use Rattle.session_commands.specs.declared.command.Command.{Command};
@@ -44,7 +45,7 @@ pub fn unknown_before_bad()
 pub fn queries_by_their_members()
     ensures { (source : Source) (bytes : List ℕ) (d : Data) (user : Option (List ℕ)) (query : Query) (since : ℕ) →
         IsMessage bytes d →
-        (meaning source bytes ≡ Ok (record { user = user; body = body.Query query since }))
+        (meaning source bytes ≡ Ok (record { user = user; body = body.OfUser (wanting.Query query since) }))
         ↔ IsQuery source d user query since }
 {}
 
@@ -52,7 +53,7 @@ pub fn queries_by_their_members()
 pub fn batches_by_their_members()
     ensures { (source : Source) (bytes : List ℕ) (d : Data) (user : Option (List ℕ)) (commands : List Command) →
         IsMessage bytes d →
-        (meaning source bytes ≡ Ok (record { user = user; body = body.Batch commands }))
+        (meaning source bytes ≡ Ok (record { user = user; body = body.OfUser (wanting.Batch commands) }))
         ↔ IsBatch source d user commands }
 {}
 
@@ -60,7 +61,7 @@ pub fn batches_by_their_members()
 pub fn audits_by_their_members()
     ensures { (source : Source) (bytes : List ℕ) (d : Data) (user : Option (List ℕ)) (range : AuditRange) →
         IsMessage bytes d →
-        (meaning source bytes ≡ Ok (record { user = user; body = body.Audit range }))
+        (meaning source bytes ≡ Ok (record { user = user; body = body.OfUser (wanting.Audit range) }))
         ↔ IsAudit source d user range }
 {}
 

@@ -4,12 +4,12 @@ ghost use Rattle.std.specs.Prelude.{◌≡◌, IfOk};
 ghost use Rattle.serde_json.specs.Find.{as_str, as_array};
 ghost use Rattle.serde_json.specs.View.{view, items_view};
 ghost use Rattle.json_fields.specs.Reading.{wanted, Gives};
-ghost use Rattle.wire.specs.Request.{query_of, query_by, batch_of, batch_by, greeting_by, request_of, text_meaning, bytes_meaning, meaning, HasFew};
+ghost use Rattle.wire.specs.Request.{query_of, query_by, batch_of, batch_by, greeting_by, request_of, text_meaning, bytes_meaning, meaning, script_meaning, connection_meaning, said_request, HasFew, HasFewIn};
 
 use crate::audit_reading::audit_of;
 use crate::greeting_reading::greeting_of;
 use crate::query_reading::{is_query_word, query_called};
-use crate::request::{Request, RequestBody};
+use crate::request::{Request, RequestBody, ScriptRequest, UserRequest};
 use crate::source::{Source, said_user};
 use command_object::{commands_in, has_unknown};
 use json_fields::{RequestFault, has_only, read_since};
@@ -33,7 +33,7 @@ fn query_of(
     let user = said_user(value, source)?;
     let since = read_since(value)?;
     let query = query_called(alloc, word, value)?;
-    let body = RequestBody::Query { query, since };
+    let body = RequestBody::OfUser(UserRequest::Query { query, since });
     Ok(Request { user, body })
 }
 
@@ -69,7 +69,7 @@ fn batch_of(
         return Err(RequestFault::BadField);
     }
     let commands = commands_in(alloc, list)?;
-    let body = RequestBody::Batch { commands };
+    let body = RequestBody::OfUser(UserRequest::Batch { commands });
     Ok(Request { user, body })
 }
 
@@ -147,10 +147,47 @@ fn read_bytes(alloc: Global, bytes: &[u8], source: Source) -> Result<Request, Re
 #[tactic(auto, unfolding(crate::specs::Request::meaning))]
 pub fn read_request(alloc: Global, bytes: &[u8], source: Source) -> Result<Request, RequestFault>
     ensures meaning { Gives result (meaning source bytes.now) }
-    ensures few { IfOk result (λ request. HasFew request.body) }
+    ensures few { IfOk result (λ request. HasFewIn request.body) }
 {
     if bytes.len() > MOST_MESSAGE_BYTES {
         return Err(RequestFault::TooLong);
     }
     read_bytes(alloc, bytes, source)
+}
+
+/// The request that a script's message is, and whose it is. Each names its user.
+#[tactic(auto, unfolding(crate::specs::Request::script_meaning))]
+pub fn read_script_request(alloc: Global, bytes: &[u8]) -> Result<ScriptRequest, RequestFault>
+    ensures meaning { Gives result (script_meaning bytes.now) }
+    ensures few { IfOk result (λ said. HasFew said.request) }
+{
+    match read_request(alloc, bytes, Source::Script) {
+        Ok(request) => said_request(request),
+        Err(fault) => Err(fault),
+    }
+}
+
+/// What a message on a connection wants: something for who is signed in there, or a user who signs in.
+#[tactic(auto, unfolding(crate::specs::Request::connection_meaning))]
+pub fn read_connection_request(alloc: Global, bytes: &[u8]) -> Result<RequestBody, RequestFault>
+    ensures meaning { Gives result (connection_meaning bytes.now) }
+    ensures few { IfOk result HasFewIn }
+{
+    match read_request(alloc, bytes, Source::Connection) {
+        Ok(Request { body, .. }) => Ok(body),
+        Err(fault) => Err(fault),
+    }
+}
+
+// The user whom a request names and what it wants, where it names one and greets nobody; any other names nothing.
+fn said_request(request: Request) -> Result<ScriptRequest, RequestFault>
+    ensures { Gives result (said_request request) }
+{
+    match request {
+        Request {
+            user: Some(user),
+            body: RequestBody::OfUser(request),
+        } => Ok(ScriptRequest { user, request }),
+        _ => Err(RequestFault::UnknownRequest),
+    }
 }
