@@ -1,0 +1,13 @@
+use Rattle.std.proofs.lemmas.Result.{IfOk-weaker}
+use Rattle.request_answers.proofs.AnsweringLemmas.{audit_answered, audit_taken_in, on_err}
+use Rattle.request_answers.proofs.answering.answer_audit.Goals as goal
+
+pub returns-clause-answered : goal.returns-clause-answered
+returns-clause-answered g c =
+    IfOk-weaker c.text_of_audit.result _ _
+    (λ text is. audit_answered _ _ _ _ _ _ _ _ c.audit-receipt.ensures.receipt is)
+    c.text_of_audit.ensures
+
+pub returns-clause-unanswered : goal.returns-clause-unanswered
+returns-clause-unanswered g c =
+    on_err c.text_of_audit.result _ (audit_taken_in _ _ _ _ _ _ _ c.audit-receipt.ensures.receipt)

@@ -1,0 +1,20 @@
+//! What holds of the answers: each function here has nothing to do, and its clauses are the theorem.
+
+ghost use Rattle.std.specs.Prelude.{ℕ, List};
+ghost use mathlib.Core.List.{IsPrefix};
+ghost use Rattle.session_state.specs.SessionState.{SessionState};
+ghost use Rattle.session_state.specs.session_commands.declared.entry.Entry.{Entry};
+ghost use Rattle.wire.specs.declared.request.UserRequest.{UserRequest};
+ghost use Rattle.request_answers.specs.Answering.{IsAnswered};
+ghost use Rattle.request_answers.specs.Response.{response_at};
+
+use session_keeper::Keeper;
+
+/// What was answered stays answered: whatever journal the keeper stands for later, it begins with the one that came of
+/// the request, and so with each command that was told as accepted.
+pub fn what_was_accepted_stays<K: Keeper>()
+    ensures { (opening : SessionState) (before now later : List Entry) (user : List ℕ)
+        (request : UserRequest) (text : List ℕ) →
+        (answered : IsAnswered K.others opening before user request text now) → IsPrefix now later →
+        IsPrefix (response_at opening answered.met answered.refused_at user request).journal later }
+{}
