@@ -1,46 +1,18 @@
--- What a connection told, at a later journal; and what is told of what was found.
-use Rattle.std.proofs.Common.{◌≡◌, ◌≢◌, ◌↔◌, ◌⊎◌, inl, inr, ℕ, List, [], length, refl, sym, ap, subst, ◌∙◌}
-use Rattle.std.specs.Prelude.{Option, Some, None, Result, Ok, Err, IfOk, IfErr, OnOk}
-use Rattle.rbac.specs.Authorization.{HasPermission}
-use Rattle.session_roles.specs.declared.operation.Operation.TheVariants.{Audit}
-use Rattle.session_state.specs.SessionState.{SessionState}
-use Rattle.session_state.specs.session_commands.declared.command.Command.{Command}
+-- What is told of what was found on a connection.
+use Rattle.std.proofs.Common.{◌≡◌, ◌≢◌, ◌⊎◌, inl, inr, ℕ, List, refl, sym, ap, subst, ◌∙◌}
+use Rattle.std.specs.Prelude.{Option, Some, None, Result, Ok, Err, IfOk, IfErr}
 use Rattle.session_state.specs.session_commands.declared.entry.Entry.{Entry}
-use Rattle.session_book.specs.Audit.{audit_rows}
-use Rattle.session_book.specs.declared.audit.AuditError.{AuditError}
-use Rattle.session_book.specs.declared.audit.AuditError.TheVariants as error
-use Rattle.session_book.specs.declared.audit.AuditRow.{AuditRow}
-use Rattle.session_book.specs.Journal.{replay}
-use Rattle.session_book.specs.Run.{Runs}
-use Rattle.published_view.specs.declared.receipt.AuditReceipt.{AuditReceipt}
-use Rattle.published_view.specs.declared.receipt.BatchReceipt.{BatchReceipt}
-use Rattle.published_view.specs.Keeping.{IsAuditOf, IsReceiptOf}
-use Rattle.published_view.proofs.KeepingLemmas.{prefix_trans, goes_on_itself}
-use Rattle.wire.specs.AuditText.{audit_text, audit_refusal_text}
+use Rattle.session_keeper.proofs.KeepingLemmas.{goes_on_itself}
+use Rattle.json_fields.specs.declared.request_fault.RequestFault.{RequestFault}
 use Rattle.wire.specs.ReceiptText.{connection_fault_text}
-use Rattle.wire.specs.declared.audit_range.AuditRange.{AuditRange}
 use Rattle.wire.specs.declared.connection_fault.ConnectionFault.{ConnectionFault}
 use Rattle.wire.specs.declared.connection_fault.ConnectionFault.TheVariants.{NotSignedIn, NotKnown, NoEntry, OutOfMemory}
-use Rattle.connections.specs.Linked.{Linked, HasGoneOn, StaysOn}
-use Rattle.connections.specs.Serving.{ForUser, IsAuditText, IsBatchText, IsRowsText, IsToldOf, ServedTo}
-
--- a receipt stays true of each later journal
-pub batch_text_stays : (told later : Linked) (user : List ℕ) (commands : List Command) (text : List ℕ) → IsBatchText told user commands text →
-    HasGoneOn told later → IsBatchText later user commands text
-batch_text_stays told later user commands text batch gone = record {
-  receipt = batch.receipt;
-  ran = record {
-    before = batch.ran.before;
-    after = batch.ran.after;
-    stopped = batch.ran.stopped;
-    ran = subst (λ (opening : SessionState). Runs batch.ran.stopped opening batch.ran.before user commands (record { journal = batch.ran.after; answers = batch.receipt.submission.answers.items })) (sym gone.same) batch.ran.ran;
-    first = batch.ran.first;
-    last = batch.ran.last;
-    version = batch.ran.version;
-    begins = prefix_trans batch.ran.after told.journal later.journal batch.ran.begins gone.begins;
-  };
-  written = batch.written;
-}
+use Rattle.wire.specs.declared.request.RequestBody.{RequestBody}
+use Rattle.wire.specs.declared.request.RequestBody.TheVariants.{OfUser, Hello}
+use Rattle.wire.specs.declared.request.UserRequest.{UserRequest}
+use Rattle.request_answers.specs.Answering.{IsAnswered}
+use Rattle.connections.specs.Linked.{Linked, StaysOn}
+use Rattle.connections.specs.Serving.{ForUser, IsServed, IsToldOf, Leaves, LeavesBody, LeavesRequest}
 
 -- a connection that stays as it is
 pub stays_itself : (at : Linked) → StaysOn at at
@@ -49,61 +21,50 @@ stays_itself at = record { later = goes_on_itself at.opening at.journal; user = 
 pub stays_same : (before after : Linked) → after ≡ before → StaysOn before after
 stays_same before after same = subst (λ (l : Linked). StaysOn before l) (sym same) (stays_itself before)
 
+-- what is told of what was found for a request
+pub told_request : (Others : List Entry → List Entry → Type 0) (no_entry : Type 0) {S : Type 0} (bytes : S → List ℕ)
+    (before after : Linked) (request : UserRequest) (served : Result S ConnectionFault) (user : Option (List ℕ))
+    (text : List ℕ) → IsServed Others no_entry bytes before after request served user → IsToldOf bytes served text →
+    ForUser Others no_entry before after request text user
+told_request Others no_entry bytes before after request (Ok written) None text found told = absurd (cc (found.0))
+told_request Others no_entry bytes before after request (Err NotSignedIn) None text found told = (told.0, found.1)
+told_request Others no_entry bytes before after request (Err NotKnown) None text found told = absurd (cc (found.0))
+told_request Others no_entry bytes before after request (Err NoEntry) None text found told = absurd (cc (found.0))
+told_request Others no_entry bytes before after request (Err OutOfMemory) None text found told = absurd (told.1 refl)
+told_request Others no_entry bytes before after request (Ok written) (Some user) text found told =
+    (inl (subst (λ t. IsAnswered Others after.opening before.journal user request t after.journal) (sym told) found.0), found.2, found.3)
+told_request Others no_entry bytes before after request (Err NotSignedIn) (Some user) text found told = absurd found.1
+told_request Others no_entry bytes before after request (Err NotKnown) (Some user) text found told = absurd found.1
+told_request Others no_entry bytes before after request (Err NoEntry) (Some user) text found told =
+    (inr (found.1, told.0), found.2, found.3)
+told_request Others no_entry bytes before after request (Err OutOfMemory) (Some user) text found told = absurd (told.1 refl)
+
 -- whatever was found, the connection stays on
-pub stays_served : {S : Type 0} (bytes : S → List ℕ) (Told : List ℕ → List ℕ → Type 0) (before after : Linked) (served : Result S ConnectionFault) (user : Option (List ℕ)) →
-    ServedTo bytes Told before after served user → StaysOn before after
-stays_served bytes Told before after served None found = stays_same before after found.1
-stays_served bytes Told before after served (Some user) found = found.2
+pub stays_served : (Others : List Entry → List Entry → Type 0) (no_entry : Type 0) {S : Type 0} (bytes : S → List ℕ)
+    (before after : Linked) (request : UserRequest) (served : Result S ConnectionFault) (user : Option (List ℕ)) →
+    IsServed Others no_entry bytes before after request served user → StaysOn before after
+stays_served Others no_entry bytes before after request served None found = stays_same before after found.1
+stays_served Others no_entry bytes before after request served (Some user) found = found.2
 
--- what is told of what was found for a query
-pub told_query : {S : Type 0} (bytes : S → List ℕ) (Told : List ℕ → List ℕ → Type 0) (before after : Linked) (served : Result S ConnectionFault) (user : Option (List ℕ)) (text : List ℕ) →
-    ServedTo bytes Told before after served user → IfErr served (λ fault. fault ≢ NotKnown) → IsToldOf bytes served text →
-    ForUser (λ user. Told user text ⊎ (text ≡ connection_fault_text NoEntry)) before after text user
-told_query bytes Told before after (Ok written) None text found known told = absurd (cc (found.0))
-told_query bytes Told before after (Err NotSignedIn) None text found known told = (told.0, found.1)
-told_query bytes Told before after (Err NotKnown) None text found known told = absurd (cc (found.0))
-told_query bytes Told before after (Err NoEntry) None text found known told = absurd (cc (found.0))
-told_query bytes Told before after (Err OutOfMemory) None text found known told = absurd (told.1 refl)
-told_query bytes Told before after (Ok written) (Some user) text found known told =
-    (inl (subst (Told user) (sym told) found.0), found.2, found.3)
-told_query bytes Told before after (Err NotSignedIn) (Some user) text found known told = absurd (found.1 refl)
-told_query bytes Told before after (Err NotKnown) (Some user) text found known told = absurd (known refl)
-told_query bytes Told before after (Err NoEntry) (Some user) text found known told = (inr told.0, found.2, found.3)
-told_query bytes Told before after (Err OutOfMemory) (Some user) text found known told = absurd (told.1 refl)
+-- and nothing came of the request, or all but its text
+pub leaves_served : (Others : List Entry → List Entry → Type 0) (no_entry : Type 0) {S : Type 0} (bytes : S → List ℕ)
+    (before after : Linked) (request : UserRequest) (served : Result S ConnectionFault) (user : Option (List ℕ)) →
+    IsServed Others no_entry bytes before after request served user → LeavesRequest Others before after request user
+leaves_served Others no_entry bytes before after request served None found = ap (λ (l : Linked). l.journal) found.1
+leaves_served Others no_entry bytes before after request (Ok written) (Some user) found = inr (inr (bytes written, found.0))
+leaves_served Others no_entry bytes before after request (Err NotSignedIn) (Some user) found = absurd found.1
+leaves_served Others no_entry bytes before after request (Err NotKnown) (Some user) found = absurd found.1
+leaves_served Others no_entry bytes before after request (Err NoEntry) (Some user) found = inl (found.1.2)
+leaves_served Others no_entry bytes before after request (Err OutOfMemory) (Some user) found = inr found.1
 
--- and for a batch or an audit
-pub told_other : {S : Type 0} (bytes : S → List ℕ) (Told : List ℕ → List ℕ → Type 0) (before after : Linked) (served : Result S ConnectionFault) (user : Option (List ℕ)) (text : List ℕ) →
-    ServedTo bytes Told before after served user → IfErr served (λ fault. (fault ≡ NotSignedIn) ⊎ (fault ≡ OutOfMemory)) → IsToldOf bytes served text →
-    ForUser (λ user. Told user text) before after text user
-told_other bytes Told before after (Ok written) None text found known told = absurd (cc (found.0))
-told_other bytes Told before after (Err NotSignedIn) None text found known told = (told.0, found.1)
-told_other bytes Told before after (Err NotKnown) None text found known told = absurd (cc (found.0))
-told_other bytes Told before after (Err NoEntry) None text found known told = absurd (cc (found.0))
-told_other bytes Told before after (Err OutOfMemory) None text found known told = absurd (told.1 refl)
-told_other bytes Told before after (Ok written) (Some user) text found known told = (subst (Told user) (sym told) found.0, found.2, found.3)
-told_other bytes Told before after (Err fault) (Some user) text found (inl same) told = absurd (found.1 same)
-told_other bytes Told before after (Err fault) (Some user) text found (inr same) told = absurd (told.1 same)
+-- nothing came of what was read
+leaves_request : (Others : List Entry → List Entry → Type 0) (at : Linked) (request : UserRequest) (user : Option (List ℕ)) →
+    LeavesRequest Others at at request user
+leaves_request Others at request None = refl
+leaves_request Others at request (Some user) = inl refl
 
--- what an audit's receipt says
-pub audit_told : (at : Linked) (user : List ℕ) (range : AuditRange) (receipt : AuditReceipt) (text : List ℕ) →
-    IsAuditOf at.opening user range.from range.limit receipt at.journal → IsRowsText receipt.rows receipt.version text → IsAuditText at user range text
-audit_told at user range receipt text audit written = record {
-  journal = audit.journal;
-  begins = audit.begins;
-  written = by receipt.rows audit.rows audit.permitted audit.refused written;
-}
-  where
-    Has : Type 0
-    Has = HasPermission (replay at.opening audit.journal).roles user Audit
-
-    by : (rows : Result (List AuditRow) AuditError) → IfOk rows (λ found. found ≡ audit_rows audit.journal range.from range.limit) → OnOk rows Has →
-        IfErr rows (λ fault. (fault ≡ error.NotPermitted) ↔ (¬ Has)) → IsRowsText rows receipt.version text →
-        (Has × (text ≡ audit_text (audit_rows audit.journal range.from range.limit) (length audit.journal))) ⊎ ((¬ Has) × (text ≡ audit_refusal_text))
-    by (Ok rows) same permitted refused written = inl (permitted, written ∙ (λ i. audit_text (same i) (audit.version i)))
-    by (Err error.NotPermitted) same permitted refused written = inr (refused.0 refl, written)
-    by (Err error.OutOfMemory) same permitted refused written = absurd written
-
--- a receipt for a list of commands under another name
-pub same_commands : (opening : SessionState) (user : List ℕ) (given commands : List Command) (receipt : BatchReceipt) (now : List Entry) → given ≡ commands →
-    IsReceiptOf opening user given receipt now → IsReceiptOf opening user commands receipt now
-same_commands opening user given commands receipt now same ran = subst (λ batch. IsReceiptOf opening user batch receipt now) same ran
+pub leaves_itself : (Others : List Entry → List Entry → Type 0) (at : Linked) (read : Result RequestBody RequestFault) →
+    Leaves Others at at read
+leaves_itself Others at (Ok (OfUser request)) = leaves_request Others at request at.user
+leaves_itself Others at (Ok (Hello name token)) = inl refl
+leaves_itself Others at (Err fault) = refl

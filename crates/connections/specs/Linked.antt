@@ -4,7 +4,7 @@ use Rattle.std.specs.Coded.{Coded, code_by, coded×, coded_list, coded_option, c
 use Rattle.session_state.specs.SessionState.{SessionState, session_code}
 use Rattle.session_state.specs.session_commands.contracts.entry.Entry as the_entry
 use Rattle.session_state.specs.session_commands.declared.entry.Entry.{Entry}
-use Rattle.published_view.specs.Keeping.{GoesOn}
+use Rattle.session_keeper.specs.Keeping.{GoesOn}
 
 pub record Linked : Type 0 where
   pub opening : SessionState

@@ -1,26 +1,23 @@
 //! A connection over one who keeps the session.
 
-ghost use Rattle.std.specs.Prelude.{◌≡◌, ◌≢◌, ◌≤◌, ◌⊎◌, ◌↔◌, None, Some, length, IsTrue, IfOk, IfErr, OnOk, OnErr, string_bytes};
-ghost use Rattle.sha2.specs.Sha256.{sha256};
-ghost use Rattle.reply_texts.specs.ReplyText.{reply_text};
+ghost use Rattle.std.specs.Prelude.{◌≡◌, ◌≤◌, ◌⊎◌, ◌↔◌, None, Some, length, IsTrue, IfOk, IfErr, OnOk, OnErr, string_bytes};
 ghost use Rattle.session_book.specs.Journal.{IsAccepted};
-ghost use Rattle.session_book.specs.Run.{most_commands};
-ghost use Rattle.wire.specs.declared.connection_fault.ConnectionFault.TheVariants.{NotSignedIn, NotKnown, NoEntry, OutOfMemory};
-ghost use Rattle.connections.specs.Growing.{AddsNothing, AddsBatch};
-ghost use Rattle.connections.specs.Linked.{HasGoneOn, StaysOn};
-ghost use Rattle.connections.specs.Serving.{batch_text, IsOwnToken, IsAuditText, IsBatchText, IsRowsText, ServedTo, query_text};
+ghost use Rattle.wire.specs.Request.{HasFew};
+ghost use Rattle.wire.specs.declared.connection_fault.ConnectionFault.TheVariants.{NotKnown, NoEntry, OutOfMemory};
+ghost use Rattle.wire.specs.declared.request.UserRequest.TheVariants as wanting;
+ghost use Rattle.connections.specs.Linked.{HasGoneOn};
+ghost use Rattle.connections.specs.Serving.{IsOwnToken, IsServed, is_fault_of};
 
-use command_object::Commands;
-use published_view::{AuditReceipt, BatchReceipt, Keeper, Query, QueryFault, Reply};
-use reply_texts::reply_text;
-use session_book::AuditError;
+use published_view::QueryFault;
+use request_answers::{answer_query, answer_request};
+use session_keeper::{CommandKeeper, Keeper};
+use session_queries::Query;
 use session_state::Digest as TokenDigest;
 use sha2::{Digest, Sha256};
-use std::alloc::{AllocError, Global};
+use std::alloc::Global;
 use std::marker::Model;
-use std::sync::Wait;
 use user_names::Name;
-use wire::{AuditRange, ConnectionFault, audit_refusal_text, audit_text, receipt_text};
+use wire::{ConnectionFault, UserRequest};
 
 /// A connection: messages are answered for the user who has signed in on it.
 #[derive(Drop)]
@@ -70,11 +67,12 @@ impl<K: Keeper> Connection<K> {
     pub fn hello(&mut self, name: Name, token: &[u8]) -> Result<(), ConnectionFault>
         ensures later { HasGoneOn self.old self.new }
         ensures accepted { IsAccepted self.new.opening self.new.journal }
+        ensures others { K.others self.old.journal self.new.journal }
         ensures known { OnOk result (IsOwnToken self.new name token.now × (self.new.user ≡ Some name)) }
         ensures same { OnErr result (self.new.user ≡ self.old.user) }
         ensures fault { IfErr result (λ fault.
-            ((fault ≡ NotKnown) × (¬ IsOwnToken self.new name token.now)) ⊎ (fault ≡ NoEntry)) }
-        ensures adds { AddsNothing K.others self.old self.new }
+            ((fault ≡ NotKnown) × (¬ IsOwnToken self.new name token.now))
+            ⊎ ((fault ≡ NoEntry) × K.no_entry × (self.new.journal ≡ self.old.journal))) }
     {
         // The token is hashed whoever is named, so that the longest part of the work doesn't tell who has an account.
         let hashed = Sha256::digest(token);
@@ -95,115 +93,32 @@ impl<K: Keeper> Connection<K> {
         query: &Query,
         since: u64,
     ) -> Result<String, ConnectionFault>
-        ensures served { ServedTo string_bytes
-            (λ user text. text ≡ query_text self.new user query.now since) self.old self.new result self.old.user }
-        ensures known { IfErr result (λ fault. fault ≢ NotKnown) }
-        ensures adds { AddsNothing K.others self.old self.new }
+        ensures { IsServed K.others K.no_entry string_bytes self.old self.new (wanting.Query query.now since)
+            result self.old.user }
     {
         match self.user {
-            Some(user) => self.query_text(alloc, user, query, since),
+            Some(user) => or_fault(answer_query(alloc, &mut self.keeper, user, query, since)),
             None => Err(ConnectionFault::NotSignedIn),
         }
     }
 
-    // The text of the reply to a user's query.
-    fn query_text(
+    /// The text that answers a request of the user who is signed in. It waits only where the keeper does. Where memory
+    /// is refused for the text of a receipt, the commands that were accepted stand.
+    pub fn serve_command<H>(
         &mut self,
+        rt: &H,
         alloc: Global,
-        user: Name,
-        query: &Query,
-        since: u64,
+        request: &UserRequest,
     ) -> Result<String, ConnectionFault>
-        ensures stays { StaysOn self.old self.new }
-        ensures accepted { IsAccepted self.new.opening self.new.journal }
-        ensures text { IfOk result (λ text. string_bytes text ≡ query_text self.new user query.now since) }
-        ensures fault { IfErr result (λ fault. (fault ≡ NoEntry) ⊎ (fault ≡ OutOfMemory)) }
-        ensures adds { AddsNothing K.others self.old self.new }
-    {
-        match self.keeper.query(alloc, user, query, since) {
-            Ok(reply) => text_of_reply(alloc, &reply),
-            Err(QueryFault::NoEntry) => Err(ConnectionFault::NoEntry),
-            Err(QueryFault::OutOfMemory) => Err(ConnectionFault::OutOfMemory),
-        }
-    }
-
-    /// The text of the receipt for commands of the user who is signed in, which are tried one after another. It may
-    /// wait for others who submit. Where the text finds no memory, the commands stand.
-    pub fn serve_command<R: Wait>(
-        &mut self,
-        rt: &R,
-        alloc: Global,
-        commands: &Commands,
-    ) -> Result<String, ConnectionFault>
-        requires { length commands.now ≤ most_commands }
-        ensures served { ServedTo string_bytes
-            (λ user text. IsBatchText self.new user commands.now text) self.old self.new result self.old.user }
-        ensures fault { IfErr result (λ fault. (fault ≡ NotSignedIn) ⊎ (fault ≡ OutOfMemory)) }
-        ensures adds { AddsBatch K.others self.old self.new commands.now self.old.user }
+    where
+        K: CommandKeeper<H>,
+        requires { HasFew request.now }
+        ensures { IsServed K.others K.no_entry string_bytes self.old self.new request.now result self.old.user }
     {
         match self.user {
-            Some(user) => self.batch_text(rt, alloc, user, commands),
+            Some(user) => or_fault(answer_request(rt, alloc, &mut self.keeper, user, request)),
             None => Err(ConnectionFault::NotSignedIn),
         }
-    }
-
-    // The text of the receipt for a user's commands.
-    fn batch_text<R: Wait>(
-        &mut self,
-        rt: &R,
-        alloc: Global,
-        user: Name,
-        commands: &Commands,
-    ) -> Result<String, ConnectionFault>
-        requires { length commands.now ≤ most_commands }
-        ensures stays { StaysOn self.old self.new }
-        ensures accepted { IsAccepted self.new.opening self.new.journal }
-        ensures text { IfOk result (λ text. IsBatchText self.new user commands.now (string_bytes text)) }
-        ensures fault { IfErr result (λ fault. fault ≡ OutOfMemory) }
-        ensures adds { AddsBatch K.others self.old self.new commands.now (Some user) }
-    {
-        let Ok(receipt) = self.keeper.submit(rt, user, commands.as_slice()) else {
-            return Err(ConnectionFault::OutOfMemory);
-        };
-        text_of_batch(alloc, &receipt)
-    }
-
-    /// The text of an audit for the user who is signed in. It may wait for others who submit.
-    pub fn serve_audit<R: Wait>(
-        &mut self,
-        rt: &R,
-        alloc: Global,
-        range: AuditRange,
-    ) -> Result<String, ConnectionFault>
-        ensures served { ServedTo string_bytes
-            (λ user text. IsAuditText self.new user range text) self.old self.new result self.old.user }
-        ensures fault { IfErr result (λ fault. (fault ≡ NotSignedIn) ⊎ (fault ≡ OutOfMemory)) }
-        ensures adds { AddsNothing K.others self.old self.new }
-    {
-        match self.user {
-            Some(user) => self.audit_text(rt, alloc, user, range),
-            None => Err(ConnectionFault::NotSignedIn),
-        }
-    }
-
-    // The text of an audit for a user.
-    fn audit_text<R: Wait>(
-        &mut self,
-        rt: &R,
-        alloc: Global,
-        user: Name,
-        range: AuditRange,
-    ) -> Result<String, ConnectionFault>
-        ensures stays { StaysOn self.old self.new }
-        ensures accepted { IsAccepted self.new.opening self.new.journal }
-        ensures text { IfOk result (λ text. IsAuditText self.new user range (string_bytes text)) }
-        ensures fault { IfErr result (λ fault. fault ≡ OutOfMemory) }
-        ensures adds { AddsNothing K.others self.old self.new }
-    {
-        let receipt = self
-            .keeper
-            .audit(rt, user, range.from as usize, range.limit as usize);
-        text_of_audit(alloc, &receipt)
     }
 }
 
@@ -214,45 +129,13 @@ fn is_digest(digest: &TokenDigest, bytes: &[u8]) -> bool
     digest.bytes[..] == bytes[..]
 }
 
-// The text of a reply.
-fn text_of_reply(alloc: Global, reply: &Reply) -> Result<String, ConnectionFault>
-    ensures text { IfOk result (λ text. string_bytes text ≡ reply_text reply.now) }
-    ensures fault { IfErr result (λ fault. fault ≡ OutOfMemory) }
+// A text, or why there is none, as a connection says it.
+fn or_fault(answer: Result<String, QueryFault>) -> Result<String, ConnectionFault>
+    ensures { result ≡ is_fault_of answer }
 {
-    match reply_text(alloc, reply) {
+    match answer {
         Ok(text) => Ok(text),
-        Err(_) => Err(ConnectionFault::OutOfMemory),
-    }
-}
-
-// The text of a batch's receipt.
-fn text_of_batch(alloc: Global, receipt: &BatchReceipt) -> Result<String, ConnectionFault>
-    ensures text { IfOk result (λ text. string_bytes text ≡ batch_text receipt.now) }
-    ensures fault { IfErr result (λ fault. fault ≡ OutOfMemory) }
-{
-    match receipt_text(alloc, &receipt.submission, receipt.version) {
-        Ok(text) => Ok(text),
-        Err(_) => Err(ConnectionFault::OutOfMemory),
-    }
-}
-
-// The text of an audit's receipt.
-fn text_of_audit(alloc: Global, receipt: &AuditReceipt) -> Result<String, ConnectionFault>
-    ensures text { IfOk result (λ text. IsRowsText receipt.now.rows receipt.now.version (string_bytes text)) }
-    ensures fault { IfErr result (λ fault. fault ≡ OutOfMemory) }
-{
-    match rows_text(alloc, receipt) {
-        Ok(text) => Ok(text),
-        Err(_) => Err(ConnectionFault::OutOfMemory),
-    }
-}
-
-fn rows_text(alloc: Global, receipt: &AuditReceipt) -> Result<String, AllocError>
-    ensures { IfOk result (λ text. IsRowsText receipt.now.rows receipt.now.version (string_bytes text)) }
-{
-    match &receipt.rows {
-        Ok(rows) => audit_text(alloc, rows, receipt.version),
-        Err(AuditError::NotPermitted) => audit_refusal_text(alloc),
-        Err(AuditError::OutOfMemory) => Err(AllocError),
+        Err(QueryFault::NoEntry) => Err(ConnectionFault::NoEntry),
+        Err(QueryFault::OutOfMemory) => Err(ConnectionFault::OutOfMemory),
     }
 }

@@ -3,8 +3,6 @@
 
 mod connection;
 mod greeting;
-pub mod laws;
 mod message;
 
 pub use connection::Connection;
-pub use wire::MOST_MESSAGE_BYTES;
