@@ -1,4 +1,3 @@
-pub mod AuditLemmas
 pub mod FirstLineLemmas
 pub mod PartLemmas
 pub mod ScriptLemmas

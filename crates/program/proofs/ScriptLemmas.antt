@@ -23,7 +23,8 @@ use Rattle.session_state.specs.SessionState.{SessionState}
 use Rattle.program.specs.declared.fault.Fault.{Fault}
 use Rattle.program.specs.declared.fault.Fault.TheVariants.{Session, Opening, Input, Output, OutOfMemory}
 use Rattle.program.specs.FirstLine.{Opens, OpensNone}
-use Rattle.program.specs.Script.{Received, Response, respond, responses_to, response_to_line, is_not_empty, messages_among}
+use Rattle.request_answers.specs.Response.{Response}
+use Rattle.program.specs.Script.{Received, respond, responses_to, response_to_line, is_not_empty, messages_among}
 use Rattle.program.specs.Writes.{script_limit, Responds, RespondsToEach, WritesResponses, WritesSoFar, WritesPartOfLast, IsDone, IsUnopened, IsWithoutMemory, IsCutShort, IsUnwritten, EndsWith}
 use Rattle.program.specs.Standing.{StandsAtLine, StandsAtEnd, StandsAfter, line_feeds, fault_of_read}
 

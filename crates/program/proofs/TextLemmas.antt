@@ -5,7 +5,8 @@ use Rattle.std.proofs.lemmas.List.Elements.{All-head, All-tail}
 use Rattle.std.proofs.lemmas.List.Sums.{fold-append}
 use Rattle.script_lines.specs.Lines.{lines_of}
 use Rattle.session_state.specs.SessionState.{SessionState}
-use Rattle.program.specs.Script.{Received, ample, with_ample_memory, Response, respond, responses_to, response_to_line, messages_among, script_text}
+use Rattle.request_answers.specs.Response.{Response}
+use Rattle.program.specs.Script.{Received, ample, with_ample_memory, respond, responses_to, response_to_line, messages_among, script_text}
 
 abbrev is_ample : Received → Type 0
 is_ample received = received.memory ≡ ample

@@ -1,5 +1,4 @@
 pub use Rattle.wire.specs as wire
-pub mod Audit
 pub mod Script
 pub mod FirstLine
 pub mod Writes

@@ -1,30 +1,21 @@
 //! The line that responds to a message.
 
-ghost use Rattle.std.specs.Prelude.{◌≡◌, ◌++◌, ◌∷◌, [], ◌≤◌, ℕ, List, None, Some, Ok, IfOk, IfErr, OnOk, OnErr, length, string_bytes};
+ghost use Rattle.std.specs.Prelude.{◌≡◌, ◌++◌, ◌∷◌, [], ℕ, List, Ok, IfOk, IfErr, OnOk, OnErr, string_bytes};
 ghost use Rattle.std.specs.Io.KnownBytes.{Appends};
 ghost use Rattle.script_lines.specs.Writing.{WritesPart};
 ghost use Rattle.json_fields.specs.declared.request_fault.RequestFault.TheVariants.{OutOfMemory};
-ghost use Rattle.wire.specs.declared.connection_fault.ConnectionFault.TheVariants.{NotSignedIn};
-ghost use Rattle.wire.specs.declared.source.Source.TheVariants.{Script};
-ghost use Rattle.session_book.specs.Run.{most_commands};
-ghost use Rattle.wire.specs.ReceiptText.{connection_fault_text};
-ghost use Rattle.wire.specs.Request.{a_query, a_batch, meaning, HasFew};
+ghost use Rattle.wire.specs.Request.{script_meaning, HasFew};
 ghost use Rattle.program.specs.Standing.{line_of};
 ghost use Rattle.program.specs.Writes.{Responds};
 
-use crate::audit_response::response_to_audit;
-use command_object::Commands;
 use json_fields::RequestFault;
-use published_view::{PlainKeeper, Query};
-use reply_texts::reply_text;
+use published_view::QueryFault;
+use request_answers::answer_request;
 use script_lines::{WriteFault, write_text};
+use session_keeper::PlainKeeper;
 use std::alloc::Global;
 use std::io::Write;
-use user_names::Name;
-use wire::{
-    ConnectionFault, Request, RequestBody, Source, connection_fault_text, fault_line, read_request,
-    receipt_text,
-};
+use wire::{ScriptRequest, fault_line, read_script_request};
 
 /// Responds to a message: its effect joins the session, and the line that responds is written.
 pub(crate) fn respond<W: Write>(
@@ -65,8 +56,8 @@ fn response_to(alloc: Global, keeper: &mut PlainKeeper, line: &[u8]) -> Result<S
     ensures response { Responds keeper.old.opening keeper.old.journal line.now keeper.new.journal (line_of string_bytes result) }
     ensures opening { keeper.new.opening ≡ keeper.old.opening }
 {
-    match read_request(alloc, line, Source::Script) {
-        Ok(request) => response_to_request(alloc, keeper, &request),
+    match read_script_request(alloc, line) {
+        Ok(said) => response_to_request(alloc, keeper, &said),
         Err(fault) => Err(fault),
     }
 }
@@ -75,81 +66,23 @@ fn response_to(alloc: Global, keeper: &mut PlainKeeper, line: &[u8]) -> Result<S
 fn response_to_request(
     alloc: Global,
     keeper: &mut PlainKeeper,
-    request: &Request,
+    said: &ScriptRequest,
 ) -> Result<String, RequestFault>
-    requires { HasFew request.now.body }
-    ensures response { (line : List ℕ) → meaning Script line ≡ Ok request.now →
+    requires { HasFew said.now.request }
+    ensures response { (line : List ℕ) → script_meaning line ≡ Ok said.now →
         Responds keeper.old.opening keeper.old.journal line keeper.new.journal (line_of string_bytes result) }
     ensures opening { keeper.new.opening ≡ keeper.old.opening }
 {
-    let Some(user) = request.user else {
-        return response_to_nobody(alloc);
-    };
-    match &request.body {
-        RequestBody::Query { query, since } => {
-            response_to_query(alloc, keeper, user, query, *since)
-        }
-        RequestBody::Batch { commands } => response_to_batch(alloc, keeper, user, commands),
-        RequestBody::Audit { range } => response_to_audit(alloc, keeper, user, *range),
-        // None of a script's messages is read as a greeting.
-        RequestBody::Hello { .. } => Err(RequestFault::UnknownRequest),
-    }
-}
-
-// The line that responds to a request that doesn't say its user. Each request of a script does.
-fn response_to_nobody(alloc: Global) -> Result<String, RequestFault>
-    ensures line { IfOk result (λ line. string_bytes line ≡ connection_fault_text NotSignedIn ++ 10 ∷ []) }
-    ensures err { IfErr result (λ fault. fault ≡ OutOfMemory) }
-{
-    match String::from_str(alloc, connection_fault_text(ConnectionFault::NotSignedIn)) {
+    match answer_request(&(), alloc, keeper, said.user, &said.request) {
         Ok(text) => with_line_feed(text),
-        Err(_) => Err(RequestFault::OutOfMemory),
+        Err(QueryFault::OutOfMemory) => Err(RequestFault::OutOfMemory),
+        // A session that is kept alone can be entered at each version.
+        Err(QueryFault::NoEntry) => unreachable!(),
     }
 }
 
-// The line that responds to a query. The session stays as it is.
-fn response_to_query(
-    alloc: Global,
-    keeper: &PlainKeeper,
-    user: Name,
-    query: &Query,
-    since: u64,
-) -> Result<String, RequestFault>
-    ensures response { (line : List ℕ) → meaning Script line ≡ Ok (a_query (Some user) since query.now) →
-        Responds keeper.now.opening keeper.now.journal line keeper.now.journal (line_of string_bytes result) }
-{
-    let Ok(reply) = keeper.answer(alloc, user, query, since) else {
-        return Err(RequestFault::OutOfMemory);
-    };
-    match reply_text(alloc, &reply) {
-        Ok(text) => with_line_feed(text),
-        Err(_) => Err(RequestFault::OutOfMemory),
-    }
-}
-
-// The line that responds to a batch, whose commands are tried.
-fn response_to_batch(
-    alloc: Global,
-    keeper: &mut PlainKeeper,
-    user: Name,
-    commands: &Commands,
-) -> Result<String, RequestFault>
-    requires { length commands.now ≤ most_commands }
-    ensures response { (line : List ℕ) → meaning Script line ≡ Ok (a_batch (Some user) commands.now) →
-        Responds keeper.old.opening keeper.old.journal line keeper.new.journal (line_of string_bytes result) }
-    ensures opening { keeper.new.opening ≡ keeper.old.opening }
-{
-    let Ok(submission) = keeper.submit(user, commands.as_slice()) else {
-        return Err(RequestFault::OutOfMemory);
-    };
-    match receipt_text(alloc, &submission, keeper.version()) {
-        Ok(text) => with_line_feed(text),
-        Err(_) => Err(RequestFault::OutOfMemory),
-    }
-}
-
-/// The text with the LF that ends its line.
-pub(crate) fn with_line_feed(text: String) -> Result<String, RequestFault>
+// The text with the LF that ends its line.
+fn with_line_feed(text: String) -> Result<String, RequestFault>
     ensures line { IfOk result (λ line. string_bytes line ≡ string_bytes text ++ 10 ∷ []) }
     ensures err { IfErr result (λ fault. fault ≡ OutOfMemory) }
 {

@@ -7,8 +7,8 @@ ghost use Rattle.program.specs.Standing.{StandsAtLine, StandsAtEnd, StandsAfter,
 use crate::fault::Fault;
 use crate::first_line::open_session;
 use crate::response::respond;
-use published_view::PlainKeeper;
 use script_lines::{LineEnd, ReadFault, read_line, read_short_line};
+use session_keeper::PlainKeeper;
 use session_object::{MOST_BYTES, SessionFault};
 use std::alloc::Global;
 use std::io::{Read, Write};

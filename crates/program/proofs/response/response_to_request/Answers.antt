@@ -1,15 +1,28 @@
-use Rattle.std.proofs.Common.{Ok, string_bytes, ◌∙◌}
-use Rattle.program.proofs.ResponseLemmas.{responds_nobody, responds_greeting, responds_no_memory, responds_by_line}
+use Rattle.std.proofs.Common.{subst, string_bytes}
+use Rattle.request_answers.specs.Answering.{IsAnswered, IsTakenIn, IsUnanswered}
+use Rattle.program.proofs.ResponseLemmas.{Alone, responds_answer, responds_untold, responds_taken_in, responds_by_line}
 use Rattle.program.proofs.response.response_to_request.Goals as goal
 
-pub returns-in_default-clause-response : goal.returns-in_default-clause-response
-returns-in_default-clause-response c line means =
-    responds_by_line string_bytes c.args.keeper.now.opening c.args.keeper.now.journal line _ _ c.response_to_nobody.result
-    c.response_to_nobody.ensures.line c.response_to_nobody.ensures.err
-    (responds_nobody c.args.keeper.now.opening c.args.keeper.now.journal line c.args.request.now means c.in_default.is)
-    (responds_no_memory c.args.keeper.now.opening c.args.keeper.now.journal line)
+pub returns-in-Ok-clause-response : goal.returns-in-Ok-clause-response
+returns-in-Ok-clause-response c line means =
+    let before = c.args.keeper.now in
+    let said = c.args.said.now in
+    let after = c.answer_request.new.keeper.journal in
+    let text = string_bytes c.in-Ok.text in
+    let answered : IsAnswered Alone before.opening before.journal said.user said.request text after =
+    subst (λ opening. IsAnswered Alone opening before.journal said.user said.request text after) c.in-Ok.ensures.later.same c.in-Ok.ensures.answered in
+    responds_by_line string_bytes before.opening before.journal line after text c.with_line_feed.result
+    c.with_line_feed.ensures.line c.with_line_feed.ensures.err
+    (responds_answer before.opening before.journal line said means text after answered)
+    (responds_untold before.opening before.journal line said means text after answered)
 
-pub returns-in-Hello-clause-response : goal.returns-in-Hello-clause-response
-returns-in-Hello-clause-response c line means =
-    responds_greeting c.args.keeper.now.opening c.args.keeper.now.journal line c.in-Some.user c.in-Hello.name c.in-Hello.token
-    (means ∙ (λ i. Ok (record { user = c.in-Some.is i; body = c.in-Hello.is i })))
+pub returns-in-Err-OutOfMemory-clause-response : goal.returns-in-Err-OutOfMemory-clause-response
+returns-in-Err-OutOfMemory-clause-response c line means =
+    let before = c.args.keeper.now in
+    let said = c.args.said.now in
+    let after = c.answer_request.new.keeper.journal in
+    let taken : IsTakenIn Alone c.answer_request.new.keeper.opening before.journal said.user said.request after =
+    subst (λ fault. IsUnanswered Alone ⊥ c.answer_request.new.keeper.opening before.journal said.user said.request fault after)
+    c.in-Err-OutOfMemory.field-0-is c.in-Err-OutOfMemory.ensures.unanswered in
+    responds_taken_in before.opening before.journal line said after means
+    (subst (λ opening. IsTakenIn Alone opening before.journal said.user said.request after) c.in-Err-OutOfMemory.ensures.later.same taken)
