@@ -5,7 +5,6 @@ ghost use Rattle.std.specs.Io.KnownBytes.{Appends};
 ghost use Rattle.program.specs.Status.{IsStatus};
 
 use crate::files::read_file;
-use connections::MOST_MESSAGE_BYTES;
 use program::{Fault, open_book, status_of_fault};
 use server_words::Serving;
 use session_book::Book;
@@ -17,6 +16,7 @@ use std::sync::Wait;
 use std::thread::Threads;
 use std::time::Clock;
 use websocket_server::LONGEST_MESSAGE;
+use wire::MOST_MESSAGE_BYTES;
 
 // A message that is one byte too long is read whole, so that it can be answered.
 const _: () = prove!(LONGEST_MESSAGE == MOST_MESSAGE_BYTES + 1);

@@ -3,7 +3,7 @@
 
 use connections::Connection;
 use json_fields::RequestFault;
-use published_view::{Keeper, PlainKeeper};
+use session_keeper::{CommandKeeper, PlainKeeper};
 use session_object::{SessionObject, read_session};
 use std::alloc::Global;
 use std::io::Write;
@@ -34,7 +34,7 @@ fn opened(alloc: Global, object: &str) -> Option<PlainKeeper> {
 }
 
 // Answers one connection after another.
-fn answer_one_by_one<R: Wait + AllocGlobal, K: Keeper, O: Write>(
+fn answer_one_by_one<R: Wait + AllocGlobal, K: CommandKeeper<R>, O: Write>(
     rt: &R,
     keeper: K,
     text: &str,
@@ -50,7 +50,7 @@ fn answer_one_by_one<R: Wait + AllocGlobal, K: Keeper, O: Write>(
     true
 }
 
-fn answer_messages<R: Wait + AllocGlobal, K: Keeper, O: Write>(
+fn answer_messages<R: Wait + AllocGlobal, K: CommandKeeper<R>, O: Write>(
     rt: &R,
     connection: &mut Connection<K>,
     messages: &str,
@@ -65,7 +65,7 @@ fn answer_messages<R: Wait + AllocGlobal, K: Keeper, O: Write>(
 }
 
 // An empty line ends a connection, and has no answer.
-fn answer_message<R: Wait + AllocGlobal, K: Keeper, O: Write>(
+fn answer_message<R: Wait + AllocGlobal, K: CommandKeeper<R>, O: Write>(
     rt: &R,
     connection: &mut Connection<K>,
     message: &str,

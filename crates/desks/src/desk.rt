@@ -2,7 +2,7 @@
 
 ghost use Rattle.std.specs.Prelude.{◌≡◌, ◌≤◌, ◌↔◌, List, length, IfOk, IfErr, OnOk};
 ghost use mathlib.Core.List.{IsPrefix};
-ghost use Rattle.rbac.specs.Authorization.{HasPermission};
+ghost use Rattle.rbac.specs.Authorization.{HasPermission, IsValid};
 ghost use Rattle.session_roles.specs.declared.operation.Operation.TheVariants.{Audit};
 ghost use Rattle.session_state.specs.session_commands.declared.command.Command.TheVariants.{Solved, Analysed};
 ghost use Rattle.session_state.specs.session_commands.declared.entry.Entry.{Entry};
@@ -76,6 +76,26 @@ impl<'a, N: Server> Desk<'a, N> {
         unreachable!()
     }
 
+    /// Tries a command of the solver's, behind all that a display of this server has seen.
+    pub fn submit_found_from<R: Wait>(
+        &self,
+        rt: &R,
+        display: &Display<N>,
+        command: &Command,
+    ) -> (Answer, Receipt<N>)
+        ensures { (before : List Entry) × IsPrefix (entries_of display.now) before
+            × IsEntered N.opening before command.now result.0 result.1 }
+    {
+        // A display sees nothing that isn't published, so the first turn does.
+        for _ in rt.forever() {
+            let mut locked = self.lock.lock(rt);
+            if locked.has_seen(display) {
+                return locked.submit_found(rt, command);
+            }
+        }
+        unreachable!()
+    }
+
     /// Tries what the solver found of a board.
     pub fn submit_solved<R: Wait>(&self, rt: &R, board: u8, table: DdTable) -> (Answer, Receipt<N>)
         ensures { (before : List Entry) × IsEntered N.opening before (Solved board table) result.0 result.1 }
@@ -120,11 +140,41 @@ impl<'a, N: Server> Desk<'a, N> {
             (HasPermission (replay N.opening (entries_of result.1.published)).roles actor Audit) }
         ensures refused { IfErr result.0 (λ error. (error ≡ NotPermitted)
             ↔ (¬ HasPermission (replay N.opening (entries_of result.1.published)).roles actor Audit)) }
+        ensures valid { IsValid (replay N.opening (entries_of result.1.published)).roles }
         ensures published { IsPublished N.opening result.1.published }
         ensures receipt { result.1 ≡ receipted 0 0 result.1.published }
     {
         let locked = self.lock.lock(rt);
         locked.audit(actor, from, limit)
+    }
+
+    /// The same, of a journal that begins with all that a display of this server has seen.
+    pub fn audit_from<R: Wait>(
+        &self,
+        rt: &R,
+        display: &Display<N>,
+        actor: Name,
+        from: usize,
+        limit: usize,
+    ) -> (Result<AuditRows, AuditError>, Receipt<N>)
+        ensures seen { IsPrefix (entries_of display.now) (entries_of result.1.published) }
+        ensures rows { IfOk result.0 (λ rows. rows ≡ audit_rows (entries_of result.1.published) from limit) }
+        ensures permitted { OnOk result.0
+            (HasPermission (replay N.opening (entries_of result.1.published)).roles actor Audit) }
+        ensures refused { IfErr result.0 (λ error. (error ≡ NotPermitted)
+            ↔ (¬ HasPermission (replay N.opening (entries_of result.1.published)).roles actor Audit)) }
+        ensures valid { IsValid (replay N.opening (entries_of result.1.published)).roles }
+        ensures published { IsPublished N.opening result.1.published }
+        ensures receipt { result.1 ≡ receipted 0 0 result.1.published }
+    {
+        // A display sees nothing that isn't published, so the first turn does.
+        for _ in rt.forever() {
+            let locked = self.lock.lock(rt);
+            if locked.has_seen(display) {
+                return locked.audit(actor, from, limit);
+            }
+        }
+        unreachable!()
     }
 
     /// The work that is left at a table on a board: the costs of a confirmed result with a contract and a play, which

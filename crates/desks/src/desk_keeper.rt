@@ -4,10 +4,11 @@ ghost use Rattle.std.specs.Prelude.{◌≡◌};
 
 use crate::desk::Desk;
 use displays::{Display, Server};
-use published_view::{
-    AuditReceipt, BatchReceipt, Keeper, NoEntry, Query, QueryFault, Reply, Submission,
-};
-use session_state::{Command, Digest};
+use published_view::{NoEntry, QueryFault};
+use session_book::{Answer, Submission};
+use session_keeper::{AuditReceipt, BatchReceipt, CommandKeeper, Keeper};
+use session_queries::{Query, Reply};
+use session_state::{Cell, Command, DdTable, Digest, PlayCosts};
 use solver_pool::Work;
 use std::alloc::{AllocError, Global};
 use std::sync::Wait;
@@ -45,7 +46,25 @@ impl<'a, N: Server> Keeper for DeskKeeper<'a, N> {
 
     ghost others = { λ before after. IsPrefix before after };
 
-    fn submit<R: Wait>(
+    ghost no_entry = { Unit {0} };
+
+    fn query(
+        &mut self,
+        alloc: Global,
+        user: Name,
+        query: &Query,
+        since: u64,
+    ) -> Result<Reply, QueryFault> {
+        self.display.query(alloc, user, query, since)
+    }
+
+    fn digest(&mut self, name: Name) -> Result<Option<Digest>, NoEntry> {
+        self.display.digest(name)
+    }
+}
+
+impl<'a, N: Server, R: Wait> CommandKeeper<R> for DeskKeeper<'a, N> {
+    fn submit(
         &mut self,
         rt: &R,
         actor: Name,
@@ -64,26 +83,31 @@ impl<'a, N: Server> Keeper for DeskKeeper<'a, N> {
         })
     }
 
-    fn audit<R: Wait>(&mut self, rt: &R, actor: Name, from: usize, limit: usize) -> AuditReceipt {
-        let (rows, receipt) = self.desk.audit(rt, actor, from, limit);
+    fn submit_solved(&mut self, rt: &R, board: u8, table: DdTable) -> Answer {
+        let command = Command::Solved { board, table };
+        let (answer, receipt) = self.desk.submit_found_from(rt, &self.display, &command);
+        self.display.learn(&receipt);
+        answer
+    }
+
+    fn submit_analysed(&mut self, rt: &R, cell: Cell, costs: PlayCosts) -> Answer {
+        let Cell { table, board } = cell;
+        let command = Command::Analysed {
+            table,
+            board,
+            costs,
+        };
+        let (answer, receipt) = self.desk.submit_found_from(rt, &self.display, &command);
+        self.display.learn(&receipt);
+        answer
+    }
+
+    fn audit(&mut self, rt: &R, actor: Name, from: usize, limit: usize) -> AuditReceipt {
+        let (rows, receipt) = self.desk.audit_from(rt, &self.display, actor, from, limit);
         self.display.learn(&receipt);
         AuditReceipt {
             rows,
             version: receipt.version(),
         }
-    }
-
-    fn query(
-        &mut self,
-        alloc: Global,
-        user: Name,
-        query: &Query,
-        since: u64,
-    ) -> Result<Reply, QueryFault> {
-        self.display.query(alloc, user, query, since)
-    }
-
-    fn digest(&mut self, name: Name) -> Result<Option<Digest>, NoEntry> {
-        self.display.digest(name)
     }
 }

@@ -2,7 +2,7 @@
 
 ghost use Rattle.std.specs.Prelude.{◌≡◌, ◌≤◌, ◌↔◌, true, [], length, IfOk, IfErr, OnOk};
 ghost use mathlib.Core.List.{IsPrefix};
-ghost use Rattle.rbac.specs.Authorization.{HasPermission};
+ghost use Rattle.rbac.specs.Authorization.{HasPermission, IsValid};
 ghost use Rattle.session_roles.specs.declared.operation.Operation.TheVariants.{Audit};
 ghost use Rattle.session_book.specs.Audit.{audit_rows};
 ghost use Rattle.session_book.specs.declared.audit.AuditError.TheVariants.{NotPermitted};
@@ -121,8 +121,10 @@ impl<N: Server> LockedBook<N> {
             (HasPermission (replay N.opening (entries_of result.1.published)).roles actor Audit) }
         ensures refused { IfErr result.0 (λ error. (error ≡ NotPermitted)
             ↔ (¬ HasPermission (replay N.opening (entries_of result.1.published)).roles actor Audit)) }
+        ensures valid { IsValid (replay N.opening (entries_of result.1.published)).roles }
         ensures published { IsPublished N.opening result.1.published }
         ensures receipt { result.1 ≡ receipted 0 0 result.1.published }
+        ensures journal { entries_of result.1.published ≡ self.now.journal }
     {
         let rows = self.book.audit(actor, from, limit);
         (rows, self.publisher.tell())

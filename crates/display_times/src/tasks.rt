@@ -10,7 +10,7 @@ use std::sync::Wait;
 use std::sync::atomic::{AtomicBool, AtomicU64, Ordering};
 use std::thread;
 use std::time::{Clock, Duration, Instant};
-use wire::{Request, RequestBody, Source, read_request};
+use wire::{ScriptRequest, UserRequest, read_script_request};
 
 /// What is counted while threads run.
 #[derive(Drop)]
@@ -42,14 +42,14 @@ impl<'a, N: Server> Task for Read<'a, N> {
             counts,
         } = self;
         let mut display = display;
-        let (Ok(request), Ok(start)) = (
-            read_request(alloc, message.as_bytes(), Source::Script),
+        let (Ok(said), Ok(start)) = (
+            read_script_request(alloc, message.as_bytes()),
             Instant::now(rt),
         ) else {
             return;
         };
         for _ in 0..u64::MAX {
-            if replies(alloc, &mut display, &request) {
+            if replies(alloc, &mut display, &said) {
                 counts.replies.fetch_add(1, Ordering::SeqCst);
             } else {
                 counts.refused.fetch_add(1, Ordering::SeqCst);
@@ -62,10 +62,10 @@ impl<'a, N: Server> Task for Read<'a, N> {
 }
 
 // Whether a display replies to a query.
-fn replies<N: Server>(alloc: Global, display: &mut Display<N>, request: &Request) -> bool {
-    match (request.user, &request.body) {
-        (Some(user), RequestBody::Query { query, since }) => {
-            display.query(alloc, user, query, *since).is_ok()
+fn replies<N: Server>(alloc: Global, display: &mut Display<N>, said: &ScriptRequest) -> bool {
+    match &said.request {
+        UserRequest::Query { query, since } => {
+            display.query(alloc, said.user, query, *since).is_ok()
         }
         _ => false,
     }
@@ -115,18 +115,18 @@ impl<'a, N: Server> Task for Write<'a, N> {
 
 // Whether a batch is told what became of it.
 fn is_told<N: Server, R: Wait>(rt: &R, alloc: Global, desk: &Desk<'_, N>, message: &str) -> bool {
-    match read_request(alloc, message.as_bytes(), Source::Script) {
-        Ok(request) => is_tried(rt, desk, &request),
+    match read_script_request(alloc, message.as_bytes()) {
+        Ok(said) => is_tried(rt, desk, &said),
         Err(_) => false,
     }
 }
 
-fn is_tried<N: Server, R: Wait>(rt: &R, desk: &Desk<'_, N>, request: &Request) -> bool
-    requires { HasFew request.now.body }
+fn is_tried<N: Server, R: Wait>(rt: &R, desk: &Desk<'_, N>, said: &ScriptRequest) -> bool
+    requires { HasFew said.now.request }
 {
-    match (request.user, &request.body) {
-        (Some(user), RequestBody::Batch { commands }) => {
-            desk.submit(rt, user, commands.as_slice()).is_ok()
+    match &said.request {
+        UserRequest::Batch { commands } => {
+            desk.submit(rt, said.user, commands.as_slice()).is_ok()
         }
         _ => false,
     }

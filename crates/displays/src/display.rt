@@ -4,7 +4,7 @@ ghost use Rattle.std.specs.Prelude.{◌≡◌, List, [], length, IfOk, IfErr, On
 ghost use mathlib.Core.List.{IsPrefix};
 ghost use Rattle.session_state.specs.session_commands.declared.entry.Entry.{Entry};
 ghost use Rattle.history.specs.Prefixes.{Prefix, prefix_in, entries_of};
-ghost use Rattle.published_view.specs.declared.keeping.QueryFault.TheVariants as fault;
+ghost use Rattle.published_view.specs.declared.query_fault.QueryFault.TheVariants as fault;
 ghost use Rattle.published_view.specs.View.{reply_after, digest_after};
 ghost use Rattle.displays.specs.Copies.{IsPublished};
 ghost use Rattle.displays.specs.Publishing.{Receipted, longer};

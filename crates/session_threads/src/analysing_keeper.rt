@@ -3,9 +3,11 @@
 use crate::job_queue::JobQueue;
 use desks::DeskKeeper;
 use displays::Server;
-use published_view::{AuditReceipt, BatchReceipt, Keeper, NoEntry, Query, QueryFault, Reply};
+use published_view::{NoEntry, QueryFault};
 use session_book::Answer;
-use session_state::{Command, Digest};
+use session_keeper::{AuditReceipt, BatchReceipt, CommandKeeper, Keeper};
+use session_queries::{Query, Reply};
+use session_state::{Cell, Command, DdTable, Digest, PlayCosts};
 use std::alloc::{AllocError, Global};
 use std::sync::Wait;
 use user_names::Name;
@@ -64,20 +66,7 @@ impl<'a, N: Server> Keeper for AnalysingKeeper<'a, N> {
 
     ghost others = { λ before after. IsPrefix before after };
 
-    fn submit<R: Wait>(
-        &mut self,
-        rt: &R,
-        actor: Name,
-        batch: &[Command],
-    ) -> Result<BatchReceipt, AllocError> {
-        let receipt = self.keeper.submit(rt, actor, batch)?;
-        self.analyse(rt, batch, receipt.submission.answers.as_slice());
-        Ok(receipt)
-    }
-
-    fn audit<R: Wait>(&mut self, rt: &R, actor: Name, from: usize, limit: usize) -> AuditReceipt {
-        self.keeper.audit(rt, actor, from, limit)
-    }
+    ghost no_entry = { Unit {0} };
 
     fn query(
         &mut self,
@@ -91,6 +80,31 @@ impl<'a, N: Server> Keeper for AnalysingKeeper<'a, N> {
 
     fn digest(&mut self, name: Name) -> Result<Option<Digest>, NoEntry> {
         self.keeper.digest(name)
+    }
+}
+
+impl<'a, N: Server, R: Wait> CommandKeeper<R> for AnalysingKeeper<'a, N> {
+    fn submit(
+        &mut self,
+        rt: &R,
+        actor: Name,
+        batch: &[Command],
+    ) -> Result<BatchReceipt, AllocError> {
+        let receipt = self.keeper.submit(rt, actor, batch)?;
+        self.analyse(rt, batch, receipt.submission.answers.as_slice());
+        Ok(receipt)
+    }
+
+    fn submit_solved(&mut self, rt: &R, board: u8, table: DdTable) -> Answer {
+        self.keeper.submit_solved(rt, board, table)
+    }
+
+    fn submit_analysed(&mut self, rt: &R, cell: Cell, costs: PlayCosts) -> Answer {
+        self.keeper.submit_analysed(rt, cell, costs)
+    }
+
+    fn audit(&mut self, rt: &R, actor: Name, from: usize, limit: usize) -> AuditReceipt {
+        self.keeper.audit(rt, actor, from, limit)
     }
 }
 

@@ -13,7 +13,7 @@ use std::alloc::Global;
 use std::sync::Wait;
 use user_names::Name;
 use wire::{
-    AuditRange, Request, RequestBody, Source, audit_refusal_text, audit_text, read_request,
+    AuditRange, ScriptRequest, UserRequest, audit_refusal_text, audit_text, read_script_request,
     receipt_text,
 };
 
@@ -27,27 +27,26 @@ pub(super) fn told<N: Server, R: Wait>(
     desk: &Desk<'_, N>,
     message: &str,
 ) -> Told<N> {
-    let Ok(request) = read_request(alloc, message.as_bytes(), Source::Script) else {
-        return None;
-    };
-    told_of(rt, alloc, desk, &request)
+    match read_script_request(alloc, message.as_bytes()) {
+        Ok(said) => told_of(rt, alloc, desk, &said),
+        Err(_) => None,
+    }
 }
 
 fn told_of<N: Server, R: Wait>(
     rt: &R,
     alloc: Global,
     desk: &Desk<'_, N>,
-    request: &Request,
+    said: &ScriptRequest,
 ) -> Told<N>
-    requires { HasFew request.now.body }
+    requires { HasFew said.now.request }
 {
-    let user = request.user?;
-    match &request.body {
-        RequestBody::Batch { commands } => {
-            told_of_batch(rt, alloc, desk, user, commands.as_slice())
+    match &said.request {
+        UserRequest::Batch { commands } => {
+            told_of_batch(rt, alloc, desk, said.user, commands.as_slice())
         }
-        RequestBody::Audit { range } => told_of_audit(rt, alloc, desk, user, range),
-        RequestBody::Query { .. } | RequestBody::Hello { .. } => None,
+        UserRequest::Audit { range } => told_of_audit(rt, alloc, desk, said.user, range),
+        UserRequest::Query { .. } => None,
     }
 }
 
@@ -98,14 +97,13 @@ pub(super) fn shown<N: Server>(
     display: &mut Display<N>,
     message: &str,
 ) -> Option<String> {
-    let Ok(request) = read_request(alloc, message.as_bytes(), Source::Script) else {
+    let Ok(said) = read_script_request(alloc, message.as_bytes()) else {
         return None;
     };
-    let user = request.user?;
-    let RequestBody::Query { query, since } = &request.body else {
+    let UserRequest::Query { query, since } = &said.request else {
         return None;
     };
-    match display.query(alloc, user, query, *since) {
+    match display.query(alloc, said.user, query, *since) {
         Ok(reply) => reply_text(alloc, &reply).ok(),
         Err(_) => None,
     }
