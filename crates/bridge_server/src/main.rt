@@ -5,6 +5,7 @@
 mod calling;
 mod files;
 mod serving;
+mod serving_fault;
 #[cfg(test)]
 mod tests;
 

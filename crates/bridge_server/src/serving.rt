@@ -5,7 +5,8 @@ ghost use Rattle.std.specs.Io.KnownBytes.{Appends};
 ghost use Rattle.program.specs.Status.{IsStatus};
 
 use crate::files::read_file;
-use program::{Fault, open_book, status_of_fault};
+use crate::serving_fault::{ServingFault, status_of_serving_fault};
+use opened_session::open_book;
 use server_words::Serving;
 use session_book::Book;
 use session_threads::{ServingError, ServingPlan, serve_book};
@@ -35,7 +36,7 @@ where
 {
     match serve(rt, serving) {
         Ok(()) => 0,
-        Err(fault) => status_of_fault(fault, errors),
+        Err(fault) => status_of_serving_fault(fault, errors),
     }
 }
 
@@ -43,7 +44,7 @@ where
 fn serve<R: Files + Net + Clock + Wait + Threads + AllocGlobal + Sync>(
     rt: &R,
     serving: &Serving<'_>,
-) -> Result<(), Fault>
+) -> Result<(), ServingFault>
 where
     R::Listener: Sync,
     R::Stream: Send,
@@ -60,7 +61,7 @@ fn serve_session<R: Net + Clock + Wait + Threads + AllocGlobal + Sync>(
     serving: &Serving<'_>,
     book: Book,
     budget: u64,
-) -> Result<(), Fault>
+) -> Result<(), ServingFault>
 where
     R::Listener: Sync,
     R::Stream: Send,
@@ -75,9 +76,9 @@ where
     };
     match serve_book(rt, rt.alloc(), book, plan) {
         Ok(()) => Ok(()),
-        Err(ServingError::NotListening) => Err(Fault::Input),
+        Err(ServingError::NotListening) => Err(ServingFault::NotListening),
         Err(ServingError::OutOfMemory | ServingError::NoPlace | ServingError::NoThread) => {
-            Err(Fault::OutOfMemory)
+            Err(ServingFault::NoRoom)
         }
     }
 }
@@ -87,10 +88,13 @@ where
 fn book_of_files<R: Files + AllocGlobal>(
     rt: &R,
     serving: &Serving<'_>,
-) -> Result<(Book, u64), Fault>
+) -> Result<(Book, u64), ServingFault>
     ensures { IfOk result (λ t. t.0.journal ≡ []) }
 {
     let session = read_file(rt, serving.session)?;
     let deals = read_file(rt, serving.deals)?;
-    open_book(rt.alloc(), session.as_slice(), Some(deals.as_slice()))
+    match open_book(rt.alloc(), session.as_slice(), Some(deals.as_slice())) {
+        Ok(opened) => Ok(opened),
+        Err(fault) => Err(ServingFault::Unopened(fault)),
+    }
 }

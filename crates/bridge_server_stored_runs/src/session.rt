@@ -7,7 +7,7 @@
 
 use crate::policy::{checked_text, decided_text};
 use crate::solver::{costs_told, table_told};
-use program::open_session;
+use opened_session::open_session;
 use request_answers::answer_request;
 use session_book::Answer;
 use session_keeper::{CommandKeeper, PlainKeeper};

@@ -115,8 +115,8 @@ Leaves Others before after (Ok wanted) = LeavesBody Others before after wanted
 Leaves Others before after (Err fault) = after.journal ≡ before.journal
 
 -- memory was refused to a message: who was signed in still is
-unfoldable pub IsCutOff : (List Entry → List Entry → Type 0) → Linked → Linked → List ℕ → Type 0
-IsCutOff Others before after message = StaysOn before after × Leaves Others before after (connection_meaning message)
+unfoldable pub HasNoAnswer : (List Entry → List Entry → Type 0) → Linked → Linked → List ℕ → Type 0
+HasNoAnswer Others before after message = StaysOn before after × Leaves Others before after (connection_meaning message)
 
 -- ---- for private clauses
 

@@ -3,7 +3,7 @@
 ghost use Rattle.std.specs.Prelude.{◌≡◌, ◌⊎◌, IfOk, OnErr, string_bytes};
 ghost use Rattle.wire.specs.Request.{HasFew, HasFewIn};
 ghost use Rattle.connections.specs.Linked.{StaysOn};
-ghost use Rattle.connections.specs.Serving.{Greets, IsToldOf, Leaves, LeavesRequest, Serves, ServesBody, ForUser, IsCutOff, LeavesBody};
+ghost use Rattle.connections.specs.Serving.{Greets, IsToldOf, Leaves, LeavesRequest, Serves, ServesBody, ForUser, HasNoAnswer, LeavesBody};
 
 use crate::connection::Connection;
 use crate::greeting::hello_text;
@@ -19,7 +19,7 @@ use wire::{
 impl<K: Keeper> Connection<K> {
     /// The text that answers a message. A batch or an audit waits only where the keeper does. Where memory is refused,
     /// nobody has signed in by the message; commands that were accepted stand where their receipt finds no memory.
-    #[tactic(auto, unfolding(crate::specs::Serving::Serves, crate::specs::Serving::IsCutOff))]
+    #[tactic(auto, unfolding(crate::specs::Serving::Serves, crate::specs::Serving::HasNoAnswer))]
     pub fn serve_message<H>(
         &mut self,
         rt: &H,
@@ -30,7 +30,7 @@ impl<K: Keeper> Connection<K> {
         K: CommandKeeper<H>,
         ensures served { IfOk result (λ text.
             Serves K.others K.no_entry self.old self.new message.now (string_bytes text)) }
-        ensures refused { OnErr result (IsCutOff K.others self.old self.new message.now) }
+        ensures refused { OnErr result (HasNoAnswer K.others self.old self.new message.now) }
     {
         match read_connection_request(alloc, message) {
             Ok(body) => self.serve_body(rt, alloc, &body),

@@ -6,7 +6,7 @@ use crate::tasks::{Counts, End, Read, Rest, Write};
 use desks::Shared;
 use displays::{Display, Server, open_displays};
 use history::History;
-use program::open_book;
+use opened_session::open_book;
 use published_view::View;
 use service_threads::run_tasks;
 use session_book::Book;

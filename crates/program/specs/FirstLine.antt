@@ -1,73 +1,27 @@
--- What a session object comes to, a script's first line among them: the session that it opens, or why it opens none.
-use Rattle.std.specs.Prelude.{◌≡◌, ◌≢◌, ℕ, List, Option, None, Some}
+-- What a script's first line comes to: the session that it opens, or why it opens none.
+use Rattle.std.specs.Prelude.{ℕ, List, None}
 use Rattle.session_state.specs.SessionState.{SessionState}
-use Rattle.session_opening.specs.Opening.{opening_of}
-use Rattle.session_opening.specs.OpeningRefusal.{opening_refusal}
-use Rattle.session_opening.specs.declared.opening_refusal.OpeningRefusal.{OpeningRefusal}
-use Rattle.session_opening.specs.declared.opening_refusal.OpeningRefusal.TheVariants as refusal
-use Rattle.session_object.specs.declared.object.SessionObject.{SessionObject}
-use Rattle.session_object.specs.declared.session_fault.SessionFault.{SessionFault}
-use Rattle.session_object.specs.declared.session_fault.SessionFault.TheVariants as session
-use Rattle.session_object.specs.Reading.{ReadsSession, IsSessionRefused}
+use Rattle.opened_session.specs.Opened.{OpensWith, OpensNoneWith}
+use Rattle.opened_session.specs.declared.opening_fault.OpeningFault.{OpeningFault}
+use Rattle.opened_session.specs.declared.opening_fault.OpeningFault.TheVariants as unopened
 use Rattle.program.specs.declared.fault.Fault.{Fault}
 use Rattle.program.specs.declared.fault.Fault.TheVariants.{Session, Opening, Input, Output, OutOfMemory}
-
--- the text is a session object whose boards are given beside it, or stand in it where none are; nothing refuses the
--- session, and this is its opening
-pub record OpensWith (given : Option (List ℕ)) (text : List ℕ) (opening : SessionState) : Type 0 where
-  pub object : SessionObject
-  pub reads : ReadsSession given text object
-  pub allowed : opening_refusal object.config ≡ None
-  pub opens : opening ≡ opening_of object.config
-
--- so many visits the session object gives each call of the solver's
-pub record GivesVisits (given : Option (List ℕ)) (text : List ℕ) (visits : ℕ) : Type 0 where
-  pub object : SessionObject
-  pub reads : ReadsSession given text object
-  pub is : visits ≡ object.budget
-
--- the text is a session object, and this is the first cause not to open its session
-pub record IsNotOpened (given : Option (List ℕ)) (text : List ℕ) (cause : OpeningRefusal) : Type 0 where
-  pub object : SessionObject
-  pub reads : ReadsSession given text object
-  pub refused : opening_refusal object.config ≡ Some cause
-
--- why the text opens no session: its fault as a session object, else the first cause not to open the session
-abbrev pub OpensNoneWith : Option (List ℕ) → Fault → List ℕ → Type 0
-OpensNoneWith given (Session fault) text = (fault ≢ session.OutOfMemory) × IsSessionRefused fault given text
-OpensNoneWith given (Opening cause) text = IsNotOpened given text cause
-OpensNoneWith given Input text = ⊥
-OpensNoneWith given Output text = ⊥
-OpensNoneWith given OutOfMemory text = ⊥
 
 -- a script's first line has its boards in it
 abbrev pub Opens : List ℕ → SessionState → Type 0
 Opens line opening = OpensWith None line opening
 
 abbrev pub OpensNone : Fault → List ℕ → Type 0
-OpensNone fault line = OpensNoneWith None fault line
+OpensNone (Session fault) line = OpensNoneWith None (unopened.Session fault) line
+OpensNone (Opening cause) line = OpensNoneWith None (unopened.Opening cause) line
+OpensNone Input line = ⊥
+OpensNone Output line = ⊥
+OpensNone OutOfMemory line = ⊥
 
 -- ---- for private clauses
 
--- the fault of a script whose first line isn't read
-abbrev pub fault_of_session : SessionFault → Fault
-fault_of_session session.TooLong = Session session.TooLong
-fault_of_session session.Malformed = Session session.Malformed
-fault_of_session session.BadField = Session session.BadField
-fault_of_session (session.Movement error) = Session (session.Movement error)
-fault_of_session (session.Deals error) = Session (session.Deals error)
-fault_of_session session.OutOfMemory = OutOfMemory
-
--- the fault of a script whose session isn't opened
-abbrev pub fault_of_opening : OpeningRefusal → Fault
-fault_of_opening refusal.BadName = Opening refusal.BadName
-fault_of_opening refusal.UserExists = Opening refusal.UserExists
-fault_of_opening refusal.TooManyUsers = Opening refusal.TooManyUsers
-fault_of_opening refusal.AlreadyAssigned = Opening refusal.AlreadyAssigned
-fault_of_opening (refusal.Separation set) = Opening (refusal.Separation set)
-fault_of_opening refusal.NoSuchPair = Opening refusal.NoSuchPair
-fault_of_opening refusal.WrongDirection = Opening refusal.WrongDirection
-fault_of_opening refusal.NotContestant = Opening refusal.NotContestant
-fault_of_opening refusal.SeatTaken = Opening refusal.SeatTaken
-fault_of_opening refusal.LastAdministrator = Opening refusal.LastAdministrator
-fault_of_opening refusal.OutOfMemory = OutOfMemory
+-- the fault of a script whose first line opens no session
+abbrev pub fault_of_unopened : OpeningFault → Fault
+fault_of_unopened (unopened.Session fault) = Session fault
+fault_of_unopened (unopened.Opening cause) = Opening cause
+fault_of_unopened unopened.OutOfMemory = OutOfMemory

@@ -1,12 +1,13 @@
 //! A script, from its first line to its last.
 
 ghost use Rattle.std.specs.Prelude.{◌≡◌, ◌+◌, ◌≤◌, List, ℕ, Option, Some, IfSome, IfOk, IfErr, OnOk};
+ghost use Rattle.program.specs.FirstLine.{fault_of_unopened};
 ghost use Rattle.program.specs.Writes.{IsDone, EndsWith};
 ghost use Rattle.program.specs.Standing.{StandsAtLine, StandsAtEnd, StandsAfter, line_feeds, fault_of_read};
 
 use crate::fault::Fault;
-use crate::first_line::open_session;
 use crate::response::respond;
+use opened_session::{OpeningFault, open_session};
 use script_lines::{LineEnd, ReadFault, read_line, read_short_line};
 use session_keeper::PlainKeeper;
 use session_object::{MOST_BYTES, SessionFault};
@@ -66,7 +67,7 @@ impl ScriptRun {
                     line,
                     left,
                 }),
-                Err(fault) => Err(fault),
+                Err(fault) => Err(fault_of_unopened(fault)),
             },
             Ok(None) => Err(Fault::Session(SessionFault::TooLong)),
             Err(fault) => Err(fault_of_read(fault)),
@@ -140,5 +141,16 @@ fn fault_of_read(fault: ReadFault) -> Fault
     match fault {
         ReadFault::Input => Fault::Input,
         ReadFault::OutOfMemory => Fault::OutOfMemory,
+    }
+}
+
+// The fault of a script whose first line opens no session.
+fn fault_of_unopened(fault: OpeningFault) -> Fault
+    ensures { result ≡ fault_of_unopened fault }
+{
+    match fault {
+        OpeningFault::Session(fault) => Fault::Session(fault),
+        OpeningFault::Opening(cause) => Fault::Opening(cause),
+        OpeningFault::OutOfMemory => Fault::OutOfMemory,
     }
 }

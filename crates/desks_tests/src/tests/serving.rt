@@ -6,7 +6,7 @@ use super::session::session;
 use desks::Shared;
 use displays::{Display, Server, open_displays};
 use history::History;
-use program::open_book;
+use opened_session::open_book;
 use published_view::View;
 use session_book::Book;
 use std::alloc::Global;

@@ -1,5 +1,6 @@
-use Rattle.program.proofs.FirstLineLemmas.{one_opening}
+use Rattle.std.specs.Prelude.{None}
+use Rattle.opened_session.proofs.OpeningLemmas.{one_opening}
 use Rattle.program.proofs.laws.a_first_line_opens_one_session.Goals as goal
 
 pub returns : goal.returns
-returns c = one_opening
+returns c line one other first second = one_opening None line one other first second

@@ -4,6 +4,7 @@ use Rattle.session_object.specs.Reading.{most_bytes}
 use Rattle.program.specs.FirstLine.{Opens, OpensNone}
 use Rattle.program.specs.Writes.{script_limit}
 use Rattle.program.specs.declared.fault.Fault.TheVariants.{OutOfMemory}
+use Rattle.program.proofs.FirstLineLemmas.{opens_none}
 use Rattle.program.proofs.ScriptLemmas.{begins, first_refused, first_too_long, first_unread}
 use Rattle.program.proofs.script.ScriptRun.open.Goals as goal
 
@@ -24,8 +25,9 @@ returns-in-Err-open_session-clause-ended g c writer =
     let line : List ℕ = c.read_short_line.new.line.items in
     let takes : TakesUpTo (Some c.in-Ok-Some.first) reader after line most_bytes script_limit c.read_short_line.new.left =
     subst (λ o. TakesUpTo o reader after line most_bytes script_limit c.read_short_line.new.left) c.in-Ok-Some.field-0-is c.in-Ok-Some.ensures.line in
-    first_refused reader after writer c.in-Ok-Some.first line c.read_short_line.new.left c.in-Err-open_session.fault takes.0 takes.1
-    (subst (λ l. OpensNone c.in-Err-open_session.fault l ⊎ (c.in-Err-open_session.fault ≡ OutOfMemory)) c.as_slice.ensures.value c.in-Err-open_session.ensures.none)
+    first_refused reader after writer c.in-Ok-Some.first line c.read_short_line.new.left c.fault_of_unopened.result takes.0 takes.1
+    (subst (λ l. OpensNone c.fault_of_unopened.result l ⊎ (c.fault_of_unopened.result ≡ OutOfMemory)) c.as_slice.ensures.value
+    (opens_none _ c.in-Err-open_session.fault c.fault_of_unopened.result c.fault_of_unopened.ensures c.in-Err-open_session.ensures.none))
 
 pub returns-in-Err-clause-ended : goal.returns-in-Err-clause-ended
 returns-in-Err-clause-ended g c writer =
