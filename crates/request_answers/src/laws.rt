@@ -4,8 +4,10 @@ ghost use Rattle.std.specs.Prelude.{ℕ, List};
 ghost use mathlib.Core.List.{IsPrefix};
 ghost use Rattle.session_state.specs.SessionState.{SessionState};
 ghost use Rattle.session_state.specs.session_commands.declared.entry.Entry.{Entry};
+ghost use Rattle.published_view.specs.World.{Moment, IsHistory};
 ghost use Rattle.wire.specs.declared.request.UserRequest.{UserRequest};
 ghost use Rattle.request_answers.specs.Answering.{IsAnswered};
+ghost use Rattle.request_answers.specs.Conversing.{Stop, IsConversation, IsToldBy, OnlyAdd};
 ghost use Rattle.request_answers.specs.Response.{response_at};
 
 use session_keeper::Keeper;
@@ -17,4 +19,14 @@ pub fn what_was_accepted_stays<K: Keeper>()
         (request : UserRequest) (text : List ℕ) →
         (answered : IsAnswered K.others opening before user request text now) → IsPrefix now later →
         IsPrefix (response_at opening answered.met answered.refused_at user request).journal later }
+{}
+
+/// Every conversation with one who keeps a session is told by a history of the session: where each turn is what
+/// `answer_request` promises, and others only add to the journal meanwhile, there are readings, submissions and what
+/// others did, in the order of the requests, and each text is the one of a reply, of a receipt or of an audit there. So
+/// what holds of each reply in a history holds of the text of each query that was answered.
+pub fn every_conversation<K: Keeper>()
+    ensures { (opening : SessionState) (stops : List Stop) →
+        OnlyAdd K.others → IsConversation K.others opening stops →
+        (history : List Moment) × IsHistory opening history × IsToldBy opening stops history }
 {}
