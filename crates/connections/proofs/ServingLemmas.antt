@@ -10,7 +10,7 @@ use Rattle.wire.specs.declared.connection_fault.ConnectionFault.TheVariants.{Not
 use Rattle.wire.specs.declared.request.RequestBody.{RequestBody}
 use Rattle.wire.specs.declared.request.RequestBody.TheVariants.{OfUser, Hello}
 use Rattle.wire.specs.declared.request.UserRequest.{UserRequest}
-use Rattle.request_answers.specs.Answering.{IsAnswered}
+use Rattle.request_answers.specs.Answering.{IsAnsweredOnce}
 use Rattle.connections.specs.Linked.{Linked, StaysOn}
 use Rattle.connections.specs.Serving.{ForUser, IsServed, IsToldOf, Leaves, LeavesBody, LeavesRequest}
 
@@ -32,7 +32,7 @@ told_request Others no_entry bytes before after request (Err NotKnown) None text
 told_request Others no_entry bytes before after request (Err NoEntry) None text found told = absurd (cc (found.0))
 told_request Others no_entry bytes before after request (Err OutOfMemory) None text found told = absurd (told.1 refl)
 told_request Others no_entry bytes before after request (Ok written) (Some user) text found told =
-    (inl (subst (λ t. IsAnswered Others after.opening before.journal user request t after.journal) (sym told) found.0), found.2, found.3)
+    (inl (subst (λ t. IsAnsweredOnce Others after.opening before.journal user request t after.journal) (sym told) found.0), found.2, found.3)
 told_request Others no_entry bytes before after request (Err NotSignedIn) (Some user) text found told = absurd found.1
 told_request Others no_entry bytes before after request (Err NotKnown) (Some user) text found told = absurd found.1
 told_request Others no_entry bytes before after request (Err NoEntry) (Some user) text found told =

@@ -17,7 +17,7 @@ use Rattle.wire.specs.declared.connection_fault.ConnectionFault.TheVariants.{Not
 use Rattle.wire.specs.declared.request.RequestBody.{RequestBody}
 use Rattle.wire.specs.declared.request.RequestBody.TheVariants.{OfUser, Hello}
 use Rattle.wire.specs.declared.request.UserRequest.{UserRequest}
-use Rattle.request_answers.specs.Answering.{IsAnswered, IsTakenIn, IsUnanswered}
+use Rattle.request_answers.specs.Answering.{IsAnsweredOnce, IsTakenIn, IsUnanswered}
 use Rattle.connections.specs.Linked.{Linked, HasGoneOn, StaysOn}
 
 -- ---- signing in
@@ -51,7 +51,7 @@ abbrev pub IsServed : (List Entry → List Entry → Type 0) → Type 0 → {S :
     → UserRequest → Result S ConnectionFault → Option (List ℕ) → Type 0
 IsServed Others no_entry bytes before after request served None = (served ≡ Err NotSignedIn) × (after ≡ before)
 IsServed Others no_entry bytes before after request served (Some user) =
-    IfOk served (λ text. IsAnswered Others after.opening before.journal user request (bytes text) after.journal)
+    IfOk served (λ text. IsAnsweredOnce Others after.opening before.journal user request (bytes text) after.journal)
     × IfErr served (λ fault. IsUnserved Others no_entry before after user request fault)
     × StaysOn before after × IsAccepted after.opening after.journal
 
@@ -63,7 +63,7 @@ abbrev pub ForUser : (List Entry → List Entry → Type 0) → Type 0 → Linke
     → Option (List ℕ) → Type 0
 ForUser Others no_entry before after request text None = (text ≡ connection_fault_text NotSignedIn) × (after ≡ before)
 ForUser Others no_entry before after request text (Some user) =
-    (IsAnswered Others after.opening before.journal user request text after.journal
+    (IsAnsweredOnce Others after.opening before.journal user request text after.journal
     ⊎ (IsUnserved Others no_entry before after user request NoEntry × (text ≡ connection_fault_text NoEntry)))
     × StaysOn before after × IsAccepted after.opening after.journal
 

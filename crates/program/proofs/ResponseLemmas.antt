@@ -12,7 +12,7 @@ use Rattle.wire.specs.declared.request.ScriptRequest.{ScriptRequest}
 use Rattle.wire.specs.declared.request.UserRequest.{UserRequest}
 use Rattle.wire.specs.declared.request.UserRequest.TheVariants.{Query, Batch, Audit}
 use Rattle.wire.specs.declared.source.Source.TheVariants.{Script}
-use Rattle.request_answers.specs.Answering.{IsAnswered, IsTakenIn, LeadsOn}
+use Rattle.request_answers.specs.Answering.{IsAnsweredOnce, IsTakenIn, LeadsOn}
 use Rattle.request_answers.specs.Response.{Response, response_at}
 use Rattle.program.specs.Script.{MemoryRefusals, ample, response_to_line, response_to_meaning}
 use Rattle.program.specs.Standing.{line_of}
@@ -56,7 +56,7 @@ module _ (opening : SessionState) (journal : List Entry) (line : List ℕ) where
   responds_fault OutOfMemory fails = responds_no_memory
 
   module _ (said : ScriptRequest) (means : script_meaning line ≡ Ok said) (text : List ℕ) (after : List Entry)
-      (answered : IsAnswered Alone opening journal said.user said.request text after) where
+      (answered : IsAnsweredOnce Alone opening journal said.user said.request text after) where
     -- the response where the request met the journal
     met : response_at opening journal answered.refused_at said.user said.request ≡ response_at opening answered.met answered.refused_at said.user said.request
     met = ap (λ j. response_at opening j answered.refused_at said.user said.request) (sym answered.came)

@@ -28,7 +28,7 @@ use Rattle.wire.specs.AuditText.{audit_text, audit_refusal_text}
 use Rattle.wire.specs.ReceiptText.{receipt_text}
 use Rattle.wire.specs.declared.audit_range.AuditRange.{AuditRange}
 use Rattle.wire.specs.declared.request.UserRequest.TheVariants as wanting
-use Rattle.request_answers.specs.Answering.{IsAnswered, IsRowsText, IsTakenIn}
+use Rattle.request_answers.specs.Answering.{IsAnsweredOnce, IsRowsText, IsTakenIn}
 use Rattle.request_answers.specs.Response.{Response, audit_reply, receipt_of, response_at, run_with, stopped_at}
 
 -- what holds in any case, holds where there is an error
@@ -40,7 +40,7 @@ on_err (Err e) P holds = holds
 pub query_answered : (Others : List Entry → List Entry → Type 0) (opening : SessionState) (before : List Entry)
     (user : List ℕ) (query : Query) (since : ℕ) (reply : Reply) (text : List ℕ) (now : List Entry) →
     Others before now → reply ≡ reply_after opening now user query since → text ≡ reply_text reply →
-    IsAnswered Others opening before user (wanting.Query query since) text now
+    IsAnsweredOnce Others opening before user (wanting.Query query since) text now
 query_answered Others opening before user query since reply text now came is written = record {
   met = now;
   refused_at = None;
@@ -83,7 +83,7 @@ pub batch_answered : (Others : List Entry → List Entry → Type 0) (opening : 
     (user : List ℕ) (commands : List Command) (receipt : BatchReceipt) (text : List ℕ) (now : List Entry) →
     RanOnce Others opening before user commands receipt now →
     text ≡ receipt_text receipt.submission.answers.items receipt.submission.first receipt.submission.last receipt.version →
-    IsAnswered Others opening before user (wanting.Batch commands) text now
+    IsAnsweredOnce Others opening before user (wanting.Batch commands) text now
 batch_answered Others opening before user commands receipt text now once written =
     let after : Progress = record { journal = once.left; answers = receipt.submission.answers.items } in
     let at = place opening once.met once.stopped user commands after once.ran in
@@ -120,7 +120,7 @@ pub audit_answered : (Others : List Entry → List Entry → Type 0) (opening : 
     (user : List ℕ) (range : AuditRange) (receipt : AuditReceipt) (text : List ℕ) (now : List Entry) →
     IsAuditOf Others opening before user range.from range.limit receipt now →
     IsRowsText receipt.rows receipt.version text →
-    IsAnswered Others opening before user (wanting.Audit range) text now
+    IsAnsweredOnce Others opening before user (wanting.Audit range) text now
 audit_answered Others opening before user range receipt text now audit written = record {
   met = audit.journal;
   refused_at = None;

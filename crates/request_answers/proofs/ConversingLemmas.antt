@@ -22,8 +22,8 @@ use Rattle.session_keeper.proofs.KeepingLemmas.{prefix_self, prefix_trans, runs_
 use Rattle.reply_texts.specs.ReplyText.{reply_text}
 use Rattle.wire.specs.declared.request.UserRequest.{UserRequest}
 use Rattle.wire.specs.declared.request.UserRequest.TheVariants.{Query, Batch, Audit}
-use Rattle.request_answers.specs.Answering.{IsAnswered}
-use Rattle.request_answers.specs.Conversing.{Turn, Answered, TakenIn, Passed, Takes, Stop, journal_now, IsConversation, OnlyAdd, IsTextSince, IsEffectSince, IsTurnSince, IsToldBy}
+use Rattle.request_answers.specs.Answering.{IsAnsweredOnce}
+use Rattle.request_answers.specs.Conversing.{Turn, Answered, TakenIn, Passed, TakesTurn, Stop, journal_now, IsConversation, OnlyAdd, IsTextSince, IsEffectSince, IsTurnSince, IsToldBy}
 use Rattle.request_answers.specs.Response.{audit_reply, receipt_of, response_at, run_with, stopped_at}
 
 -- ---- accepted journals
@@ -196,7 +196,7 @@ module _ (Others : List Entry → List Entry → Type 0) (only_add : OnlyAdd Oth
         }
 
     -- a request was answered
-    text_since : (user : List ℕ) (request : UserRequest) (text : List ℕ) → IsAnswered Others opening before user request text after →
+    text_since : (user : List ℕ) (request : UserRequest) (text : List ℕ) → IsAnsweredOnce Others opening before user request text after →
         SinceTold opening earlier after (λ since. IsTextSince opening earlier since user request text)
     text_since user (Query query wanted) text answer =
         let first : Since opening earlier answer.met =
@@ -248,7 +248,7 @@ module _ (Others : List Entry → List Entry → Type 0) (only_add : OnlyAdd Oth
         }
 
     -- a turn was taken
-    turn_since : (turn : Turn) → Takes Others opening before turn after → SinceTold opening earlier after (λ since. IsTurnSince opening earlier since turn)
+    turn_since : (turn : Turn) → TakesTurn Others opening before turn after → SinceTold opening earlier after (λ since. IsTurnSince opening earlier since turn)
     turn_since (Answered user request text) takes = text_since user request text takes
     turn_since (TakenIn user request) (text, answer) =
         let found = text_since user request text answer in

@@ -24,7 +24,7 @@ LeadsOn Others (Audit range) left now = Others left now
 -- a request was answered, once. It met a journal to which others had led from the one before the call; the text is the
 -- one of its response there, where memory may have been refused at a command of a batch; and the journal that the
 -- response left is the beginning of the one after the call
-pub record IsAnswered (Others : List Entry → List Entry → Type 0) (opening : SessionState) (before : List Entry)
+pub record IsAnsweredOnce (Others : List Entry → List Entry → Type 0) (opening : SessionState) (before : List Entry)
     (user : List ℕ) (request : UserRequest) (text : List ℕ) (now : List Entry) : Type 0 where
   pub met : List Entry
   pub refused_at : Option ℕ
@@ -37,18 +37,18 @@ pub record IsAnswered (Others : List Entry → List Entry → Type 0) (opening :
 abbrev pub IsTakenIn : (List Entry → List Entry → Type 0) → SessionState → List Entry → List ℕ → UserRequest → List Entry
     → Type 0
 IsTakenIn Others opening before user request now =
-    Others before now ⊎ ((text : List ℕ) × IsAnswered Others opening before user request text now)
+    Others before now ⊎ ((text : List ℕ) × IsAnsweredOnce Others opening before user request text now)
 
 -- a query
-abbrev pub IsQuery : UserRequest → Type 0
-IsQuery (Query query since) = Unit {0}
-IsQuery (Batch commands) = ⊥
-IsQuery (Audit range) = ⊥
+abbrev pub WantsReply : UserRequest → Type 0
+WantsReply (Query query since) = Unit {0}
+WantsReply (Batch commands) = ⊥
+WantsReply (Audit range) = ⊥
 
 -- why a request has no answer: to a query no version could be entered, which left all as it was; or memory was refused
 abbrev pub IsUnanswered : (List Entry → List Entry → Type 0) → Type 0 → SessionState → List Entry → List ℕ → UserRequest
     → QueryFault → List Entry → Type 0
-IsUnanswered Others no_entry opening before user request NoEntry now = IsQuery request × no_entry × (now ≡ before)
+IsUnanswered Others no_entry opening before user request NoEntry now = WantsReply request × no_entry × (now ≡ before)
 IsUnanswered Others no_entry opening before user request OutOfMemory now =
     IsTakenIn Others opening before user request now
 

@@ -14,7 +14,7 @@ use Rattle.reply_texts.specs.ReplyText.{reply_text}
 use Rattle.wire.specs.declared.audit_range.AuditRange.{AuditRange}
 use Rattle.wire.specs.declared.request.UserRequest.{UserRequest}
 use Rattle.wire.specs.declared.request.UserRequest.TheVariants.{Query, Batch, Audit}
-use Rattle.request_answers.specs.Answering.{IsAnswered}
+use Rattle.request_answers.specs.Answering.{IsAnsweredOnce}
 use Rattle.request_answers.specs.Response.{audit_reply, receipt_of}
 
 -- ---- conversations
@@ -30,12 +30,12 @@ pub data Turn : Type 0 where
 
 -- what a turn makes of the journal for which the keeper stands. Where nothing comes of it, others may have led the
 -- journal on
-abbrev pub Takes : (List Entry → List Entry → Type 0) → SessionState → List Entry → Turn → List Entry → Type 0
-Takes Others opening before (Answered user request text) after =
-    IsAnswered Others opening before user request text after
-Takes Others opening before (TakenIn user request) after =
-    (text : List ℕ) × IsAnswered Others opening before user request text after
-Takes Others opening before Passed after = (after ≡ before) ⊎ Others before after
+abbrev pub TakesTurn : (List Entry → List Entry → Type 0) → SessionState → List Entry → Turn → List Entry → Type 0
+TakesTurn Others opening before (Answered user request text) after =
+    IsAnsweredOnce Others opening before user request text after
+TakesTurn Others opening before (TakenIn user request) after =
+    (text : List ℕ) × IsAnsweredOnce Others opening before user request text after
+TakesTurn Others opening before Passed after = (after ≡ before) ⊎ Others before after
 
 -- a turn, and the journal after it
 pub record Stop : Type 0 where
@@ -51,7 +51,7 @@ journal_now (stop ∷ earlier) = stop.journal
 abbrev pub IsConversation : (List Entry → List Entry → Type 0) → SessionState → List Stop → Type 0
 IsConversation Others opening [] = Unit {0}
 IsConversation Others opening (stop ∷ earlier) =
-    Takes Others opening (journal_now earlier) stop.turn stop.journal
+    TakesTurn Others opening (journal_now earlier) stop.turn stop.journal
     × IsAccepted opening stop.journal
     × IsConversation Others opening earlier
 
@@ -63,7 +63,7 @@ OnlyAdd Others = (before after : List Entry) → Others before after → IsPrefi
 
 -- since some earlier moments of a history a display read for a user's query, which wants a version since a given one,
 -- and the text is that of the reply
-pub record IsRead (since : List Moment) (user : List ℕ) (query : the_query.Query) (wanted : ℕ) (text : List ℕ)
+pub record ReadsSince (since : List Moment) (user : List ℕ) (query : the_query.Query) (wanted : ℕ) (text : List ℕ)
     : Type 0 where
   pub reading : Reading
   pub reply : Reply
@@ -75,7 +75,7 @@ pub record IsRead (since : List Moment) (user : List ℕ) (query : the_query.Que
 
 -- since some earlier moments of a history a desk submitted a user's batch, which was run after all that had happened
 -- until then
-pub record IsSubmitted (opening : SessionState) (earlier since : List Moment) (user : List ℕ) (commands : List Command)
+pub record SubmitsSince (opening : SessionState) (earlier since : List Moment) (user : List ℕ) (commands : List Command)
     : Type 0 where
   pub until : List Moment
   pub after : World
@@ -86,7 +86,7 @@ pub record IsSubmitted (opening : SessionState) (earlier since : List Moment) (u
 -- and the text is that of the receipt for it
 pub record IsReceipted (opening : SessionState) (earlier since : List Moment) (user : List ℕ) (commands : List Command)
     (text : List ℕ) : Type 0 where
-  pub submitted : IsSubmitted opening earlier since user commands
+  pub submitted : SubmitsSince opening earlier since user commands
   pub says : text ≡ receipt_of (now (submitted.until ++ earlier)).journal submitted.submits.progress
 
 -- since some earlier moments of a history there was one at which the text is that of a user's audit
@@ -99,14 +99,14 @@ pub record IsAudited (opening : SessionState) (earlier since : List Moment) (use
 
 -- the text of a user's request is that of what happened since some earlier moments of a history
 abbrev pub IsTextSince : SessionState → List Moment → List Moment → List ℕ → UserRequest → List ℕ → Type 0
-IsTextSince opening earlier since user (Query query wanted) text = IsRead since user query wanted text
+IsTextSince opening earlier since user (Query query wanted) text = ReadsSince since user query wanted text
 IsTextSince opening earlier since user (Batch commands) text = IsReceipted opening earlier since user commands text
 IsTextSince opening earlier since user (Audit range) text = IsAudited opening earlier since user range text
 
 -- the effect of a user's request is among what happened since some earlier moments of a history: only a batch has one
 abbrev pub IsEffectSince : SessionState → List Moment → List Moment → List ℕ → UserRequest → Type 0
 IsEffectSince opening earlier since user (Query query wanted) = Unit {0}
-IsEffectSince opening earlier since user (Batch commands) = IsSubmitted opening earlier since user commands
+IsEffectSince opening earlier since user (Batch commands) = SubmitsSince opening earlier since user commands
 IsEffectSince opening earlier since user (Audit range) = Unit {0}
 
 -- a turn is told by what happened since some earlier moments of a history

@@ -6,7 +6,7 @@ ghost use Rattle.session_book.specs.Run.{most_commands};
 ghost use Rattle.session_keeper.specs.Keeping.{GoesOn};
 ghost use Rattle.wire.specs.Request.{HasFew};
 ghost use Rattle.wire.specs.declared.request.UserRequest.TheVariants as wanting;
-ghost use Rattle.request_answers.specs.Answering.{IsAnswered, IsUnanswered, IsTakenIn, IsRowsText};
+ghost use Rattle.request_answers.specs.Answering.{IsAnsweredOnce, IsUnanswered, IsTakenIn, IsRowsText};
 ghost use Rattle.published_view.specs.declared.query_fault.QueryFault.TheVariants.{OutOfMemory};
 
 use command_object::Commands;
@@ -31,7 +31,7 @@ pub fn answer_request<H, K: CommandKeeper<H>>(
     requires { HasFew request.now }
     ensures later { GoesOn (K.opening keeper.old) (K.journal keeper.old) (K.opening keeper.new) (K.journal keeper.new) }
     ensures accepted { IsAccepted (K.opening keeper.new) (K.journal keeper.new) }
-    ensures answered { IfOk result (λ text. IsAnswered K.others (K.opening keeper.new) (K.journal keeper.old)
+    ensures answered { IfOk result (λ text. IsAnsweredOnce K.others (K.opening keeper.new) (K.journal keeper.old)
         user request.now (string_bytes text) (K.journal keeper.new)) }
     ensures unanswered { IfErr result (λ fault. IsUnanswered K.others K.no_entry (K.opening keeper.new)
         (K.journal keeper.old) user request.now fault (K.journal keeper.new)) }
@@ -57,7 +57,7 @@ pub fn answer_query<K: Keeper>(
 ) -> Result<String, QueryFault>
     ensures later { GoesOn (K.opening keeper.old) (K.journal keeper.old) (K.opening keeper.new) (K.journal keeper.new) }
     ensures accepted { IsAccepted (K.opening keeper.new) (K.journal keeper.new) }
-    ensures answered { IfOk result (λ text. IsAnswered K.others (K.opening keeper.new) (K.journal keeper.old)
+    ensures answered { IfOk result (λ text. IsAnsweredOnce K.others (K.opening keeper.new) (K.journal keeper.old)
         user (wanting.Query query.now since) (string_bytes text) (K.journal keeper.new)) }
     ensures unanswered { IfErr result (λ fault. IsUnanswered K.others K.no_entry (K.opening keeper.new)
         (K.journal keeper.old) user (wanting.Query query.now since) fault (K.journal keeper.new)) }
@@ -80,7 +80,7 @@ pub fn answer_batch<H, K: CommandKeeper<H>>(
     requires { length commands.now ≤ most_commands }
     ensures later { GoesOn (K.opening keeper.old) (K.journal keeper.old) (K.opening keeper.new) (K.journal keeper.new) }
     ensures accepted { IsAccepted (K.opening keeper.new) (K.journal keeper.new) }
-    ensures answered { IfOk result (λ text. IsAnswered K.others (K.opening keeper.new) (K.journal keeper.old)
+    ensures answered { IfOk result (λ text. IsAnsweredOnce K.others (K.opening keeper.new) (K.journal keeper.old)
         user (wanting.Batch commands.now) (string_bytes text) (K.journal keeper.new)) }
     ensures unanswered { OnErr result (IsTakenIn K.others (K.opening keeper.new) (K.journal keeper.old)
         user (wanting.Batch commands.now) (K.journal keeper.new)) }
@@ -99,7 +99,7 @@ pub fn answer_audit<H, K: CommandKeeper<H>>(
 ) -> Result<String, AllocError>
     ensures later { GoesOn (K.opening keeper.old) (K.journal keeper.old) (K.opening keeper.new) (K.journal keeper.new) }
     ensures accepted { IsAccepted (K.opening keeper.new) (K.journal keeper.new) }
-    ensures answered { IfOk result (λ text. IsAnswered K.others (K.opening keeper.new) (K.journal keeper.old)
+    ensures answered { IfOk result (λ text. IsAnsweredOnce K.others (K.opening keeper.new) (K.journal keeper.old)
         user (wanting.Audit range) (string_bytes text) (K.journal keeper.new)) }
     ensures unanswered { OnErr result (IsTakenIn K.others (K.opening keeper.new) (K.journal keeper.old)
         user (wanting.Audit range) (K.journal keeper.new)) }

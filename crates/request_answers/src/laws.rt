@@ -6,7 +6,7 @@ ghost use Rattle.session_state.specs.SessionState.{SessionState};
 ghost use Rattle.session_state.specs.session_commands.declared.entry.Entry.{Entry};
 ghost use Rattle.published_view.specs.World.{Moment, IsHistory};
 ghost use Rattle.wire.specs.declared.request.UserRequest.{UserRequest};
-ghost use Rattle.request_answers.specs.Answering.{IsAnswered};
+ghost use Rattle.request_answers.specs.Answering.{IsAnsweredOnce};
 ghost use Rattle.request_answers.specs.Conversing.{Stop, IsConversation, IsToldBy, OnlyAdd};
 ghost use Rattle.request_answers.specs.Response.{response_at};
 
@@ -17,7 +17,7 @@ use session_keeper::Keeper;
 pub fn what_was_accepted_stays<K: Keeper>()
     ensures { (opening : SessionState) (before now later : List Entry) (user : List ℕ)
         (request : UserRequest) (text : List ℕ) →
-        (answered : IsAnswered K.others opening before user request text now) → IsPrefix now later →
+        (answered : IsAnsweredOnce K.others opening before user request text now) → IsPrefix now later →
         IsPrefix (response_at opening answered.met answered.refused_at user request).journal later }
 {}
 

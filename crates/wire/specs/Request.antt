@@ -158,9 +158,9 @@ unfoldable pub script_meaning : List ℕ → Result ScriptRequest RequestFault
 script_meaning bytes = said_of (meaning Script bytes)
 
 -- what a message on a connection wants, which names no user
-abbrev pub body_of : Result Request RequestFault → Result RequestBody RequestFault
-body_of (Ok request) = Ok request.body
-body_of (Err fault) = Err fault
+abbrev pub wanted_of : Result Request RequestFault → Result RequestBody RequestFault
+wanted_of (Ok request) = Ok request.body
+wanted_of (Err fault) = Err fault
 
 unfoldable pub connection_meaning : List ℕ → Result RequestBody RequestFault
-connection_meaning bytes = body_of (meaning Connection bytes)
+connection_meaning bytes = wanted_of (meaning Connection bytes)
