@@ -51,11 +51,13 @@ pub leaves_served : (Others : List Entry → List Entry → Type 0) (no_entry : 
     (before after : Linked) (request : UserRequest) (served : Result S ConnectionFault) (user : Option (List ℕ)) →
     IsServed Others no_entry bytes before after request served user → LeavesRequest Others before after request user
 leaves_served Others no_entry bytes before after request served None found = ap (λ (l : Linked). l.journal) found.1
-leaves_served Others no_entry bytes before after request (Ok written) (Some user) found = inr (inr (bytes written, found.0))
+leaves_served Others no_entry bytes before after request (Ok written) (Some user) found =
+    inr (inr (bytes written, found.0), found.3)
 leaves_served Others no_entry bytes before after request (Err NotSignedIn) (Some user) found = absurd found.1
 leaves_served Others no_entry bytes before after request (Err NotKnown) (Some user) found = absurd found.1
 leaves_served Others no_entry bytes before after request (Err NoEntry) (Some user) found = inl (found.1.2)
-leaves_served Others no_entry bytes before after request (Err OutOfMemory) (Some user) found = inr found.1
+leaves_served Others no_entry bytes before after request (Err OutOfMemory) (Some user) found =
+    inr (found.1, found.3)
 
 -- nothing came of what was read
 leaves_request : (Others : List Entry → List Entry → Type 0) (at : Linked) (request : UserRequest) (user : Option (List ℕ)) →

@@ -102,13 +102,16 @@ Serves Others no_entry before after message text =
 abbrev pub LeavesRequest : (List Entry → List Entry → Type 0) → Linked → Linked → UserRequest → Option (List ℕ) → Type 0
 LeavesRequest Others before after request None = after.journal ≡ before.journal
 LeavesRequest Others before after request (Some user) =
-    (after.journal ≡ before.journal) ⊎ IsTakenIn Others after.opening before.journal user request after.journal
+    (after.journal ≡ before.journal)
+    ⊎ (IsTakenIn Others after.opening before.journal user request after.journal
+    × IsAccepted after.opening after.journal)
 
 -- nothing came of what a message wants, or all but its text, or what others added
 abbrev pub LeavesBody : (List Entry → List Entry → Type 0) → Linked → Linked → RequestBody → Type 0
 LeavesBody Others before after (OfUser request) = LeavesRequest Others before after request before.user
 LeavesBody Others before after (Hello name token) =
-    (after.journal ≡ before.journal) ⊎ Others before.journal after.journal
+    (after.journal ≡ before.journal)
+    ⊎ (Others before.journal after.journal × IsAccepted after.opening after.journal)
 
 abbrev pub Leaves : (List Entry → List Entry → Type 0) → Linked → Linked → Result RequestBody RequestFault → Type 0
 Leaves Others before after (Ok wanted) = LeavesBody Others before after wanted

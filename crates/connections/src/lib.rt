@@ -3,6 +3,7 @@
 
 mod connection;
 mod greeting;
+pub mod laws;
 mod message;
 
 pub use connection::Connection;

@@ -1,6 +1,7 @@
 //! A message on a connection, and the text that answers it.
 
 ghost use Rattle.std.specs.Prelude.{◌≡◌, ◌⊎◌, IfOk, OnErr, string_bytes};
+ghost use Rattle.session_book.specs.Journal.{IsAccepted};
 ghost use Rattle.wire.specs.Request.{HasFew, HasFewIn};
 ghost use Rattle.connections.specs.Linked.{StaysOn};
 ghost use Rattle.connections.specs.Serving.{Greets, IsToldOf, Leaves, LeavesRequest, Serves, ServesBody, ForUser, HasNoAnswer, LeavesBody};
@@ -82,7 +83,8 @@ impl<K: Keeper> Connection<K> {
         ensures served { IfOk result (λ text.
             Greets K.others K.no_entry self.old self.new name token.now (string_bytes text)) }
         ensures refused { OnErr result (StaysOn self.old self.new
-            × ((self.new.journal ≡ self.old.journal) ⊎ K.others self.old.journal self.new.journal)) }
+            × ((self.new.journal ≡ self.old.journal) ⊎ (K.others self.old.journal self.new.journal
+            × IsAccepted self.new.opening self.new.journal))) }
     {
         let welcome = hello_text(alloc, name)?;
         match self.hello(name, token.as_bytes()) {

@@ -1,0 +1,155 @@
+-- A conversation on connections is one of users with who keeps the session.
+use Rattle.std.proofs.Common.{◌≡◌, ◌⊎◌, inl, inr, ℕ, List, [], ◌∷◌, refl, sym, ap, subst, ◌∙◌}
+use Rattle.std.specs.Prelude.{Option, Some, None, Result, Ok, Err}
+use Rattle.session_state.specs.SessionState.{SessionState}
+use Rattle.session_state.specs.session_commands.declared.entry.Entry.{Entry}
+use Rattle.session_book.specs.Journal.{IsAccepted}
+use Rattle.json_fields.specs.declared.request_fault.RequestFault.{RequestFault}
+use Rattle.wire.specs.ReceiptText.{connection_fault_text}
+use Rattle.wire.specs.Request.{connection_meaning}
+use Rattle.wire.specs.declared.connection_fault.ConnectionFault.TheVariants.{NoEntry}
+use Rattle.wire.specs.declared.request.RequestBody.{RequestBody}
+use Rattle.wire.specs.declared.request.RequestBody.TheVariants.{OfUser, Hello}
+use Rattle.wire.specs.declared.request.UserRequest.{UserRequest}
+use Rattle.request_answers.specs.Answering.{IsAnsweredOnce, IsTakenIn}
+use Rattle.request_answers.specs.Conversing.{Turn, Answered, TakenIn, Passed, TakesTurn, Stop, IsConversation, journal_now}
+use Rattle.connections.specs.Conversation.{Exchange, AreExchanged, AreStopsOf, IsExchanged, IsStopOf, journal_then}
+use Rattle.connections.specs.Linked.{Linked}
+use Rattle.connections.specs.Serving.{ForUser, HasNoAnswer, Leaves, LeavesRequest, Serves, ServesRead}
+
+-- a turn for an exchange
+record IsTurnFor (Others : List Entry → List Entry → Type 0) (no_entry : Type 0) (before : Linked) (message : List ℕ)
+    (answer : Option (List ℕ)) (after : Linked) : Type 0 where
+  turn : Turn
+  takes : TakesTurn Others before.opening before.journal turn after.journal
+  accepted : IsAccepted before.opening after.journal
+  answered : (user : List ℕ) (request : UserRequest) (text : List ℕ) → connection_meaning message ≡ Ok (OfUser request) →
+      before.user ≡ Some user → answer ≡ Some text →
+      (turn ≡ Answered user request text) ⊎ (no_entry × (text ≡ connection_fault_text NoEntry))
+
+module _ (Others : List Entry → List Entry → Type 0) (no_entry : Type 0) (before after : Linked) (message : List ℕ)
+    (accepted : IsAccepted before.opening before.journal) where
+  -- where the journal stays as it is, it is accepted as before
+  stays_accepted : after.journal ≡ before.journal → IsAccepted before.opening after.journal
+  stays_accepted same = subst (IsAccepted before.opening) (sym same) accepted
+
+  -- a text for what was read
+  module _ (text : List ℕ) where
+    at_user : (request : UserRequest) → connection_meaning message ≡ Ok (OfUser request) → (signed_in : Option (List ℕ)) →
+        before.user ≡ signed_in → ForUser Others no_entry before after request text signed_in →
+        IsTurnFor Others no_entry before message (Some text) after
+    at_user request means None nobody (told, same) = record {
+      turn = Passed;
+      takes = inl (ap (λ (l : Linked). l.journal) same);
+      accepted = stays_accepted (ap (λ (l : Linked). l.journal) same);
+      answered = λ user asked said also is_user is_text. absurd (cc);
+    }
+    at_user request means (Some name) is_name (inl once, stays, now_accepted) = record {
+      turn = Answered name request text;
+      takes = subst (λ opening. IsAnsweredOnce Others opening before.journal name request text after.journal) stays.later.same once;
+      accepted = subst (λ opening. IsAccepted opening after.journal) stays.later.same now_accepted;
+      answered = λ user asked said also is_user is_text. inl (cc);
+    }
+    at_user request means (Some name) is_name (inr (unserved, is_fault), stays, now_accepted) = record {
+      turn = Passed;
+      takes = inl unserved.2;
+      accepted = subst (λ opening. IsAccepted opening after.journal) stays.later.same now_accepted;
+      answered = λ user asked said also is_user is_text. inr (unserved.1, cc);
+    }
+
+    at_read : (read : Result RequestBody RequestFault) → connection_meaning message ≡ read →
+        ServesRead Others no_entry before after text read → IsTurnFor Others no_entry before message (Some text) after
+    at_read (Ok (OfUser request)) means serves = at_user request means before.user refl serves
+    at_read (Ok (Hello name token)) means greets = record {
+      turn = Passed;
+      takes = inr greets.others;
+      accepted = subst (λ opening. IsAccepted opening after.journal) greets.later.same greets.accepted;
+      answered = λ user asked said also is_user is_text. absurd (cc);
+    }
+    at_read (Err fault) means (is_text, same) = record {
+      turn = Passed;
+      takes = inl (ap (λ (l : Linked). l.journal) same);
+      accepted = stays_accepted (ap (λ (l : Linked). l.journal) same);
+      answered = λ user asked said also is_user is_said. absurd (cc);
+    }
+
+  -- no text, since memory was refused
+  passes : after.journal ≡ before.journal → IsTurnFor Others no_entry before message None after
+  passes same = record {
+    turn = Passed;
+    takes = inl same;
+    accepted = stays_accepted same;
+    answered = λ user asked said also is_user is_text. absurd (cc);
+  }
+
+  module _ (same_opening : after.opening ≡ before.opening) where
+    left_by : (request : UserRequest) → (signed_in : Option (List ℕ)) → LeavesRequest Others before after request signed_in →
+        IsTurnFor Others no_entry before message None after
+    left_by request None same = passes same
+    left_by request (Some name) (inl same) = passes same
+    left_by request (Some name) (inr (inl others, now_accepted)) = record {
+      turn = Passed;
+      takes = inr others;
+      accepted = subst (λ opening. IsAccepted opening after.journal) same_opening now_accepted;
+      answered = λ user asked said also is_user is_text. absurd (cc);
+    }
+    left_by request (Some name) (inr (inr (text, once), now_accepted)) = record {
+      turn = TakenIn name request;
+      takes = (text, subst (λ opening. IsAnsweredOnce Others opening before.journal name request text after.journal) same_opening once);
+      accepted = subst (λ opening. IsAccepted opening after.journal) same_opening now_accepted;
+      answered = λ user asked said also is_user is_text. absurd (cc);
+    }
+
+    left : (read : Result RequestBody RequestFault) → Leaves Others before after read →
+        IsTurnFor Others no_entry before message None after
+    left (Ok (OfUser request)) leaves = left_by request before.user leaves
+    left (Ok (Hello name token)) (inl same) = passes same
+    left (Ok (Hello name token)) (inr (others, now_accepted)) = record {
+      turn = Passed;
+      takes = inr others;
+      accepted = subst (λ opening. IsAccepted opening after.journal) same_opening now_accepted;
+      answered = λ user asked said also is_user is_text. absurd (cc);
+    }
+    left (Err fault) same = passes same
+
+  turn_for : (answer : Option (List ℕ)) → IsExchanged Others no_entry before message answer after →
+      IsTurnFor Others no_entry before message answer after
+  unfolding Serves HasNoAnswer
+  turn_for (Some text) serves = at_read text (connection_meaning message) refl serves
+  turn_for None (stays, leaves) = left stays.later.same (connection_meaning message) leaves
+
+-- the stops of a conversation on connections
+record Conversed (Others : List Entry → List Entry → Type 0) (no_entry : Type 0) (opening : SessionState)
+    (exchanges : List Exchange) : Type 0 where
+  stops : List Stop
+  each : AreStopsOf no_entry exchanges stops
+  journal : journal_now stops ≡ journal_then exchanges
+  accepted : IsAccepted opening (journal_then exchanges)
+  conversation : IsConversation Others opening stops
+
+pub conversed : (Others : List Entry → List Entry → Type 0) (no_entry : Type 0) (opening : SessionState)
+    (exchanges : List Exchange) → AreExchanged Others no_entry opening exchanges →
+    (stops : List Stop) × AreStopsOf no_entry exchanges stops × IsConversation Others opening stops
+conversed Others no_entry opening exchanges exchanged =
+    let all = each_of exchanges exchanged in (all.stops, all.each, all.conversation)
+  where
+    each_of : (exchanges : List Exchange) → AreExchanged Others no_entry opening exchanges →
+        Conversed Others no_entry opening exchanges
+    each_of [] exchanged = record { stops = []; each = tt; journal = refl; accepted = tt; conversation = tt }
+    each_of (exchange ∷ earlier) (same, at, exchanged, before) =
+        let so_far = each_of earlier before in
+        let accepted : IsAccepted exchange.before.opening exchange.before.journal =
+        subst (λ o. IsAccepted o exchange.before.journal) (sym same) (subst (IsAccepted opening) (sym at) so_far.accepted) in
+        let found = turn_for Others no_entry exchange.before exchange.after exchange.message accepted exchange.answer exchanged in
+        record {
+          stops = record { turn = found.turn; journal = exchange.after.journal } ∷ so_far.stops;
+          each = (record { journal = refl; answered = found.answered }, so_far.each);
+          journal = refl;
+          accepted = subst (λ o. IsAccepted o exchange.after.journal) same found.accepted;
+          conversation = (
+            subst (λ o. TakesTurn Others o (journal_now so_far.stops) found.turn exchange.after.journal) same
+                (subst (λ j. TakesTurn Others exchange.before.opening j found.turn exchange.after.journal) (at ∙ sym so_far.journal) found.takes),
+            subst (λ o. IsAccepted o exchange.after.journal) same found.accepted,
+            so_far.conversation,
+          );
+        }
