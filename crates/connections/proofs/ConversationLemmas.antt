@@ -11,9 +11,9 @@ use Rattle.wire.specs.declared.connection_fault.ConnectionFault.TheVariants.{NoE
 use Rattle.wire.specs.declared.request.RequestBody.{RequestBody}
 use Rattle.wire.specs.declared.request.RequestBody.TheVariants.{OfUser, Hello}
 use Rattle.wire.specs.declared.request.UserRequest.{UserRequest}
-use Rattle.request_answers.specs.Answering.{IsAnsweredOnce, IsTakenIn}
+use Rattle.request_answers.specs.Answering.{IsAnsweredOnce}
 use Rattle.request_answers.specs.Conversing.{Turn, Answered, TakenIn, Passed, TakesTurn, Stop, IsConversation, journal_now}
-use Rattle.connections.specs.Conversation.{Exchange, AreExchanged, AreStopsOf, IsExchanged, IsStopOf, journal_then}
+use Rattle.connections.specs.Conversation.{Exchange, AreExchanged, AreStopsOf, IsExchanged, journal_then}
 use Rattle.connections.specs.Linked.{Linked}
 use Rattle.connections.specs.Serving.{ForUser, HasNoAnswer, Leaves, LeavesRequest, Serves, ServesRead}
 

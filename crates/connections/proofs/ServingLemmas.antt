@@ -1,10 +1,9 @@
 -- What is told of what was found on a connection.
-use Rattle.std.proofs.Common.{◌≡◌, ◌≢◌, ◌⊎◌, inl, inr, ℕ, List, refl, sym, ap, subst, ◌∙◌}
-use Rattle.std.specs.Prelude.{Option, Some, None, Result, Ok, Err, IfOk, IfErr}
+use Rattle.std.proofs.Common.{◌≡◌, inl, inr, ℕ, List, refl, sym, ap, subst}
+use Rattle.std.specs.Prelude.{Option, Some, None, Result, Ok, Err}
 use Rattle.session_state.specs.session_commands.declared.entry.Entry.{Entry}
 use Rattle.session_keeper.proofs.KeepingLemmas.{goes_on_itself}
 use Rattle.json_fields.specs.declared.request_fault.RequestFault.{RequestFault}
-use Rattle.wire.specs.ReceiptText.{connection_fault_text}
 use Rattle.wire.specs.declared.connection_fault.ConnectionFault.{ConnectionFault}
 use Rattle.wire.specs.declared.connection_fault.ConnectionFault.TheVariants.{NotSignedIn, NotKnown, NoEntry, OutOfMemory}
 use Rattle.wire.specs.declared.request.RequestBody.{RequestBody}
@@ -12,7 +11,7 @@ use Rattle.wire.specs.declared.request.RequestBody.TheVariants.{OfUser, Hello}
 use Rattle.wire.specs.declared.request.UserRequest.{UserRequest}
 use Rattle.request_answers.specs.Answering.{IsAnsweredOnce}
 use Rattle.connections.specs.Linked.{Linked, StaysOn}
-use Rattle.connections.specs.Serving.{ForUser, IsServed, IsToldOf, Leaves, LeavesBody, LeavesRequest}
+use Rattle.connections.specs.Serving.{ForUser, IsServed, IsToldOf, Leaves, LeavesRequest}
 
 -- a connection that stays as it is
 pub stays_itself : (at : Linked) → StaysOn at at

@@ -2,7 +2,7 @@
 use Rattle.std.proofs.Common.{◌≡◌, ◌⊎◌, ℕ, Bool, false, ◌+◌, ◌<◌, List, [], ◌∷◌, ◌++◌, append-nil, length-append, length, ap, sym, subst, ◌∙◌, arith}
 use Rattle.std.proofs.lemmas.Bool.Decides.{nat_tests}
 use Rattle.session_state.specs.session_commands.declared.entry.Entry.{Entry}
-use Rattle.std.specs.Prelude.{Option, Some, None, ◌||◌}
+use Rattle.std.specs.Prelude.{Some, None, ◌||◌}
 use Rattle.session_state.specs.SessionState.{SessionState}
 use Rattle.session_state.specs.session_commands.declared.actor.Actor.TheVariants.{User}
 use Rattle.session_state.specs.session_commands.declared.command.Command.{Command}

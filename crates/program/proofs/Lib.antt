@@ -3,3 +3,4 @@ pub mod PartLemmas
 pub mod ScriptLemmas
 pub mod ResponseLemmas
 pub mod TextLemmas
+pub mod ToldLemmas

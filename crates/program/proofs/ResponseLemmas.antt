@@ -1,5 +1,5 @@
 -- What a message's line leads to.
-use Rattle.std.proofs.Common.{◌≡◌, ◌⊎◌, inl, inr, ℕ, Bool, true, false, List, [], ◌∷◌, ◌++◌, refl, sym, ap, subst, ◌∙◌}
+use Rattle.std.proofs.Common.{◌≡◌, inl, inr, ℕ, true, false, List, [], ◌∷◌, ◌++◌, refl, sym, ap, subst, ◌∙◌}
 use Rattle.std.specs.Prelude.{Result, Ok, Err, IfOk, IfErr, None, if◌then◌else◌}
 use Rattle.session_state.specs.SessionState.{SessionState}
 use Rattle.session_state.specs.session_commands.declared.entry.Entry.{Entry}

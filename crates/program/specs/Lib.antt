@@ -4,3 +4,4 @@ pub mod FirstLine
 pub mod Writes
 pub mod Standing
 pub mod Status
+pub mod Told

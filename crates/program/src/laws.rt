@@ -6,6 +6,7 @@ ghost use Rattle.script_lines.specs.Lines.{lines_of};
 ghost use Rattle.session_state.specs.SessionState.{SessionState};
 ghost use Rattle.program.specs.FirstLine.{Opens};
 ghost use Rattle.program.specs.Script.{Received, ample, responses_to, messages_among, script_text};
+ghost use Rattle.program.specs.Told.{IsScriptTold};
 ghost use Rattle.program.specs.Writes.{IsCutShort, IsTooLong, IsUnwritten, WritesPartOfResponses};
 
 /// Where all the memory is there that a script takes, its messages have one text.
@@ -21,6 +22,12 @@ pub fn a_script_goes_on()
     ensures { (opening : SessionState) (received later : List Received) →
         (more : List ℕ)
         × ((responses_to opening (received ++ later)).text ≡ (responses_to opening received).text ++ more) }
+{}
+
+/// Every script is told by a history of its session: each line is the text of a reply to a reading, of the receipt for a
+/// submission, or of an audit there, in the order of the messages, or says why nothing is told.
+pub fn every_script()
+    ensures { (opening : SessionState) (received : List Received) → IsScriptTold opening received }
 {}
 
 /// A first line opens one session at most.

@@ -1,8 +1,8 @@
 -- What a keeper told of a request is what its response is.
-use Rattle.std.proofs.Common.{◌≡◌, ◌↔◌, ◌⊎◌, inl, inr, ℕ, Bool, true, false, List, [], ◌∷◌, ◌++◌, map, take, drop, length, refl, sym, ap, subst, ◌∙◌}
+use Rattle.std.proofs.Common.{◌≡◌, ◌↔◌, inr, ℕ, Bool, true, false, List, [], ◌∷◌, ◌++◌, map, take, drop, length, refl, sym, ap, subst, ◌∙◌}
 use Rattle.std.specs.Prelude.{Option, Some, None, Result, Ok, Err, IfOk, IfErr, OnOk, OnErr, is_some, if◌then◌else◌}
 use mathlib.Core.List.{IsPrefix}
-use Rattle.rbac.specs.Authorization.{HasPermission, IsValid, has_permission}
+use Rattle.rbac.specs.Authorization.{HasPermission, has_permission}
 use Rattle.rbac.proofs.LawLemmas.{permission_exact}
 use Rattle.session_roles.specs.declared.operation.Operation.TheVariants as operation
 use Rattle.session_state.specs.SessionState.{SessionState}
@@ -15,7 +15,7 @@ use Rattle.session_book.specs.declared.audit.AuditError.{AuditError}
 use Rattle.session_book.specs.declared.audit.AuditError.TheVariants as error
 use Rattle.session_book.specs.declared.audit.AuditRow.{AuditRow}
 use Rattle.session_book.specs.Journal.{replay}
-use Rattle.session_book.specs.Run.{Progress, run, Runs, first_number, last_number}
+use Rattle.session_book.specs.Run.{Progress, run, Runs}
 use Rattle.session_queries.specs.declared.query.Query.{Query}
 use Rattle.session_queries.specs.declared.reply.Reply.{Reply}
 use Rattle.published_view.specs.View.{version_of, reply_after}
@@ -29,7 +29,7 @@ use Rattle.wire.specs.ReceiptText.{receipt_text}
 use Rattle.wire.specs.declared.audit_range.AuditRange.{AuditRange}
 use Rattle.wire.specs.declared.request.UserRequest.TheVariants as wanting
 use Rattle.request_answers.specs.Answering.{IsAnsweredOnce, IsRowsText, IsTakenIn}
-use Rattle.request_answers.specs.Response.{Response, audit_reply, receipt_of, response_at, run_with, stopped_at}
+use Rattle.request_answers.specs.Response.{audit_reply, receipt_of, run_with, stopped_at}
 
 -- what holds in any case, holds where there is an error
 pub on_err : {T E : Type 0} (r : Result T E) (P : Type 0) → P → OnErr r P
@@ -155,8 +155,10 @@ pub audit_taken_in : (Others : List Entry → List Entry → Type 0) (opening : 
     IsAuditOf Others opening before user range.from range.limit receipt now →
     IsTakenIn Others opening before user (wanting.Audit range) now
 audit_taken_in Others opening before user range receipt now audit =
-    inr (audit_reply opening audit.journal user range,
-    record { met = audit.journal; refused_at = None; came = audit.came; says = refl; went = audit.went; begins = audit.begins })
+    inr (
+      audit_reply opening audit.journal user range,
+      record { met = audit.journal; refused_at = None; came = audit.came; says = refl; went = audit.went; begins = audit.begins },
+    )
 
 -- a batch of commands under another name
 pub same_batch : (Others : List Entry → List Entry → Type 0) (opening : SessionState) (before : List Entry)

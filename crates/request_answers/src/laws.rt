@@ -1,13 +1,15 @@
 //! What holds of the answers: each function here has nothing to do, and its clauses are the theorem.
 
-ghost use Rattle.std.specs.Prelude.{ℕ, List};
+ghost use Rattle.std.specs.Prelude.{◌≡◌, ◌⊎◌, ℕ, List, [], ◌∷◌, ◌++◌};
 ghost use mathlib.Core.List.{IsPrefix};
 ghost use Rattle.session_state.specs.SessionState.{SessionState};
 ghost use Rattle.session_state.specs.session_commands.declared.entry.Entry.{Entry};
 ghost use Rattle.published_view.specs.World.{Moment, IsHistory};
+ghost use Rattle.published_view.specs.declared.query_fault.QueryFault.{QueryFault};
 ghost use Rattle.wire.specs.declared.request.UserRequest.{UserRequest};
-ghost use Rattle.request_answers.specs.Answering.{IsAnsweredOnce};
-ghost use Rattle.request_answers.specs.Conversing.{Stop, IsConversation, IsToldBy, OnlyAdd};
+ghost use Rattle.request_answers.specs.Answering.{IsAnsweredOnce, IsUnanswered};
+ghost use Rattle.request_answers.specs.Conversing.{Answered, TakenIn, Passed, TakesTurn, Stop};
+ghost use Rattle.request_answers.specs.Conversing.{IsConversation, IsTextSince, IsToldBy, OnlyAdd};
 ghost use Rattle.request_answers.specs.Response.{response_at};
 
 use session_keeper::Keeper;
@@ -29,4 +31,28 @@ pub fn every_conversation<K: Keeper>()
     ensures { (opening : SessionState) (stops : List Stop) →
         OnlyAdd K.others → IsConversation K.others opening stops →
         (history : List Moment) × IsHistory opening history × IsToldBy opening stops history }
+{}
+
+/// Whatever comes of a request is a turn of a conversation: it was answered, or took effect though there was no memory
+/// for its text, or nothing came of it.
+pub fn every_outcome_is_a_turn<K: Keeper>()
+    ensures answered { (opening : SessionState) (before after : List Entry) (user : List ℕ) (request : UserRequest)
+        (text : List ℕ) →
+        IsAnsweredOnce K.others opening before user request text after →
+        TakesTurn K.others opening before (Answered user request text) after }
+    ensures unanswered { (opening : SessionState) (before after : List Entry) (user : List ℕ) (request : UserRequest)
+        (fault : QueryFault) →
+        IsUnanswered K.others K.no_entry opening before user request fault after →
+        TakesTurn K.others opening before (TakenIn user request) after ⊎ TakesTurn K.others opening before Passed after }
+{}
+
+/// Each text in a conversation is that of what happened since the opening, in the whole history that tells it. So the
+/// text of a query is the one of a reply that is given in that history, and `published_view::laws::every_run` holds of
+/// this reply.
+pub fn every_text()
+    ensures { (opening : SessionState) (stops later earlier : List Stop) (history : List Moment) (user : List ℕ)
+        (request : UserRequest) (text : List ℕ) (journal : List Entry) →
+        IsToldBy opening stops history →
+        stops ≡ later ++ record { turn = Answered user request text; journal = journal } ∷ earlier →
+        IsTextSince opening [] history user request text }
 {}

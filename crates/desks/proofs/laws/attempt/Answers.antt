@@ -1,4 +1,4 @@
-use Rattle.std.proofs.Common.{◌≡◌, List, ◌∷◌, ◌++◌, [], ◌∙◌, sym}
+use Rattle.std.proofs.Common.{◌∷◌, ◌++◌, [], ◌∙◌}
 use Rattle.session_book.proofs.RunLemmas.{runs_not_tried}
 use Rattle.desks.proofs.BatchLemmas.{refused_here, accepted_here}
 use Rattle.desks.proofs.laws.attempt.Goals as goal

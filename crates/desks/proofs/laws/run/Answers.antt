@@ -1,4 +1,4 @@
-use Rattle.std.proofs.Common.{rules, ◌≡◌, refl, ◌+◌, ◌++◌, ◌∷◌, [], List, take, sym, ap, ◌∙◌, arith, append-nil, vec_len}
+use Rattle.std.proofs.Common.{rules, refl, ◌+◌, ◌++◌, ◌∷◌, [], List, take, sym, ap, ◌∙◌, arith, append-nil}
 use Rattle.std.proofs.lemmas.List.{take_more}
 use Rattle.history.specs.Prefixes.{entries_of}
 use Rattle.session_state.specs.session_commands.declared.entry.Entry.{Entry}

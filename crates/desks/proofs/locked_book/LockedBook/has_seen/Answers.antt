@@ -1,4 +1,4 @@
-use Rattle.std.proofs.Common.{◌≡◌, List, true, ap, ◌∙◌, subst}
+use Rattle.std.proofs.Common.{◌≡◌, ap, ◌∙◌, subst}
 use Rattle.std.specs.Prelude.{Bool, MatchBool}
 use mathlib.Core.List.{IsPrefix}
 use Rattle.displays.specs.Publishing.{Outgoing}
