@@ -3,8 +3,7 @@ ghost use Rattle.cards.specs.Play.{IsPosition};
 ghost use Rattle.position_patterns.specs.Remainder.{IsLeftOf};
 ghost use Rattle.cards.specs.DoubleDummy.{double_dummy};
 
-use crate::budget::Budget;
-use crate::error::SolveError;
+use crate::budget::{Budget, BudgetSpent};
 use crate::search::search;
 use cards::Position;
 use position_patterns::{DealPatterns, Memory};
@@ -17,7 +16,7 @@ pub fn value(
     patterns: &DealPatterns,
     memory: &mut Memory,
     budget: &mut Budget,
-) -> Result<u8, SolveError>
+) -> Result<u8, BudgetSpent>
     requires dealt { IsLeftOf patterns.now.whole position.now.hands }
     ensures valid { IsPosition position.now }
     ensures tricks { IfOk result (λ tricks. tricks ≡ double_dummy position.now) }
@@ -29,7 +28,7 @@ pub fn value(
     while low < high {
         let asked = guess.max(low + 1).min(high);
         let Ok(found) = search(position, asked, patterns, memory, budget) else {
-            return Err(SolveError::OutOfBudget);
+            return Err(BudgetSpent);
         };
         if found.holds {
             low = asked;

@@ -4,12 +4,12 @@ ghost use Rattle.cards.specs.Hands.{IsDeal};
 ghost use Rattle.cards.specs.Play.{IsApart, IsPosition, start, legal, cards_left};
 ghost use Rattle.position_patterns.specs.Remainder.{IsLeftOf};
 ghost use Rattle.double_dummy.specs.Played.{IsPlayed};
-ghost use Rattle.double_dummy.specs.declared.error.CostsError.TheVariants.{NotAPlay, OutOfBudget};
+ghost use Rattle.double_dummy.specs.declared.error.CostsError.TheVariants.{NotAPlay, OutOfBudget, OutOfMemory};
 ghost use Rattle.cards.specs.DoubleDummy.{double_dummy, cost_list, first_illegal};
 
 use crate::asking::value;
-use crate::budget::Budget;
-use crate::error::{CostsError, SolveError};
+use crate::budget::{Budget, BudgetSpent};
+use crate::error::CostsError;
 use cards::{Card, Deal, Position};
 use position_patterns::{DealPatterns, Holders, Memory};
 use scoring::Contract;
@@ -35,6 +35,7 @@ pub fn costs(
         first_illegal 1 (start deal contract.strain contract.declarer) play.now ≡ Some number) }
     ensures spent { budget.new ≤ budget.old }
     ensures out_of_budget { IfErr result (λ refusal. refusal ≡ OutOfBudget → budget.new ≡ 0) }
+    ensures out_of_memory { IfErr result (λ refusal. refusal ≡ OutOfMemory → budget.new ≡ budget.old) }
     ensures empty { play.now ≡ [] → (result ≡ Ok []) × (budget.new ≡ budget.old) }
     ensures no_budget { budget.old ≡ 0 → play.now ≢ [] →
         first_illegal 1 (start deal contract.strain contract.declarer) play.now ≡ None → result ≡ Err OutOfBudget }
@@ -67,6 +68,7 @@ pub fn costs_from(
         first_illegal 1 (start deal strain declarer) play.now ≡ Some number) }
     ensures spent { budget.new ≤ budget.old }
     ensures out_of_budget { IfErr result (λ refusal. refusal ≡ OutOfBudget → budget.new ≡ 0) }
+    ensures out_of_memory { IfErr result (λ refusal. refusal ≡ OutOfMemory → budget.new ≡ budget.old) }
     ensures empty { play.now ≡ [] → (result ≡ Ok []) × (budget.new ≡ budget.old) }
     ensures no_budget { budget.old ≡ 0 → play.now ≢ [] →
         first_illegal 1 (start deal strain declarer) play.now ≡ None → result ≡ Err OutOfBudget }
@@ -114,6 +116,7 @@ fn cost_play(
     ensures costs { IfOk result (λ costs. costs ≡ cost_list start.now play.now) }
     ensures refusal { IfErr result (λ refusal. (number : ℕ) → refusal ≢ NotAPlay number) }
     ensures out_of_budget { IfErr result (λ refusal. refusal ≡ OutOfBudget → budget.new ≡ 0) }
+    ensures out_of_memory { IfErr result (λ refusal. refusal ≡ OutOfMemory → budget.new ≡ budget.old) }
     ensures spent { budget.new ≤ budget.old }
 {
     let Ok(patterns) = DealPatterns::new(alloc, dealt) else {
@@ -141,6 +144,7 @@ fn cost_each(
     ensures costs { IfOk result (λ costs. costs ≡ cost_list start.now play.now) }
     ensures refusal { IfErr result (λ refusal. (number : ℕ) → refusal ≢ NotAPlay number) }
     ensures out_of_budget { IfErr result (λ refusal. refusal ≡ OutOfBudget → budget.new ≡ 0) }
+    ensures out_of_memory { IfErr result (λ refusal. refusal ≡ OutOfMemory → budget.new ≡ budget.old) }
     ensures spent { budget.new ≤ budget.old }
 {
     let Ok(mut numbers) = Vec::with_capacity(alloc, play.len()) else {
@@ -154,9 +158,7 @@ fn cost_each(
         let Ok(played) = play_card(&position, *card, before, patterns, memory, budget) else {
             return Err(CostsError::OutOfBudget);
         };
-        let Ok(()) = numbers.push(played.cost) else {
-            return Err(CostsError::OutOfMemory);
-        };
+        numbers.push_reserved(played.cost);
         position = played.position;
         before = played.tricks;
     }
@@ -179,7 +181,7 @@ fn play_card(
     patterns: &DealPatterns,
     memory: &mut Memory,
     budget: &mut Budget,
-) -> Result<Played, SolveError>
+) -> Result<Played, BudgetSpent>
     requires legal { set.contains (legal position.now) card ≡ true }
     requires dealt { IsLeftOf patterns.now.whole position.now.hands }
     requires valid { IsPosition position.now }
@@ -191,7 +193,7 @@ fn play_card(
 {
     let next = position.after(card);
     let Ok(tricks) = value(&next, before, patterns, memory, budget) else {
-        return Err(SolveError::OutOfBudget);
+        return Err(BudgetSpent);
     };
     let with_card = position.point(card) + tricks;
     let cost = match position.trick().turn(position.leader()).side() {

@@ -1,11 +1,11 @@
 ghost use Rattle.std.specs.Prelude.{◌≡◌, ◌<◌, ◌≤◌, Ok, Err, IfOk, IfErr, OnErr};
-ghost use Rattle.double_dummy.specs.declared.error.SolveError.TheVariants.{OutOfBudget};
+ghost use Rattle.double_dummy.specs.declared.error.SolveError.TheVariants.{OutOfBudget, OutOfMemory};
 ghost use Rattle.position_patterns.specs.Remainder.{IsLeftOf};
 ghost use Rattle.cards.specs.DoubleDummy.{declarer_tricks, tricks_for};
 ghost use Rattle.solver_results.specs.DdTable.{IsTricksIn};
 
 use crate::asking::value;
-use crate::budget::Budget;
+use crate::budget::{Budget, BudgetSpent};
 use crate::error::SolveError;
 use cards::{Deal, Position};
 use position_patterns::{DealPatterns, Holders, Memory};
@@ -18,6 +18,7 @@ pub fn table(alloc: Global, deal: Deal, budget: &mut Budget) -> Result<DdTable, 
     ensures table { IfOk result (λ table. table ≡ deal) }
     ensures spent { budget.new ≤ budget.old }
     ensures out_of_budget { IfErr result (λ refusal. refusal ≡ OutOfBudget → budget.new ≡ 0) }
+    ensures out_of_memory { IfErr result (λ refusal. refusal ≡ OutOfMemory → budget.new ≡ budget.old) }
     ensures no_budget { budget.old ≡ 0 → result ≡ Err OutOfBudget }
 {
     if budget.left() == 0 {
@@ -29,7 +30,10 @@ pub fn table(alloc: Global, deal: Deal, budget: &mut Budget) -> Result<DdTable, 
     let Ok(mut memory) = Memory::new(alloc, 13) else {
         return Err(SolveError::OutOfMemory);
     };
-    solve_strains(deal, &patterns, &mut memory, budget)
+    let Ok(table) = solve_strains(deal, &patterns, &mut memory, budget) else {
+        return Err(SolveError::OutOfBudget);
+    };
+    Ok(table)
 }
 
 /// The table, strain by strain.
@@ -38,26 +42,26 @@ fn solve_strains(
     patterns: &DealPatterns,
     memory: &mut Memory,
     budget: &mut Budget,
-) -> Result<DdTable, SolveError>
+) -> Result<DdTable, BudgetSpent>
     requires dealt { IsLeftOf patterns.now.whole deal }
     ensures table { IfOk result (λ table. table ≡ deal) }
     ensures err { OnErr result (budget.new ≡ 0) }
     ensures spent { budget.new ≤ budget.old }
 {
     let Ok(spades) = solve_strain(deal, Strain::Spades, patterns, memory, budget) else {
-        return Err(SolveError::OutOfBudget);
+        return Err(BudgetSpent);
     };
     let Ok(hearts) = solve_strain(deal, Strain::Hearts, patterns, memory, budget) else {
-        return Err(SolveError::OutOfBudget);
+        return Err(BudgetSpent);
     };
     let Ok(diamonds) = solve_strain(deal, Strain::Diamonds, patterns, memory, budget) else {
-        return Err(SolveError::OutOfBudget);
+        return Err(BudgetSpent);
     };
     let Ok(clubs) = solve_strain(deal, Strain::Clubs, patterns, memory, budget) else {
-        return Err(SolveError::OutOfBudget);
+        return Err(BudgetSpent);
     };
     let Ok(no_trump) = solve_strain(deal, Strain::NoTrump, patterns, memory, budget) else {
-        return Err(SolveError::OutOfBudget);
+        return Err(BudgetSpent);
     };
     Ok(DdTable::new(deal, spades, hearts, diamonds, clubs, no_trump))
 }
@@ -69,7 +73,7 @@ fn solve_strain(
     patterns: &DealPatterns,
     memory: &mut Memory,
     budget: &mut Budget,
-) -> Result<DeclarerTricks, SolveError>
+) -> Result<DeclarerTricks, BudgetSpent>
     requires dealt { IsLeftOf patterns.now.whole deal }
     ensures tricks { IfOk result (IsTricksIn deal strain) }
     ensures err { OnErr result (budget.new ≡ 0) }
@@ -77,11 +81,11 @@ fn solve_strain(
 {
     memory.clear();
     let Ok(north) = solve_declarer(deal, strain, Place::North, 7, patterns, memory, budget) else {
-        return Err(SolveError::OutOfBudget);
+        return Err(BudgetSpent);
     };
     let Ok(south) = solve_declarer(deal, strain, Place::South, north, patterns, memory, budget)
     else {
-        return Err(SolveError::OutOfBudget);
+        return Err(BudgetSpent);
     };
     let Ok(east) = solve_declarer(
         deal,
@@ -92,10 +96,10 @@ fn solve_strain(
         memory,
         budget,
     ) else {
-        return Err(SolveError::OutOfBudget);
+        return Err(BudgetSpent);
     };
     let Ok(west) = solve_declarer(deal, strain, Place::West, east, patterns, memory, budget) else {
-        return Err(SolveError::OutOfBudget);
+        return Err(BudgetSpent);
     };
     Ok(DeclarerTricks {
         north,
@@ -114,7 +118,7 @@ fn solve_declarer(
     patterns: &DealPatterns,
     memory: &mut Memory,
     budget: &mut Budget,
-) -> Result<u8, SolveError>
+) -> Result<u8, BudgetSpent>
     requires dealt { IsLeftOf patterns.now.whole deal }
     ensures tricks { IfOk result (λ tricks. tricks ≡ declarer_tricks deal strain declarer) }
     ensures err { OnErr result (budget.new ≡ 0) }
@@ -123,7 +127,7 @@ fn solve_declarer(
     let start = Position::start(deal, strain, declarer);
     let side = declarer.side();
     let Ok(tricks) = value(&start, tricks_for(side, guess), patterns, memory, budget) else {
-        return Err(SolveError::OutOfBudget);
+        return Err(BudgetSpent);
     };
     Ok(tricks_for(side, tricks))
 }

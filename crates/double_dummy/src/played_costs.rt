@@ -1,7 +1,7 @@
 ghost use Rattle.std.specs.Prelude.{◌≡◌, ◌≢◌, ◌≤◌, ℕ, [], Some, None, Err, IfOk, IfErr, OnErr};
 ghost use Rattle.cards.specs.Play.{start};
 ghost use Rattle.solver_results.specs.PlayAnswer.{answer_for_play};
-ghost use Rattle.double_dummy.specs.declared.error.SolveError.TheVariants.{OutOfBudget};
+ghost use Rattle.double_dummy.specs.declared.error.SolveError.TheVariants.{OutOfBudget, OutOfMemory};
 ghost use Rattle.cards.specs.DoubleDummy.{first_illegal};
 
 use crate::budget::Budget;
@@ -23,6 +23,7 @@ pub fn play_costs(
     ensures held { IfOk result (λ costs. costs ≡ record { deal = deal; contract = contract; play = play.now }) }
     ensures spent { budget.new ≤ budget.old }
     ensures out_of_budget { IfErr result (λ refusal. refusal ≡ OutOfBudget → budget.new ≡ 0) }
+    ensures out_of_memory { IfErr result (λ refusal. refusal ≡ OutOfMemory → budget.new ≡ budget.old) }
     ensures not_a_play { (number : ℕ) →
         first_illegal 1 (start deal contract.strain contract.declarer) play.now ≡ Some number →
         OnErr result ⊥ × (budget.new ≡ budget.old) }

@@ -1,6 +1,6 @@
 ghost use Rattle.std.specs.Prelude.{◌≡◌, ◌<◌, ◌≤◌, Ok, Err, IfOk, IfErr};
 ghost use Rattle.cards.specs.Play.{cards_left};
-ghost use Rattle.double_dummy.specs.declared.error.SolveError.TheVariants.{OutOfBudget};
+ghost use Rattle.double_dummy.specs.declared.error.SolveError.TheVariants.{OutOfBudget, OutOfMemory};
 ghost use Rattle.cards.specs.DoubleDummy.{double_dummy};
 
 use crate::asking::value;
@@ -15,6 +15,7 @@ pub fn solve(alloc: Global, position: &Position, budget: &mut Budget) -> Result<
     ensures tricks { IfOk result (λ tricks. tricks ≡ double_dummy position.now) }
     ensures spent { budget.new ≤ budget.old }
     ensures out_of_budget { IfErr result (λ refusal. refusal ≡ OutOfBudget → budget.new ≡ 0) }
+    ensures out_of_memory { IfErr result (λ refusal. refusal ≡ OutOfMemory → budget.new ≡ budget.old) }
     ensures no_cards { cards_left position.now ≡ 0 → (result ≡ Ok 0) × (budget.new ≡ budget.old) }
     ensures no_budget { 0 < cards_left position.now → budget.old ≡ 0 → result ≡ Err OutOfBudget }
 {
@@ -31,11 +32,9 @@ pub fn solve(alloc: Global, position: &Position, budget: &mut Budget) -> Result<
     let Ok(mut memory) = Memory::new(alloc, tricks_left) else {
         return Err(SolveError::OutOfMemory);
     };
-    value(
-        position,
-        tricks_left / 2 + 1,
-        &patterns,
-        &mut memory,
-        budget,
-    )
+    let guess = tricks_left / 2 + 1;
+    let Ok(tricks) = value(position, guess, &patterns, &mut memory, budget) else {
+        return Err(SolveError::OutOfBudget);
+    };
+    Ok(tricks)
 }

@@ -29,6 +29,8 @@ loop-card-init c = record {
   few = let empty = ap length c.requires.table in omega (arith, c.requires.cards);
   number = omega (arith, c.requires.cards);
   numbers = ap length c.in-Ok.ensures.items;
+  counted = c.in-Ok.ensures.len;
+  room = c.in-Ok.ensures.capacity;
   spent = omega arith;
   spent_before = c.value.ensures.spent;
 }
@@ -48,17 +50,17 @@ loop-card-preserved c =
     let q = c.in-Ok-play_card.played.position in
     let left = one_less_after p card before.valid may in
     let moved = ap cards_left played.next in
-    let longer = ap length c.in-Ok-push.ensures.items in
+    let longer = ap length c.push_reserved.ensures.items in
     record {
       legal = sym (past_card (suc i) (suc (i + 1)) p q play i
           (i + 1) none more next c.loop-card-test.true may played.next) ∙ before.legal;
       costs =
-          one_cost_more (cost_list c.args.start.now play) c.loop-card.numbers.items c.push.new.self.items p q card
+          one_cost_more (cost_list c.args.start.now play) c.loop-card.numbers.items c.push_reserved.new.self.items p q card
           (drop (i + 1) play)
           c.in-Ok-play_card.played.cost
           (ap (λ rest. c.loop-card.numbers.items ++ cost_list p rest)
           (sym (from_card play i (i + 1) none next c.loop-card-test.true)) ∙ before.costs)
-          played.cost played.next c.in-Ok-push.ensures.items;
+          played.cost played.next c.push_reserved.ensures.items;
       before = played.tricks;
       valid = played.valid;
       dealt = subst (λ r. IsLeftOf c.args.patterns.now.whole r.hands) (sym played.next)
@@ -68,6 +70,8 @@ loop-card-preserved c =
       number = omega (arith, before.number, left, moved);
       numbers = longer ∙ length-append c.loop-card.numbers.items (c.in-Ok-play_card.played.cost ∷ [])
           ∙ ap (λ n. n + 1) before.numbers;
+      counted = omega (arith, c.push_reserved.ensures.len, before.counted);
+      room = omega (arith, c.push_reserved.ensures.capacity, before.room);
       spent = omega (arith, c.play_card.ensures.spent, before.spent);
       spent_before = before.spent_before;
     }

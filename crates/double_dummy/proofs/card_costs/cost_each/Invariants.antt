@@ -1,4 +1,4 @@
-use Rattle.std.proofs.Common.{◌≡◌, ◌+◌, ◌≤◌, suc, drop, length, ◌++◌, None}
+use Rattle.std.proofs.Common.{◌≡◌, ◌+◌, ◌≤◌, suc, drop, length, ◌++◌, None, vec_len, vec_capacity}
 use Rattle.cards.specs.Play.{IsPosition, cards_left}
 use Rattle.position_patterns.specs.Remainder.{IsLeftOf}
 use Rattle.double_dummy.proofs.card_costs.cost_each.Given as goal
@@ -14,6 +14,8 @@ invariant-loop-card l = record {
   few : cards_left l.position + length l.position.table ≤ 52;
   number : l.card-index + cards_left l.position ≡ 52;
   numbers : length l.numbers.items ≡ l.card-index;
+  counted : vec_len l.numbers ≡ l.card-index;
+  room : length l.play ≤ vec_capacity l.numbers;
   spent : l.budget ≤ l.initial.budget;
   spent_before : l.initial.budget ≤ l.fn.budget;
 }

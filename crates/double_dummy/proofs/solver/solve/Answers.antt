@@ -10,4 +10,4 @@ returns-then-tricks_left-eq0-clause-tricks c =
     sym (nothing_left c.args.position.now none)
 
 pub returns-clause-tricks : goal.returns-clause-tricks
-returns-clause-tricks c = c.value.ensures.tricks
+returns-clause-tricks c = c.in-Ok-value.ensures.tricks
