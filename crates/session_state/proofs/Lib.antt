@@ -7,6 +7,7 @@ pub mod AccountLemmas
 pub mod CompleteLemmas
 pub mod HindranceLemmas
 pub mod LiveLemmas
+pub mod NumberRefusalLemmas
 pub mod OwnNumberLemmas
 pub mod PartLemmas
 pub mod ReaderLemmas

@@ -1,8 +1,8 @@
 -- The first cause that refuses a command.
 use Rattle.std.proofs.Common.{◌≡◌, ℕ, ◌<◌, Bool, true, false, List, [], ◌∷◌, ◌++◌, refl, sym, ap, ◌∙◌, inl, inr}
-use Rattle.std.specs.Prelude.{Option, Some, None, IsSomeAnd, is_none, is_some, option_map, nat_le, not, ◌||◌, ◌↔◌, if◌then◌else◌}
+use Rattle.std.specs.Prelude.{Option, Some, None, IfSome, is_none, is_some, option_map, nat_le, not, ◌||◌, ◌↔◌, if◌then◌else◌}
 use Rattle.std.specs.Bool.{then_some}
-use Rattle.std.specs.Option.{option_or}
+use Rattle.std.specs.Option.{option_map_or, option_or}
 use Rattle.std.proofs.lemmas.Bool.{cases_lt, le-leb, false≢true, false_from_ne_true}
 use Rattle.rbac.specs.Authorization.{HasPermission, IsValid, has_permission}
 use Rattle.rbac.specs.RoleData.{RoleData, assign_user, deassign_user, add_inheritance, delete_inheritance}
@@ -17,7 +17,6 @@ use Rattle.session_commands.specs.Command.{operation_of, is_told_by_table}
 use Rattle.session_commands.specs.declared.actor.Actor.{Actor}
 use Rattle.session_commands.specs.declared.actor.Actor.TheVariants.{User, Solver}
 use Rattle.session_roles.specs.declared.operation.Operation.{Operation}
-use Rattle.session_state.specs.disclosure_rules.Seating.{some_that}
 use Rattle.session_commands.specs.Refusal.{spoiled, is_out_of_memory}
 use Rattle.session_state.specs.Refusal.{is_permitted, IsPermitted, first_cause, needed_causes, own_causes, hindrances, causes, hindrance_of, refusal_of, most_entries}
 use Rattle.session_state.specs.SessionState.{SessionState}
@@ -187,8 +186,8 @@ permitted_else state spoiler actor command entries allowed refused =
 permitted_exact : (roles : RoleData) (actor : Actor) (command : Command) → IsValid roles → (is_permitted roles actor command ≡ true) ↔ IsPermitted roles actor command
 permitted_exact roles (User name) command valid = by_operation (operation_of command)
   where
-    by_operation : (operation : Option Operation) → (some_that operation (has_permission roles name) ≡ true) ↔ IsSomeAnd operation (HasPermission roles name)
-    by_operation None = ((λ never. false≢true never), (λ never. absurd never))
+    by_operation : (operation : Option Operation) → (option_map_or (has_permission roles name) operation true ≡ true) ↔ IfSome operation (HasPermission roles name)
+    by_operation None = ((λ _. tt), (λ _. refl))
     by_operation (Some operation) = permission_exact roles name operation valid
 permitted_exact roles Solver command valid = by_operation (operation_of command)
   where

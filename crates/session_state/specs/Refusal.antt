@@ -3,13 +3,13 @@
 -- own: the causes and their order are this project's. Nobody but who has the permission gives a command; a result is
 -- told only of a board that the table is scheduled to play and that has come up, what is confirmed is what was entered,
 -- and nobody sits there who was shown something of the board before.
-use Rattle.std.specs.Prelude.{◌≡◌, ℕ, Bool, true, false, not, ◌&&◌, ◌||◌, nat_le, nat_lt, if◌then◌else◌}
-use Rattle.std.specs.Prelude.{Option, None, IsSomeAnd, is_some, option_map, List, [], ◌∷◌, ◌++◌, length}
+use Rattle.std.specs.Prelude.{◌≡◌, ℕ, Bool, true, false, not, ◌&&◌, ◌||◌, nat_le, nat_lt}
+use Rattle.std.specs.Prelude.{Option, None, IfSome, is_some, option_map, List, [], ◌∷◌, ◌++◌, length}
 use Rattle.std.specs.Bool.{then_some}
 use Rattle.std.specs.List.{list_all, range_with_len}
-use Rattle.std.specs.Option.{option_or}
+use Rattle.std.specs.Option.{option_map_or, option_or}
 use Rattle.session_state.specs.cards.declared.card.Card.{Card}
-use Rattle.session_state.specs.movement.Movement.{Section, boards_of, has_board}
+use Rattle.session_state.specs.movement.Movement.{boards_of, has_board}
 use Rattle.session_state.specs.movement.Schedule.{is_scheduled, is_later}
 use Rattle.rbac.specs.Account.{most_users, is_user_name}
 use Rattle.rbac.specs.Authorization.{HasPermission, has_permission}
@@ -167,14 +167,15 @@ hindrances state command =
     ∷ own_causes state command
 
 -- whether who gives a command may: a user who has the permission for its operation, or the solver for one of its own.
--- No role holds a permission for what is the solver's, so no user tells the numbers
+-- The solver's commands have no operation, so whoever gives one may: what they tell is looked at instead, as a table or
+-- costs are exhaustive by their type, and are refused unless they are of the session's own hands and play
 abbrev pub is_permitted : RoleData → Actor → Command → Bool
-is_permitted roles (User name) command = some_that (operation_of command) (has_permission roles name)
+is_permitted roles (User name) command = option_map_or (has_permission roles name) (operation_of command) true
 is_permitted roles Solver command = is_solvers command
 
 -- the same, as the standard states it
 abbrev pub IsPermitted : RoleData → Actor → Command → Type 0
-IsPermitted roles (User name) command = IsSomeAnd (operation_of command) (HasPermission roles name)
+IsPermitted roles (User name) command = IfSome (operation_of command) (HasPermission roles name)
 IsPermitted roles Solver command = operation_of command ≡ None
 
 -- all causes, in their order: first whether it is permitted, last whether the journal is full

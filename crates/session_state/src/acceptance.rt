@@ -1,5 +1,6 @@
 //! When a command is refused.
-ghost use Rattle.std.specs.Prelude.{◌≡◌, not, IfSome, IfNone};
+ghost use Rattle.std.specs.Prelude.{◌≡◌, not, true, IfSome, IfNone};
+ghost use Rattle.std.specs.Option.{option_map_or};
 ghost use Rattle.session_state.specs.disclosure_rules.Seating.{some_that};
 ghost use Rattle.session_state.specs.Accounts.{has_account};
 ghost use Rattle.session_commands.specs.Command.{subject_cell, subject_board};
@@ -69,7 +70,8 @@ pub fn hindrance(state: &State, command: &Command) -> Option<Refusal>
     own_cause(state, command)
 }
 
-// Whether who gives a command may: a user who has the permission, or the solver for one of its own.
+// Whether who gives a command may: a user who has the permission for its operation, if it has one, or the solver for
+// one of its own.
 fn is_permitted(state: &State, actor: Actor, command: &Command) -> bool
     ensures { result ≡ is_permitted state.now.roles actor command.now }
 {
@@ -79,13 +81,13 @@ fn is_permitted(state: &State, actor: Actor, command: &Command) -> bool
     }
 }
 
-// Whether there is an operation, and a user has the permission for it.
+// Whether a user has the permission for an operation, if there is one.
 fn is_permitted_user(state: &State, name: Name, operation: Option<Operation>) -> bool
-    ensures { result ≡ some_that operation (has_permission state.now.roles name) }
+    ensures { result ≡ option_map_or (has_permission state.now.roles name) operation true }
 {
     match operation {
         Some(operation) => state.check_access(name, operation),
-        None => false,
+        None => true,
     }
 }
 

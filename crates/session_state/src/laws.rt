@@ -6,7 +6,7 @@ ghost use Rattle.rbac.specs.Authorization.{IsValid};
 ghost use Rattle.session_state.specs.disclosure_rules.declared.public.Public.{Public};
 ghost use Rattle.session_state.specs.disclosure_rules.LiveCells.{is_live};
 ghost use Rattle.session_state.specs.Apply.{apply};
-ghost use Rattle.session_commands.specs.Command.{subject_cell};
+ghost use Rattle.session_commands.specs.Command.{is_solvers, subject_cell};
 ghost use Rattle.session_state.specs.OwnNumbers.{TellsOwn, KeepsOwn};
 ghost use Rattle.session_state.specs.Parts.{part_of, IsSameBut};
 ghost use Rattle.session_state.specs.Refusal.{hindrance_of, refusal_of, are_all_live, IsPermitted};
@@ -14,16 +14,27 @@ ghost use Rattle.session_state.specs.SessionState.{SessionState, cell_at, IsPlac
 ghost use Rattle.session_commands.specs.declared.actor.Actor.{Actor};
 ghost use Rattle.session_commands.specs.declared.entry.Entry.{Entry};
 ghost use Rattle.session_commands.specs.declared.command.Command.{Command};
-ghost use Rattle.session_commands.specs.declared.refusal.Refusal.TheVariants.{NotPermitted};
+ghost use Rattle.session_commands.specs.declared.refusal.Refusal.TheVariants.{NotPermitted, NoSuchUser};
 
 /// A command is refused as not permitted just where who gives it may not: a user who is authorized for no role that
-/// holds the permission for its operation (CheckAccess of INCITS 359-2012), a user who gives what is the solver's, and
-/// the solver where it gives what is a user's.
+/// holds the permission for its operation (CheckAccess of INCITS 359-2012), and the solver where it gives what is a
+/// user's.
 pub fn permissions_guard_commands()
     ensures { (state : SessionState) (spoiler : Option (List ℕ)) (actor : Actor) (command : Command) (entries : ℕ) →
         IsValid state.roles →
         (refusal_of state spoiler actor command entries ≡ Some NotPermitted)
         ↔ (¬ IsPermitted state.roles actor command) }
+{}
+
+/// What the solver tells needs no permission and names no user: whoever gives such a command, it isn't refused as not
+/// permitted, nor for a user without an account.
+pub fn numbers_need_no_permission()
+    ensures permitted { (state : SessionState) (spoiler : Option (List ℕ)) (actor : Actor) (command : Command)
+        (entries : ℕ) → is_solvers command ≡ true →
+        refusal_of state spoiler actor command entries ≢ Some NotPermitted }
+    ensures known { (state : SessionState) (spoiler : Option (List ℕ)) (actor : Actor) (command : Command)
+        (entries : ℕ) → is_solvers command ≡ true →
+        refusal_of state spoiler actor command entries ≢ Some NoSuchUser }
 {}
 
 /// A command changes the part of the state that it is about, and no other; a command on a result changes what is known
