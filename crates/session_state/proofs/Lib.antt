@@ -5,11 +5,13 @@ pub use Rattle.session_commands.proofs.scoring_lemmas as scoring_lemmas
 pub mod AccountCauseLemmas
 pub mod AccountLemmas
 pub mod CompleteLemmas
+pub mod EntryPlacedLemmas
 pub mod HindranceLemmas
 pub mod LiveLemmas
 pub mod NumberRefusalLemmas
 pub mod OwnNumberLemmas
 pub mod PartLemmas
+pub mod PlacedLemmas
 pub mod ReaderLemmas
 pub mod RefusalLemmas
 pub mod ScheduleLemmas

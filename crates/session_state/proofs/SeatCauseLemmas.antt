@@ -10,9 +10,10 @@ use Rattle.session_commands.specs.declared.refusal.Refusal.{Refusal}
 use Rattle.session_commands.specs.declared.refusal.Refusal.TheVariants.{NoSuchPair, WrongDirection, NotContestant, AlreadySeated, SeatTaken}
 use Rattle.session_state.specs.Accounts.{has_account, is_authorized_for}
 use Rattle.session_state.specs.Refusal.{hindrance_of}
-use Rattle.session_state.specs.Seats.{is_pair, is_of_side, has_seat, is_taken, AreSeated}
+use Rattle.session_state.specs.Seats.{is_pair, is_of_side, has_seat, is_taken, AreSeated, AreSeatsOf}
 use Rattle.session_state.specs.SessionState.{SessionState}
 use Rattle.session_state.proofs.HindranceLemmas.{first_unmet, rest_unmet, not_met, user_unhindered, own_unhindered}
+use Rattle.session_state.proofs.PlacedLemmas.{one_more_placed}
 use Rattle.session_state.proofs.SeatLemmas.{one_more_sits}
 
 pub was_not : (b : Bool) → not b ≡ false → b ≡ true
@@ -53,3 +54,38 @@ module _ (state : SessionState) (name : List ℕ) (pair : Pair) (place : Place) 
   pub seats_still_apart : AreSeated state.roles state.seats → AreSeated state.roles (state.seats ++ record { name = name; seat = record { pair = pair; place = place } } ∷ [])
   seats_still_apart are =
       one_more_sits state.roles state.seats (record { name = name; seat = record { pair = pair; place = place } }) are seats_a_user seats_nobody_twice
+
+  pub seats_at_a_pair : is_pair state.public.movement pair ≡ true
+  unfolding no_pair other_direction no_contestant seated_already seat_taken
+  seats_at_a_pair =
+      was_not (is_pair state.public.movement pair)
+      (not_met _ NoSuchPair
+      (first_unmet no_pair (other_direction ∷ no_contestant ∷ seated_already ∷ seat_taken ∷ [])
+      (own_unhindered state (command.Seat name pair place) unhindered)))
+
+  pub seats_on_its_side : is_of_side pair place ≡ true
+  unfolding no_pair other_direction no_contestant seated_already seat_taken
+  seats_on_its_side =
+      was_not (is_of_side pair place)
+      (not_met _ WrongDirection
+      (first_unmet other_direction (no_contestant ∷ seated_already ∷ seat_taken ∷ [])
+      (rest_unmet no_pair (other_direction ∷ no_contestant ∷ seated_already ∷ seat_taken ∷ [])
+      (own_unhindered state (command.Seat name pair place) unhindered))))
+
+  pub seats_on_a_free_seat : is_taken state.seats (record { pair = pair; place = place }) ≡ false
+  unfolding no_pair other_direction no_contestant seated_already seat_taken
+  seats_on_a_free_seat =
+      not_met (is_taken state.seats (record { pair = pair; place = place })) SeatTaken
+      (first_unmet seat_taken []
+      (rest_unmet seated_already (seat_taken ∷ [])
+      (rest_unmet no_contestant (seated_already ∷ seat_taken ∷ [])
+      (rest_unmet other_direction (no_contestant ∷ seated_already ∷ seat_taken ∷ [])
+      (rest_unmet no_pair (other_direction ∷ no_contestant ∷ seated_already ∷ seat_taken ∷ [])
+      (own_unhindered state (command.Seat name pair place) unhindered))))))
+
+  -- so a seat still has at most one user, and is one of the movement's
+  pub seats_still_placed : AreSeatsOf state.public.movement state.seats →
+      AreSeatsOf state.public.movement (state.seats ++ record { name = name; seat = record { pair = pair; place = place } } ∷ [])
+  seats_still_placed are =
+      one_more_placed state.public.movement state.seats (record { name = name; seat = record { pair = pair; place = place } }) are
+      (record { pair = seats_at_a_pair; place = seats_on_its_side }) seats_on_a_free_seat

@@ -2,13 +2,14 @@
 use Rattle.std.specs.Prelude.{◌≡◌, ◌≤◌, length, vec_len, vec_capacity}
 use Rattle.session_state.specs.movement.Movement.{boards_of, most_boards}
 use Rattle.rbac.specs.Account.{most_users}
-use Rattle.session_state.specs.Seats.{AreSeated}
+use Rattle.session_state.specs.Seats.{AreSeated, AreSeatsOf}
 use Rattle.session_state.specs.SessionState.{most_cells, AreLive}
 use Rattle.session_state.specs.declared.state.State.TheInside.{Inside}
 
 -- there is a place for each cell, a marking, a deal and a place for a table for each board, a digest for each user, and
 -- room for a digest and a seat of each user that a session can have; users have at most one seat each, and there are
--- not too many; and what every member may see shows a result just where a cell has one
+-- not too many; a seat has at most one user, and is one of the movement's; and what every member may see shows a result
+-- just where a cell has one
 pub record IsKeptState (state : Inside) : Type 0 where
   pub cells : vec_len state.cells ≡ most_cells
   pub marks : length state.public.marks ≡ most_boards
@@ -20,4 +21,5 @@ pub record IsKeptState (state : Inside) : Type 0 where
   pub seats : most_users ≤ vec_capacity state.seats
   pub users : length state.roles.accounts ≤ most_users
   pub seated : AreSeated state.roles state.seats.items
+  pub placed : AreSeatsOf state.public.movement state.seats.items
   pub live : AreLive state.public.live state.cells.items

@@ -1,5 +1,5 @@
 -- What a command asks of seats.
-use Rattle.std.specs.Prelude.{◌≡◌, ℕ, Bool, true, ◌&&◌, not, nat_le, nat_eq, List, filter}
+use Rattle.std.specs.Prelude.{◌≡◌, ℕ, Bool, true, ◌&&◌, not, nat_le, nat_eq, List, filter, All}
 use Rattle.std.specs.List.{list_any, IsDistinct}
 use Rattle.table_terms.specs.declared.pair.Pair.{Pair}
 use Rattle.table_terms.specs.declared.place.Place.{Place}
@@ -44,3 +44,17 @@ same_user a b = same_name a.name b.name
 pub record AreSeated (roles : RoleData) (seats : List Seated) : Type 0 where
   pub once : IsDistinct same_user seats
   pub users : (name : List ℕ) → has_seat seats name ≡ true → has_account roles name ≡ true
+
+-- whether two users sit on one seat
+abbrev pub share_seat : Seated → Seated → Bool
+share_seat a b = same_seat a.seat b.seat
+
+-- the seat is one of the section's: of a pair that it has, at a place of the pair's side
+pub record IsSeatOf (section : Section) (seat : Seat) : Type 0 where
+  pub pair : is_pair section seat.pair ≡ true
+  pub place : is_of_side seat.pair seat.place ≡ true
+
+-- no seat has two users, and each that is taken is one of the section's
+pub record AreSeatsOf (section : Section) (seats : List Seated) : Type 0 where
+  pub apart : IsDistinct share_seat seats
+  pub own : All (λ (seated : Seated). IsSeatOf section seated.seat) seats

@@ -10,6 +10,7 @@ ghost use Rattle.session_commands.specs.Command.{is_solvers, subject_cell};
 ghost use Rattle.session_state.specs.OwnNumbers.{TellsOwn, KeepsOwn};
 ghost use Rattle.session_state.specs.Parts.{part_of, IsSameBut};
 ghost use Rattle.session_state.specs.Refusal.{hindrance_of, refusal_of, are_all_live, IsPermitted};
+ghost use Rattle.session_state.specs.Seats.{AreSeatsOf};
 ghost use Rattle.session_state.specs.SessionState.{SessionState, cell_at, IsPlaced};
 ghost use Rattle.session_commands.specs.declared.actor.Actor.{Actor};
 ghost use Rattle.session_commands.specs.declared.entry.Entry.{Entry};
@@ -50,6 +51,13 @@ pub fn each_command_changes_its_own_part()
 pub fn all_live_is_each_cell()
     ensures { (public : Public) → (are_all_live public ≡ true)
         ↔ ((cell : Cell) → IsCell public.movement cell → is_live public.live cell ≡ true) }
+{}
+
+/// A seat has at most one user, and is of a pair of the movement, at a place of the pair's side, wherever that was so
+/// before an entry. It is so when a session opens.
+pub fn seats_are_of_the_movement()
+    ensures { (state : SessionState) (entry : Entry) → AreSeatsOf state.public.movement state.seats →
+        AreSeatsOf (apply state entry).public.movement (apply state entry).seats }
 {}
 
 /// What the solver tells is of its own: a table that nothing hinders is of its board's hands, and costs are of the

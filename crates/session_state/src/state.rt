@@ -5,7 +5,7 @@ ghost use Rattle.rbac.specs.Authorization.{HasPermission, IsValid, has_permissio
 ghost use Rattle.session_state.specs.disclosure_rules.LiveCells.{is_live};
 ghost use Rattle.session_state.specs.disclosure_rules.Policy.{first_rule};
 ghost use Rattle.session_state.specs.Accounts.{has_account};
-ghost use Rattle.session_state.specs.Seats.{is_taken, AreSeated};
+ghost use Rattle.session_state.specs.Seats.{is_taken, AreSeated, AreSeatsOf};
 ghost use Rattle.session_state.specs.Apply.{apply, effect};
 ghost use Rattle.session_commands.specs.CellState.{has_result};
 ghost use Rattle.session_commands.specs.Command.{subject_cell, subject_board};
@@ -91,6 +91,7 @@ impl State {
         requires seats { most_users ≤ vec_capacity seats }
         requires users { length roles.accounts ≤ most_users }
         requires seated { AreSeated roles seats.items }
+        requires placed { AreSeatsOf public.movement seats.items }
         ensures { IfOk result (λ state. state ≡ record {
           roles = roles;
           digests = digests.items;

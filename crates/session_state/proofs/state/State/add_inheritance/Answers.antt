@@ -32,6 +32,7 @@ invariant_of-self c =
       seats = kept.seats;
       users = omega (arith, as_many, kept.users);
       seated = subst (λ roles. AreSeated roles inside.seats.items) (sym changed) (still_seated _ _ inside.seats.items kept.seated (λ other there. there));
+      placed = kept.placed;
       live = kept.live;
     }
 

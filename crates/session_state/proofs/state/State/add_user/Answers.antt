@@ -47,6 +47,7 @@ invariant_of-self c =
       seats = kept.seats;
       users = omega (arith, more, room);
       seated = subst (λ roles. AreSeated roles inside.seats.items) (sym added) (seated_added inside.roles c.args.name inside.seats.items kept.seated);
+      placed = kept.placed;
       live = kept.live;
     }
 

@@ -33,6 +33,7 @@ invariant_of-self c =
       seats = kept.seats;
       users = kept.users;
       seated = kept.seated;
+      placed = kept.placed;
       boards = kept.boards;
       live =
           subst (λ place. AreLive inside.public.live (slice_set inside.cells.items place c.with_costs.result)) (sym c.cell_index-place.ensures.place)

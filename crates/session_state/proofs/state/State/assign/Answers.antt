@@ -36,6 +36,7 @@ invariant_of-self c =
       seats = kept.seats;
       users = omega (arith, as_many, kept.users);
       seated = subst (λ roles. AreSeated roles inside.seats.items) (sym changed) (seated_changed (λ set. with_role set c.args.role) inside.roles c.args.name inside.seats.items kept.seated);
+      placed = kept.placed;
       live = kept.live;
     }
 

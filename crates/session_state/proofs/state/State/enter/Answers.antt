@@ -30,6 +30,7 @@ invariant_of-self c =
       seats = kept.seats;
       users = kept.users;
       seated = kept.seated;
+      placed = kept.placed;
       boards = kept.boards;
       live =
           subst (λ place. AreLive inside.public.live (slice_set inside.cells.items place known)) (sym c.cell_index-place.ensures.place)

@@ -15,6 +15,7 @@ invariant_of-result c = record {
   seats = c.requires.seats;
   users = c.requires.users;
   seated = c.requires.seated;
+  placed = c.requires.placed;
   live = none_live _ _ c.requires.live c.in_ok-cells.ensures.items;
 }
 

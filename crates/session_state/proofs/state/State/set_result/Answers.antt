@@ -32,6 +32,7 @@ invariant_of-self c =
       seats = kept.seats;
       users = kept.users;
       seated = kept.seated;
+      placed = kept.placed;
       boards = ap length c.insert.ensures ∙ length-set inside.public.live (cell.board - 1) _ ∙ kept.boards;
       live =
           subst (λ live. AreLive live (slice_set inside.cells.items c.cell_index-place.result c.args.known)) (sym c.insert.ensures)

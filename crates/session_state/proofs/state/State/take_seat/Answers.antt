@@ -1,12 +1,12 @@
 use Rattle.std.proofs.Common.{◌≡◌, ◌≤◌, ◌++◌, ◌∷◌, [], None, length, sym, ap, subst, ◌∙◌, arith}
 use Rattle.std.proofs.lemmas.List.{length_push}
 use Rattle.session_state.specs.Refusal.{hindrance_of}
-use Rattle.session_state.specs.Seats.{AreSeated}
+use Rattle.session_state.specs.Seats.{AreSeated, AreSeatsOf}
 use Rattle.session_state.specs.contracts.state.State.{the_view}
 use Rattle.session_commands.specs.declared.command.Command.TheVariants as command
 use Rattle.session_state.specs.declared.seated.Seated.{Seated}
 use Rattle.session_state.proofs.SeatLemmas.{seats_are_few}
-use Rattle.session_state.proofs.SeatCauseLemmas.{seats_still_apart}
+use Rattle.session_state.proofs.SeatCauseLemmas.{seats_still_apart, seats_still_placed}
 use Rattle.session_state.proofs.state.State.take_seat.Goals as goal
 
 pub push_within-requires : goal.push_within-requires
@@ -41,5 +41,8 @@ invariant_of-self c =
       seated =
           subst (AreSeated inside.roles) (sym c.push_within.ensures.items)
           (seats_still_apart (the_view inside) c.args.name seat.pair seat.place unhindered kept.seated);
+      placed =
+          subst (AreSeatsOf inside.public.movement) (sym c.push_within.ensures.items)
+          (seats_still_placed (the_view inside) c.args.name seat.pair seat.place unhindered kept.placed);
       live = kept.live;
     }

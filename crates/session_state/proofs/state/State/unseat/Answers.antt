@@ -3,10 +3,11 @@ use Rattle.std.specs.Prelude.{not}
 use Rattle.std.proofs.lemmas.Fn.{filter_same}
 use Rattle.rbac.specs.Account.{same_name}
 use Rattle.session_state.specs.Apply.{effect}
-use Rattle.session_state.specs.Seats.{without_seat, AreSeated}
+use Rattle.session_state.specs.Seats.{without_seat, AreSeated, AreSeatsOf}
 use Rattle.session_state.specs.contracts.state.State.{the_view}
 use Rattle.session_commands.specs.declared.command.Command.TheVariants as command
 use Rattle.session_state.specs.declared.seated.Seated.{Seated}
+use Rattle.session_state.proofs.PlacedLemmas.{one_less_placed}
 use Rattle.session_state.proofs.SeatLemmas.{one_less_sits}
 use Rattle.session_state.proofs.state.State.unseat.Goals as goal
 
@@ -27,6 +28,7 @@ invariant_of-self c =
       seats = omega (arith, kept.seats, c.retain.ensures.capacity);
       users = kept.users;
       seated = subst (AreSeated c.self.inside.roles) (sym left) (one_less_sits c.self.inside.roles seats c.args.name kept.seated);
+      placed = subst (AreSeatsOf c.self.inside.public.movement) (sym left) (one_less_placed c.self.inside.public.movement seats c.args.name kept.placed);
       live = kept.live;
     }
 

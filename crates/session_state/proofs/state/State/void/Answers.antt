@@ -33,6 +33,7 @@ invariant_of-self c =
       seats = kept.seats;
       users = kept.users;
       seated = kept.seated;
+      placed = kept.placed;
       boards = ap length c.remove.ensures ∙ length-set inside.public.live (cell.board - 1) _ ∙ kept.boards;
       live =
           subst (λ live. AreLive live (slice_set inside.cells.items c.cell_index-place.result Empty)) (sym c.remove.ensures)
