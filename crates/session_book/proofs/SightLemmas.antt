@@ -1,5 +1,5 @@
--- A user sees no more of a board where the user has no role more, keeps the seat or loses it, a held board stays held, and no
--- result is new: what the policy shows grows with roles, seats and results alone.
+-- A user sees no more of a board where the user has the same roles, keeps the seat or loses it, a held board stays held, and no
+-- result is new: with the same roles, what the policy shows grows with seats and results alone.
 use Rattle.std.proofs.Common.{◌≡◌, ℕ, Bool, true, false, cond, List, inl, inr, refl, sym, ap, ◌∙◌, subst, Any}
 use Rattle.std.specs.Prelude.{Option, Some, None, is_none, not, ◌&&◌, ◌⊎◌, IsSomeAnd}
 use Rattle.std.specs.List.{list_any}
@@ -29,7 +29,7 @@ use Rattle.session_book.proofs.ExposureLemmas.{none_is}
 -- a state that shows a user no more of a board than another: part by part
 pub record ShowsNoMore (before after : SessionState) (user : List ℕ) (board : ℕ) : Type 0 where
   pub movement : after.public.movement ≡ before.public.movement
-  pub roles : (role : Role) → is_authorized (authorized_of after user) role ≡ true → is_authorized (authorized_of before user) role ≡ true
+  pub roles : (role : Role) → is_authorized (authorized_of after user) role ≡ is_authorized (authorized_of before user) role
   pub seat : (seat_of after user ≡ seat_of before user) ⊎ (seat_of after user ≡ None)
   pub held : has_number before.public.held board ≡ true → has_number after.public.held board ≡ true
   pub live : (table : ℕ) → is_live after.public.live (record { table = table; board = board }) ≡ true → is_live before.public.live (record { table = table; board = board }) ≡ true
@@ -116,12 +116,12 @@ module _ (before after : SessionState) (user : List ℕ) (board : ℕ) (less : S
     allows = none_forbids after.public (viewer_of after user) (Hands board) (none_is _ sees)
 
     member : is_authorized (authorized_of before user) Member ≡ true
-    member = less.roles Member (not-false _ (allows NotAMember))
+    member = sym (less.roles Member) ∙ not-false _ (allows NotAMember)
 
     -- the rules that guard boards, for who was no director before, and so is none after
     module _ (other : is_authorized (authorized_of before user) Director ≡ false) where
       no_director : is_authorized (authorized_of after user) Director ≡ false
-      no_director = false_from_ne_true _ (λ is. false≢true (sym other ∙ less.roles Director is))
+      no_director = less.roles Director ∙ other
 
       passes : (test : ℕ → Bool) → guarding (viewer_of after user) (Hands board) test ≡ false → test board ≡ false
       passes test none = sym (to_others _ board test no_director) ∙ none
@@ -131,7 +131,7 @@ module _ (before after : SessionState) (user : List ℕ) (board : ℕ) (less : S
 
       watches_playing : is_authorized (authorized_of after user) Contestant ≡ true → Watches before user board
       watches_playing contestant =
-          let was = less.roles Contestant contestant in
+          let was = sym (less.roles Contestant) ∙ contestant in
           let role = and_left _ (not (is_authorized (authorized_of before user) Spectator)) (not_from_true _ was) in
           let played = second _ _ contestant (passes (λ b. is_authorized (authorized_of after user) Contestant && has_still_to_play after.public (viewer_of after user) b) (allows StillToPlay)) in
           let others = second _ _ contestant (passes (λ b. is_authorized (authorized_of after user) Contestant && (not (plays_board after.public (viewer_of after user) b) && not (is_complete after.public b))) (allows OthersStillPlay)) in
@@ -153,7 +153,7 @@ module _ (before after : SessionState) (user : List ℕ) (board : ℕ) (less : S
           let watching = not_from_false _ no_contestant in
           let spectator = not-false _ (second _ _ watching (passes (λ b. not (is_authorized (authorized_of after user) Contestant) && not (is_authorized (authorized_of after user) Spectator)) (allows NeitherContestantNorSpectator))) in
           let complete = not-false _ (second _ _ watching (passes (λ b. not (is_authorized (authorized_of after user) Contestant) && not (is_complete after.public b)) (allows BoardIsIncomplete))) in
-          watches_complete (complete_before complete) (and_right _ _ (not_from_true _ (less.roles Spectator spectator)))
+          watches_complete (complete_before complete) (and_right _ _ (not_from_true _ (sym (less.roles Spectator) ∙ spectator)))
 
       watches : Watches before user board
       watches =

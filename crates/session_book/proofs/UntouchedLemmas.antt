@@ -14,15 +14,12 @@ use Rattle.movement.proofs.CellLemmas.{cell_in_range}
 use Rattle.movement.proofs.ScheduleTests.{scheduled-cell}
 use Rattle.rbac.specs.Account.{same_name, assigned_roles, new_account, with_change}
 use Rattle.rbac.specs.Authorization.{reached}
-use Rattle.rbac.specs.Inheritance.{pair_of, without_pair}
-use Rattle.session_roles.specs.Role.{has, with_role, without_role}
+use Rattle.session_roles.specs.Role.{with_role, without_role}
 use Rattle.rbac.specs.declared.account.Account.{Account}
 use Rattle.rbac.specs.declared.inheritance.Inheritance.{Inheritance}
 use Rattle.session_roles.specs.declared.role.Role.{Role}
-use Rattle.rbac.proofs.AccountLemmas.{same_name_decides, changed, changed_other, name_kept, with_roles}
+use Rattle.rbac.proofs.AccountLemmas.{same_name_decides, changed, changed_other, name_kept}
 use Rattle.rbac.proofs.AuthorizationLemmas.{decides_is_reached}
-use Rattle.rbac.proofs.InheritanceLemmas.{reaches_without}
-use Rattle.session_roles.proofs.RoleLemmas.{has_without_role}
 use Rattle.disclosure_rules.specs.LiveCells.{is_live, tables_at, with_live, without_live}
 use Rattle.disclosure_rules.specs.Numbers.{has_number, with_number, without_number}
 use Rattle.disclosure_rules.specs.Policy.{is_authorized}
@@ -151,18 +148,12 @@ stands_up seats name user =
 abbrev roles_in : List Inheritance → Option Account → Option (List Role)
 roles_in pairs found = option_map (reached pairs) (option_map (λ account. account.assigned) found)
 
-reached_less : (pairs : List Inheritance) (assigned less : List Role) (role : Role) → ((r : Role) → has less r ≡ true → has assigned r ≡ true) →
-    has (reached pairs less) role ≡ true → has (reached pairs assigned) role ≡ true
-reached_less pairs assigned less role within is =
-    let some = (decides_is_reached pairs less role).0 is in
-    (decides_is_reached pairs assigned role).1 (some.0, within some.0 some.1, some.2)
-
 -- a user who joins has no role
 joined_none : (pairs : List Inheritance) (accounts : List Account) (name user : List ℕ) (role : Role) →
-    is_authorized (option_map (reached pairs) (assigned_roles (accounts ++ new_account name ∷ []) user)) role ≡ true → is_authorized (option_map (reached pairs) (assigned_roles accounts user)) role ≡ true
+    is_authorized (option_map (reached pairs) (assigned_roles (accounts ++ new_account name ∷ []) user)) role ≡ is_authorized (option_map (reached pairs) (assigned_roles accounts user)) role
 unfolding assigned_roles
-joined_none pairs accounts name user role is =
-    by_found (find p accounts) (sym (ap (λ found. is_authorized (roles_in pairs found) role) (find-append p accounts (new_account name ∷ []))) ∙ is)
+joined_none pairs accounts name user role =
+    ap (λ found. is_authorized (roles_in pairs found) role) (find-append p accounts (new_account name ∷ [])) ∙ by_found (find p accounts)
   where
     p : Account → Bool
     p = λ account. same_name account.name user
@@ -171,51 +162,47 @@ joined_none pairs accounts name user role is =
     by_name true is = let some = (decides_is_reached pairs [] role).0 is in false≢true some.1
     by_name false is = false≢true is
 
-    by_found : (found : Option Account) → is_authorized (roles_in pairs (option_or found (find p (new_account name ∷ [])))) role ≡ true → is_authorized (roles_in pairs found) role ≡ true
-    by_found (Some account) is = is
-    by_found None is = absurd (by_name (same_name name user) is)
+    by_found : (found : Option Account) → is_authorized (roles_in pairs (option_or found (find p (new_account name ∷ [])))) role ≡ is_authorized (roles_in pairs found) role
+    by_found (Some account) = refl
+    by_found None = false_from_ne_true _ (by_name (same_name name user))
 
--- a change of assigned roles that gives the user none leaves the user none more
-changed_less : (pairs : List Inheritance) (change : List Role → List Role) (name user : List ℕ) (role : Role) →
-    ((account : Account) → account.name ≡ user → (r : Role) → has (changed change name account).assigned r ≡ true → has account.assigned r ≡ true) → (accounts : List Account) →
-    is_authorized (option_map (reached pairs) (assigned_roles (with_change change name accounts) user)) role ≡ true → is_authorized (option_map (reached pairs) (assigned_roles accounts user)) role ≡ true
+-- a change of assigned roles that changes no account of the user's leaves the user the same roles
+changed_not : (pairs : List Inheritance) (change : List Role → List Role) (name user : List ℕ) (role : Role) →
+    ((account : Account) → account.name ≡ user → changed change name account ≡ account) → (accounts : List Account) →
+    is_authorized (option_map (reached pairs) (assigned_roles (with_change change name accounts) user)) role ≡ is_authorized (option_map (reached pairs) (assigned_roles accounts user)) role
 unfolding assigned_roles
-changed_less pairs change name user role within [] is = is
-changed_less pairs change name user role within (account ∷ accounts) is =
-    by_name (same_name account.name user) refl (changed_less pairs change name user role within accounts)
-    (ap (λ n. is_authorized (roles_in pairs (cond (same_name n user) (Some (changed change name account)) (find p (with_change change name accounts)))) role) (sym (name_kept change name account)) ∙ is)
+changed_not pairs change name user role same [] = refl
+changed_not pairs change name user role same (account ∷ accounts) =
+    ap (λ n. is_authorized (roles_in pairs (cond (same_name n user) (Some (changed change name account)) (find p (with_change change name accounts)))) role) (name_kept change name account)
+    ∙ by_name (same_name account.name user) refl (changed_not pairs change name user role same accounts)
   where
     p : Account → Bool
     p = λ other. same_name other.name user
 
     by_name : (b : Bool) → b ≡ same_name account.name user →
-        (is_authorized (roles_in pairs (find p (with_change change name accounts))) role ≡ true → is_authorized (roles_in pairs (find p accounts)) role ≡ true) →
-        is_authorized (roles_in pairs (cond b (Some (changed change name account)) (find p (with_change change name accounts)))) role ≡ true →
-        is_authorized (roles_in pairs (cond b (Some account) (find p accounts))) role ≡ true
-    by_name true named rest is = reached_less pairs account.assigned (changed change name account).assigned role (within account ((same_name_decides account.name user).0 (sym named))) is
-    by_name false other rest is = rest is
+        is_authorized (roles_in pairs (find p (with_change change name accounts))) role ≡ is_authorized (roles_in pairs (find p accounts)) role →
+        is_authorized (roles_in pairs (cond b (Some (changed change name account)) (find p (with_change change name accounts)))) role
+        ≡ is_authorized (roles_in pairs (cond b (Some account) (find p accounts))) role
+    by_name true named rest = ap (λ (a : Account). is_authorized (roles_in pairs (Some a)) role) (same account ((same_name_decides account.name user).0 (sym named)))
+    by_name false other rest = rest
 
-one_role_less : (b : Bool) (account : Account) (less role : Role) → has (cond b (with_roles account (without_role account.assigned less)) account).assigned role ≡ true → has account.assigned role ≡ true
-one_role_less true account less role is = (and_parts _ _ (sym (has_without_role account.assigned less role) ∙ is)).1
-one_role_less false account less role is = is
-
--- nor does a hierarchy with one pair less
-one_pair_less : (pairs : List Inheritance) (pair : Inheritance) (role : Role) (assigned : Option (List Role)) →
-    is_authorized (option_map (reached (without_pair pairs pair)) assigned) role ≡ true → is_authorized (option_map (reached pairs) assigned) role ≡ true
-one_pair_less pairs pair role None is = is
-one_pair_less pairs pair role (Some assigned) is =
-    let some = (decides_is_reached (without_pair pairs pair) assigned role).0 is in
-    (decides_is_reached pairs assigned role).1 (some.0, some.1, reaches_without pairs pair some.0 role some.2)
+-- so does a change of another user's
+others_change : (state : SessionState) (change : List Role → List Role) (name user : List ℕ) (role : Role) → same_name user name ≡ false →
+    is_authorized (option_map (reached state.roles.pairs) (assigned_roles (with_change change name state.roles.accounts) user)) role
+    ≡ is_authorized (option_map (reached state.roles.pairs) (assigned_roles state.roles.accounts user)) role
+others_change state change name user role other =
+    changed_not state.roles.pairs change name user role
+    (λ account named. changed_other change name account (λ same. false≢true (sym other ∙ (same_name_decides user name).1 (sym named ∙ same)))) state.roles.accounts
 
 -- states that differ in one part
 nothing_changed : (state : SessionState) (user : List ℕ) (board : ℕ) → ShowsNoMore state state user board
-nothing_changed state user board = record { movement = refl; roles = λ role is. is; seat = inl refl; held = λ is. is; live = λ table is. is }
+nothing_changed state user board = record { movement = refl; roles = λ role. refl; seat = inl refl; held = λ is. is; live = λ table is. is }
 
 result_elsewhere : (state : SessionState) (cell : Cell) (known : CellState) (user : List ℕ) (board : ℕ) → 1 ≤ cell.board → 1 ≤ board → board ≢ cell.board →
     ShowsNoMore state (with_result state cell known) user board
 result_elsewhere state cell known user board from from_other differ = record {
   movement = refl;
-  roles = λ role is. is;
+  roles = λ role. refl;
   seat = inl refl;
   held = λ is. is;
   live = λ table is. sym (other_board state.public.live cell table board from from_other differ) ∙ is;
@@ -234,7 +221,7 @@ confirmed_elsewhere state cell (Ruled north_south east_west reason) user board f
 effect_shows : (state : SessionState) (command : Command) (user : List ℕ) (board : ℕ) → ((cell : Cell) → subject_cell command ≡ Some cell → 1 ≤ cell.board) → 1 ≤ board → board ≤ 64 →
     is_touched (touched_by command) user board ≡ false → ShowsNoMore state (effect state command) user board
 effect_shows state (Enter table number outcome play) user board from low high untouched =
-    record { movement = refl; roles = λ role is. is; seat = inl refl; held = λ is. is; live = λ place is. is }
+    record { movement = refl; roles = λ role. refl; seat = inl refl; held = λ is. is; live = λ place is. is }
 effect_shows state (Confirm table number outcome) user board from low high untouched =
     let cell : Cell = record { table = table; board = number } in
     confirmed_elsewhere state cell (cell_at state cell) user board (from cell refl) low (not_equal board number untouched)
@@ -248,84 +235,72 @@ effect_shows state (Void table number) user board from low high untouched =
     let cell : Cell = record { table = table; board = number } in
     record {
       movement = refl;
-      roles = λ role is. is;
+      roles = λ role. refl;
       seat = inl refl;
       held = λ is. is;
       live = λ place is. fewer_live state.public.live cell place board (from cell refl) is;
     }
 effect_shows state (Hold number) user board from low high untouched = record {
   movement = refl;
-  roles = λ role is. is;
+  roles = λ role. refl;
   seat = inl refl;
   held = still_held state.public.held number board low high;
   live = λ place is. is;
 }
 effect_shows state (Release number) user board from low high untouched = record {
   movement = refl;
-  roles = λ role is. is;
+  roles = λ role. refl;
   seat = inl refl;
   held = other_held state.public.held number board low high untouched;
   live = λ place is. is;
 }
 effect_shows state (Seat name pair place) user board from low high untouched = record {
   movement = refl;
-  roles = λ role is. is;
+  roles = λ role. refl;
   seat = inl (other_sits state.seats (record { name = name; seat = record { pair = pair; place = place } }) user (not_named user name untouched));
   held = λ is. is;
   live = λ place is. is;
 }
 effect_shows state (Unseat name) user board from low high untouched = record {
   movement = refl;
-  roles = λ role is. is;
+  roles = λ role. refl;
   seat = stands_up state.seats name user;
   held = λ is. is;
   live = λ place is. is;
 }
 effect_shows state NextRound user board from low high untouched =
-    record { movement = refl; roles = λ role is. is; seat = inl refl; held = λ is. is; live = λ place is. is }
+    record { movement = refl; roles = λ role. refl; seat = inl refl; held = λ is. is; live = λ place is. is }
 effect_shows state Close user board from low high untouched =
-    record { movement = refl; roles = λ role is. is; seat = inl refl; held = λ is. is; live = λ place is. is }
+    record { movement = refl; roles = λ role. refl; seat = inl refl; held = λ is. is; live = λ place is. is }
 effect_shows state Finalise user board from low high untouched =
-    record { movement = refl; roles = λ role is. is; seat = inl refl; held = λ is. is; live = λ place is. is }
+    record { movement = refl; roles = λ role. refl; seat = inl refl; held = λ is. is; live = λ place is. is }
 effect_shows state (AddUser name digest) user board from low high untouched = record {
   movement = refl;
-  roles = λ role is. joined_none state.roles.pairs state.roles.accounts name user role is;
+  roles = joined_none state.roles.pairs state.roles.accounts name user;
   seat = inl refl;
   held = λ is. is;
   live = λ place is. is;
 }
 effect_shows state (Assign name more) user board from low high untouched = record {
   movement = refl;
-  roles = λ role is.
-      changed_less state.roles.pairs (λ set. with_role set more) name user role
-      (λ account named r has_it. ap (λ (a : Account). has a.assigned r)
-      (sym (changed_other (λ set. with_role set more) name account (λ same. false≢true (sym untouched ∙ (same_name_decides user name).1 (sym named ∙ same))))) ∙ has_it)
-      state.roles.accounts is;
+  roles = λ role. others_change state (λ set. with_role set more) name user role untouched;
   seat = inl refl;
   held = λ is. is;
   live = λ place is. is;
 }
 effect_shows state (Deassign name less) user board from low high untouched = record {
   movement = refl;
-  roles = λ role is.
-      changed_less state.roles.pairs (λ set. without_role set less) name user role
-      (λ account named r has_it. one_role_less (same_name account.name name) account less r has_it) state.roles.accounts is;
+  roles = λ role. others_change state (λ set. without_role set less) name user role untouched;
   seat = inl refl;
   held = λ is. is;
   live = λ place is. is;
 }
 effect_shows state (AddInheritance senior junior) user board from low high untouched = absurd (false≢true (sym untouched))
-effect_shows state (DeleteInheritance senior junior) user board from low high untouched = record {
-  movement = refl;
-  roles = λ role is. one_pair_less state.roles.pairs (pair_of senior junior) role (assigned_roles state.roles.accounts user) is;
-  seat = inl refl;
-  held = λ is. is;
-  live = λ place is. is;
-}
+effect_shows state (DeleteInheritance senior junior) user board from low high untouched = absurd (false≢true (sym untouched))
 effect_shows state (Solved number table) user board from low high untouched =
-    record { movement = refl; roles = λ role is. is; seat = inl refl; held = λ is. is; live = λ place is. is }
+    record { movement = refl; roles = λ role. refl; seat = inl refl; held = λ is. is; live = λ place is. is }
 effect_shows state (Analysed table number costs) user board from low high untouched =
-    record { movement = refl; roles = λ role is. is; seat = inl refl; held = λ is. is; live = λ place is. is }
+    record { movement = refl; roles = λ role. refl; seat = inl refl; held = λ is. is; live = λ place is. is }
 
 second_free : (a b rest : Option Refusal) → option_or a (option_or b rest) ≡ None → b ≡ None
 second_free None None rest none = refl

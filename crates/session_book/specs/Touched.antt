@@ -12,10 +12,10 @@ use Rattle.session_book.specs.declared.touched.Touched.TheVariants.{Nothing, Boa
 use Rattle.session_book.specs.ExposureTable.{user_at}
 
 -- what each command touches: a result may complete its board, and a board that is released is shown again, to anybody;
--- a user who takes a seat, or is assigned a role, may see more of any board; so may everybody who has a role that
--- inherits another. What is entered, voided or held, a seat that is left, a role that is taken away, an inheritance
--- that is deleted, a user with no role yet, a round and a phase let nobody see more; nor do the solver's numbers, since
--- no rule looks at what a fact says
+-- a user who takes a seat, is assigned a role or loses one may see more of any board, since a rule may bind or spare who
+-- has a role; so may everybody where an inheritance comes or goes. What is entered, voided or held, a seat that is left,
+-- a user with no role yet, a round and a phase let nobody see more; nor do the solver's numbers, since no rule looks at
+-- what a fact says
 abbrev pub touched_by : Command → Touched
 touched_by (Enter table board outcome play) = Nothing
 touched_by (Confirm table board outcome) = Board board
@@ -31,9 +31,9 @@ touched_by Close = Nothing
 touched_by Finalise = Nothing
 touched_by (AddUser name digest) = Nothing
 touched_by (Assign name role) = User name
-touched_by (Deassign name role) = Nothing
+touched_by (Deassign name role) = User name
 touched_by (AddInheritance senior junior) = Everything
-touched_by (DeleteInheritance senior junior) = Nothing
+touched_by (DeleteInheritance senior junior) = Everything
 touched_by (Solved board table) = Nothing
 touched_by (Analysed table board costs) = Nothing
 

@@ -26,8 +26,10 @@ pub fn touched_by(command: &Command) -> Touched
         | Command::Correct { board, .. }
         | Command::Rule { board, .. }
         | Command::Release { board } => Touched::Board(board),
-        Command::Seat { name, .. } | Command::Assign { name, .. } => Touched::User(name),
-        Command::AddInheritance { .. } => Touched::Everything,
+        Command::Seat { name, .. }
+        | Command::Assign { name, .. }
+        | Command::Deassign { name, .. } => Touched::User(name),
+        Command::AddInheritance { .. } | Command::DeleteInheritance { .. } => Touched::Everything,
         Command::Enter { .. }
         | Command::Void { .. }
         | Command::Hold { .. }
@@ -36,8 +38,6 @@ pub fn touched_by(command: &Command) -> Touched
         | Command::Close
         | Command::Finalise
         | Command::AddUser { .. }
-        | Command::Deassign { .. }
-        | Command::DeleteInheritance { .. }
         | Command::Solved { .. }
         | Command::Analysed { .. } => Touched::Nothing,
     }
