@@ -5,6 +5,7 @@ ghost use Rattle.movement.specs.Movement.{IsSection, most_boards};
 ghost use Rattle.disclosure_rules.specs.Seating.{IsSeatedAt};
 ghost use Rattle.session_state.specs.SessionState.{SessionState, viewer_of};
 ghost use Rattle.session_state.specs.OwnNumbers.{TellsOwn, KeepsOwn};
+ghost use Rattle.session_state.specs.Seats.{AreSeatsOf};
 ghost use Rattle.session_state.specs.session_commands.declared.entry.Entry.{Entry};
 ghost use Rattle.session_book.specs.Exposure.{SomeAllowed, is_exposed, result_cell};
 ghost use Rattle.session_book.specs.Journal.{replay, IsAccepted};
@@ -40,4 +41,11 @@ pub fn numbers_are_of_the_sessions_deals()
     ensures deals { (opening : SessionState) (journal : List Entry) → (replay opening journal).deals ≡ opening.deals }
     ensures kept { (opening : SessionState) (journal : List Entry) → IsSection opening.public.movement →
         KeepsOwn opening → KeepsOwn (replay opening journal) }
+{}
+
+/// A seat has at most one user, and is of a pair of the movement, at a place of the pair's side, after any journal of a
+/// session that opens so, as each does.
+pub fn seats_stay_of_the_movement()
+    ensures { (opening : SessionState) (journal : List Entry) → AreSeatsOf opening.public.movement opening.seats →
+        AreSeatsOf opening.public.movement (replay opening journal).seats }
 {}
