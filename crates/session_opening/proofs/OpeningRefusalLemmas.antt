@@ -108,15 +108,30 @@ account_joins before user none =
       apart = no_set _ e.0;
     }
 
--- where no cause is met, each user may join those before it
-pub users_join : (config : Config) → opening_refusal config ≡ None → JoinInTurn config.users
-unfolding opening_refusal
-users_join config none k d within =
-    let causes = users_causes config.movement [] config.users in
-    let of_users = (none_parts _ _ (sym (first_append causes (then_some (not (has_administrator (opening_roles config.users))) LastAdministrator ∷ [])) ∙ none)).0 in
-    let of_user = none_of_each config.movement [] config.users of_users k d within in
-    account_joins (take k config.users) (get_or config.users k d)
-    (none_parts _ _ (sym (first_append (account_causes (take k config.users) (get_or config.users k d)) (seat_causes config.movement (take k config.users) (get_or config.users k d) (get_or config.users k d).seat)) ∙ of_user)).0
+-- where no cause is met, none of a user's is
+module _ (config : Config) (none : opening_refusal config ≡ None) where
+  of_each : (k : ℕ) (d : NewUser) → k < length config.users →
+      first_cause (user_causes config.movement (take k config.users) (get_or config.users k d)) ≡ None
+  unfolding opening_refusal
+  of_each k d within =
+      let causes = users_causes config.movement [] config.users in
+      let of_users = (none_parts _ _ (sym (first_append causes (then_some (not (has_administrator (opening_roles config.users))) LastAdministrator ∷ [])) ∙ none)).0 in
+      none_of_each config.movement [] config.users of_users k d within
+
+  account_then_seat : (k : ℕ) (d : NewUser) → k < length config.users →
+      (first_cause (account_causes (take k config.users) (get_or config.users k d)) ≡ None)
+      × (first_cause (seat_causes config.movement (take k config.users) (get_or config.users k d) (get_or config.users k d).seat) ≡ None)
+  account_then_seat k d within =
+      none_parts _ _ (sym (first_append (account_causes (take k config.users) (get_or config.users k d)) (seat_causes config.movement (take k config.users) (get_or config.users k d) (get_or config.users k d).seat)) ∙ of_each k d within)
+
+  -- so each user may join those before it
+  pub users_join : JoinInTurn config.users
+  users_join k d within = account_joins (take k config.users) (get_or config.users k d) (account_then_seat k d within).0
+
+  -- and none of the causes in its seat is met
+  pub users_sit : (k : ℕ) (d : NewUser) → k < length config.users →
+      first_cause (seat_causes config.movement (take k config.users) (get_or config.users k d) (get_or config.users k d).seat) ≡ None
+  users_sit k d within = (account_then_seat k d within).1
 
 -- so there are not too many
 pub users_are_few : (users : List NewUser) → JoinInTurn users → length users ≤ most_users

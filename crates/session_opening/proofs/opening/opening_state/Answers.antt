@@ -9,9 +9,10 @@ use Rattle.session_opening.specs.declared.new_user.NewUser.{NewUser}
 use Rattle.session_opening.specs.NewUser.{account_of}
 use Rattle.session_opening.specs.Joining.{JoinInTurn}
 use Rattle.session_opening.specs.Opening.{opening_roles, opening_seats, opening_of}
-use Rattle.session_state.specs.Seats.{AreSeated}
+use Rattle.session_state.specs.Seats.{AreSeated, AreSeatsOf}
 use Rattle.session_state.specs.SessionState.{SessionState, most_cells}
 use Rattle.session_state.specs.session_commands.declared.cell_state.CellState.TheVariants.{Empty}
+use Rattle.session_opening.proofs.OpeningPlacedLemmas.{opening_placed}
 use Rattle.session_opening.proofs.OpeningRefusalLemmas.{users_join, users_are_few}
 use Rattle.session_opening.proofs.OpeningSeatLemmas.{users_seated}
 use Rattle.session_opening.proofs.opening.opening_state.Goals as goal
@@ -33,6 +34,13 @@ new-requires-clause-seated c =
     subst (λ roles. AreSeated roles c.in_ok-seats.seats.items) (sym c.in_ok-roles.ensures)
     (subst (AreSeated (opening_roles c.as_slice-users.result.now)) (sym c.in_ok-seats.ensures.items)
     (users_seated c.as_slice-users.result.now (subst JoinInTurn (sym c.as_slice-users.ensures) (users_join c.args.config.now c.requires.allowed))))
+
+pub new-requires-clause-placed : goal.new-requires-clause-placed
+new-requires-clause-placed c =
+    let config = c.args.config.now in
+    subst (λ (public : Public). AreSeatsOf public.movement c.in_ok-seats.seats.items) (sym c.public.ensures)
+    (subst (AreSeatsOf config.movement) (sym c.in_ok-seats.ensures.items)
+    (subst (λ users. AreSeatsOf config.movement (opening_seats users)) (sym c.as_slice-users.ensures) (opening_placed config c.requires.allowed)))
 
 pub digests-requires : goal.digests-requires
 digests-requires c = users_are_few c.as_slice-users.result.now (subst JoinInTurn (sym c.as_slice-users.ensures) (users_join c.args.config.now c.requires.allowed))
