@@ -1,7 +1,8 @@
 -- What the program's words ask for.
-use Rattle.std.specs.Prelude.{◌≡◌, ◌≢◌, ◌≤◌, List, [], Option, Some, codes, option_map}
+use Rattle.std.specs.Prelude.{◌≡◌, ◌≢◌, ◌≤◌, ℕ, List, [], Option, Some, IsSomeAnd, codes, option_map}
 use Rattle.std.specs.Option.{option_map_or}
-use Rattle.clap.specs.Words.{IsAmong, Kinds, Row, Text, fault_of, first_of, subcommand_of, subcommand_rows_of}
+use Rattle.std.specs.Str.Parse.{digits_value, without_leading_plus}
+use Rattle.clap.specs.Words.{IsAmong, Kinds, Row, Text, fault_of, first_of, one_of, subcommand_of, subcommand_rows_of}
 use Rattle.clap.specs.declared.error.kind.ErrorKind.TheVariants.{DisplayHelp, DisplayVersion}
 use Rattle.clap.specs.declared.parser.matches.ArgMatches.{ArgMatches}
 use Rattle.server_words.specs.CommandLine.{command_line, least_port, most_port, least_displays, most_displays, most_workers, most_connections}
@@ -15,6 +16,18 @@ pub record AreNumbersInRange (serving : Serving) : Type 0 where
   pub displays : (least_displays ≤ serving.displays) × (serving.displays ≤ most_displays)
   pub workers : serving.workers ≤ most_workers
   pub connections : serving.connections ≤ most_connections
+
+-- own: the option has a text, from the words or by default, and its digits write the number
+abbrev pub IsGiven : List Row → Text → ℕ → Type 0
+IsGiven options name number =
+    IsSomeAnd (one_of name options) (λ text. number ≡ digits_value 10 (without_leading_plus text))
+
+-- own: each number is that of its own option
+pub record AreNumbersGiven (options : List Row) (serving : Serving) : Type 0 where
+  pub port : IsGiven options (codes "port") serving.port
+  pub displays : IsGiven options (codes "displays") serving.displays
+  pub workers : IsGiven options (codes "workers") serving.workers
+  pub connections : IsGiven options (codes "connections") serving.connections
 
 -- the subcommand that the words name, with its options
 abbrev pub subcommand_in : List Text → Option (Text × List Row)
@@ -41,6 +54,7 @@ AsksFor words (Serve serving) =
     × (first_of (codes "session") (option_map_or (λ p. p.1) (subcommand_in words) []) ≡ Some serving.session.now)
     × (first_of (codes "deals") (option_map_or (λ p. p.1) (subcommand_in words) []) ≡ Some serving.deals.now)
     × AreNumbersInRange serving
+    × AreNumbersGiven (option_map_or (λ p. p.1) (subcommand_in words) []) serving
 
 -- ---- for private clauses
 

@@ -4,7 +4,7 @@ ghost use Rattle.std.specs.Prelude.{MatchResult, ◌≡◌, ◌⊎◌, ℕ, List
 ghost use Rattle.clap.specs.Words.{HasKind, app_of, first_of, found_of, kind_of, rows_of};
 ghost use Rattle.clap.specs.declared.error.kind.ErrorKind.TheVariants.{InvalidValue, OutOfMemory};
 ghost use Rattle.server_words.specs.CommandLine.{needing_one};
-ghost use Rattle.server_words.specs.Words.{AsksFor, AreNumbersInRange, IsReadFrom, faults_in};
+ghost use Rattle.server_words.specs.Words.{AsksFor, AreNumbersGiven, AreNumbersInRange, IsReadFrom, faults_in};
 
 use crate::command_line::{add_subcommands, plain_line};
 use crate::words::{Serving, Words};
@@ -83,31 +83,21 @@ fn serving_of<'a>(given: &ArgMatches<'a>) -> Option<Serving<'a>>
     ensures session { IfSome result (λ serving. first_of (codes "session") (rows_of (found_of given.now)) ≡ Some serving.session.now) }
     ensures deals { IfSome result (λ serving. first_of (codes "deals") (rows_of (found_of given.now)) ≡ Some serving.deals.now) }
     ensures range { IfSome result AreNumbersInRange }
+    ensures given { IfSome result (AreNumbersGiven (rows_of (found_of given.now))) }
 {
-    let (port, displays, workers, connections) = numbers_of(given)?;
     let serving = Serving {
         session: given.get_str("session")?,
         deals: given.get_str("deals")?,
-        port,
-        displays,
-        workers,
-        connections,
+        port: given.get_one("port")?,
+        displays: given.get_one("displays")?,
+        workers: given.get_one("workers")?,
+        connections: given.get_one("connections")?,
     };
     if serving.is_in_range() {
         Some(serving)
     } else {
         None
     }
-}
-
-// The port, and how many displays, workers and connections there are to be.
-fn numbers_of(given: &ArgMatches<'_>) -> Option<(u16, u8, u8, u32)> {
-    Some((
-        given.get_one("port")?,
-        given.get_one("displays")?,
-        given.get_one("workers")?,
-        given.get_one("connections")?,
-    ))
 }
 
 // What is said of a value out of its range. `clap` takes no such words: each option has a value, which is in its range.

@@ -1,5 +1,5 @@
 use Rattle.std.proofs.Common.{codes, sym}
-use Rattle.server_words.proofs.RowLemmas.{first_in_rows}
+use Rattle.server_words.proofs.RowLemmas.{first_in_rows, number_in_rows}
 use Rattle.server_words.proofs.reading.serving_of.Goals as goal
 
 pub returns-then-is_in_range-clause-session : goal.returns-then-is_in_range-clause-session
@@ -12,3 +12,13 @@ returns-then-is_in_range-clause-deals c =
 
 pub returns-then-is_in_range-clause-range : goal.returns-then-is_in_range-clause-range
 returns-then-is_in_range-clause-range c = c.is_in_range.ensures c.if-is_in_range.true
+
+pub returns-then-is_in_range-clause-given : goal.returns-then-is_in_range-clause-given
+returns-then-is_in_range-clause-given c =
+    let m = c.args.given.now in
+    record {
+      port = number_in_rows m (codes "port") 16 c.get_one.result c.in_ok-get_one.field-0 c.in_ok-get_one.was c.get_one.ensures.none c.get_one.ensures.value;
+      displays = number_in_rows m (codes "displays") 8 c.get_one-2.result c.in_ok-get_one-2.field-0 c.in_ok-get_one-2.was c.get_one-2.ensures.none c.get_one-2.ensures.value;
+      workers = number_in_rows m (codes "workers") 8 c.get_one-3.result c.in_ok-get_one-3.field-0 c.in_ok-get_one-3.was c.get_one-3.ensures.none c.get_one-3.ensures.value;
+      connections = number_in_rows m (codes "connections") 32 c.get_one-4.result c.in_ok-get_one-4.field-0 c.in_ok-get_one-4.was c.get_one-4.ensures.none c.get_one-4.ensures.value;
+    }
