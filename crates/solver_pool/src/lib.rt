@@ -18,4 +18,4 @@ pub use job::Job;
 pub use pool::Pool;
 pub use pool_error::{AddError, CollectError};
 pub use work::Work;
-pub use worker::{run_worker, solve_job};
+pub use worker::{run_worker, solve_job, solve_work};
