@@ -5,4 +5,6 @@ mod pool;
 mod ranking;
 mod roles;
 mod scores;
+mod told;
+mod visits;
 mod walked;

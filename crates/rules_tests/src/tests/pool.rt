@@ -1,8 +1,11 @@
-//! The pool and its workers: what it refuses, that workers work beside one another, and what they find.
+//! The pool and its workers: what it refuses, that workers work beside one another, what they find and when, and what
+//! becomes of a result for which there is no room.
 
 mod beside;
+mod dropping;
 mod pooling;
 mod solving;
+mod timing;
 
 use cards::Deal;
 use crossbeam_channel::{Receiver, Sender, unbounded};
