@@ -1,0 +1,104 @@
+// The messages of docs/PROTOCOL.md, as this page writes them, and the types of their answers.
+
+/** @typedef {"N"|"E"|"S"|"W"} Place */
+/** @typedef {"S"|"H"|"D"|"C"|"N"} Strain */
+/** @typedef {"none"|"ns"|"ew"|"both"} Vulnerability */
+/** @typedef {{by: Place, doubled: number, level: number, strain: Strain, tricks: number}} PlayedResult */
+/** @typedef {"pass"|PlayedResult} Result */
+/** @typedef {{board: number, rule: number, table: number, why: string}} Denied */
+
+/**
+ * What every member may see.
+ * @typedef {object} Status
+ * @property {number[]} held the boards that the director holds
+ * @property {number[][]} live for each board, from 1 on, the tables that have a result on it
+ * @property {string[]} marks for each board its dealer and who is vulnerable, as "E ns"
+ * @property {number} per_set
+ * @property {"Running"|"Closed"|"Final"} phase
+ * @property {number} round
+ * @property {number} rounds
+ * @property {[string, string, Place][]} seats a user's name, pair and place
+ * @property {number} tables
+ */
+
+/** @typedef {{deal: string, dealer: Place, number: number, vul: Vulnerability}} Board */
+/**
+ * @typedef {object} TravellerRow
+ * @property {string} ew
+ * @property {string} ns
+ * @property {number} table
+ * @property {Result} [result] how the board ended, where it was played
+ * @property {number} [score] what it scores for North-South
+ * @property {number} [points] the units that it earns North-South among the rows shown
+ * @property {[number, number]} [ruling] the percentages of a ruling
+ */
+/** @typedef {{board: number, tricks: Record<Place, number[]>|null}} Analysis in spades, hearts, diamonds, clubs, no trump */
+/** @typedef {{answers: string[], first: number, last: number, version: number}} Receipt */
+/** @typedef {{inherits: [string, string][], users: [string, string[]][]}} Accounts */
+/** @typedef {[number, string|null, string, string]} AuditRow number, user (null: the solver), word, what it is about */
+
+export const roles = ["Member", "Spectator", "Contestant", "Scorer", "Director", "Administrator"];
+
+/** @typedef {{ask: string, board?: number, table?: number, filter?: object, from?: number, limit?: number}} Query */
+
+export const ask = {
+  status: () => ({ ask: "status" }),
+  board: (board) => ({ ask: "board", board }),
+  traveller: (board) => ({ ask: "traveller", board }),
+  analysis: (board) => ({ ask: "analysis", board }),
+  play: (table, board) => ({ ask: "play", table, board }),
+  costs: (table, board) => ({ ask: "costs", table, board }),
+  reason: (table, board) => ({ ask: "reason", table, board }),
+  list: (filter, from = 1) => (filter ? { ask: "list", filter, from } : { ask: "list", from }),
+  ranking: () => ({ ask: "ranking" }),
+  accounts: () => ({ ask: "accounts" }),
+  audit: (from, limit) => ({ audit: { from, limit } }),
+};
+
+const bare = (cmd) => () => ({ cmd });
+const withBoard = (cmd) => (board) => ({ cmd, board });
+const withRole = (cmd) => (name, role) => ({ cmd, name, role });
+const withPair = (cmd) => (senior, junior) => ({ cmd, senior, junior });
+const withResult = (cmd) => (table, board, result, play = []) =>
+  play.length ? { cmd, table, board, result, play } : { cmd, table, board, result };
+
+export const command = {
+  enter: withResult("Enter"),
+  confirm: (table, board, result) => ({ cmd: "Confirm", table, board, result }),
+  correct: withResult("Correct"),
+  rule: (table, board, ns, ew, reason) => ({ cmd: "Rule", table, board, ns, ew, reason }),
+  void: (table, board) => ({ cmd: "Void", table, board }),
+  hold: withBoard("Hold"),
+  release: withBoard("Release"),
+  seat: (name, pair, place) => ({ cmd: "Seat", name, pair, place }),
+  unseat: (name) => ({ cmd: "Unseat", name }),
+  nextRound: bare("NextRound"),
+  close: bare("Close"),
+  finalise: bare("Finalise"),
+  addUser: (name, digest) => ({ cmd: "AddUser", name, digest }),
+  assign: withRole("Assign"),
+  deassign: withRole("Deassign"),
+  addInheritance: withPair("AddInheritance"),
+  deleteInheritance: withPair("DeleteInheritance"),
+};
+
+/**
+ * A batch that no session accepts, since there is no table 0 and no user without a name: its answers tell whether the
+ * user has the permission of a scorer, of a director and of an administrator, which no query tells.
+ */
+export const permissionProbe = () => ({
+  do: [command.enter(0, 0, "pass"), command.rule(0, 0, 0, 0, 1), command.assign("", "Member")],
+});
+
+/** @param {Receipt|{error: string}} receipt the answer to `permissionProbe` */
+export function permissionsOf(receipt) {
+  const answers = receipt.answers ?? [];
+  const permitted = (index) => answers[index] !== undefined && answers[index] !== "NotPermitted";
+  return { score: permitted(0), direct: permitted(1), administer: permitted(2) };
+}
+
+/** The word under which the reply to a query stands; an audit's stands under its own. */
+export const wordOf = (query) => query.ask ?? "audit";
+
+/** One text for each query: where its answer is kept. */
+export const keyOf = (query) => JSON.stringify(query);
