@@ -1,0 +1,300 @@
+// The page: its views by address, what the user does, and how often the server is asked.
+
+import { Connection, ConnectionFault } from "./connection.js";
+import { button, element, replaceContent } from "./dom.js";
+import { Drafts } from "./drafts.js";
+import { newForms } from "./forms.js";
+import { pauseOf } from "./pauses.js";
+import { addressOf, routeOf, serverAddress, serverPathOf } from "./routes.js";
+import { Store } from "./store.js";
+import { texts } from "./texts.js";
+import { statusDeniedView, viewNeeds, viewNodes } from "./views.js";
+import { footView, headView, offlineView, restartView } from "./views/frame.js";
+import { signInView } from "./views/sign_in.js";
+
+const part = (id) => document.getElementById(id);
+
+function storageOfTab() {
+  try {
+    return globalThis.sessionStorage;
+  } catch {
+    return null;
+  }
+}
+
+class Page {
+  route = routeOf(location.hash);
+  drafts = new Drafts(storageOfTab());
+  forms = newForms();
+  opened = new Set();
+  serverPath = serverPathOf(location.search);
+  isBusy = false;
+  isSlow = false;
+  offlineFor = 0;
+  hasLetters = false;
+  #armed = null;
+  #openDetails = new Set();
+  #failures = 0;
+  #timer = null;
+  #announced = "";
+  #isStale = false;
+  #store = this.#newStore();
+
+  get state() {
+    return this.#store.state;
+  }
+
+  start() {
+    addEventListener("hashchange", () => this.#routeChanged());
+    addEventListener("online", () => this.tryNow());
+    document.addEventListener("visibilitychange", () => !document.hidden && this.tryNow());
+    part("skip").addEventListener("click", (event) => {
+      event.preventDefault();
+      part("content").focus();
+    });
+    part("content").addEventListener("toggle", (event) => this.#noteDetails(event.target), true);
+    part("content").addEventListener("focusout", () => this.#isStale && queueMicrotask(() => this.draw()));
+    this.draw();
+    part("name")?.focus();
+  }
+
+  #newStore() {
+    const connection = new Connection(serverAddress(location, this.serverPath), { onSlow: (isSlow) => this.#setSlow(isSlow) });
+    return new Store(connection, { needs: () => viewNeeds(this), onChange: () => this.#stateChanged() });
+  }
+
+  setServerPath(path) {
+    this.serverPath = path;
+    this.#store = this.#newStore();
+  }
+
+  // ---- what the user does
+
+  async signIn(name, token) {
+    if (this.isBusy) return;
+    if (!name || !token) {
+      this.refuse(texts.signIn.badNameOrToken);
+      return;
+    }
+    const isKnown = await this.#whileBusy(() => this.#store.signIn(name, token));
+    if (isKnown === false) this.refuse(texts.signIn.notKnown);
+    if (!isKnown) return;
+    this.forms = newForms();
+    this.#failures = 0;
+    this.drawAnew();
+    this.#poll();
+  }
+
+  signOut = () => {
+    clearTimeout(this.#timer);
+    this.#store.signOut();
+    this.forms = newForms();
+    this.opened.clear();
+    Object.assign(this, { offlineFor: 0, isSlow: false });
+    this.#notice("", texts.signIn.signedOut);
+    this.drawAnew();
+  };
+
+  /** Sends commands, and says in words what came of them; `then` is called where the first one was accepted. */
+  async perform(commands, done, then = () => {}) {
+    if (this.isBusy) return;
+    const receipt = await this.#whileBusy(() => this.#store.perform(commands));
+    if (!receipt) return;
+    const answers = receipt.answers ?? [];
+    if (answers[0] === "ok") then();
+    const refused = answers.find((answer) => answer !== "ok");
+    if (receipt.error) this.#notice(texts.error(receipt.error), "");
+    else if (refused) this.#notice(texts.refusal(refused), answers[0] === "ok" ? done : "");
+    else this.#notice("", done);
+    this.draw();
+    this.#poll();
+  }
+
+  refuse(text) {
+    this.#notice(text, "");
+  }
+
+  forget(user, table, board) {
+    for (const step of ["enter", "confirm"]) this.drafts.remove(user, step, table, board);
+    this.drafts.setEntered(user, table, board, false);
+  }
+
+  setRoute({ view, table, board }) {
+    const numbers = view === "board" ? [board, table] : [table, board];
+    location.hash = addressOf(view, ...numbers.filter((number) => number > 0));
+  }
+
+  setLetters(hasLetters) {
+    this.hasLetters = hasLetters;
+    document.body.classList.toggle("letters", hasLetters);
+  }
+
+  toggle(key) {
+    if (!this.opened.delete(key)) this.opened.add(key);
+    this.draw();
+  }
+
+  /** A button that asks once more before it acts. */
+  twoStep(id, label, sure, act) {
+    const arm = (armed, focused) => {
+      this.#armed = armed;
+      this.draw();
+      part(focused)?.focus();
+    };
+    if (this.#armed !== id) return button(id, label, () => arm(id, `${id}-sure`), { class: "quiet" });
+    const sureButton = button(`${id}-sure`, texts.sure, () => {
+      this.#armed = null;
+      act();
+    }, { class: "main", "aria-describedby": `${id}-question` });
+    return element("span", { class: "sure", role: "group", "aria-label": label },
+      element("span", { id: `${id}-question` }, sure), " ", sureButton, " ", button(`${id}-cancel`, texts.cancel, () => arm(null, id), { class: "quiet" }));
+  }
+
+  answer(query) {
+    return this.#store.answerOf(query);
+  }
+
+  /** Draws, and asks for what the view needs now. */
+  lookAgain() {
+    this.draw();
+    this.#poll();
+  }
+
+  tryNow = () => {
+    if (this.state.user) this.#poll();
+  };
+
+  understood = () => {
+    this.state.wasRestarted = false;
+    this.draw();
+  };
+
+  // ---- asking the server
+
+  async #poll() {
+    clearTimeout(this.#timer);
+    const { user } = this.state;
+    try {
+      await this.#store.refresh();
+      // What was asked for while another refresh was going on is still missing.
+      if (viewNeeds(this).some((query) => !this.answer(query))) await this.#store.refresh();
+      this.#reached();
+    } catch (fault) {
+      this.#missed(fault);
+    }
+    if (this.state.user === null || user !== this.state.user) return;
+    clearTimeout(this.#timer);
+    this.#timer = setTimeout(() => this.#poll(), pauseOf(this.#failures, document.hidden, Math.random()));
+  }
+
+  #reached() {
+    this.#failures = 0;
+    if (this.offlineFor) {
+      this.offlineFor = 0;
+      this.draw();
+    }
+  }
+
+  #missed(fault) {
+    if (!(fault instanceof ConnectionFault)) throw fault;
+    if (this.state.user === null) return;
+    if (fault.kind === "notKnown") {
+      this.signOut();
+      this.#notice(texts.fault.notKnown, "");
+      return;
+    }
+    this.#failures += 1;
+    this.offlineFor = Math.ceil(pauseOf(this.#failures, document.hidden, 1) / 1000);
+    this.#drawStrips();
+  }
+
+  /** @returns {Promise<any>} undefined where the server couldn't be reached, which is said */
+  async #whileBusy(act) {
+    this.isBusy = true;
+    this.#notice("", "");
+    this.draw();
+    try {
+      return await act();
+    } catch (fault) {
+      if (!(fault instanceof ConnectionFault)) throw fault;
+      this.refuse(texts.fault[fault.kind]);
+      if (this.state.user) this.#poll();
+      return undefined;
+    } finally {
+      this.isBusy = false;
+      this.draw();
+    }
+  }
+
+  // ---- drawing
+
+  #routeChanged() {
+    this.route = routeOf(location.hash);
+    this.#armed = null;
+    this.#notice("", "");
+    this.drawAnew();
+    if (this.state.user) this.#poll();
+  }
+
+  /** A list of choices that is open isn't drawn over. */
+  #stateChanged() {
+    if (document.activeElement?.tagName === "SELECT") this.#isStale = true;
+    else this.draw();
+  }
+
+  #setSlow(isSlow) {
+    if (this.isSlow === isSlow) return;
+    this.isSlow = isSlow;
+    this.#drawStrips();
+  }
+
+  draw() {
+    this.#isStale = false;
+    replaceContent(part("top"), headView(this));
+    const hadFocus = part("content").contains(document.activeElement) && document.activeElement !== part("content");
+    replaceContent(part("content"), this.#content());
+    for (const details of part("content").querySelectorAll("details[id]")) if (this.#openDetails.has(details.id)) details.open = true;
+    if (hadFocus && document.activeElement === document.body) part("heading")?.focus({ preventScroll: true });
+    replaceContent(part("foot"), footView(this));
+    this.#drawStrips();
+    this.#announce();
+  }
+
+  drawAnew() {
+    this.draw();
+    scrollTo(0, 0);
+    part("heading")?.focus({ preventScroll: true });
+    document.title = `${part("heading")?.textContent ?? ""} – ${texts.title}`;
+  }
+
+  #content() {
+    if (this.state.user === null) return signInView(this);
+    if (this.state.statusDenied) return statusDeniedView(this);
+    return viewNodes(this);
+  }
+
+  #drawStrips() {
+    replaceContent(part("offline"), offlineView(this), restartView(this));
+  }
+
+  #notice(refusal, done) {
+    replaceContent(part("refusal"), refusal && element("p", {}, refusal));
+    replaceContent(part("done"), done && element("p", {}, done));
+  }
+
+  /** Tells who listens what was denied, when it changes. */
+  #announce() {
+    const text = [...part("content").querySelectorAll(".denial-sentence")].map((sentence) => sentence.textContent).join(" ");
+    if (text === this.#announced) return;
+    this.#announced = text;
+    replaceContent(part("announcements"), text);
+  }
+
+  #noteDetails(details) {
+    if (!details.id) return;
+    if (details.open) this.#openDetails.add(details.id);
+    else this.#openDetails.delete(details.id);
+  }
+}
+
+new Page().start();

@@ -1,0 +1,71 @@
+// A board: its hands, traveller, double-dummy table, and the play at a table. Each part is asked for by itself, and each
+// may be denied by itself.
+
+import { button, element, link, table, tiles } from "../dom.js";
+import { ask } from "../messages.js";
+import { isHeld, marksOf, seatOf, tableOfPair } from "../public_facts.js";
+import { rowsOfBoard } from "../movement.js";
+import { addressOf } from "../routes.js";
+import { texts } from "../texts.js";
+import { answerView } from "./denial.js";
+import { handsView } from "./hands.js";
+import { heading, section, strainMark } from "./marks.js";
+import { playView } from "./play.js";
+import { travellerView } from "./traveller.js";
+
+export function boardNeeds({ facts }, { board, table: chosen }) {
+  if (!facts || !facts.boards.includes(board)) return [];
+  const about = [ask.board(board), ask.traveller(board), ask.analysis(board)];
+  return chosen ? [...about, ask.play(chosen, board), ask.costs(chosen, board), ask.reason(chosen, board)] : about;
+}
+
+export function boardView(page, { board, table: chosen }) {
+  const { facts, user } = page.state;
+  if (!facts.boards.includes(board)) return [heading(texts.board.title(board)), element("p", { class: "error" }, texts.error("NoSuchBoard"))];
+  const pair = seatOf(facts, user)?.pair ?? null;
+  const hands = page.answer(ask.board(board));
+  const denied = hands?.denied;
+  const { dealer, vulnerability } = marksOf(facts, board);
+  return [
+    heading(texts.board.title(board), turns(facts, board)),
+    element("p", { class: "marks" }, texts.marks(dealer, vulnerability), " ", isHeld(facts, board) && element("strong", {}, texts.board.held)),
+    section(texts.board.hands, answerView(page, ask.board(board), handsView)),
+    !denied && hands && section(texts.board.traveller, answerView(page, ask.traveller(board), (traveller) => travellerView(traveller, pair))),
+    !denied && hands && section(texts.board.analysis, answerView(page, ask.analysis(board), analysisView)),
+    !denied && hands && playSection(page, board, chosen, pair ? tableOfPair(facts, pair, board) : 0),
+  ];
+}
+
+function turns(facts, board) {
+  const to = (other, text, id) => (facts.boards.includes(other) ? link(addressOf("board", other), text, { id, class: "turn" }) : null);
+  return element("p", { class: "turns" }, to(board - 1, texts.board.previous, "previous-board"), to(board + 1, texts.board.next, "next-board"));
+}
+
+/** @param {import("../messages.js").Analysis} analysis */
+function analysisView(analysis) {
+  if (analysis.tricks === null) return element("p", {}, texts.board.pending);
+  const order = [4, 0, 1, 2, 3];
+  const heads = [texts.board.declarer, ...["N", "S", "H", "D", "C"].map((strain) => element("th", { scope: "col" }, strainMark(strain)))];
+  const rows = ["N", "S", "E", "W"].map((place) => [texts.place[place], ...order.map((index) => analysis.tricks[place][index])]);
+  return [table(texts.board.analysisCaption, heads, rows, { class: "analysis" }), element("p", { class: "note" }, texts.board.analysisNote)];
+}
+
+function playSection(page, board, chosen, own) {
+  const { facts } = page.state;
+  const options = rowsOfBoard(facts.rows, board, facts.per_set).map((row) => [row.table, String(row.table), texts.board.atTable(row.table, row.table === own)]);
+  const choose = (value) => page.setRoute({ view: "board", board, table: value });
+  return section(texts.board.play,
+    tiles("play-table", texts.board.chooseTable, options, chosen, choose),
+    chosen > 0 && playOfTable(page, board, chosen),
+    chosen > 0 && button("close-play", texts.board.closePlay, () => choose(0), { class: "quiet" }));
+}
+
+function playOfTable(page, board, chosen) {
+  const row = page.answer(ask.traveller(board))?.value?.rows.find((each) => each.table === chosen);
+  const costs = page.answer(ask.costs(chosen, board));
+  return [
+    answerView(page, ask.play(chosen, board), ({ cards }) => playView(cards, costs?.value?.costs ?? null, row?.result)),
+    costs?.denied && !page.answer(ask.play(chosen, board))?.denied && answerView(page, ask.costs(chosen, board), () => null),
+    row?.ruling && answerView(page, ask.reason(chosen, board), ({ code }) => element("p", { class: "reason" }, texts.board.reason(code))),
+  ];
+}

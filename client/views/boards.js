@@ -1,0 +1,33 @@
+// A player's own boards, round by round, each with its state.
+
+import { element, link } from "../dom.js";
+import { boardsOf } from "../movement.js";
+import { awaitedTables, boardStateOf, playersOf, seatOf } from "../public_facts.js";
+import { addressOf } from "../routes.js";
+import { texts } from "../texts.js";
+import { heading, section, stateMark } from "./marks.js";
+
+export const boardsNeeds = () => [];
+
+export function boardsView(page) {
+  const { facts, user } = page.state;
+  const seat = seatOf(facts, user);
+  if (!seat) return [heading(texts.boards.title), element("p", {}, texts.session.noSeat)];
+  const rows = facts.rows.filter((row) => row.ns === seat.pair || row.ew === seat.pair);
+  return [heading(texts.boards.title), element("p", {}, texts.boards.explained), rows.map((row) => roundView(facts, row, seat.pair))];
+}
+
+function roundView(facts, row, pair) {
+  const against = row.ns === pair ? row.ew : row.ns;
+  const players = playersOf(facts, against).join(", ");
+  const title = texts.boards.round(row.round, row.round === facts.round && facts.phase === "Running");
+  return section(title,
+    element("p", {}, texts.boards.against(row.table, against, players)),
+    element("ul", { class: "board-list" }, boardsOf(row.set, facts.per_set).map((board) => boardItem(facts, row, board))));
+}
+
+function boardItem(facts, row, board) {
+  const state = boardStateOf(facts, row.table, board);
+  const text = texts.boards.state(state, awaitedTables(facts, board).length);
+  return element("li", {}, link(addressOf("board", board), [element("b", {}, texts.board.title(board)), stateMark(state, text)], { id: `own-board-${board}` }));
+}

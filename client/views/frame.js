@@ -1,0 +1,45 @@
+// What stands around every view: the head with its links, and the foot.
+
+import { button, element, link } from "../dom.js";
+import { seatOf } from "../public_facts.js";
+import { addressOf } from "../routes.js";
+import { texts } from "../texts.js";
+
+/** The views that are of use to the user, in the order of their links. */
+export function viewsOf({ facts, user, permissions }) {
+  if (!facts) return [];
+  return [
+    "session", ...(seatOf(facts, user) ? ["boards"] : []), "ranking", "find", "papers",
+    ...(permissions.score ? ["scorer"] : []),
+    ...(permissions.direct ? ["director"] : []),
+    ...(permissions.direct || permissions.administer ? ["accounts", "audit"] : []),
+  ];
+}
+
+export function headView(page) {
+  const { state, route } = page;
+  const present = { board: seatOf(state.facts ?? { seats: [] }, state.user) ? "boards" : "session" }[route.view] ?? route.view;
+  return element("div", { class: "bar" },
+    element("p", { class: "brand" }, texts.title),
+    state.user && element("p", { class: "who" }, element("span", {}, texts.frame.signedInAs(state.user)), " ", button("sign-out", texts.frame.signOut, page.signOut, { class: "quiet" })),
+    state.user && element("nav", { "aria-label": texts.frame.nav }, element("ul", {}, viewsOf(state).map((view) =>
+      element("li", {}, link(addressOf(view), texts.frame.view[view], { id: `nav-${view}`, "aria-current": view === present ? "page" : null }))))));
+}
+
+export function footView(page) {
+  const { state } = page;
+  return element("div", { class: "bar" },
+    state.facts && element("p", { id: "as-of", "data-version": state.version }, texts.frame.asOf(state.version)),
+    element("p", {}, element("label", { for: "letters", class: "check" },
+      element("input", { type: "checkbox", id: "letters", checked: page.hasLetters, onChange: (event) => page.setLetters(event.target.checked) }), " ", texts.frame.letters)));
+}
+
+export function offlineView(page) {
+  if (page.isSlow) return element("p", {}, texts.frame.slow);
+  if (page.offlineFor) return element("p", {}, texts.frame.offline(page.offlineFor), " ", button("try-now", texts.frame.tryNow, page.tryNow));
+  return null;
+}
+
+export function restartView(page) {
+  return page.state.wasRestarted && element("p", { class: "restarted" }, texts.frame.restarted, " ", button("understood", texts.frame.understood, page.understood));
+}

@@ -1,0 +1,37 @@
+// Signing in: a name and a token. The token goes from the field to the connection, and nowhere else.
+
+import { element, field } from "../dom.js";
+import { isServerPath } from "../routes.js";
+import { texts } from "../texts.js";
+import { heading } from "./marks.js";
+
+export function signInView(page) {
+  const { signIn } = page.forms;
+  const submit = (event) => {
+    event.preventDefault();
+    const token = document.getElementById("token");
+    page.signIn(signIn.name.trim(), token.value);
+  };
+  return [
+    heading(texts.signIn.title),
+    element("p", {}, texts.signIn.explained),
+    element("form", { id: "sign-in", class: "panel narrow", onSubmit: submit },
+      field("name", texts.signIn.name, { value: signIn.name, required: true, autocomplete: "username", onInput: (event) => { signIn.name = event.target.value; } }),
+      field("token", texts.signIn.token, { type: "password", required: true, autocomplete: "off" }, texts.signIn.tokenNote),
+      element("button", { id: "sign-in-button", class: "main", "aria-disabled": page.isBusy ? "true" : null }, page.isBusy ? texts.signIn.busy : texts.signIn.button)),
+    settings(page),
+  ];
+}
+
+/** The server's path on the page's own host: no other host can be asked, by the page's Content-Security-Policy too. */
+function settings(page) {
+  const change = (event) => {
+    const path = event.target.value.trim();
+    event.target.setCustomValidity(isServerPath(path) ? "" : texts.signIn.badPath);
+    event.target.reportValidity();
+    if (isServerPath(path)) page.setServerPath(path);
+  };
+  return element("details", { id: "settings", class: "narrow" },
+    element("summary", { id: "settings-summary" }, texts.signIn.settings),
+    field("server-path", texts.signIn.path, { value: page.serverPath, onChange: change }, texts.signIn.pathNote(globalThis.location.host)));
+}
