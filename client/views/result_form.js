@@ -28,10 +28,10 @@ function contractTiles(name, draft, set, vulnerability) {
   const strain = (value) => [value, strainMark(value), texts.strain[value]];
   const declarer = (place) => [place, place, isVulnerable(place, vulnerability) ? texts.form.vulnerable(texts.place[place]) : texts.place[place]];
   return [
-    tiles(`${name}-level`, texts.form.level, [1, 2, 3, 4, 5, 6, 7].map((level) => [level, level]), draft.level, set("level")),
-    tiles(`${name}-strain`, texts.form.strain, ["C", "D", "H", "S", "N"].map(strain), draft.strain, set("strain")),
-    tiles(`${name}-by`, texts.form.by, ["N", "E", "S", "W"].map(declarer), draft.by, set("by")),
-    tiles(`${name}-doubled`, texts.form.doubled, [0, 1, 2].map((count) => [count, texts.form.doublings[count]]), draft.doubled, set("doubled")),
+    tiles(`${name}-level`, texts.form.level, [1, 2, 3, 4, 5, 6, 7].map((level) => [level, level]), draft.level, set("level"), { class: "tiles columns-7" }),
+    tiles(`${name}-strain`, texts.form.strain, ["C", "D", "H", "S", "N"].map(strain), draft.strain, set("strain"), { class: "tiles columns-5" }),
+    tiles(`${name}-by`, texts.form.by, ["N", "E", "S", "W"].map(declarer), draft.by, set("by"), { class: "tiles columns-4" }),
+    tiles(`${name}-doubled`, texts.form.doubled, [0, 1, 2].map((count) => [count, texts.form.doublings[count], texts.form.doublingsInWords[count]]), draft.doubled, set("doubled"), { class: "tiles columns-3" }),
   ];
 }
 
@@ -39,7 +39,7 @@ function tricksTiles(name, draft, set) {
   if (draft.level === null) return element("p", { class: "note" }, texts.form.levelFirst);
   const { made, set: under } = oversOf(draft.level);
   const option = (over) => [over, overText(over), texts.overInWords(over, draft.level + 6 + over)];
-  return tiles(`${name}-over`, texts.form.tricks(draft.level + 6), [...made, ...under].map(option), draft.over, set("over"), { class: "tiles tricks" });
+  return tiles(`${name}-over`, texts.form.tricks(draft.level + 6), [...made, ...under].map(option), draft.over, set("over"), { class: "tiles columns-7" });
 }
 
 function playField(name, draft, onChange) {
