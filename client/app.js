@@ -134,14 +134,14 @@ class Page {
     this.draw();
   }
 
-  /** A button that asks once more before it acts. */
-  twoStep(id, label, sure, act) {
+  /** A button that asks once more before it acts; what is drawn on it may be shorter than its label. */
+  twoStep(id, label, sure, act, drawn = label) {
     const arm = (armed, focused) => {
       this.#armed = armed;
       this.draw();
       part(focused)?.focus();
     };
-    if (this.#armed !== id) return button(id, label, () => arm(id, `${id}-sure`), { class: "quiet" });
+    if (this.#armed !== id) return button(id, drawn, () => arm(id, `${id}-sure`), { class: "quiet", "aria-label": drawn === label ? null : label });
     const sureButton = button(`${id}-sure`, texts.sure, () => {
       this.#armed = null;
       act();

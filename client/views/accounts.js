@@ -27,8 +27,8 @@ function userItem(page, name, assigned) {
   const chosen = page.forms.assign.get(name) ?? free[0];
   return element("li", {}, element("b", { class: "user-name" }, name),
     assigned.map((role) => page.twoStep(`deassign-${name}-${role}`, texts.accounts.roleButton(role, name), texts.accounts.deassignSure(role, name),
-      () => page.perform([command.deassign(name, role)], texts.accounts.deassigned(role, name)))),
-    free.length > 0 && element("details", { id: `assign-part-${name}` }, element("summary", { id: `assign-summary-${name}` }, texts.accounts.assignTo(name)),
+      () => page.perform([command.deassign(name, role)], texts.accounts.deassigned(role, name)), `${role} ×`)),
+    free.length > 0 && element("details", { id: `assign-part-${name}` }, element("summary", { id: `assign-summary-${name}`, "aria-label": texts.accounts.assignTo(name) }, texts.accounts.assignShort),
       element("div", { class: "fields" },
         choice(`assign-role-${name}`, texts.accounts.role, free.map((role) => [role, role]), chosen, (value) => { page.forms.assign.set(name, value); page.draw(); }),
         button(`assign-${name}`, texts.accounts.assign, () => page.perform([command.assign(name, page.forms.assign.get(name) ?? free[0])], texts.accounts.assigned(page.forms.assign.get(name) ?? free[0], name))))));
@@ -43,7 +43,7 @@ function inheritanceSection(page, accounts) {
     element("p", { class: "note" }, texts.accounts.inheritanceNote),
     element("ul", { class: "rows" }, accounts.inherits.map(([senior, junior]) => element("li", {}, element("span", {}, texts.accounts.inherits(senior, junior)), " ",
       mayChange && page.twoStep(`delete-${senior}-${junior}`, texts.accounts.deletePair(senior, junior), texts.accounts.deletePairSure(senior, junior),
-        () => page.perform([command.deleteInheritance(senior, junior)], texts.accounts.pairDeleted(senior, junior)))))),
+        () => page.perform([command.deleteInheritance(senior, junior)], texts.accounts.pairDeleted(senior, junior)), texts.accounts.delete)))),
     mayChange && element("div", { class: "fields" },
       choice("senior", texts.accounts.senior, options, form.senior, set("senior")),
       choice("junior", texts.accounts.junior, options, form.junior, set("junior")),

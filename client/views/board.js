@@ -38,7 +38,7 @@ export function boardView(page, { board, table: chosen }) {
 
 function turns(facts, board) {
   const to = (other, text, id) => (facts.boards.includes(other) ? link(addressOf("board", other), text, { id, class: "turn" }) : null);
-  return element("p", { class: "turns" }, to(board - 1, texts.board.previous, "previous-board"), to(board + 1, texts.board.next, "next-board"));
+  return element("p", { class: "turns" }, to(board - 1, texts.board.previous(board - 1), "previous-board"), to(board + 1, texts.board.next(board + 1), "next-board"));
 }
 
 /** @param {import("../messages.js").Analysis} analysis */
@@ -63,9 +63,10 @@ function playSection(page, board, chosen, own) {
 function playOfTable(page, board, chosen) {
   const row = page.answer(ask.traveller(board))?.value?.rows.find((each) => each.table === chosen);
   const costs = page.answer(ask.costs(chosen, board));
+  const hasPlay = page.answer(ask.play(chosen, board))?.value?.cards?.length > 0;
   return [
     answerView(page, ask.play(chosen, board), ({ cards }) => playView(cards, costs?.value?.costs ?? null, row?.result)),
-    costs?.denied && !page.answer(ask.play(chosen, board))?.denied && answerView(page, ask.costs(chosen, board), () => null),
+    costs?.denied && hasPlay && answerView(page, ask.costs(chosen, board), () => null),
     row?.ruling && answerView(page, ask.reason(chosen, board), ({ code }) => element("p", { class: "reason" }, texts.board.reason(code))),
   ];
 }

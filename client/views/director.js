@@ -15,7 +15,7 @@ export function directorNeeds(state, { table, board }) {
 export function directorView(page, { table, board }) {
   if (table && board) return cellDeskView(page, table, board);
   return [
-    heading(texts.director.title, element("p", {}, link(addressOf("audit"), texts.audit.title, { id: "to-audit" }))),
+    heading(texts.director.title),
     roundSection(page), resultSection(page), heldSection(page), seatsSection(page),
   ];
 }

@@ -7,7 +7,7 @@ import { percentText, placesOf, unitsText } from "../percentages.js";
 import { playersOf, seatOf } from "../public_facts.js";
 import { texts } from "../texts.js";
 import { answerView } from "./denial.js";
-import { heading, pairMark } from "./marks.js";
+import { heading, pairMark, section } from "./marks.js";
 
 export const rankingNeeds = () => [ask.ranking()];
 
@@ -19,7 +19,7 @@ export function rankingView(page) {
     ranking && element("p", { class: "actions no-print" },
       button("print-ranking", texts.papers.print, () => globalThis.print(), { class: "quiet" }),
       button("csv-ranking", texts.papers.csv, () => download("ranking.csv", rankingCsv(page.state.facts, ranking)), { class: "quiet" })),
-    answerView(page, ask.ranking(), (rows) => rankingTable(page.state.facts, rows, seatOf(page.state.facts, page.state.user)?.pair)),
+    section(null, answerView(page, ask.ranking(), (rows) => rankingTable(page.state.facts, rows, seatOf(page.state.facts, page.state.user)?.pair))),
   ];
 }
 
