@@ -63,6 +63,7 @@ const errors = {
   NoSuchCell: "This table isn't scheduled to play this board.",
   NotPermitted: "This is for directors and administrators.",
   NotSignedIn: "Nobody is signed in.",
+  Unreadable: "The page can't read what the server answered.",
   BadDeal: "The page can't read the hands that the server sent.",
 };
 

@@ -12,7 +12,7 @@ import { texts } from "../texts.js";
  * @param {number} version of the denial
  */
 export function denialView(page, query, denied, version) {
-  const key = `denial ${keyOf(query)}`;
+  const key = `denial ${denied.rule} ${keyOf(query)}`;
   const isOpen = page.opened.has(key);
   const id = `check-${query.ask}-${query.table ?? 0}-${query.board ?? 0}`;
   return element("div", { class: "denial", "data-rule": denied.rule, "data-board": denied.board, "data-table": denied.table },
@@ -44,5 +44,11 @@ export function answerView(page, query, show) {
   if (!answer) return element("p", { class: "waiting" }, texts.waiting);
   if (answer.denied) return denialView(page, query, answer.denied, answer.version);
   if (answer.error) return element("p", { class: "error" }, texts.error(answer.error));
-  return show(answer.value);
+  try {
+    return show(answer.value);
+  } catch (fault) {
+    // An answer of another shape than docs/PROTOCOL.md's must not take the whole page away.
+    if (!(fault instanceof TypeError)) throw fault;
+    return element("p", { class: "error" }, texts.error("Unreadable"));
+  }
 }

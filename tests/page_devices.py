@@ -1,0 +1,278 @@
+"""What tests/page_session.py works with: the server, nginx before it, browsers, and the server's replies read without the page."""
+import asyncio
+import json
+import pathlib
+import re
+import shutil
+import socket
+import subprocess
+import tempfile
+import time
+
+import websockets
+from selenium import webdriver
+from selenium.common.exceptions import JavascriptException, StaleElementReferenceException
+from selenium.webdriver.common.action_chains import ActionChains
+from selenium.webdriver.common.by import By
+from selenium.webdriver.common.keys import Keys
+from selenium.webdriver.chrome.service import Service
+
+TOP = pathlib.Path(__file__).resolve().parent.parent
+EXAMPLES = TOP / "examples"
+WAIT = 20
+
+
+def free_port():
+    with socket.socket() as listener:
+        listener.bind(("127.0.0.1", 0))
+        return listener.getsockname()[1]
+
+
+def until(what, found, seconds=WAIT):
+    """Waits until something is found, and gives it; or says what wasn't."""
+    end = time.monotonic() + seconds
+    while True:
+        value = found()
+        if value:
+            return value
+        if time.monotonic() > end:
+            raise AssertionError(f"not within {seconds} s: {what}")
+        time.sleep(0.1)
+
+
+def listens(port):
+    with socket.socket() as attempt:
+        return attempt.connect_ex(("127.0.0.1", port)) == 0
+
+
+class Server:
+    """The program with the example session, at one port."""
+
+    def __init__(self, program, workers):
+        self.words = [program, "serve", "--session", EXAMPLES / "session.json", "--deals", EXAMPLES / "club.pbn", "--displays", "4", "--workers", str(workers)]
+        self.port = free_port()
+        self.process = None
+
+    def start(self):
+        def is_up():
+            if self.process is None or self.process.poll() is not None:
+                self.process = subprocess.Popen([*self.words, "--port", str(self.port)], stdin=subprocess.DEVNULL, stdout=subprocess.DEVNULL, stderr=subprocess.DEVNULL)
+                time.sleep(0.1)
+            return listens(self.port)
+        until("the server listens", is_up, 90)
+
+    def stop(self):
+        if self.process and self.process.poll() is None:
+            self.process.terminate()
+            self.process.wait()
+
+    def ask(self, name, *messages):
+        """Answers to messages on a connection of its own, past nginx and the page."""
+        async def on_connection():
+            async with websockets.connect(f"ws://127.0.0.1:{self.port}/", compression=None, open_timeout=WAIT) as client:
+                answers = []
+                for message in ({"hello": name, "token": f"{name}-example"}, *messages):
+                    await client.send(json.dumps(message))
+                    answers.append(json.loads(await asyncio.wait_for(client.recv(), WAIT)))
+                return answers[1:]
+        return asyncio.run(on_connection())
+
+    def reply(self, name, message):
+        return self.ask(name, message)[0]
+
+
+class Hostile:
+    """A server that answers with texts that would be markup, were they taken for it."""
+    MARKUP = '<img src=x onerror="alert(1)"><script>alert(2)</script>'
+
+    def __init__(self):
+        self.port = free_port()
+        self.process = None
+
+    def start(self):
+        self.process = subprocess.Popen(["/usr/bin/python3", __file__, str(self.port)], stdin=subprocess.DEVNULL, stdout=subprocess.DEVNULL)
+        until("the hostile server listens", lambda: listens(self.port))
+
+    def stop(self):
+        if self.process:
+            self.process.terminate()
+            self.process.wait()
+
+
+def hostile_answer(message):
+    bad = Hostile.MARKUP
+    status = {"held": [2], "live": [[1, 3], [], []], "marks": ["N none", bad, "S ew"], "per_set": 1, "phase": bad, "round": 1, "rounds": 3, "tables": 3,
+              "seats": [[bad, "NS1", "N"], ["n1", "NS1", "S"], ['"><b>x</b>', "EW1", bad]]}
+    if "hello" in message:
+        return {"hello": bad}
+    if "do" in message:
+        return {"answers": [f"Spoiled({bad})"] * len(message["do"]), "first": 0, "last": 0, "version": 1}
+    if "audit" in message:
+        return {"audit": [[1, bad, bad, bad]], "version": 1}
+    if message.get("since", 0) > 1:
+        return {"error": "Behind", "version": 1}
+    rows = [{"table": bad, "ns": bad, "ew": bad, "points": bad, "score": bad, "result": {"by": bad, "doubled": 0, "level": bad, "strain": bad, "tricks": bad}}]
+    return {"version": 1, message["ask"]: {
+        "status": status, "board": {"deal": f"N:{bad}... .A.. ..A. ...A".replace(" src", "").replace(" one", ""), "dealer": "N", "number": bad, "vul": bad},
+        "traveller": {"board": 1, "rows": rows}, "ranking": [[bad, 1, 2]], "accounts": {"inherits": [[bad, bad]], "users": [[bad, [bad]]]},
+        "list": {"boards": [1], "more": False}, "analysis": {"board": 1, "tricks": None},
+    }.get(message["ask"], bad)}
+
+
+async def be_hostile(port):
+    async def answer(client):
+        async for text in client:
+            await client.send(json.dumps(hostile_answer(json.loads(text))))
+    async with websockets.serve(answer, "127.0.0.1", port):
+        await asyncio.Future()
+
+
+def code_of(text, heading):
+    """The first block of code under a heading of a document."""
+    part = text[text.index(heading):]
+    lines = part[part.index("\n    "):].splitlines()[1:]
+    block = []
+    for line in lines:
+        if line and not line.startswith("    "):
+            break
+        block.append(line[4:])
+    return "\n".join(block)
+
+
+class Nginx:
+    """nginx with the configuration of docs/RUNNING.md: its `server` over TLS, and the same locations over plain HTTP."""
+
+    def __init__(self, server_port, hostile_port):
+        self.folder = pathlib.Path(tempfile.mkdtemp(prefix="page_session_"))
+        self.port, self.tls_port, self.process = free_port(), free_port(), None
+        text = (TOP / "docs/RUNNING.md").read_text()
+        written, page = code_of(text, "## Behind a web server"), code_of(text, "## The page")
+        upgrade, server = written[:written.index("server {")], written[written.index("server {"):].rstrip()
+        location = re.search(r"location /session \{.*?\n    \}", server, re.S).group()
+        hostile = location.replace("location /session", "location /hostile/session").replace(":8080", f":{hostile_port}")
+        locations = "\n".join([page, location, hostile])
+        tls = server[:-1] + page + hostile + "}"
+        plain = f"server {{ listen 443;\n{locations}\n}}".replace("listen 443", f"listen 127.0.0.1:{self.port}")
+        self.configure(upgrade, tls.replace("listen 443", f"listen 127.0.0.1:{self.tls_port}"), plain, server_port)
+
+    def configure(self, upgrade, tls, plain, server_port):
+        subprocess.run(["openssl", "req", "-x509", "-newkey", "rsa:2048", "-nodes", "-days", "1", "-subj", "/CN=bridge.example.org", "-keyout", self.folder / "key", "-out", self.folder / "crt"],
+                       check=True, stderr=subprocess.DEVNULL)
+        servers = f"{upgrade}\n{tls}\n{plain}".replace(":8080", f":{server_port}").replace("/srv/bridge/client", str(TOP / "client"))
+        servers = servers.replace("/etc/ssl/bridge.example.org.crt", str(self.folder / "crt")).replace("/etc/ssl/bridge.example.org.key", str(self.folder / "key"))
+        paths = "\n".join(f"{name}_temp_path {self.folder / name};" for name in ("client_body", "proxy", "fastcgi", "uwsgi", "scgi"))
+        (self.folder / "nginx.conf").write_text(
+            f"daemon off;\nworker_processes 1;\nuser root;\npid {self.folder}/pid;\nerror_log {self.folder}/errors;\nevents {{ worker_connections 256; }}\n"
+            f"http {{\ninclude /etc/nginx/mime.types;\naccess_log off;\n{paths}\n{servers}\n}}\n")
+
+    def start(self):
+        self.process = subprocess.Popen(["/usr/sbin/nginx", "-p", str(self.folder), "-e", str(self.folder / "errors"), "-c", str(self.folder / "nginx.conf")], stdin=subprocess.DEVNULL)
+        until("nginx listens", lambda: listens(self.port) and listens(self.tls_port))
+
+    def stop(self):
+        if self.process:
+            self.process.terminate()
+            self.process.wait()
+        shutil.rmtree(self.folder, ignore_errors=True)
+
+
+class Browser:
+    """A window of one headless Chromium; each has a page, and a token, of its own."""
+    driver = None
+
+    @classmethod
+    def open(cls, downloads):
+        options = webdriver.ChromeOptions()
+        for word in ("--headless=new", "--no-sandbox", "--disable-gpu", "--disable-dev-shm-usage", "--window-size=1000,900", "--ignore-certificate-errors",
+                     "--disable-background-networking", "--disable-component-update", "--no-first-run", "--host-resolver-rules=MAP * 127.0.0.1"):
+            options.add_argument(word)
+        options.set_capability("goog:loggingPrefs", {"browser": "ALL"})
+        cls.driver = webdriver.Chrome(service=Service("/usr/bin/chromedriver"), options=options)
+        cls.driver.execute_cdp_cmd("Browser.setDownloadBehavior", {"behavior": "allow", "downloadPath": str(downloads)})
+
+    def __init__(self, address):
+        if len(self.driver.window_handles) > 1 or self.driver.current_url.startswith("http"):
+            self.driver.switch_to.new_window("window")
+        self.handle = self.driver.current_window_handle
+        self.address = address
+        self.driver.get(address)
+        until("the page is there", lambda: self.driver.find_elements(By.ID, "heading"))
+
+    def here(self):
+        if self.driver.current_window_handle != self.handle:
+            self.driver.switch_to.window(self.handle)
+        return self.driver
+
+    def sign_in(self, name, token=None):
+        self.type("name", name)
+        self.type("token", token or f"{name}-example")
+        self.press("sign-in-button")
+        until(f"{name} is signed in", lambda: self.find("as-of"))
+
+    def go(self, route):
+        self.here().execute_script("location.hash = arguments[0]", f"#/{route}")
+
+    def find(self, identity):
+        found = self.here().find_elements(By.ID, identity)
+        return found[0] if found else None
+
+    def press(self, identity):
+        """A click where the button is seen; the page may draw it anew meanwhile."""
+        def pressed():
+            try:
+                element = self.find(identity)
+                self.driver.execute_script("arguments[0].scrollIntoView({block: 'center'})", element)
+                element.click()
+                return True
+            except (StaleElementReferenceException, JavascriptException):
+                return False
+        until(f"{identity} can be pressed", pressed)
+
+    def type(self, identity, text):
+        element = until(f"{identity} is there", lambda: self.find(identity))
+        element.clear()
+        element.send_keys(text)
+
+    def choose(self, identity, value):
+        self.here().execute_script("const field = document.getElementById(arguments[0]); field.value = arguments[1]; field.dispatchEvent(new Event('change'))", identity, value)
+
+    def text(self, selector="main"):
+        found = self.here().find_elements(By.CSS_SELECTOR, selector)
+        return found[0].text if found else ""
+
+    def script(self, code, *arguments):
+        return self.here().execute_script(code, *arguments)
+
+    def shows(self, text, selector="main", seconds=WAIT):
+        """Whether a text is shown within some seconds."""
+        try:
+            return until(text, lambda: text in self.text(selector), seconds)
+        except AssertionError:
+            return False
+
+    def keys(self, *keys):
+        self.here()
+        ActionChains(self.driver).send_keys(*keys).perform()
+
+    def tab_to(self, identity, most=90):
+        for _ in range(most):
+            if self.script("return document.activeElement.id") == identity:
+                return True
+            self.keys(Keys.TAB)
+        return False
+
+    def width(self, pixels, height=800):
+        self.here().execute_cdp_cmd("Emulation.setDeviceMetricsOverride", {"width": pixels, "height": height, "deviceScaleFactor": 1, "mobile": pixels < 600})
+
+    def hands(self):
+        """The four hands as the page shows them, from North on, written as a reply writes them."""
+        return self.script("""return ["N", "E", "S", "W"].map((place) => [...document.querySelectorAll(`.hand-${place} dd`)].map((suit) =>
+            suit.innerText.replaceAll("10", "T").replace(/\\s|void|—/g, "")).join(".")).join(" ")""")
+
+    def rows(self, selector):
+        return self.script("return [...document.querySelectorAll(arguments[0])].map((row) => [...row.cells].map((cell) => cell.innerText.trim()))", f"{selector} tbody tr")
+
+
+if __name__ == "__main__":
+    import sys
+    asyncio.run(be_hostile(int(sys.argv[1])))
