@@ -272,13 +272,14 @@ def spoiled(sam, server):
 
 
 def play_round(server):
-    """The rest of the first round, past the page: each pair of North-South makes three no trump, or goes down at odd tables."""
+    """The first round, past the page: each North-South pair bids three no trump, which goes down at odd tables. Board 4 was seen at
+    table 2, and board 12 is left to table 4."""
     status = server.reply("sam", {"ask": "status"})["status"]
     commands = []
     for table in range(1, 9):
         for board in range(3 * table - 2, 3 * table + 1):
             result = {"by": "N", "doubled": 0, "level": 3, "strain": "N", "tricks": 9 - table % 2}
-            if table not in status["live"][board - 1] and (table, board) != (2, 4):
+            if table not in status["live"][board - 1] and (table, board) not in ((2, 4), (4, 12)):
                 commands += [{"cmd": word, "table": table, "board": board, "result": result} for word in ("Enter", "Confirm")]
     receipts = server.ask("sam", {"do": commands[:64]}, {"do": commands[64:]})
     return [answer for receipt in receipts for answer in receipt["answers"] if answer != "ok"]
@@ -309,7 +310,7 @@ def ranking(dora, anna, server, downloads):
         except AssertionError:
             check(f"the ranking that {name} sees is the server's for {name}", server.reply(name, {"ask": "ranking"})["ranking"], window.rows("table.ranking"))
     rows = server.reply("dora", {"ask": "ranking"})["ranking"]
-    holds("somebody has earned more than another", len({earned for _, earned, _ in rows}) > 2)
+    holds("somebody has earned more than another", len({earned for _, earned, _ in rows}) > 1)
     dora.press("csv-ranking")
     path = until("the file is there", lambda: next(iter(pathlib.Path(downloads).glob("ranking*.csv")), None))
     until("the file is whole", lambda: path.read_text(encoding="utf-8-sig").count("\n") == len(rows) + 1)
@@ -515,16 +516,16 @@ def keyboard_player(page):
     page.go("session")
     holds("My boards is reached by Tab", page.tab_to("nav-boards"))
     page.keys(Keys.ENTER)
-    until("the boards are there", lambda: page.find("own-board-4"))
+    until("the boards are there", lambda: page.find("own-board-7"))
     check("the focus goes to the heading", "heading", page.script("return document.activeElement.id"))
-    holds("a board is reached by Tab", page.tab_to("own-board-4"))
+    holds("a board is reached by Tab", page.tab_to("own-board-7"))
     page.keys(Keys.ENTER)
-    until("the denial is there", lambda: page.find("check-board-0-4"))
-    holds("the check is reached by Tab", page.tab_to("check-board-0-4"))
+    until("the denial is there", lambda: page.find("check-board-0-7"))
+    holds("the check is reached by Tab", page.tab_to("check-board-0-7"))
     page.keys(Keys.SPACE)
-    until("the check is open", lambda: page.find("check-board-0-4-facts"))
-    check("the button says that it is open, and keeps the focus", ["true", "check-board-0-4"],
-          page.script("return [document.getElementById('check-board-0-4').getAttribute('aria-expanded'), document.activeElement.id]"))
+    until("the check is open", lambda: page.find("check-board-0-7-facts"))
+    check("the button says that it is open, and keeps the focus", ["true", "check-board-0-7"],
+          page.script("return [document.getElementById('check-board-0-7').getAttribute('aria-expanded'), document.activeElement.id]"))
     roles = [node["role"]["value"] for node in page.here().execute_cdp_cmd("Accessibility.getFullAXTree", {})["nodes"] if not node.get("ignored")]
     holds("a screen reader finds banner, navigation, main and heading", {"banner", "navigation", "main", "heading", "status"} <= set(roles))
 
@@ -584,7 +585,8 @@ def play(server, nginx, hostile, downloads, has_workers):
     keyboard_player(anna)
     laid_out(anna, ("session", "boards", "board/1/1", "board/4", "ranking", "find", "papers"))
     laid_out(dora, ("scorer", "scorer/3", "scorer/3/11", "director", "director/1/1", "accounts", "audit"))
-    administrator(vera, nginx, server) if not vera.press("sign-out") else None
+    vera.press("sign-out")
+    administrator(vera, nginx, server)
     connections(server)
     check("the consoles are empty", [], console(windows))
     restart(sam, server)
