@@ -77,8 +77,13 @@ class Page {
       return;
     }
     const isKnown = await this.#whileBusy(() => this.#store.signIn(name, token));
-    if (isKnown === false) this.refuse(texts.signIn.notKnown);
-    if (!isKnown) return;
+    if (isKnown === undefined) return;
+    this.forms.signIn.token = "";
+    this.draw();
+    if (!isKnown) {
+      this.refuse(texts.signIn.notKnown);
+      return;
+    }
     this.forms = newForms();
     this.#failures = 0;
     this.drawAnew();
@@ -181,8 +186,12 @@ class Page {
       this.#reached();
     } catch (fault) {
       this.#missed(fault);
+    } finally {
+      if (this.state.user !== null && user === this.state.user) this.#pollLater();
     }
-    if (this.state.user === null || user !== this.state.user) return;
+  }
+
+  #pollLater() {
     clearTimeout(this.#timer);
     this.#timer = setTimeout(() => this.#poll(), pauseOf(this.#failures, document.hidden, Math.random()));
   }

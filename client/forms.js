@@ -1,7 +1,8 @@
-// What is chosen and typed on the page's forms, apart from results (drafts.js) and tokens, which are kept nowhere.
+// What is chosen and typed on the page's forms, apart from results (drafts.js). A token that is typed stays here until the
+// server has judged it.
 
 export const newForms = () => ({
-  signIn: { name: "" },
+  signIn: { name: "", token: "" },
   cell: { board: 1, table: 1 },
   hold: { board: 1 },
   seat: { name: "", pair: "NS1", place: "N" },

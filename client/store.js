@@ -14,14 +14,13 @@ const resendable = ["NoEntry", "OutOfMemory"];
  * @property {import("./public_facts.js").Facts|null} facts the status, of `version`
  * @property {import("./messages.js").Denied|null} statusDenied why there is no status
  * @property {number} version
- * @property {{score: boolean, direct: boolean, administer: boolean}} permissions
+ * @property {{score: boolean, direct: boolean, administer: boolean}|null} permissions null until they are known
  * @property {Map<string, {reply: object, version: number}>} answers by `keyOf` of the query
  * @property {boolean} wasRestarted whether the server was seen to begin anew
  */
 
 const firstState = () => ({
-  user: null, facts: null, statusDenied: null, version: -1, answers: new Map(), wasRestarted: false,
-  permissions: { score: false, direct: false, administer: false },
+  user: null, facts: null, statusDenied: null, version: -1, answers: new Map(), wasRestarted: false, permissions: null,
 });
 
 export class Store {
@@ -48,7 +47,6 @@ export class Store {
     if (!(await this.#connection.signIn(name, token))) return false;
     this.state = { ...firstState(), user: name };
     await this.refresh();
-    await this.probePermissions();
     return true;
   }
 
@@ -78,6 +76,7 @@ export class Store {
     const { user } = this.state;
     for (let round = 0; round < mostRounds && user !== null && user === this.state.user; round += 1) {
       await this.#refreshStatus();
+      if (this.state.permissions === null) await this.probePermissions();
       if (await this.#refreshNeeds()) return;
     }
   }

@@ -80,9 +80,33 @@ class Server:
     def reply(self, name, message):
         return self.ask(name, message)[0]
 
+    def hold(self, count):
+        """Strangers who have each shaken hands, and so hold a display."""
+        head = ("GET / HTTP/1.1\r\nHost: 127.0.0.1\r\nUpgrade: websocket\r\nConnection: Upgrade\r\n"
+                "Sec-WebSocket-Key: dGhlIHNhbXBsZSBub25jZQ==\r\nSec-WebSocket-Version: 13\r\n\r\n").encode()
+        strangers = []
+        for _ in range(count):
+            stranger = socket.create_connection(("127.0.0.1", self.port), timeout=WAIT)
+            stranger.sendall(head)
+            stranger.recv(1000)
+            strangers.append(stranger)
+        return strangers
+
 
 class Hostile:
-    """A server that answers with texts that would be markup, were they taken for it."""
+    """A server of the test's own: its texts would be markup, were they taken for it; board 2 alone is as docs/PROTOCOL.md has it, with
+    numbers that a solver took long to find."""
+    RESULT = {"by": "S", "doubled": 1, "level": 4, "strain": "H", "tricks": 9}
+    CARDS = ["SK", "S2", "S3", "SA", "H2", "HK", "H3", "HA", "D4"]  # West, North, East, South; South's ace wins
+    COSTS = [0, 1, 0, 0, 0, 2, 0, 0, 0]
+    TRICKS = {"E": [3, 4, 5, 6, 7], "N": [10, 9, 8, 7, 6], "S": [10, 9, 8, 7, 5], "W": [3, 4, 5, 6, 8]}
+    BOARD_2 = {
+        "board": {"deal": "N:AKQJT98765432... .AKQJT98765432.. ..AKQJT98765432. ...AKQJT98765432", "dealer": "E", "number": 2, "vul": "ns"},
+        "traveller": {"board": 2, "rows": [{"table": 1, "ns": "NS1", "ew": "EW3", "points": 0, "score": -200, "result": RESULT},
+                                           {"table": 2, "ns": "NS2", "ew": "EW2", "points": 2, "score": 0, "result": "pass"},
+                                           {"table": 3, "ns": "NS3", "ew": "EW1", "ruling": [60, 40]}]},
+        "analysis": {"board": 2, "tricks": TRICKS}, "play": {"board": 2, "cards": CARDS, "table": 1},
+        "costs": {"board": 2, "costs": COSTS, "table": 1}, "reason": {"board": 2, "code": 7, "table": 1}}
     MARKUP = '<img src=x onerror="alert(1)"><script>alert(2)</script>'
 
     def __init__(self):
@@ -111,6 +135,8 @@ def hostile_answer(message):
         return {"audit": [[1, bad, bad, bad]], "version": 1}
     if message.get("since", 0) > 1:
         return {"error": "Behind", "version": 1}
+    if message.get("board") == 2:
+        return {"version": 1, message["ask"]: Hostile.BOARD_2[message["ask"]]}
     rows = [{"table": bad, "ns": bad, "ew": bad, "points": bad, "score": bad, "result": {"by": bad, "doubled": 0, "level": bad, "strain": bad, "tricks": bad}}]
     return {"version": 1, message["ask"]: {
         "status": status, "board": {"deal": f"N:{bad}... .A.. ..A. ...A".replace(" src", "").replace(" one", ""), "dealer": "N", "number": bad, "vul": bad},
@@ -229,9 +255,15 @@ class Browser:
         until(f"{identity} can be pressed", pressed)
 
     def type(self, identity, text):
-        element = until(f"{identity} is there", lambda: self.find(identity))
-        element.clear()
-        element.send_keys(text)
+        def typed():
+            try:
+                element = self.find(identity)
+                element.clear()
+                element.send_keys(text)
+                return True
+            except (StaleElementReferenceException, AttributeError):
+                return False
+        until(f"{identity} can be typed into", typed)
 
     def choose(self, identity, value):
         self.here().execute_script("const field = document.getElementById(arguments[0]); field.value = arguments[1]; field.dispatchEvent(new Event('change'))", identity, value)

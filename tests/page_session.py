@@ -439,7 +439,36 @@ def restart(sam, server):
 # ---- what a text can do, and how a page is laid out
 
 @part
-def hostile_texts(page, nginx, hostile):
+def played_numbers(page, nginx):
+    """A board whose numbers the test knows: its double-dummy table, a play with its costs, and a ruling."""
+    page.here().get(f"http://127.0.0.1:{nginx.port}/?server=/hostile/session#/board/2/1")
+    page.here().refresh()
+    until("the page is there", lambda: page.find("name"))
+    page.sign_in("n1", "x")
+    until("the board is there", lambda: page.rows("table.play"))
+    names = {"N": "North", "S": "South", "E": "East", "W": "West"}
+    wanted = [[names[place], *(str(Hostile.TRICKS[place][index]) for index in (4, 0, 1, 2, 3))] for place in "NSEW"]
+    check("the double-dummy table has its declarers and strains", wanted, page.rows("table.analysis"))
+    rows = page.rows("table.traveller")
+    check("the traveller has what was set, passed out and ruled", [["200", "0", "2"], ["0", "", "2", "0"], ["60 %", "40 %"]], [rows[0][5:], rows[1][4:], rows[2][4:]])
+    cells = page.script("""return [...document.querySelectorAll("table.play tbody tr")].map((row) => [...row.cells].slice(1).map((cell) => {
+        const card = cell.querySelector(".card");
+        return card && [card.querySelector(".letter").textContent + card.lastChild.textContent, cell.querySelector(".cost")?.textContent ?? "", cell.className];
+    }))""")
+    check("each card stands in the column of who played it, with what it cost, and the winner is marked",
+          [[["S2", "−1", ""], ["S3", "", ""], ["SA", "", "winner"], ["SK", "", ""]],
+           [["H3", "", ""], ["HA", "", "winner"], ["H2", "", ""], ["HK", "−2", ""]],
+           [None, ["D4", "", ""], None, None]], cells)
+    total = sum(Hostile.COSTS)
+    holds("and told together", page.shows(f"cost their side {total} tricks together"))
+    page.press("letters")
+    check("suits can be read as letters", ["S", "H", "D", "C"], page.script("return [...document.querySelectorAll('.hand-N dt')].map((suit) => suit.innerText.trim()[0])"))
+    page.press("letters")
+    page.press("sign-out")
+
+
+@part
+def hostile_texts(page, nginx):
     for route in ("session", "boards", "board/1", "board/1/1", "ranking", "find", "accounts", "audit", "director", "scorer", "papers"):
         page.here().get(f"http://127.0.0.1:{nginx.port}/?server=/hostile/session#/{route}")
         page.here().refresh()
@@ -543,6 +572,22 @@ def on_paper(dora, server):
 
 
 @part
+def all_displays_taken(page, server):
+    """Four strangers hold the four displays: the page waits, says so, and goes on once one has left."""
+    strangers = server.hold(4)
+    page.type("name", "vera")
+    page.type("token", "vera-example")
+    page.press("sign-in-button")
+    holds("where all displays are taken the page says so", page.shows("All places at the server are taken", "#offline"))
+    strangers[0].close()
+    until("vera is signed in", lambda: page.find("as-of"))
+    holds("and goes on with the first that is free", page.shows("Signed in as vera", "#top"))
+    for stranger in strangers[1:]:
+        stranger.close()
+    page.press("sign-out")
+
+
+@part
 def connections(server):
     """Pages that are looked at hold no display while nothing is asked."""
     def held():
@@ -562,7 +607,7 @@ def over_tls(nginx):
     page.press("sign-out")
 
 
-def play(server, nginx, hostile, downloads, has_workers):
+def play(server, nginx, downloads, has_workers):
     address = f"http://127.0.0.1:{nginx.port}/"
     Browser.open(downloads)
     anna, carla, sam, dora, vera = (Browser(address) for _ in range(5))
@@ -587,12 +632,14 @@ def play(server, nginx, hostile, downloads, has_workers):
     laid_out(dora, ("scorer", "scorer/3", "scorer/3/11", "director", "director/1/1", "accounts", "audit"))
     vera.press("sign-out")
     administrator(vera, nginx, server)
+    all_displays_taken(vera, server)
     connections(server)
     check("the consoles are empty", [], console(windows))
     restart(sam, server)
     spoken = [text for text in console(windows) if "WebSocket connection to" not in text]
     check("while the server was away, the browser alone spoke of it", [], spoken)
-    hostile_texts(vera, nginx, hostile)
+    played_numbers(vera, nginx)
+    hostile_texts(vera, nginx)
     check("no hostile text reached a console", [], console([vera]))
     over_tls(nginx)
 
@@ -608,7 +655,7 @@ def main():
         for each in (server, hostile, nginx):
             each.start()
         with tempfile.TemporaryDirectory() as downloads:
-            part(play)(server, nginx, hostile, downloads, workers > 0)
+            part(play)(server, nginx, downloads, workers > 0)
     finally:
         if Browser.driver:
             Browser.driver.quit()

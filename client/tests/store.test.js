@@ -76,6 +76,22 @@ test("permissions are asked by commands that no session takes", async () => {
   assert.deepEqual(permissionsOf({ error: "OutOfMemory" }), { score: false, direct: false, administer: false });
 });
 
+test("permissions are asked once, and again where no answer came", async () => {
+  const server = playedServer();
+  const { store } = storeOf(server, () => []);
+  let breaks = true;
+  server.before = (message) => {
+    if (message.do && breaks) throw new Error("broken");
+  };
+  await assert.rejects(store.signIn("n1", "token"));
+  assert.equal(store.state.permissions, null);
+  breaks = false;
+  await store.refresh();
+  await store.refresh();
+  assert.deepEqual(store.state.permissions, { score: false, direct: false, administer: false });
+  assert.equal(server.asked.filter((message) => message.do).length, 2);
+});
+
 test("who isn't a member is shown why", async () => {
   const server = playedServer();
   server.ask = async (message) => (message.do ? { answers: [], first: 0, last: 0, version: 3 } : { denied: { board: 0, rule: 2, table: 0, why: "not a member" }, version: 3 });

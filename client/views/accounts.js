@@ -13,7 +13,7 @@ export function accountsView(page) {
   return [
     heading(texts.accounts.title),
     answerView(page, ask.accounts(), (accounts) => [usersSection(page, accounts), inheritanceSection(page, accounts)]),
-    page.state.permissions.administer && newUserSection(page),
+    page.state.permissions?.administer && newUserSection(page),
   ];
 }
 
@@ -22,7 +22,7 @@ function usersSection(page, accounts) {
 }
 
 function userItem(page, name, assigned) {
-  if (!page.state.permissions.administer) return element("li", {}, element("b", {}, name), " ", assigned.join(", "));
+  if (!page.state.permissions?.administer) return element("li", {}, element("b", {}, name), " ", assigned.join(", "));
   const free = roles.filter((role) => !assigned.includes(role));
   const chosen = page.forms.assign.get(name) ?? free[0];
   return element("li", {}, element("b", { class: "user-name" }, name),
@@ -36,7 +36,7 @@ function userItem(page, name, assigned) {
 
 function inheritanceSection(page, accounts) {
   const form = page.forms.inheritance;
-  const mayChange = page.state.permissions.administer;
+  const mayChange = page.state.permissions?.administer;
   const set = (part) => (value) => { form[part] = value; page.draw(); };
   const options = roles.map((role) => [role, role]);
   return section(texts.accounts.inheritance,

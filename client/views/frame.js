@@ -10,9 +10,9 @@ export function viewsOf({ facts, user, permissions }) {
   if (!facts) return [];
   return [
     "session", ...(seatOf(facts, user) ? ["boards"] : []), "ranking", "find", "papers",
-    ...(permissions.score ? ["scorer"] : []),
-    ...(permissions.direct ? ["director"] : []),
-    ...(permissions.direct || permissions.administer ? ["accounts", "audit"] : []),
+    ...(permissions?.score ? ["scorer"] : []),
+    ...(permissions?.direct ? ["director"] : []),
+    ...(permissions?.direct || permissions?.administer ? ["accounts", "audit"] : []),
   ];
 }
 

@@ -1,4 +1,4 @@
-// Signing in: a name and a token. The token goes from the field to the connection, and nowhere else.
+// Signing in: a name and a token. The token is in the field until the server has judged it, then in the connection alone.
 
 import { element, field } from "../dom.js";
 import { isServerPath } from "../routes.js";
@@ -9,15 +9,14 @@ export function signInView(page) {
   const { signIn } = page.forms;
   const submit = (event) => {
     event.preventDefault();
-    const token = document.getElementById("token");
-    page.signIn(signIn.name.trim(), token.value);
+    page.signIn(signIn.name.trim(), signIn.token);
   };
   return [
     heading(texts.signIn.title),
     element("p", {}, texts.signIn.explained),
     element("form", { id: "sign-in", class: "panel narrow", onSubmit: submit },
       field("name", texts.signIn.name, { value: signIn.name, required: true, autocomplete: "username", onInput: (event) => { signIn.name = event.target.value; } }),
-      field("token", texts.signIn.token, { type: "password", required: true, autocomplete: "off" }, texts.signIn.tokenNote),
+      field("token", texts.signIn.token, { type: "password", value: signIn.token, required: true, autocomplete: "off", onInput: (event) => { signIn.token = event.target.value; } }, texts.signIn.tokenNote),
       element("button", { id: "sign-in-button", class: "main", "aria-disabled": page.isBusy ? "true" : null }, page.isBusy ? texts.signIn.busy : texts.signIn.button)),
     settings(page),
   ];
