@@ -1,4 +1,4 @@
-// A player's own boards, round by round, each with its state.
+// A player's own boards, the present round first, each with its state.
 
 import { element, link } from "../dom.js";
 import { boardsOf } from "../movement.js";
@@ -14,7 +14,9 @@ export function boardsView(page) {
   const seat = seatOf(facts, user);
   if (!seat) return [heading(texts.boards.title), element("p", {}, texts.session.noSeat)];
   const rows = facts.rows.filter((row) => row.ns === seat.pair || row.ew === seat.pair);
-  return [heading(texts.boards.title), element("p", {}, texts.boards.explained), rows.map((row) => roundView(facts, row, seat.pair))];
+  const now = rows.filter((row) => row.round === facts.round);
+  const others = rows.filter((row) => row.round !== facts.round);
+  return [heading(texts.boards.title), element("p", {}, texts.boards.explained), [...now, ...others].map((row) => roundView(facts, row, seat.pair))];
 }
 
 function roundView(facts, row, pair) {

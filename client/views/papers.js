@@ -71,7 +71,7 @@ function ownResult(board, row, top, isNorthSouth) {
 function resultsView(results, pair) {
   if (results.length === 0) return element("p", {}, texts.papers.noResults);
   const rows = results.map(({ board, against, result, score, points, percent }) =>
-    [String(board), against, result ? resultMark(result) : texts.traveller.ruling, score ?? "", points ?? "", percent && `${percent} %`]);
+    [String(board), against, result ? resultMark(result) : texts.traveller.ruling, score === null ? "" : String(score).replace("-", "−"), points ?? "", percent && `${percent} %`]);
   return table(texts.papers.resultsCaption(pair), texts.papers.resultHeads, rows, { class: "results" });
 }
 
