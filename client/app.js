@@ -59,7 +59,10 @@ class Page {
   }
 
   #newStore() {
-    const connection = new Connection(serverAddress(location, this.serverPath), { onSlow: (isSlow) => this.#setSlow(isSlow) });
+    const connection = new Connection(
+      serverAddress(location, this.serverPath),
+      { onSlow: (isSlow) => this.#setSlow(isSlow) },
+    );
     return new Store(connection, { needs: () => viewNeeds(this), onChange: () => this.#stateChanged() });
   }
 
@@ -146,13 +149,18 @@ class Page {
       this.draw();
       part(focused)?.focus();
     };
-    if (this.#armed !== id) return button(id, drawn, () => arm(id, `${id}-sure`), { class: "quiet", "aria-label": drawn === label ? null : label });
+    const spoken = drawn === label ? null : label;
+    if (this.#armed !== id) return button(id, drawn, () => arm(id, `${id}-sure`), { class: "quiet", "aria-label": spoken });
     const sureButton = button(`${id}-sure`, texts.sure, () => {
       this.#armed = null;
       act();
     }, { class: "main", "aria-describedby": `${id}-question` });
     return element("span", { class: "sure", role: "group", "aria-label": label },
-      element("span", { id: `${id}-question` }, sure), " ", sureButton, " ", button(`${id}-cancel`, texts.cancel, () => arm(null, id), { class: "quiet" }));
+      element("span", { id: `${id}-question` }, sure),
+      " ",
+      sureButton,
+      " ",
+      button(`${id}-cancel`, texts.cancel, () => arm(null, id), { class: "quiet" }));
   }
 
   answer(query) {
@@ -262,7 +270,9 @@ class Page {
     replaceContent(part("top"), headView(this));
     const hadFocus = part("content").contains(document.activeElement) && document.activeElement !== part("content");
     replaceContent(part("content"), this.#content());
-    for (const details of part("content").querySelectorAll("details[id]")) if (this.#openDetails.has(details.id)) details.open = true;
+    for (const details of part("content").querySelectorAll("details[id]")) {
+      if (this.#openDetails.has(details.id)) details.open = true;
+    }
     if (hadFocus && document.activeElement === document.body) part("heading")?.focus({ preventScroll: true });
     replaceContent(part("foot"), footView(this));
     this.#drawStrips();
@@ -293,7 +303,9 @@ class Page {
 
   /** Tells who listens what was denied, when it changes. */
   #announce() {
-    const text = [...part("content").querySelectorAll(".denial-sentence")].map((sentence) => sentence.textContent).join(" ");
+    const text = [
+      ...part("content").querySelectorAll(".denial-sentence"),
+    ].map((sentence) => sentence.textContent).join(" ");
     if (text === this.#announced) return;
     this.#announced = text;
     replaceContent(part("announcements"), text);

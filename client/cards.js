@@ -60,7 +60,11 @@ export function tricksOf(cards, result) {
   const tricks = [];
   let leader = nextPlace(result.by);
   for (let from = 0; from < cards.length; from += 4) {
-    const played = cards.slice(from, from + 4).map((card, index) => ({ place: nextPlace(leader, index), card, index: from + index }));
+    const played = cards.slice(from, from + 4).map((card, index) => ({
+      place: nextPlace(leader, index),
+      card,
+      index: from + index,
+    }));
     const winner = played.length === 4 ? winnerOf(played, result.strain) : null;
     tricks.push({ leader, played, winner });
     leader = winner ?? leader;

@@ -8,7 +8,15 @@ import { awaitedTables, isHeld, isLive, seatOf, tableOfPair } from "./public_fac
 /** @typedef {{kind: Kind, board: number, table: number}} Fact the board and the table are 0 where the fact has none */
 /** @typedef {{contestant: boolean, spectator: boolean, director: boolean, administrator: boolean}} Roles */
 
-const kinds = { board: "hands", traveller: "hands", analysis: "analysis", play: "play", costs: "costs", reason: "reason", accounts: "accounts" };
+const kinds = {
+  board: "hands",
+  traveller: "hands",
+  analysis: "analysis",
+  play: "play",
+  costs: "costs",
+  reason: "reason",
+  accounts: "accounts",
+};
 
 /** The fact that decides a query. */
 export function factOf(query) {
@@ -92,7 +100,10 @@ function isSame(found, denied) {
 function evidenceOf(facts, seat, fact, denied) {
   const { board, table, rule } = denied;
   const own = seat ? tableOfPair(facts, seat.pair, board) : 0;
-  const sits = own ? ["playsAt", { pair: seat.pair, board, table: own }] : seat ? ["playsNot", { pair: seat.pair, board }] : ["noSeat", {}];
+  const sits = own ? [
+    "playsAt",
+    { pair: seat.pair, board, table: own },
+  ] : seat ? ["playsNot", { pair: seat.pair, board }] : ["noSeat", {}];
   const held = [isHeld(facts, board) ? "held" : "notHeld", { board }];
   const at = (cell) => [isLive(facts, cell, board) ? "live" : "notLive", { board, table: cell }];
   const awaited = ["awaited", { board, tables: awaitedTables(facts, board) }];
@@ -105,4 +116,14 @@ function evidenceOf(facts, seat, fact, denied) {
 }
 
 /** Which roles a verdict hangs on where the user has no seat. */
-export const rolesBehind = { 3: "neitherAdministratorNorDirector", 4: "notDirector", 6: "contestant", 7: "neither", 8: "spectator", 9: "someViewer", 10: "someViewer", 11: "someViewer", 12: "someViewer" };
+export const rolesBehind = {
+  3: "neitherAdministratorNorDirector",
+  4: "notDirector",
+  6: "contestant",
+  7: "neither",
+  8: "spectator",
+  9: "someViewer",
+  10: "someViewer",
+  11: "someViewer",
+  12: "someViewer",
+};

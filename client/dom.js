@@ -45,7 +45,11 @@ function restoreSelection(field, [from, to]) {
   }
 }
 
-export const button = (id, label, onClick, more = {}) => element("button", { type: "button", id, onClick, ...more }, label);
+export const button = (id, label, onClick, more = {}) => element(
+  "button",
+  { type: "button", id, onClick, ...more },
+  label,
+);
 export const link = (href, label, more = {}) => element("a", { href, ...more }, label);
 
 /** A field with its label, and a note below it. */
@@ -59,7 +63,11 @@ export function field(id, label, attributes, note = null) {
 
 /** A choice with its label: options are pairs of a value and a text. */
 export function choice(id, label, options, chosen, onChange, more = {}) {
-  const items = options.map(([value, text]) => element("option", { value, selected: String(value) === String(chosen) }, text));
+  const items = options.map(([value, text]) => element(
+    "option",
+    { value, selected: String(value) === String(chosen) },
+    text,
+  ));
   return element("div", { class: "field" },
     element("label", { for: id }, label),
     element("select", { id, onChange: (event) => onChange(event.target.value), ...more }, items));
@@ -69,9 +77,19 @@ export function choice(id, label, options, chosen, onChange, more = {}) {
 export function table(caption, heads, rows, more = {}) {
   const head = heads.map((text) => (text instanceof Node ? text : element("th", { scope: "col" }, text)));
   const body = rows.map((cells) => element("tr", {}, cells.map((cell, index) =>
-    cell instanceof Node && ["TD", "TH"].includes(cell.tagName) ? cell : element(index ? "td" : "th", index ? {} : { scope: "row" }, cell))));
+    cell instanceof Node && ["TD", "TH"].includes(cell.tagName) ? cell : element(
+      index ? "td" : "th",
+      index ? {} : { scope: "row" },
+      cell,
+    ))));
   return element("div", { class: "scrolls", tabindex: "0", role: "region", "aria-label": caption },
-    element("table", more, element("caption", {}, caption), element("thead", {}, element("tr", {}, head)), element("tbody", {}, body)));
+    element(
+      "table",
+      more,
+      element("caption", {}, caption),
+      element("thead", {}, element("tr", {}, head)),
+      element("tbody", {}, body),
+    ));
 }
 
 /** Buttons of which one is chosen: radio buttons, drawn as tiles. */
@@ -81,7 +99,18 @@ export function tiles(name, legend, options, chosen, onChoose, more = {}) {
     element("div", { class: "tile-row" }, options.map(([value, content, spoken]) => {
       const id = `${name}-${value}`;
       return element("label", { class: "tile", for: id },
-        element("input", { type: "radio", id, name, value, checked: value === chosen, onChange: () => onChoose(value), "aria-label": spoken }),
+        element(
+          "input",
+          {
+            type: "radio",
+            id,
+            name,
+            value,
+            checked: value === chosen,
+            onChange: () => onChoose(value),
+            "aria-label": spoken,
+          },
+        ),
         element("span", {}, content));
     })));
 }

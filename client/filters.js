@@ -28,7 +28,11 @@ const firstValues = { vul: "none", by: "N", strain: "S", doubled: "1", made: "tr
 export function newCondition(kind) {
   const [least, most] = boundsOf[kind] ?? [0, 0];
   const firstOf = (field) => (field === "min" ? String(least) : field === "max" ? String(most) : firstValues[field]);
-  return { kind, isNot: false, values: Object.fromEntries(conditionKinds[kind].map((field) => [field, firstOf(field)])) };
+  return {
+    kind,
+    isNot: false,
+    values: Object.fromEntries(conditionKinds[kind].map((field) => [field, firstOf(field)])),
+  };
 }
 
 /** Which condition's bounds can't be sent, or -1. */
@@ -36,7 +40,10 @@ export function badCondition(conditions) {
   return conditions.findIndex(({ kind, values }) => {
     if (!boundsOf[kind]) return false;
     const [least, most] = boundsOf[kind];
-    return ["min", "max"].some((bound) => !/^[-−]?\d+$/u.test(values[bound].trim()) || numberOf(values[bound]) < least || numberOf(values[bound]) > most);
+    return ["min", "max"].some(
+      (bound) => !/^[-−]?\d+$/u.test(values[bound].trim(
+      )) || numberOf(values[bound]) < least || numberOf(values[bound]) > most,
+    );
   });
 }
 

@@ -20,7 +20,13 @@ export function movementOf(tables, rounds) {
 function rowOf(tables, round, table) {
   const skip = tables % 2 === 0 && round >= tables / 2 ? 1 : 0;
   const eastWest = (table - round - skip + 2 * tables) % tables;
-  return { round: round + 1, table: table + 1, set: ((table + round) % tables) + 1, ns: `NS${table + 1}`, ew: `EW${eastWest + 1}` };
+  return {
+    round: round + 1,
+    table: table + 1,
+    set: ((table + round) % tables) + 1,
+    ns: `NS${table + 1}`,
+    ew: `EW${eastWest + 1}`,
+  };
 }
 
 export const setOf = (board, perSet) => Math.ceil(board / perSet);

@@ -19,11 +19,19 @@ export const isHeld = (facts, board) => facts.held.includes(board);
 
 export const isLive = (facts, table, board) => (facts.live[board - 1] ?? []).includes(table);
 
-export const isScheduled = (facts, table, board) => rowsOfBoard(facts.rows, board, facts.per_set).some((row) => row.table === table);
+export const isScheduled = (facts, table, board) => rowsOfBoard(
+  facts.rows,
+  board,
+  facts.per_set,
+).some((row) => row.table === table);
 
 /** The tables that are scheduled to play a board and have no result on it, the least first. */
 export function awaitedTables(facts, board) {
-  return rowsOfBoard(facts.rows, board, facts.per_set).map((row) => row.table).filter((table) => !isLive(facts, table, board));
+  return rowsOfBoard(facts.rows, board, facts.per_set).map((row) => row.table).filter((table) => !isLive(
+    facts,
+    table,
+    board,
+  ));
 }
 
 export const isComplete = (facts, board) => awaitedTables(facts, board).length === 0;
@@ -58,7 +66,10 @@ export function boardStateOf(facts, table, board) {
 
 /** The rows of a round, each with its boards. */
 export function roundOf(facts, round) {
-  return facts.rows.filter((row) => row.round === round).map((row) => ({ ...row, boards: boardsOf(row.set, facts.per_set) }));
+  return facts.rows.filter((row) => row.round === round).map((row) => ({
+    ...row,
+    boards: boardsOf(row.set, facts.per_set),
+  }));
 }
 
 /** The boards that a table is to play or has played up to the present round, those of the present round first. */
@@ -66,11 +77,19 @@ export function cellsOfTable(facts, table) {
   return facts.rows
     .filter((row) => row.table === table && row.round <= facts.round)
     .sort((one, other) => other.round - one.round)
-    .flatMap((row) => boardsOf(row.set, facts.per_set).map((board) => ({ ...row, board, live: isLive(facts, table, board) })));
+    .flatMap((row) => boardsOf(row.set, facts.per_set).map((board) => ({
+      ...row,
+      board,
+      live: isLive(facts, table, board),
+    })));
 }
 
 /** What is still awaited of the rounds so far: a table and a board each. */
 export function awaitedCells(facts) {
   return facts.rows.filter((row) => row.round <= facts.round).flatMap((row) =>
-    boardsOf(row.set, facts.per_set).filter((board) => !isLive(facts, row.table, board)).map((board) => ({ ...row, board })));
+    boardsOf(row.set, facts.per_set).filter((board) => !isLive(
+      facts,
+      row.table,
+      board,
+    )).map((board) => ({ ...row, board })));
 }

@@ -12,7 +12,15 @@
  */
 
 /** @returns {Draft} */
-export const emptyDraft = () => ({ passedOut: false, level: null, strain: null, by: null, doubled: 0, over: null, play: "" });
+export const emptyDraft = () => ({
+  passedOut: false,
+  level: null,
+  strain: null,
+  by: null,
+  doubled: 0,
+  over: null,
+  play: "",
+});
 
 /** How many tricks above or below a contract there can be: made first, then set. */
 export function oversOf(level) {

@@ -121,7 +121,9 @@ export class Store {
   async #refreshNeeds() {
     const { state } = this;
     const missing = this.#needs().filter((query) => state.answers.get(keyOf(query))?.version !== state.version);
-    const replies = await Promise.all(missing.map((query) => this.#query(query.ask ? { ...query, since: Math.max(0, state.version) } : query)));
+    const replies = await Promise.all(
+      missing.map((query) => this.#query(query.ask ? { ...query, since: Math.max(0, state.version) } : query)),
+    );
     if (this.state !== state) return true;
     missing.forEach((query, index) => this.#keep(query, replies[index]));
     if (missing.length) this.#onChange();
@@ -136,7 +138,9 @@ export class Store {
 
   async #query(message) {
     let reply = await this.#connection.ask(message);
-    for (let again = 0; again < 2 && resendable.includes(reply.error); again += 1) reply = await this.#connection.ask(message);
+    for (let again = 0; again < 2 && resendable.includes(reply.error); again += 1) {
+      reply = await this.#connection.ask(message);
+    }
     return reply;
   }
 
@@ -150,7 +154,7 @@ export class Store {
     return receipt;
   }
 
-  /** @returns {{value: object|null, denied: import("./messages.js").Denied|null, error: string|null, version: number}|null} */
+  /** What is known of a query's answer: its value, its denial or its error, or null where none has come yet. */
   answerOf(query) {
     const kept = this.state.answers.get(keyOf(query));
     if (!kept) return null;

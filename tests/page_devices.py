@@ -49,14 +49,16 @@ class Server:
     """The program with the example session, at one port."""
 
     def __init__(self, program, workers):
-        self.words = [program, "serve", "--session", EXAMPLES / "session.json", "--deals", EXAMPLES / "club.pbn", "--displays", "4", "--workers", str(workers)]
+        files = ["--session", EXAMPLES / "session.json", "--deals", EXAMPLES / "club.pbn"]
+        self.words = [program, "serve", *files, "--displays", "4", "--workers", str(workers)]
         self.port = free_port()
         self.process = None
 
     def start(self):
         def is_up():
             if self.process is None or self.process.poll() is not None:
-                self.process = subprocess.Popen([*self.words, "--port", str(self.port)], stdin=subprocess.DEVNULL, stdout=subprocess.DEVNULL, stderr=subprocess.DEVNULL)
+                self.process = subprocess.Popen([*self.words, "--port", str(self.port)], stdin=subprocess.DEVNULL, stdout=subprocess.DEVNULL,
+                                                stderr=subprocess.DEVNULL)
                 time.sleep(0.1)
             return listens(self.port)
         until("the server listens", is_up, 90)
@@ -125,8 +127,8 @@ class Hostile:
 
 def hostile_answer(message):
     bad = Hostile.MARKUP
-    status = {"held": [2], "live": [[1, 3], [], []], "marks": ["N none", bad, "S ew"], "per_set": 1, "phase": bad, "round": 1, "rounds": 3, "tables": 3,
-              "seats": [[bad, "NS1", "N"], ["n1", "NS1", "S"], ['"><b>x</b>', "EW1", bad]]}
+    status = {"held": [3], "live": [[1, 3], [], []], "marks": ["N none", bad, "S ew"], "per_set": 1, "phase": bad, "round": 1, "rounds": 3,
+              "seats": [[bad, "NS1", "N"], ["n1", "NS1", "S"], ['"><b>x</b>', "EW1", bad]], "tables": 3}
     if "hello" in message:
         return {"hello": bad}
     if "do" in message:
@@ -137,9 +139,11 @@ def hostile_answer(message):
         return {"error": "Behind", "version": 1}
     if message.get("board") == 2:
         return {"version": 1, message["ask"]: Hostile.BOARD_2[message["ask"]]}
-    rows = [{"table": bad, "ns": bad, "ew": bad, "points": bad, "score": bad, "result": {"by": bad, "doubled": 0, "level": bad, "strain": bad, "tricks": bad}}]
+    result = {"by": bad, "doubled": 0, "level": bad, "strain": bad, "tricks": bad}
+    rows = [{"table": bad, "ns": bad, "ew": bad, "points": bad, "score": bad, "result": result}]
+    hand = bad.replace(" ", "/")
     return {"version": 1, message["ask"]: {
-        "status": status, "board": {"deal": f"N:{bad}... .A.. ..A. ...A".replace(" src", "").replace(" one", ""), "dealer": "N", "number": bad, "vul": bad},
+        "status": status, "board": {"deal": f"N:{hand}... .A.. ..A. ...A", "dealer": "N", "number": bad, "vul": bad},
         "traveller": {"board": 1, "rows": rows}, "ranking": [[bad, 1, 2]], "accounts": {"inherits": [[bad, bad]], "users": [[bad, [bad]]]},
         "list": {"boards": [1], "more": False}, "analysis": {"board": 1, "tricks": None},
     }.get(message["ask"], bad)}
@@ -182,17 +186,21 @@ class Nginx:
         self.configure(upgrade, tls.replace("listen 443", f"listen 127.0.0.1:{self.tls_port}"), plain, server_port)
 
     def configure(self, upgrade, tls, plain, server_port):
-        subprocess.run(["openssl", "req", "-x509", "-newkey", "rsa:2048", "-nodes", "-days", "1", "-subj", "/CN=bridge.example.org", "-keyout", self.folder / "key", "-out", self.folder / "crt"],
-                       check=True, stderr=subprocess.DEVNULL)
+        words = ["-newkey", "rsa:2048", "-nodes", "-days", "1", "-subj", "/CN=bridge.example.org"]
+        files = ["-keyout", self.folder / "key", "-out", self.folder / "crt"]
+        subprocess.run(["openssl", "req", "-x509", *words, *files], check=True, stderr=subprocess.DEVNULL)
         servers = f"{upgrade}\n{tls}\n{plain}".replace(":8080", f":{server_port}").replace("/srv/bridge/client", str(TOP / "client"))
-        servers = servers.replace("/etc/ssl/bridge.example.org.crt", str(self.folder / "crt")).replace("/etc/ssl/bridge.example.org.key", str(self.folder / "key"))
+        for name in ("crt", "key"):
+            servers = servers.replace(f"/etc/ssl/bridge.example.org.{name}", str(self.folder / name))
         paths = "\n".join(f"{name}_temp_path {self.folder / name};" for name in ("client_body", "proxy", "fastcgi", "uwsgi", "scgi"))
         (self.folder / "nginx.conf").write_text(
-            f"daemon off;\nworker_processes 1;\nuser root;\npid {self.folder}/pid;\nerror_log {self.folder}/errors;\nevents {{ worker_connections 256; }}\n"
+            f"daemon off;\nworker_processes 1;\nuser root;\npid {self.folder}/pid;\nerror_log {self.folder}/errors;\n"
+            "events { worker_connections 256; }\n"
             f"http {{\ninclude /etc/nginx/mime.types;\naccess_log off;\n{paths}\n{servers}\n}}\n")
 
     def start(self):
-        self.process = subprocess.Popen(["/usr/sbin/nginx", "-p", str(self.folder), "-e", str(self.folder / "errors"), "-c", str(self.folder / "nginx.conf")], stdin=subprocess.DEVNULL)
+        words = ["-p", self.folder, "-e", self.folder / "errors", "-c", self.folder / "nginx.conf"]
+        self.process = subprocess.Popen(["/usr/sbin/nginx", *words], stdin=subprocess.DEVNULL)
         until("nginx listens", lambda: listens(self.port) and listens(self.tls_port))
 
     def stop(self):
@@ -209,8 +217,9 @@ class Browser:
     @classmethod
     def open(cls, downloads):
         options = webdriver.ChromeOptions()
-        for word in ("--headless=new", "--no-sandbox", "--disable-gpu", "--disable-dev-shm-usage", "--window-size=1000,900", "--ignore-certificate-errors",
-                     "--disable-background-networking", "--disable-component-update", "--no-first-run", "--host-resolver-rules=MAP * 127.0.0.1"):
+        for word in ("--headless=new", "--no-sandbox", "--disable-gpu", "--disable-dev-shm-usage", "--window-size=1000,900",
+                     "--ignore-certificate-errors", "--disable-background-networking", "--disable-component-update", "--no-first-run",
+                     "--host-resolver-rules=MAP * 127.0.0.1"):
             options.add_argument(word)
         options.set_capability("goog:loggingPrefs", {"browser": "ALL"})
         cls.driver = webdriver.Chrome(service=Service("/usr/bin/chromedriver"), options=options)
@@ -266,7 +275,17 @@ class Browser:
         until(f"{identity} can be typed into", typed)
 
     def choose(self, identity, value):
-        self.here().execute_script("const field = document.getElementById(arguments[0]); field.value = arguments[1]; field.dispatchEvent(new Event('change'))", identity, value)
+        self.here().execute_script("""const field = document.getElementById(arguments[0]);
+            field.value = arguments[1];
+            field.dispatchEvent(new Event("change"))""", identity, value)
+
+    def chosen(self, name):
+        """Which of some tiles is chosen, or None."""
+        return self.script("return document.querySelector(`[name=${arguments[0]}]:checked`)?.value ?? null", name)
+
+    def denial(self):
+        """The rule, the board and the table of the first denial that is shown."""
+        return self.script("const {rule, board, table} = document.querySelector('.denial').dataset; return [rule, board, table].map(Number)")
 
     def text(self, selector="main"):
         found = self.here().find_elements(By.CSS_SELECTOR, selector)
@@ -294,7 +313,8 @@ class Browser:
         return False
 
     def width(self, pixels, height=800):
-        self.here().execute_cdp_cmd("Emulation.setDeviceMetricsOverride", {"width": pixels, "height": height, "deviceScaleFactor": 1, "mobile": pixels < 600})
+        metrics = {"width": pixels, "height": height, "deviceScaleFactor": 1, "mobile": pixels < 600}
+        self.here().execute_cdp_cmd("Emulation.setDeviceMetricsOverride", metrics)
 
     def hands(self):
         """The four hands as the page shows them, from North on, written as a reply writes them."""
@@ -302,7 +322,8 @@ class Browser:
             suit.innerText.replaceAll("10", "T").replace(/\\s|void|—/g, "")).join(".")).join(" ")""")
 
     def rows(self, selector):
-        return self.script("return [...document.querySelectorAll(arguments[0])].map((row) => [...row.cells].map((cell) => cell.innerText.trim()))", f"{selector} tbody tr")
+        return self.script("""return [...document.querySelectorAll(arguments[0])].map((row) =>
+            [...row.cells].map((cell) => cell.innerText.trim()))""", f"{selector} tbody tr")
 
 
 if __name__ == "__main__":

@@ -9,40 +9,18 @@ window for each of five users; all of it on 127.0.0.1, and all of it ends with t
 replies, read past the page, from docs/PROTOCOL.md, docs/POLICY.md and the Laws, never from what the page shows. The last line is
 `N passed, M failed`; the status is 1 where one failed.
 """
-import json
 import pathlib
 import signal
 import sys
 import tempfile
 import time
-import traceback
 
+from page_checks import FAILED, PASSED, check, console, holds, part
 from page_devices import Browser, Hostile, Keys, Nginx, Server, until
+from page_layout import keyboard_player, laid_out, on_paper
 
-PASSED, FAILED = [], []
-STRAINS = {"S": "spades", "H": "hearts", "D": "diamonds", "C": "clubs", "N": "no trump"}
 FIVE_CLUBS = {"by": "S", "doubled": 0, "level": 5, "strain": "C", "tricks": 11}  # board 1, nobody vulnerable: 100 + 300
 THREE_NO_TRUMP = {"by": "W", "doubled": 1, "level": 3, "strain": "N", "tricks": 7}  # board 4, both vulnerable: 200 + 300 for North-South
-
-
-def check(what, wanted, got):
-    (PASSED if wanted == got else FAILED).append(what)
-    print(f"ok      {what}" if wanted == got else f"FAILED  {what}\n        wanted {wanted!r}\n        got    {got!r}", flush=True)
-
-
-def holds(what, found):
-    check(what, True, bool(found))
-
-
-def part(act):
-    """A part of the test: where it breaks off, that is a failure, and the next one begins."""
-    def run(*arguments):
-        try:
-            act(*arguments)
-        except Exception as fault:  # a part that breaks off must not end the test before it has cleaned up
-            traceback.print_exc()
-            check(f"{act.__name__}: ran to its end", "", str(fault).splitlines()[0] if str(fault) else type(fault).__name__)
-    return run
 
 
 def type_result(window, form, result):
@@ -57,14 +35,6 @@ def type_result(window, form, result):
 def percent(earned, tops):
     hundredths = (20000 * earned + tops) // (2 * tops)
     return f"{hundredths // 100}.{hundredths % 100:02d} %"
-
-
-def console(windows):
-    """What a browser's console says, but that a connection failed, which no page can keep it from saying."""
-    found = []
-    for window in windows:
-        found += [entry["message"] for entry in window.here().get_log("browser")]
-    return found
 
 
 # ---- signing in, and a denial that can be checked
@@ -89,12 +59,13 @@ def sign_in(page, server):
 def denial(page, server):
     denied = server.reply("anna", {"ask": "board", "board": 1})["denied"]
     page.go("board/1")
-    holds("a denial is a sentence with board and table", page.shows(f"board {denied['board']}: denied, because your pair has still to play it, at table {denied['table']}"))
+    sentence = f"board {denied['board']}: denied, because your pair has still to play it, at table {denied['table']}"
+    holds("a denial is a sentence with board and table", page.shows(sentence))
     holds("the server's own words stand below it", page.shows(f"“{denied['why']}”"))
-    got = page.script("const {rule, board, table} = document.querySelector('.denial').dataset; return [rule, board, table].map(Number)")
-    check("rule, board and table are those of the reply", [denied["rule"], denied["board"], denied["table"]], got)
+    check("rule, board and table are those of the reply", [denied["rule"], denied["board"], denied["table"]], page.denial())
     check("no card is on the page", "", page.text(".hand"))
-    holds("who listens is told", page.script("return document.querySelector('#announcements').textContent").startswith("The hands of board 1: denied"))
+    spoken = page.script("return document.querySelector('#announcements').textContent")
+    holds("who listens is told", spoken.startswith("The hands of board 1: denied"))
     page.press("check-board-0-1")
     check("its check says that it holds", "holds", page.script("return document.querySelector('.verdict').dataset.verdict"))
     live = server.reply("anna", {"ask": "status"})["status"]["live"][0]
@@ -111,8 +82,7 @@ def other_denials(carla, vera, server):
         denied = server.reply(name, {"ask": "board", "board": 1})["denied"]
         check(f"{name} is denied by rule {rule}", rule, denied["rule"])
         until("the denial is there", lambda: window.find("check-board-0-1"))
-        got = window.script("const {rule, board, table} = document.querySelector('.denial').dataset; return [rule, board, table].map(Number)")
-        check(f"{name} is shown rule, board and table", [denied["rule"], denied["board"], denied["table"]], got)
+        check(f"{name} is shown rule, board and table", [denied["rule"], denied["board"], denied["table"]], window.denial())
         window.press("check-board-0-1")
         check(f"the check for {name} is {verdict}", verdict, window.script("return document.querySelector('.verdict').dataset.verdict"))
     holds("where it hangs on roles, the page says so", vera.shows("roles, which this page can't see"))
@@ -150,7 +120,7 @@ def keyboard_scorer(sam):
 def confirm(sam, anna, carla, server):
     check("an entry alone is no result", [], server.reply("sam", {"ask": "status"})["status"]["live"][0])
     check("an entry alone opens nothing", 5, server.reply("anna", {"ask": "board", "board": 1})["denied"]["rule"])
-    check("who confirms begins with an empty form", None, sam.script("return document.querySelector('[name=confirm-level]:checked')"))
+    check("who confirms begins with an empty form", None, sam.chosen("confirm-level"))
     type_result(sam, "confirm", {**FIVE_CLUBS, "tricks": 10})
     sam.press("confirm-button")
     holds("another result is a mismatch, in words", sam.shows("differs from what was entered", "#refusal"))
@@ -167,7 +137,8 @@ def confirm(sam, anna, carla, server):
     row = anna.rows("table.traveller")[0]
     check("the traveller has the row", ["1", "NS1", "EW1", "400", "", "0", "0"], row[:3] + row[4:])
     holds("its contract is 5 clubs by South, just made", "5♣ S =" in row[3].replace("\n", "") or row[3].startswith("5♣"))
-    holds("the double-dummy table waits, with a rule of its own", anna.shows("double-dummy table of board 1: denied until the board is complete; table 3"))
+    waits = "double-dummy table of board 1: denied until the board is complete; table 3"
+    holds("the double-dummy table waits, with a rule of its own", anna.shows(waits))
     carla.go("session")
     carla.go("board/1")
     denied = server.reply("carla", {"ask": "board", "board": 1})["denied"]
@@ -309,7 +280,8 @@ def ranking(dora, anna, server, downloads):
     status = server.reply("dora", {"ask": "status"})["status"]
     check("the server is in round 2", 2, status["round"])
     second = {"by": "S", "doubled": 0, "level": 3, "strain": "N", "tricks": 9}
-    more = [{"cmd": word, "table": table, "board": 3 * table + 1, "result": {**second, "tricks": 8 + table % 3}} for table in (1, 3, 5) for word in ("Enter", "Confirm")]
+    more = [{"cmd": word, "table": table, "board": 3 * table + 1, "result": {**second, "tricks": 8 + table % 3}}
+            for table in (1, 3, 5) for word in ("Enter", "Confirm")]
     check("three tables give a result in round 2", ["ok"] * 6, server.reply("sam", {"do": more})["answers"])
     for window, name in ((anna, "anna"), (dora, "dora")):
         window.go("ranking")
@@ -319,17 +291,19 @@ def ranking(dora, anna, server, downloads):
             rows = server.reply(name, {"ask": "ranking"})["ranking"]
             wanted = [[pair, percent(earned, tops) if tops else "–"] for pair, earned, tops in rows]
             return [[row[1].split()[0], row[2]] for row in window.rows("table.ranking")] == wanted
+        what = f"the ranking that {name} sees is the server's for {name}"
         try:
-            holds(f"the ranking that {name} sees is the server's for {name}", until("the ranking agrees", agrees))
+            holds(what, until("the ranking agrees", agrees))
         except AssertionError:
-            check(f"the ranking that {name} sees is the server's for {name}", server.reply(name, {"ask": "ranking"})["ranking"], window.rows("table.ranking"))
+            check(what, server.reply(name, {"ask": "ranking"})["ranking"], window.rows("table.ranking"))
     rows = server.reply("dora", {"ask": "ranking"})["ranking"]
     holds("somebody has earned more than another", len({earned for _, earned, _ in rows}) > 1)
     dora.press("csv-ranking")
     path = until("the file is there", lambda: next(iter(pathlib.Path(downloads).glob("ranking*.csv")), None))
     until("the file is whole", lambda: path.read_text(encoding="utf-8-sig").count("\n") == len(rows) + 1)
     lines = [line.split(",") for line in path.read_text(encoding="utf-8-sig").splitlines()[1:]]
-    check("the spreadsheet has the pairs and percents", [[pair, percent(earned, tops)[:-2] if tops else ""] for pair, earned, tops in rows], [[line[1], line[3]] for line in lines])
+    wanted = [[pair, percent(earned, tops)[:-2] if tops else ""] for pair, earned, tops in rows]
+    check("the spreadsheet has the pairs and percents", wanted, [[line[1], line[3]] for line in lines])
 
 
 @part
@@ -367,10 +341,11 @@ def analysis(dora, server, has_workers):
         return
     query = {"ask": "costs", "table": 5, "board": 13}
     try:
-        costs = until("the costs are found", lambda: [found for found in [server.reply("dora", query)["costs"]["costs"]] if found != "pending"], 100)[0]
+        until("the costs are found", lambda: server.reply("dora", query)["costs"]["costs"] != "pending", 100)
     except AssertionError:
         print("left    the worker took too long: analysis and costs aren't compared")
         return
+    costs = server.reply("dora", query)["costs"]["costs"]
     tricks = server.reply("dora", {"ask": "analysis", "board": 13})["analysis"]["tricks"]
     until("the table is there", lambda: dora.rows("table.analysis"))
     names = {"N": "North", "S": "South", "E": "East", "W": "West"}
@@ -409,7 +384,8 @@ def administrator(page, nginx, server):
     page.sign_in("viola", token)
     holds("its user signs in by it", page.shows("Signed in as viola", "#top"))
     page.go("board/1")
-    check("the spectator is denied by rule 8", 8, int(page.script("return new Promise((found) => { const look = () => { const denial = document.querySelector('.denial'); denial ? found(denial.dataset.rule) : setTimeout(look, 50); }; look(); })")))
+    until("the denial is there", lambda: page.find("check-board-0-1"))
+    check("the spectator is denied by rule 8", 8, page.denial()[0])
     page.press("sign-out")
     page.here().get(f"http://bridge.example.org:{nginx.port}/")
     until("the page is there", lambda: page.find("name"))
@@ -431,7 +407,8 @@ def audit(dora, server):
     reply = server.reply("dora", {"audit": {"from": max(1, version - 99), "limit": 100}})["audit"]
     first = {str(number): (user, about) for number, user, _, about in reply}
     same = [row for row in rows if row[0] in first]
-    check("the audit's rows are the server's", [(first[row[0]][0] or "the solver", first[row[0]][1]) for row in same], [(row[1], row[3]) for row in same])
+    wanted = [(first[row[0]][0] or "the solver", first[row[0]][1]) for row in same]
+    check("the audit's rows are the server's", wanted, [(row[1], row[3]) for row in same])
     holds("and there are many", len(same) > 50)
 
 
@@ -448,12 +425,12 @@ def restart(sam, server):
     sam.press("enter-button")
     holds("without a server nothing is sent, in words", sam.shows("Nothing was sent, and what you typed is kept", "#refusal"))
     holds("the page says that it is offline", sam.shows("No connection to the server", "#offline"))
-    check("what was typed is still there", "4", sam.script("return document.querySelector('[name=enter-level]:checked').value"))
+    check("what was typed is still there", "4", sam.chosen("enter-level"))
     server.start()
     holds("the page comes back by itself, and says that the session began anew", sam.shows("was started again", "#offline", 40))
     sam.press("understood")
     check("no table has a result any more", [[]] * 24, server.reply("sam", {"ask": "status"})["status"]["live"])
-    check("what was typed outlived the server", "4", sam.script("return document.querySelector('[name=enter-level]:checked').value"))
+    check("what was typed outlived the server", "4", sam.chosen("enter-level"))
     sam.here().refresh()
     until("the page is there again", lambda: sam.find("name"))
     check("the token didn't outlive the page", "", sam.script("return document.getElementById('token').value"))
@@ -462,7 +439,7 @@ def restart(sam, server):
     sam.sign_in("sam")
     sam.go("scorer/4/12")
     until("the form is there", lambda: sam.find("enter-level-4"))
-    check("what was typed outlived the page", ["4", "C", "S", "1"], sam.script("return ['level', 'strain', 'by', 'over'].map((part) => document.querySelector(`[name=enter-${part}]:checked`)?.value)"))
+    check("what was typed outlived the page", ["4", "C", "S", "1"], [sam.chosen(f"enter-{part}") for part in ("level", "strain", "by", "over")])
     sam.press("enter-button")
     holds("and is entered", sam.shows("Entered for table 4, board 12", "#done"))
 
@@ -484,7 +461,8 @@ def seats(dora, server):
     dora.choose("seat-place", "S")
     dora.press("seat")
     holds("and gets it again", dora.shows("paul sits in NS8", "#done"))
-    check("the server has the seat", [["paul", "NS8", "S"]], [seat for seat in server.reply("dora", {"ask": "status"})["status"]["seats"] if seat[0] == "paul"])
+    seated = server.reply("dora", {"ask": "status"})["status"]["seats"]
+    check("the server has the seat", [["paul", "NS8", "S"]], [seat for seat in seated if seat[0] == "paul"])
 
 
 def play_to_the_end(server):
@@ -500,7 +478,8 @@ def play_to_the_end(server):
                 if table not in status["live"][board - 1] and (number, table, board) != (7, 1, 21):
                     commands += [{"cmd": word, "table": table, "board": board, "result": result} for word in ("Enter", "Confirm")]
         commands += [{"cmd": "NextRound"}] if number < 7 else []
-        refused += [answer for receipt in server.ask("dora", {"do": commands[:64]}, {"do": commands[64:]}) for answer in receipt["answers"] if answer != "ok"]
+        receipts = server.ask("dora", {"do": commands[:64]}, {"do": commands[64:]})
+        refused += [answer for receipt in receipts for answer in receipt["answers"] if answer != "ok"]
     return refused
 
 
@@ -544,10 +523,12 @@ def played_numbers(page, nginx):
     wanted = [[names[place], *(str(Hostile.TRICKS[place][index]) for index in (4, 0, 1, 2, 3))] for place in "NSEW"]
     check("the double-dummy table has its declarers and strains", wanted, page.rows("table.analysis"))
     rows = page.rows("table.traveller")
-    check("the traveller has what was set, passed out and ruled", [["200", "0", "2"], ["0", "", "2", "0"], ["60 %", "40 %"]], [rows[0][5:], rows[1][4:], rows[2][4:]])
+    wanted = [["200", "0", "2"], ["0", "", "2", "0"], ["60 %", "40 %"]]
+    check("the traveller has what was set, passed out and ruled", wanted, [rows[0][5:], rows[1][4:], rows[2][4:]])
     cells = page.script("""return [...document.querySelectorAll("table.play tbody tr")].map((row) => [...row.cells].slice(1).map((cell) => {
         const card = cell.querySelector(".card");
-        return card && [card.querySelector(".letter").textContent + card.lastChild.textContent, cell.querySelector(".cost")?.textContent ?? "", cell.className];
+        const cost = cell.querySelector(".cost")?.textContent ?? "";
+        return card && [card.querySelector(".letter").textContent + card.lastChild.textContent, cost, cell.className];
     }))""")
     check("each card stands in the column of who played it, with what it cost, and the winner is marked",
           [[["S2", "−1", ""], ["S3", "", ""], ["SA", "", "winner"], ["SK", "", ""]],
@@ -556,7 +537,8 @@ def played_numbers(page, nginx):
     total = sum(Hostile.COSTS)
     holds("and told together", page.shows(f"cost their side {total} tricks together"))
     page.press("letters")
-    check("suits can be read as letters", ["S", "H", "D", "C"], page.script("return [...document.querySelectorAll('.hand-N dt')].map((suit) => suit.innerText.trim()[0])"))
+    letters = page.script("return [...document.querySelectorAll('.hand-N dt')].map((suit) => suit.innerText.trim()[0])")
+    check("suits can be read as letters", ["S", "H", "D", "C"], letters)
     page.press("letters")
     page.press("sign-out")
 
@@ -569,100 +551,17 @@ def hostile_texts(page, nginx):
         until("the page is there", lambda: page.find("name"))
         page.sign_in("n1", "x")
         time.sleep(0.4)
-        made = page.script("return [...document.querySelectorAll('main *, header *')].filter((each) => ['IMG', 'SCRIPT', 'IFRAME', 'OBJECT'].includes(each.tagName) || [...each.attributes].some(({name}) => name.startsWith('on'))).length")
+        made = page.script("""const isMade = (each) => ["IMG", "SCRIPT", "IFRAME", "OBJECT"].includes(each.tagName) ||
+            [...each.attributes].some(({name}) => name.startsWith("on"));
+            return [...document.querySelectorAll("main *, header *")].filter(isMade).length""")
         check(f"{route}: no text became an element or a listener", 0, made)
         if route in ("session", "ranking", "accounts", "audit"):
             holds(f"{route}: such a text is shown as it is", page.shows(Hostile.MARKUP))
     page.press("sign-out")
     for elsewhere in ("//evil.example/session", "wss://evil.example/session", "https:evil"):
         page.here().get(f"http://127.0.0.1:{nginx.port}/?server={elsewhere}")
-        check(f"no link leads elsewhere: {elsewhere}", "/session", until("the field is there", lambda: page.find("server-path")).get_attribute("value"))
-
-
-NAMES = """
-const found = [];
-for (const each of document.querySelectorAll("input, select, textarea")) {
-    if (!each.labels?.length && !each.getAttribute("aria-label")) found.push(`no label: ${each.id}`);
-}
-for (const each of document.querySelectorAll("button, a, summary")) if (!each.textContent.trim() && !each.getAttribute("aria-label")) found.push(`no text: ${each.id}`);
-for (const selector of ["main", "h1", "header#top", "footer#foot", "html[lang]", "#refusal[role=alert]", "#announcements[role=status]", "a.skip"]) {
-    if (document.querySelectorAll(selector).length !== 1) found.push(`not one ${selector}`);
-}
-for (const nav of document.querySelectorAll("nav")) if (!nav.getAttribute("aria-label")) found.push("a nav without a name");
-for (const each of document.querySelectorAll("table")) if (!each.caption?.textContent || !each.querySelector("th[scope=col]") || !each.querySelector("tbody th[scope=row]")) found.push("a table without caption or heads");
-const ids = [...document.querySelectorAll("[id]")].map((each) => each.id);
-for (const id of new Set(ids)) if (ids.filter((other) => other === id).length > 1) found.push(`twice: ${id}`);
-for (const each of document.querySelectorAll("[aria-describedby]")) if (!document.getElementById(each.getAttribute("aria-describedby"))) found.push(`describes nothing: ${each.id}`);
-return found;
-"""
-
-CONTRAST = """
-const numbers = (text) => text.match(/[\\d.]+/g).map(Number);
-const light = ([r, g, b]) => [r, g, b].map((part) => part / 255).map((part) => part <= 0.03928 ? part / 12.92 : ((part + 0.055) / 1.055) ** 2.4).reduce((sum, part, index) => sum + part * [0.2126, 0.7152, 0.0722][index], 0);
-const ground = (each) => { for (let at = each; at; at = at.parentElement) { const found = numbers(getComputedStyle(at).backgroundColor); if (found.length < 4 || found[3] > 0.9) return found; } return [255, 255, 255]; };
-const faint = [];
-for (const each of document.querySelectorAll("body *")) {
-    const own = [...each.childNodes].some((node) => node.nodeType === 3 && node.data.trim());
-    if (!own || each.closest("[aria-disabled=true], .unseen, .skip, option, noscript") || !each.getClientRects().length) continue;
-    const [front, back] = [light(numbers(getComputedStyle(each).color)), light(ground(each))];
-    const ratio = (Math.max(front, back) + 0.05) / (Math.min(front, back) + 0.05);
-    if (ratio < 4.5) faint.push(`${each.tagName} ${each.className} ${ratio.toFixed(2)}`);
-}
-return [...new Set(faint)];
-"""
-
-SMALL = """
-return [...document.querySelectorAll("button, nav a, .tile, select, .board-list a, .table-grid a")].filter((each) => each.getClientRects().length)
-    .filter((each) => each.getBoundingClientRect().height < 43.5 || each.getBoundingClientRect().width < 36).map((each) => each.id || each.className);
-"""
-
-
-@part
-def laid_out(window, routes):
-    """At 360 pixels and on a desk: nothing is wider than the window, all has a name, and is seen and met by a thumb."""
-    for pixels in (360, 1000):
-        window.width(pixels)
-        for route in routes:
-            window.go(route)
-            time.sleep(0.5)
-            name = f"{route} at {pixels} pixels"
-            check(f"{name}: no wider than the window", pixels, window.script("return Math.max(document.documentElement.scrollWidth, innerWidth)"))
-            check(f"{name}: fields, buttons, tables and landmarks have names", [], window.script(NAMES))
-            check(f"{name}: each text is seen against its ground", [], window.script(CONTRAST))
-            if pixels == 360:
-                check(f"{name}: a thumb meets what is to be pressed", [], window.script(SMALL))
-
-
-@part
-def keyboard_player(page):
-    """A player's way to a denial and its check, by the keyboard alone."""
-    page.go("session")
-    holds("My boards is reached by Tab", page.tab_to("nav-boards"))
-    page.keys(Keys.ENTER)
-    until("the boards are there", lambda: page.find("own-board-7"))
-    check("the focus goes to the heading", "heading", page.script("return document.activeElement.id"))
-    holds("a board is reached by Tab", page.tab_to("own-board-7"))
-    page.keys(Keys.ENTER)
-    until("the denial is there", lambda: page.find("check-board-0-7"))
-    holds("the check is reached by Tab", page.tab_to("check-board-0-7"))
-    page.keys(Keys.SPACE)
-    until("the check is open", lambda: page.find("check-board-0-7-facts"))
-    check("the button says that it is open, and keeps the focus", ["true", "check-board-0-7"],
-          page.script("return [document.getElementById('check-board-0-7').getAttribute('aria-expanded'), document.activeElement.id]"))
-    roles = [node["role"]["value"] for node in page.here().execute_cdp_cmd("Accessibility.getFullAXTree", {})["nodes"] if not node.get("ignored")]
-    holds("a screen reader finds banner, navigation, main and heading", {"banner", "navigation", "main", "heading", "status"} <= set(roles))
-
-
-@part
-def on_paper(dora, server):
-    dora.go("papers")
-    for kind in ("travellers", "records"):
-        dora.press(f"paper-{kind}")
-        until(f"{kind} are there", lambda: len(dora.here().find_elements("css selector", f".paper-{kind} .sheet")) == 24)
-    dora.here().execute_cdp_cmd("Emulation.setEmulatedMedia", {"media": "print"})
-    seen = dora.script("return ['#top', '#foot', '.no-print', '.paper'].map((each) => document.querySelector(each).getClientRects().length > 0)")
-    check("paper has the records alone", [False, False, False, True], seen)
-    dora.here().execute_cdp_cmd("Emulation.setEmulatedMedia", {"media": ""})
+        path = until("the field is there", lambda: page.find("server-path")).get_attribute("value")
+        check(f"no link leads elsewhere: {elsewhere}", "/session", path)
 
 
 @part
@@ -720,7 +619,7 @@ def play(server, nginx, downloads, has_workers):
     ranking(dora, anna, server, downloads)
     find_boards(dora, server)
     analysis(dora, server, has_workers)
-    on_paper(dora, server)
+    on_paper(dora)
     audit(dora, server)
     keyboard_player(anna)
     laid_out(anna, ("session", "boards", "board/1/1", "board/4", "ranking", "find", "papers"))

@@ -11,7 +11,9 @@ test("a deal's hands are read from the place that it names", () => {
   assert.deepEqual(hands.W, { S: "AJT6", H: "8732", D: "T52", C: "Q3" });
   assert.deepEqual(["N", "E", "S", "W"].map((place) => pointsOf(hands[place])), [8, 8, 17, 7]); // 40 together
   assert.equal(handsOf("S:A... .A.. ..A. ...A").S.S, "A");
-  for (const text of ["", "N:", "X:A... .A.. ..A. ...A", "N:A... .A.. ..A.", "N:A.. .A.. ..A. ...A", "NA... .A.. ..A. ...A"]) assert.equal(handsOf(text), null, text);
+  for (const text of ["", "N:", "X:A... .A.. ..A. ...A", "N:A... .A.. ..A.", "N:A.. .A.. ..A. ...A", "NA... .A.. ..A. ...A"]) {
+    assert.equal(handsOf(text), null, text);
+  }
 });
 
 test("cards are read as scorers write them", () => {

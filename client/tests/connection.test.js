@@ -9,12 +9,18 @@ class Socket extends EventTarget {
   send = (text) => this.sent.push(JSON.parse(text));
   close = (code) => { this.closedWith = code; };
   open = () => this.dispatchEvent(new Event("open"));
-  answer = (value) => this.dispatchEvent(Object.assign(new Event("message"), { data: typeof value === "string" ? value : JSON.stringify(value) }));
+  answer = (value) => this.dispatchEvent(Object.assign(
+    new Event("message"),
+    { data: typeof value === "string" ? value : JSON.stringify(value) },
+  ));
   breaks = () => this.dispatchEvent(new Event("close"));
 }
 
 const pause = (time = 0) => new Promise((resolve) => { setTimeout(resolve, time); });
-const faultOf = (promise) => promise.then(() => null, (fault) => (fault instanceof ConnectionFault ? fault.kind : fault));
+const faultOf = (promise) => promise.then(
+  () => null,
+  (fault) => (fault instanceof ConnectionFault ? fault.kind : fault),
+);
 
 function connected(times = {}) {
   const sockets = [];
@@ -23,7 +29,14 @@ function connected(times = {}) {
     sockets.push(new Socket());
     return sockets.at(-1);
   };
-  const connection = new Connection("ws://here/session", { makeSocket, times: { idle: 20, slow: 20, opening: 60, answer: 60, ...times }, onSlow: (isSlow) => slow.push(isSlow) });
+  const connection = new Connection(
+    "ws://here/session",
+    {
+      makeSocket,
+      times: { idle: 20, slow: 20, opening: 60, answer: 60, ...times },
+      onSlow: (isSlow) => slow.push(isSlow),
+    },
+  );
   return { connection, sockets, slow };
 }
 

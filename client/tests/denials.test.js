@@ -6,7 +6,17 @@ import { ask } from "../messages.js";
 import { publicFacts } from "../public_facts.js";
 
 // Four tables, two rounds, a board a set: NS1 plays boards 1 and 2 at table 1; board 1 is played at tables 1 and 4.
-const opening = { held: [], live: [[], [], [], []], marks: ["N none", "E ns", "S ew", "W both"], per_set: 1, phase: "Running", round: 1, rounds: 2, seats: [["n1", "NS1", "N"], ["n3", "NS3", "N"]], tables: 4 };
+const opening = {
+  held: [],
+  live: [[], [], [], []],
+  marks: ["N none", "E ns", "S ew", "W both"],
+  per_set: 1,
+  phase: "Running",
+  round: 1,
+  rounds: 2,
+  seats: [["n1", "NS1", "N"], ["n3", "NS3", "N"]],
+  tables: 4,
+};
 const facts = (changes) => publicFacts({ ...opening, ...changes });
 const denied = (rule, board, table) => ({ rule, board, table, why: "" });
 const verdict = (changes, name, query, denial) => checkDenial(facts(changes), name, query, denial).verdict;
@@ -80,14 +90,27 @@ function ruleByRule(now, pair, roles, { kind, board, table }) {
 }
 
 test("the first rule that forbids is named, for all roles, results, phases and facts of a small session", () => {
-  const queries = [ask.board(1), ask.traveller(1), ask.analysis(1), ...[1, 4].flatMap((table) => [ask.play(table, 1), ask.costs(table, 1), ask.reason(table, 1)])];
+  const queries = [
+    ask.board(1),
+    ask.traveller(1),
+    ask.analysis(1),
+    ...[1, 4].flatMap((table) => [ask.play(table, 1), ask.costs(table, 1), ask.reason(table, 1)]),
+  ];
   let count = 0;
-  for (const live of [[], [1], [4], [1, 4]]) for (const held of [[], [1]]) for (const phase of ["Running", "Closed", "Final"]) {
+  const phases = ["Running", "Closed", "Final"];
+  const resultsHeldPhases = [[], [1], [4], [1, 4]].flatMap((live) => [[], [1]].flatMap((held) => phases.map((phase) => [live, held, phase])));
+  for (const [live, held, phase] of resultsHeldPhases) {
     const now = facts({ live: [live, [], [], []], held, phase });
-    for (const pair of [null, "NS1", "EW1", "NS4", "EW4", "NS2", "EW3"]) for (const roles of possibleRoles(pair)) for (const query of queries) {
+    const pairs = [null, "NS1", "EW1", "NS4", "EW4", "NS2", "EW3"];
+    const viewers = pairs.flatMap((pair) => possibleRoles(pair).flatMap((roles) => queries.map((query) => [pair, roles, query])));
+    for (const [pair, roles, query] of viewers) {
       const expected = ruleByRule(now, pair, roles, factOf(query));
       const found = denialOf(now, pair, roles, factOf(query));
-      assert.deepEqual(found && [found.rule, found.table], expected, JSON.stringify([live, held, phase, pair, roles, query]));
+      assert.deepEqual(
+        found && [found.rule, found.table],
+        expected,
+        JSON.stringify([live, held, phase, pair, roles, query]),
+      );
       count += 1;
     }
   }

@@ -9,7 +9,15 @@ import { isServerPath, routeOf, serverAddress, serverPathOf } from "../routes.js
 import { canDigest, digestOf, isDigest, newToken } from "../tokens.js";
 
 test("percentages have two digits, a half rounded up", () => {
-  const rows = [[800, 1200, "66.67"], [700, 1200, "58.33"], [0, 1200, "0.00"], [1200, 1200, "100.00"], [1, 800, "0.13"], [0, 0, ""], [1, 3, "33.33"]];
+  const rows = [
+    [800, 1200, "66.67"],
+    [700, 1200, "58.33"],
+    [0, 1200, "0.00"],
+    [1200, 1200, "100.00"],
+    [1, 800, "0.13"],
+    [0, 0, ""],
+    [1, 3, "33.33"],
+  ];
   for (const [earned, tops, text] of rows) assert.equal(percentText(earned, tops), text, `${earned} of ${tops}`);
 });
 
@@ -19,7 +27,15 @@ test("units are told without closing zeros", () => {
 
 test("equal percentages share a place, and pairs without tops have none", () => {
   const ranking = [["NS3", 200, 200], ["EW1", 300, 300], ["NS1", 100, 200], ["NS2", 0, 0]];
-  assert.deepEqual(placesOf(ranking), [{ place: 1, shared: true }, { place: 1, shared: true }, { place: 3, shared: false }, { place: null, shared: false }]);
+  assert.deepEqual(
+    placesOf(ranking),
+    [
+      { place: 1, shared: true },
+      { place: 1, shared: true },
+      { place: 3, shared: false },
+      { place: null, shared: false },
+    ],
+  );
 });
 
 test("a top is two units for each other result that was played", () => {
@@ -31,9 +47,18 @@ test("a top is two units for each other result that was played", () => {
 test("a filter has the members of the protocol", () => {
   const set = (kind, values, isNot = false) => ({ kind, isNot, values: { ...newCondition(kind).values, ...values } });
   assert.equal(filterOf([], "and"), null);
-  assert.deepEqual(filterOf([set("vul", { vul: "ns" }), set("made", { made: "false" }, true)], "or"), { or: [{ vul: "ns" }, { not: { made: false } }] });
-  assert.deepEqual(filterOf([set("score", { min: "-50", max: "−20" })], "and"), { and: [{ score: { max: -20, min: -50 } }] });
-  assert.deepEqual(filterOf([set("dd", { by: "E", strain: "N", min: "7", max: "13" })], "and"), { and: [{ dd: { by: "E", max: 13, min: 7, strain: "N" } }] });
+  assert.deepEqual(
+    filterOf([set("vul", { vul: "ns" }), set("made", { made: "false" }, true)], "or"),
+    { or: [{ vul: "ns" }, { not: { made: false } }] },
+  );
+  assert.deepEqual(
+    filterOf([set("score", { min: "-50", max: "−20" })], "and"),
+    { and: [{ score: { max: -20, min: -50 } }] },
+  );
+  assert.deepEqual(
+    filterOf([set("dd", { by: "E", strain: "N", min: "7", max: "13" })], "and"),
+    { and: [{ dd: { by: "E", max: 13, min: 7, strain: "N" } }] },
+  );
   assert.deepEqual(filterOf([set("doubled", { doubled: "2" }), set("level", {}), set("dealer", { by: "W" }), set("strain", {})], "and"),
     { and: [{ doubled: 2 }, { level: { max: 7, min: 1 } }, { dealer: "W" }, { strain: "S" }] });
 });
@@ -45,28 +70,39 @@ test("bounds that aren't whole numbers of their range aren't sent", () => {
 });
 
 test("a spreadsheet reads a text as a text", () => {
-  assert.deepEqual(["a,b", 'say "x"', "=1+1", "@x", "-50", -50, null].map(csvField), ['"a,b"', '"say ""x"""', "'=1+1", "'@x", "'-50", "-50", ""]);
+  assert.deepEqual(
+    ["a,b", 'say "x"', "=1+1", "@x", "-50", -50, null].map(csvField),
+    ['"a,b"', '"say ""x"""', "'=1+1", "'@x", "'-50", "-50", ""],
+  );
   assert.equal(csvText([["a", 1], ["b\nc", 2]]), 'a,1\r\n"b\nc",2\r\n');
 });
 
 test("pauses grow while the server can't be reached, and are long while nobody looks", () => {
   assert.equal(pauseOf(0, false, 0.5), 8_000);
   assert.equal(pauseOf(0, true, 0.5), 60_000);
-  assert.deepEqual([1, 2, 3, 4, 7, 100].map((failures) => pauseOf(failures, false, 0.5)), [1_000, 2_000, 4_000, 8_000, 60_000, 60_000]);
+  assert.deepEqual(
+    [1, 2, 3, 4, 7, 100].map((failures) => pauseOf(failures, false, 0.5)),
+    [1_000, 2_000, 4_000, 8_000, 60_000, 60_000],
+  );
   assert.deepEqual([0, 1].map((chance) => pauseOf(0, false, chance)), [6_400, 9_600]);
 });
 
 test("an address names a view, and anything else the session", () => {
   assert.deepEqual(routeOf("#/scorer/3/7"), { view: "scorer", table: 3, board: 7 });
   assert.deepEqual(routeOf("#/board/7"), { view: "board", table: 0, board: 7 });
-  for (const hash of ["", "#", "#/nothing", "#/constructor", "#/__proto__", "#/ranking/1"]) assert.equal(routeOf(hash).view, "session", hash);
+  for (const hash of ["", "#", "#/nothing", "#/constructor", "#/__proto__", "#/ranking/1"]) {
+    assert.equal(routeOf(hash).view, "session", hash);
+  }
   assert.equal(routeOf("#/board/<b>").board, 0);
 });
 
 test("no link leads the token to another host", () => {
   const location = { protocol: "https:", host: "bridge.example.org" };
   assert.equal(serverAddress(location, "/session"), "wss://bridge.example.org/session");
-  assert.equal(serverAddress({ protocol: "http:", host: "127.0.0.1:8000" }, "/b/session"), "ws://127.0.0.1:8000/b/session");
+  assert.equal(
+    serverAddress({ protocol: "http:", host: "127.0.0.1:8000" }, "/b/session"),
+    "ws://127.0.0.1:8000/b/session",
+  );
   assert.equal(serverPathOf("?server=/b/session"), "/b/session");
   for (const path of ["//evil.example", "https://evil.example", "wss://evil.example/session", "/a//b", "\\\\evil", "/a?b", "/a#b", "", "@evil.example", "/ a"]) {
     assert.equal(isServerPath(path), false, path);
@@ -83,4 +119,22 @@ test("a token is random, and its digest is the SHA-256 of its bytes", async () =
   assert.ok(isDigest("a".repeat(64)) && !isDigest("a".repeat(63)) && !isDigest("A".repeat(64)));
   assert.equal(canDigest({ isSecureContext: false, crypto: { subtle: {} } }), false);
   assert.equal(canDigest({ isSecureContext: true, crypto: {} }), false);
+});
+
+test("a traveller's lines have a field for each head", async () => {
+  const { travellerLines } = await import("../views/traveller.js");
+  const { texts } = await import("../texts.js");
+  const played = { by: "S", doubled: 1, level: 4, strain: "H", tricks: 9 };
+  const lines = travellerLines({
+    board: 2,
+    rows: [
+      { table: 1, ns: "NS1", ew: "EW3", points: 0, score: -200, result: played },
+      { table: 2, ns: "NS2", ew: "EW2", points: 2, score: 0, result: "pass" },
+      { table: 3, ns: "NS3", ew: "EW1", ruling: [60, 40] },
+    ],
+  });
+  for (const line of lines) assert.equal(line.length, texts.papers.travellerHeads.length);
+  assert.deepEqual(lines[0], [2, 1, "NS1", "EW3", "4HX S", 4, "H", "X", "S", -200, 0, 2, "", ""]);
+  assert.deepEqual(lines[1].slice(4, 12), ["passed out", "", "", "", "", 0, 2, 0]);
+  assert.deepEqual(lines[2].slice(-2), [60, 40]);
 });

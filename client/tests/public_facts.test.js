@@ -2,7 +2,8 @@
 import assert from "node:assert/strict";
 import { test } from "node:test";
 import { movementOf, rowsOfBoard } from "../movement.js";
-import { awaitedCells, awaitedTables, boardStateOf, cellsOfTable, isComplete, marksOf, playersOf, publicFacts, seatOf, tableOfPair } from "../public_facts.js";
+import { awaitedCells, awaitedTables, boardStateOf, cellsOfTable, isComplete } from "../public_facts.js";
+import { marksOf, playersOf, publicFacts, seatOf, tableOfPair } from "../public_facts.js";
 
 /** The movement as docs/SESSION.md tells it, by moving pairs and boards about. */
 function movedAbout(tables, rounds) {
@@ -10,7 +11,9 @@ function movedAbout(tables, rounds) {
   let sets = [...pairs];
   const rows = [];
   for (let round = 1; round <= rounds; round += 1) {
-    for (let table = 1; table <= tables; table += 1) rows.push({ round, table, set: sets[table - 1], ns: `NS${table}`, ew: `EW${pairs[table - 1]}` });
+    for (let table = 1; table <= tables; table += 1) {
+      rows.push({ round, table, set: sets[table - 1], ns: `NS${table}`, ew: `EW${pairs[table - 1]}` });
+    }
     const steps = tables % 2 === 0 && round === tables / 2 ? 2 : 1;
     for (let step = 0; step < steps; step += 1) pairs = [pairs.at(-1), ...pairs.slice(0, -1)];
     sets = [...sets.slice(1), sets[0]];
@@ -21,20 +24,38 @@ function movedAbout(tables, rounds) {
 test("the movement is the Mitchell that docs/SESSION.md tells of", () => {
   for (let tables = 3; tables <= 16; tables += 1) {
     const most = tables % 2 ? tables : tables - 1;
-    for (let rounds = 1; rounds <= most; rounds += 1) assert.deepEqual(movementOf(tables, rounds), movedAbout(tables, rounds), `${tables} tables, ${rounds} rounds`);
+    for (let rounds = 1; rounds <= most; rounds += 1) {
+      assert.deepEqual(movementOf(tables, rounds), movedAbout(tables, rounds), `${tables} tables, ${rounds} rounds`);
+    }
   }
 });
 
 test("nobody meets an opponent or a set twice", () => {
   for (const [tables, rounds] of [[3, 3], [8, 7], [16, 15]]) {
     const rows = movementOf(tables, rounds);
-    for (const side of ["ns", "ew"]) assert.equal(new Set(rows.map((row) => `${row[side]} ${row.set}`)).size, rows.length, `${side}, ${tables} tables`);
+    for (const side of ["ns", "ew"]) {
+      assert.equal(
+        new Set(rows.map((row) => `${row[side]} ${row.set}`)).size,
+        rows.length,
+        `${side}, ${tables} tables`,
+      );
+    }
     assert.equal(new Set(rows.map((row) => `${row.ns} ${row.ew}`)).size, rows.length);
   }
 });
 
 /** The status of docs/PROTOCOL.md's example. */
-const status = { held: [2], live: [[1, 3], [], [3]], marks: ["N none", "E ns", "S ew"], per_set: 1, phase: "Running", round: 2, rounds: 3, seats: [["n1", "NS1", "N"], ["n2", "NS2", "S"]], tables: 3 };
+const status = {
+  held: [2],
+  live: [[1, 3], [], [3]],
+  marks: ["N none", "E ns", "S ew"],
+  per_set: 1,
+  phase: "Running",
+  round: 2,
+  rounds: 3,
+  seats: [["n1", "NS1", "N"], ["n2", "NS2", "S"]],
+  tables: 3,
+};
 const facts = publicFacts(status);
 
 test("the pairs at a table are those that the protocol's example names", () => {
@@ -66,5 +87,8 @@ test("seats, players and marks are those of the status", () => {
 });
 
 test("a table's boards are those up to the present round, the newest first", () => {
-  assert.deepEqual(cellsOfTable(facts, 3).map(({ board, round, live }) => [board, round, live]), [[1, 2, true], [3, 1, true]]);
+  assert.deepEqual(
+    cellsOfTable(facts, 3).map(({ board, round, live }) => [board, round, live]),
+    [[1, 2, true], [3, 1, true]],
+  );
 });

@@ -10,7 +10,10 @@ const draft = (parts) => ({ ...emptyDraft(), ...parts });
 test("a result follows when each part is told", () => {
   assert.deepEqual(missingParts(draft({ level: 3 })), ["strain", "by", "over"]);
   assert.equal(resultOf(draft({ level: 3, strain: "N", by: "W" })), null);
-  assert.deepEqual(resultOf(draft({ level: 3, strain: "N", by: "W", over: -2, doubled: 1 })), { by: "W", doubled: 1, level: 3, strain: "N", tricks: 7 });
+  assert.deepEqual(
+    resultOf(draft({ level: 3, strain: "N", by: "W", over: -2, doubled: 1 })),
+    { by: "W", doubled: 1, level: 3, strain: "N", tricks: 7 },
+  );
   assert.equal(resultOf(draft({ passedOut: true, level: 3 })), "pass");
 });
 
@@ -29,7 +32,10 @@ test("tricks that a new level can't have are asked again", () => {
 });
 
 test("what was kept is read part by part, and nothing else is", () => {
-  assert.deepEqual(readDraft({ level: 9, strain: "X", by: "N", over: 1.5, play: 7, doubled: 2, more: 1 }), draft({ by: "N", doubled: 2 }));
+  assert.deepEqual(
+    readDraft({ level: 9, strain: "X", by: "N", over: 1.5, play: 7, doubled: 2, more: 1 }),
+    draft({ by: "N", doubled: 2 }),
+  );
   for (const kept of [null, 7, "level", []]) assert.deepEqual(readDraft(kept), emptyDraft());
 });
 
@@ -49,7 +55,9 @@ test("a draft outlives the page, by user, table and board, until it is removed",
   const later = new Drafts(storage);
   assert.deepEqual(later.read("sam", "enter", 1, 2), typed);
   assert.ok(later.isEntered("sam", 1, 2));
-  for (const other of [["tom", "enter", 1, 2], ["sam", "confirm", 1, 2], ["sam", "enter", 2, 1]]) assert.deepEqual(later.read(...other), emptyDraft());
+  for (const other of [["tom", "enter", 1, 2], ["sam", "confirm", 1, 2], ["sam", "enter", 2, 1]]) {
+    assert.deepEqual(later.read(...other), emptyDraft());
+  }
   later.remove("sam", "enter", 1, 2);
   later.setEntered("sam", 1, 2, false);
   assert.deepEqual(new Drafts(storage).read("sam", "enter", 1, 2), emptyDraft());

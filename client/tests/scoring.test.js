@@ -25,7 +25,9 @@ test("contracts that are made and set score by Law 77", () => {
     [result(4, "S", 0, 9, "W"), "ew", 100],
     ["pass", "both", 0],
   ];
-  for (const [played, vulnerability, score] of rows) assert.equal(scoreOf(played, vulnerability), score, JSON.stringify([played, vulnerability]));
+  for (const [played, vulnerability, score] of rows) {
+    assert.equal(scoreOf(played, vulnerability), score, JSON.stringify([played, vulnerability]));
+  }
 });
 
 test("tricks are told above and below the contract", () => {

@@ -4,7 +4,17 @@ import { test } from "node:test";
 import { ask, keyOf, permissionProbe, permissionsOf } from "../messages.js";
 import { Store } from "../store.js";
 
-const status = { held: [], live: [[], [], []], marks: ["N none", "E ns", "S ew"], per_set: 1, phase: "Running", round: 1, rounds: 3, seats: [["n1", "NS1", "N"]], tables: 3 };
+const status = {
+  held: [],
+  live: [[], [], []],
+  marks: ["N none", "E ns", "S ew"],
+  per_set: 1,
+  phase: "Running",
+  round: 1,
+  rounds: 3,
+  seats: [["n1", "NS1", "N"]],
+  tables: 3,
+};
 
 /** A server with a version: it answers a query of the version that it has, as docs/PROTOCOL.md says. */
 function playedServer() {
@@ -23,7 +33,10 @@ function playedServer() {
 
 function storeOf(server, needs = () => [ask.board(1)]) {
   const drawn = { count: 0 };
-  const store = new Store(server, { needs: () => (store.state.facts ? needs() : []), onChange: () => { drawn.count += 1; } });
+  const store = new Store(
+    server,
+    { needs: () => (store.state.facts ? needs() : []), onChange: () => { drawn.count += 1; } },
+  );
   return { store, drawn };
 }
 
@@ -69,10 +82,22 @@ test("a lower version for a moment changes nothing, and one that stays is a serv
 
 test("permissions are asked by commands that no session takes", async () => {
   const { do: commands } = permissionProbe();
-  assert.deepEqual(commands.map(({ cmd, table, name }) => [cmd, table ?? name]), [["Enter", 0], ["Rule", 0], ["Assign", ""]]);
-  assert.deepEqual(permissionsOf({ answers: ["NoSuchCell", "NotPermitted", "NotPermitted"] }), { score: true, direct: false, administer: false });
-  assert.deepEqual(permissionsOf({ answers: ["NoSuchCell", "NoSuchCell", "NotPermitted"] }), { score: true, direct: true, administer: false });
-  assert.deepEqual(permissionsOf({ answers: ["NotPermitted", "NotPermitted", "NoSuchUser"] }), { score: false, direct: false, administer: true });
+  assert.deepEqual(
+    commands.map(({ cmd, table, name }) => [cmd, table ?? name]),
+    [["Enter", 0], ["Rule", 0], ["Assign", ""]],
+  );
+  assert.deepEqual(
+    permissionsOf({ answers: ["NoSuchCell", "NotPermitted", "NotPermitted"] }),
+    { score: true, direct: false, administer: false },
+  );
+  assert.deepEqual(
+    permissionsOf({ answers: ["NoSuchCell", "NoSuchCell", "NotPermitted"] }),
+    { score: true, direct: true, administer: false },
+  );
+  assert.deepEqual(
+    permissionsOf({ answers: ["NotPermitted", "NotPermitted", "NoSuchUser"] }),
+    { score: false, direct: false, administer: true },
+  );
   assert.deepEqual(permissionsOf({ error: "OutOfMemory" }), { score: false, direct: false, administer: false });
 });
 
@@ -94,7 +119,10 @@ test("permissions are asked once, and again where no answer came", async () => {
 
 test("who isn't a member is shown why", async () => {
   const server = playedServer();
-  server.ask = async (message) => (message.do ? { answers: [], first: 0, last: 0, version: 3 } : { denied: { board: 0, rule: 2, table: 0, why: "not a member" }, version: 3 });
+  server.ask = async (message) => (message.do ? { answers: [], first: 0, last: 0, version: 3 } : {
+    denied: { board: 0, rule: 2, table: 0, why: "not a member" },
+    version: 3,
+  });
   const { store } = storeOf(server);
   await store.signIn("v", "token");
   assert.equal(store.state.facts, null);
@@ -121,6 +149,16 @@ test("a version too large to count with asks for the newest", async () => {
 });
 
 test("each query has a place of its own", () => {
-  const queries = [ask.board(1), ask.board(2), ask.play(1, 2), ask.play(2, 1), ask.list(null), ask.list({ and: [{ vul: "ns" }] }), ask.list({ and: [{ vul: "ew" }] }), ask.audit(1, 100), ask.audit(2, 100)];
+  const queries = [
+    ask.board(1),
+    ask.board(2),
+    ask.play(1, 2),
+    ask.play(2, 1),
+    ask.list(null),
+    ask.list({ and: [{ vul: "ns" }] }),
+    ask.list({ and: [{ vul: "ew" }] }),
+    ask.audit(1, 100),
+    ask.audit(2, 100),
+  ];
   assert.equal(new Set(queries.map(keyOf)).size, queries.length);
 });

@@ -5,11 +5,19 @@ import { test } from "node:test";
 import { texts } from "../texts.js";
 
 const folder = new URL("../", import.meta.url);
-const files = ["", "views/"].flatMap((part) => readdirSync(new URL(part, folder)).filter((name) => name.endsWith(".js")).map((name) => part + name));
+const files = ["", "views/"].flatMap(
+  (part) => readdirSync(new URL(part, folder)).filter((name) => name.endsWith(".js")).map((name) => part + name),
+);
 const textOf = (name) => readFileSync(new URL(name, folder), "utf8");
 
 test("no text becomes markup or code", () => {
-  for (const name of files) assert.doesNotMatch(textOf(name), /innerHTML|outerHTML|insertAdjacentHTML|document\.write|\beval\b|new Function|setHTML|srcdoc/u, name);
+  for (const name of files) {
+    assert.doesNotMatch(
+      textOf(name),
+      /innerHTML|outerHTML|insertAdjacentHTML|document\.write|\beval\b|new Function|setHTML|srcdoc/u,
+      name,
+    );
+  }
 });
 
 test("nothing is loaded from elsewhere", () => {
@@ -20,13 +28,17 @@ test("nothing is loaded from elsewhere", () => {
 
 test("the page's policy is the strict one", () => {
   const policy = /Content-Security-Policy" content="([^"]*)"/u.exec(textOf("index.html"))[1];
-  for (const rule of ["default-src 'none'", "script-src 'self'", "style-src 'self'", "connect-src 'self'", "base-uri 'none'", "form-action 'none'"]) assert.ok(policy.split("; ").includes(rule), rule);
+  for (const rule of ["default-src 'none'", "script-src 'self'", "style-src 'self'", "connect-src 'self'", "base-uri 'none'", "form-action 'none'"]) {
+    assert.ok(policy.split("; ").includes(rule), rule);
+  }
   assert.doesNotMatch(policy, /unsafe|\*|data:|blob:/u);
 });
 
 test("a token is kept nowhere", () => {
   for (const name of files) assert.doesNotMatch(textOf(name), /localStorage|document\.cookie|indexedDB/u, name);
-  for (const name of files.filter((each) => each !== "app.js" && each !== "drafts.js")) assert.doesNotMatch(textOf(name), /sessionStorage/u, name);
+  for (const name of files.filter((each) => each !== "app.js" && each !== "drafts.js")) {
+    assert.doesNotMatch(textOf(name), /sessionStorage/u, name);
+  }
 });
 
 test("every text that a view names is in the table", () => {
@@ -44,7 +56,10 @@ test("every text that a view names is in the table", () => {
 
 test("every refusal of docs/PROTOCOL.md has words of its own", () => {
   const protocol = readFileSync(new URL("../../docs/PROTOCOL.md", import.meta.url), "utf8");
-  const part = protocol.slice(protocol.indexOf("| Refusal | When |"), protocol.indexOf("Where several hold, the first in this order"));
+  const part = protocol.slice(
+    protocol.indexOf("| Refusal | When |"),
+    protocol.indexOf("Where several hold, the first in this order"),
+  );
   const names = [...part.matchAll(/`([A-Z]\w+)(?:\(\w+\))?`/gu)].map(([, name]) => name);
   assert.ok(names.length > 35);
   for (const name of names) assert.doesNotMatch(texts.refusal(name), /The server refused/u, name);

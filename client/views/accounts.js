@@ -18,36 +18,89 @@ export function accountsView(page) {
 }
 
 function usersSection(page, accounts) {
-  return section(texts.accounts.users, element("ul", { class: "rows users" }, accounts.users.map(([name, assigned]) => userItem(page, name, assigned))));
+  return section(
+    texts.accounts.users,
+    element("ul", { class: "rows users" }, accounts.users.map(([name, assigned]) => userItem(page, name, assigned))),
+  );
 }
 
 function userItem(page, name, assigned) {
   if (!page.state.permissions?.administer) return element("li", {}, element("b", {}, name), " ", assigned.join(", "));
   const free = roles.filter((role) => !assigned.includes(role));
+  return element(
+    "li",
+    {},
+    element("b", { class: "user-name" }, name),
+    assigned.map((role) => roleButton(page, name, role)),
+    free.length > 0 && assignPart(page, name, free),
+  );
+}
+
+function roleButton(page, name, role) {
+  const { roleButton: label, deassignSure, deassigned } = texts.accounts;
+  const take = () => page.perform([command.deassign(name, role)], deassigned(role, name));
+  return page.twoStep(`deassign-${name}-${role}`, label(role, name), deassignSure(role, name), take, `${role} ×`);
+}
+
+function assignPart(page, name, free) {
   const chosen = page.forms.assign.get(name) ?? free[0];
-  return element("li", {}, element("b", { class: "user-name" }, name),
-    assigned.map((role) => page.twoStep(`deassign-${name}-${role}`, texts.accounts.roleButton(role, name), texts.accounts.deassignSure(role, name),
-      () => page.perform([command.deassign(name, role)], texts.accounts.deassigned(role, name)), `${role} ×`)),
-    free.length > 0 && element("details", { id: `assign-part-${name}` }, element("summary", { id: `assign-summary-${name}`, "aria-label": texts.accounts.assignTo(name) }, texts.accounts.assignShort),
-      element("div", { class: "fields" },
-        choice(`assign-role-${name}`, texts.accounts.role, free.map((role) => [role, role]), chosen, (value) => { page.forms.assign.set(name, value); page.draw(); }),
-        button(`assign-${name}`, texts.accounts.assign, () => page.perform([command.assign(name, page.forms.assign.get(name) ?? free[0])], texts.accounts.assigned(page.forms.assign.get(name) ?? free[0], name))))));
+  const choose = (role) => {
+    page.forms.assign.set(name, role);
+    page.draw();
+  };
+  const assign = () => page.perform([command.assign(name, chosen)], texts.accounts.assigned(chosen, name));
+  const spoken = texts.accounts.assignTo(name);
+  return element(
+    "details",
+    { id: `assign-part-${name}` },
+    element("summary", { id: `assign-summary-${name}`, "aria-label": spoken }, texts.accounts.assignShort),
+    element(
+      "div",
+      { class: "fields" },
+      choice(`assign-role-${name}`, texts.accounts.role, free.map((role) => [role, role]), chosen, choose),
+      button(`assign-${name}`, texts.accounts.assign, assign),
+    ),
+  );
 }
 
 function inheritanceSection(page, accounts) {
-  const form = page.forms.inheritance;
   const mayChange = page.state.permissions?.administer;
-  const set = (part) => (value) => { form[part] = value; page.draw(); };
-  const options = roles.map((role) => [role, role]);
-  return section(texts.accounts.inheritance,
+  return section(
+    texts.accounts.inheritance,
     element("p", { class: "note" }, texts.accounts.inheritanceNote),
-    element("ul", { class: "rows" }, accounts.inherits.map(([senior, junior]) => element("li", {}, element("span", {}, texts.accounts.inherits(senior, junior)), " ",
-      mayChange && page.twoStep(`delete-${senior}-${junior}`, texts.accounts.deletePair(senior, junior), texts.accounts.deletePairSure(senior, junior),
-        () => page.perform([command.deleteInheritance(senior, junior)], texts.accounts.pairDeleted(senior, junior)), texts.accounts.delete)))),
-    mayChange && element("div", { class: "fields" },
-      choice("senior", texts.accounts.senior, options, form.senior, set("senior")),
-      choice("junior", texts.accounts.junior, options, form.junior, set("junior")),
-      button("add-pair", texts.accounts.addPair, () => page.perform([command.addInheritance(form.senior, form.junior)], texts.accounts.pairAdded(form.senior, form.junior)))));
+    element("ul", { class: "rows" }, accounts.inherits.map((pair) => inheritanceItem(page, pair, mayChange))),
+    mayChange && newInheritance(page),
+  );
+}
+
+function inheritanceItem(page, [senior, junior], mayChange) {
+  const { deletePair, deletePairSure, pairDeleted, delete: drawn } = texts.accounts;
+  const remove = () => page.perform([command.deleteInheritance(senior, junior)], pairDeleted(senior, junior));
+  const [label, sure] = [deletePair(senior, junior), deletePairSure(senior, junior)];
+  return element(
+    "li",
+    {},
+    element("span", {}, texts.accounts.inherits(senior, junior)),
+    mayChange && page.twoStep(`delete-${senior}-${junior}`, label, sure, remove, drawn),
+  );
+}
+
+function newInheritance(page) {
+  const form = page.forms.inheritance;
+  const options = roles.map((role) => [role, role]);
+  const set = (part) => (role) => {
+    form[part] = role;
+    page.draw();
+  };
+  const done = texts.accounts.pairAdded(form.senior, form.junior);
+  const add = () => page.perform([command.addInheritance(form.senior, form.junior)], done);
+  return element(
+    "div",
+    { class: "fields" },
+    choice("senior", texts.accounts.senior, options, form.senior, set("senior")),
+    choice("junior", texts.accounts.junior, options, form.junior, set("junior")),
+    button("add-pair", texts.accounts.addPair, add),
+  );
 }
 
 function newUserSection(page) {
@@ -56,13 +109,36 @@ function newUserSection(page) {
   return section(texts.accounts.newUser,
     element("p", {}, secure ? texts.accounts.newUserExplained : texts.accounts.notSecure),
     element("div", { class: "fields" },
-      field("new-name", texts.accounts.name, { value: form.name, maxlength: 32, onInput: (event) => { form.name = event.target.value; } }, texts.accounts.nameNote),
-      choice("new-role", texts.accounts.role, [["", texts.accounts.noRole], ...roles.map((role) => [role, role])], form.role, (value) => { form.role = value; page.draw(); }),
-      !secure && field("new-digest", texts.accounts.digest, { value: form.digest, onInput: (event) => { form.digest = event.target.value; } }, texts.accounts.digestNote),
+      field(
+        "new-name",
+        texts.accounts.name,
+        { value: form.name, maxlength: 32, onInput: (event) => { form.name = event.target.value; } },
+        texts.accounts.nameNote,
+      ),
+      choice(
+        "new-role",
+        texts.accounts.role,
+        [["", texts.accounts.noRole], ...roles.map((role) => [role, role])],
+        form.role,
+        (value) => { form.role = value; page.draw(); },
+      ),
+      !secure && field(
+        "new-digest",
+        texts.accounts.digest,
+        { value: form.digest, onInput: (event) => { form.digest = event.target.value; } },
+        texts.accounts.digestNote,
+      ),
       button("add-user", texts.accounts.addUser, () => addUser(page, secure), { class: "main" })),
     form.made && element("div", { class: "token-made", id: "token-made", role: "status" },
-      element("p", {}, texts.accounts.tokenMade(form.made.name)), element("p", {}, element("code", { id: "new-token" }, form.made.token)), element("p", { class: "note" }, texts.accounts.tokenNote),
-      button("forget-token", texts.accounts.forgetToken, () => { form.made = null; page.draw(); }, { class: "quiet" })));
+      element("p", {}, texts.accounts.tokenMade(form.made.name)),
+      element("p", {}, element("code", { id: "new-token" }, form.made.token)),
+      element("p", { class: "note" }, texts.accounts.tokenNote),
+      button(
+        "forget-token",
+        texts.accounts.forgetToken,
+        () => { form.made = null; page.draw(); },
+        { class: "quiet" },
+      )));
 }
 
 /** The token is shown once and kept nowhere; the server gets its digest alone. */
@@ -72,5 +148,9 @@ async function addUser(page, secure) {
   const digest = secure ? await digestOf(token) : form.digest.trim().toLowerCase();
   if (!isDigest(digest)) return page.refuse(texts.accounts.badDigest);
   const commands = [command.addUser(name, digest), ...(role ? [command.assign(name, role)] : [])];
-  return page.perform(commands, texts.accounts.userAdded(name), () => Object.assign(form, { name: "", digest: "", made: secure ? { name, token } : null }));
+  return page.perform(
+    commands,
+    texts.accounts.userAdded(name),
+    () => Object.assign(form, { name: "", digest: "", made: secure ? { name, token } : null }),
+  );
 }

@@ -14,24 +14,37 @@ const queryOf = (state, from) => ask.audit(from ?? Math.max(1, state.version - r
 export const auditNeeds = (state, route, page) => [queryOf(state, page.forms.audit.from)];
 
 export function auditView(page) {
-  const form = page.forms.audit;
-  const { version } = page.state;
-  const query = queryOf(page.state, form.from);
-  const { from } = query.audit;
-  const go = (to) => () => {
-    form.from = to;
-    page.lookAgain();
-  };
+  const query = queryOf(page.state, page.forms.audit.from);
   const rows = page.answer(query)?.value;
   return [
     heading(texts.audit.title),
     element("p", {}, texts.audit.explained),
-    element("p", { class: "actions no-print" },
-      button("audit-earlier", texts.audit.earlier, go(Math.max(1, from - rowsOfPage)), { class: "quiet", "aria-disabled": from > 1 ? null : "true" }),
-      button("audit-later", texts.audit.later, go(from + rowsOfPage), { class: "quiet", "aria-disabled": from + rowsOfPage <= version ? null : "true" }),
-      button("audit-newest", texts.audit.newest, go(null), { class: "quiet" }),
-      rows && button("csv-audit", texts.papers.csv, () => download("audit.csv", csvText([texts.audit.heads, ...rows])), { class: "quiet" })),
-    answerView(page, query, (found) => found.length === 0 ? element("p", {}, texts.audit.empty)
-      : table(texts.audit.caption, texts.audit.heads, found.map(([number, user, word, about]) => [number, user ?? texts.audit.solver, texts.audit.word[word] ?? word, about]), { class: "audit" })),
+    turns(page, query.audit.from, rows),
+    answerView(page, query, auditTable),
   ];
+}
+
+function turns(page, from, rows) {
+  const go = (to) => () => {
+    page.forms.audit.from = to;
+    page.lookAgain();
+  };
+  const save = () => download("audit.csv", csvText([texts.audit.heads, ...rows]));
+  const [isFirst, isLast] = [from === 1, from + rowsOfPage > page.state.version];
+  return element(
+    "p",
+    { class: "actions no-print" },
+    !isFirst && button("audit-earlier", texts.audit.earlier, go(Math.max(1, from - rowsOfPage)), { class: "quiet" }),
+    !isLast && button("audit-later", texts.audit.later, go(from + rowsOfPage), { class: "quiet" }),
+    button("audit-newest", texts.audit.newest, go(null), { class: "quiet" }),
+    rows && button("csv-audit", texts.papers.csv, save, { class: "quiet" }),
+  );
+}
+
+/** @param {import("../messages.js").AuditRow[]} rows */
+function auditTable(rows) {
+  if (rows.length === 0) return element("p", {}, texts.audit.empty);
+  const cells = rows.map(([number, user, word, about]) =>
+    [number, user ?? texts.audit.solver, texts.audit.word[word] ?? word, about]);
+  return table(texts.audit.caption, texts.audit.heads, cells, { class: "audit" });
 }

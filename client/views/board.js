@@ -9,7 +9,7 @@ import { addressOf } from "../routes.js";
 import { texts } from "../texts.js";
 import { answerView } from "./denial.js";
 import { handsView } from "./hands.js";
-import { heading, section, strainMark } from "./marks.js";
+import { heading, notThere, section, strainMark } from "./marks.js";
 import { playView } from "./play.js";
 import { travellerView } from "./traveller.js";
 
@@ -21,38 +21,66 @@ export function boardNeeds({ facts }, { board, table: chosen }) {
 
 export function boardView(page, { board, table: chosen }) {
   const { facts, user } = page.state;
-  if (!facts.boards.includes(board)) return [heading(texts.board.title(board)), element("p", { class: "error" }, texts.error("NoSuchBoard"))];
+  if (!facts.boards.includes(board)) return notThere(texts.board.title(board), "NoSuchBoard");
   const pair = seatOf(facts, user)?.pair ?? null;
   const hands = page.answer(ask.board(board));
   const denied = hands?.denied;
   const { dealer, vulnerability } = marksOf(facts, board);
   return [
     heading(texts.board.title(board), turns(facts, board)),
-    element("p", { class: "marks" }, texts.marks(dealer, vulnerability), " ", isHeld(facts, board) && element("strong", {}, texts.board.held)),
+    element(
+      "p",
+      { class: "marks" },
+      texts.marks(dealer, vulnerability),
+      " ",
+      isHeld(facts, board) && element("strong", {}, texts.board.held),
+    ),
     section(texts.board.hands, answerView(page, ask.board(board), handsView)),
-    !denied && hands && section(texts.board.traveller, answerView(page, ask.traveller(board), (traveller) => travellerView(traveller, pair))),
+    !denied && hands && section(
+      texts.board.traveller,
+      answerView(page, ask.traveller(board), (traveller) => travellerView(traveller, pair)),
+    ),
     !denied && hands && section(texts.board.analysis, answerView(page, ask.analysis(board), analysisView)),
     !denied && hands && playSection(page, board, chosen, pair ? tableOfPair(facts, pair, board) : 0),
   ];
 }
 
 function turns(facts, board) {
-  const to = (other, text, id) => (facts.boards.includes(other) ? link(addressOf("board", other), text, { id, class: "turn" }) : null);
-  return element("p", { class: "turns" }, to(board - 1, texts.board.previous(board - 1), "previous-board"), to(board + 1, texts.board.next(board + 1), "next-board"));
+  const to = (other, text, id) =>
+    facts.boards.includes(other) && link(addressOf("board", other), text, { id, class: "turn" });
+  return element(
+    "p",
+    { class: "turns" },
+    to(board - 1, texts.board.previous(board - 1), "previous-board"),
+    to(board + 1, texts.board.next(board + 1), "next-board"),
+  );
 }
 
 /** @param {import("../messages.js").Analysis} analysis */
 function analysisView(analysis) {
   if (analysis.tricks === null) return element("p", {}, texts.board.pending);
   const order = [4, 0, 1, 2, 3];
-  const heads = [texts.board.declarer, ...["N", "S", "H", "D", "C"].map((strain) => element("th", { scope: "col" }, strainMark(strain)))];
-  const rows = ["N", "S", "E", "W"].map((place) => [texts.place[place], ...order.map((index) => analysis.tricks[place][index])]);
-  return [table(texts.board.analysisCaption, heads, rows, { class: "analysis" }), element("p", { class: "note" }, texts.board.analysisNote)];
+  const heads = [
+    texts.board.declarer,
+    ...["N", "S", "H", "D", "C"].map((strain) => element("th", { scope: "col" }, strainMark(strain))),
+  ];
+  const rows = ["N", "S", "E", "W"].map((place) => [
+    texts.place[place],
+    ...order.map((index) => analysis.tricks[place][index]),
+  ]);
+  return [
+    table(texts.board.analysisCaption, heads, rows, { class: "analysis" }),
+    element("p", { class: "note" }, texts.board.analysisNote),
+  ];
 }
 
 function playSection(page, board, chosen, own) {
   const { facts } = page.state;
-  const options = rowsOfBoard(facts.rows, board, facts.per_set).map((row) => [row.table, String(row.table), texts.board.atTable(row.table, row.table === own)]);
+  const options = rowsOfBoard(facts.rows, board, facts.per_set).map((row) => [
+    row.table,
+    String(row.table),
+    texts.board.atTable(row.table, row.table === own),
+  ]);
   const choose = (value) => page.setRoute({ view: "board", board, table: value });
   return section(texts.board.play,
     tiles("play-table", texts.board.chooseTable, options, chosen, choose),
@@ -67,6 +95,10 @@ function playOfTable(page, board, chosen) {
   return [
     answerView(page, ask.play(chosen, board), ({ cards }) => playView(cards, costs?.value?.costs ?? null, row?.result)),
     costs?.denied && hasPlay && answerView(page, ask.costs(chosen, board), () => null),
-    row?.ruling && answerView(page, ask.reason(chosen, board), ({ code }) => element("p", { class: "reason" }, texts.board.reason(code))),
+    row?.ruling && answerView(
+      page,
+      ask.reason(chosen, board),
+      ({ code }) => element("p", { class: "reason" }, texts.board.reason(code)),
+    ),
   ];
 }

@@ -16,7 +16,11 @@ export function boardsView(page) {
   const rows = facts.rows.filter((row) => row.ns === seat.pair || row.ew === seat.pair);
   const now = rows.filter((row) => row.round === facts.round);
   const others = rows.filter((row) => row.round !== facts.round);
-  return [heading(texts.boards.title), element("p", {}, texts.boards.explained), [...now, ...others].map((row) => roundView(facts, row, seat.pair))];
+  return [
+    heading(texts.boards.title),
+    element("p", {}, texts.boards.explained),
+    [...now, ...others].map((row) => roundView(facts, row, seat.pair)),
+  ];
 }
 
 function roundView(facts, row, pair) {
@@ -25,11 +29,23 @@ function roundView(facts, row, pair) {
   const title = texts.boards.round(row.round, row.round === facts.round && facts.phase === "Running");
   return section(title,
     element("p", {}, texts.boards.against(row.table, against, players)),
-    element("ul", { class: "board-list" }, boardsOf(row.set, facts.per_set).map((board) => boardItem(facts, row, board))));
+    element(
+      "ul",
+      { class: "board-list" },
+      boardsOf(row.set, facts.per_set).map((board) => boardItem(facts, row, board)),
+    ));
 }
 
 function boardItem(facts, row, board) {
   const state = boardStateOf(facts, row.table, board);
   const text = texts.boards.state(state, awaitedTables(facts, board).length);
-  return element("li", {}, link(addressOf("board", board), [element("b", {}, texts.board.title(board)), stateMark(state, text)], { id: `own-board-${board}` }));
+  return element(
+    "li",
+    {},
+    link(
+      addressOf("board", board),
+      [element("b", {}, texts.board.title(board)), stateMark(state, text)],
+      { id: `own-board-${board}` },
+    ),
+  );
 }

@@ -15,23 +15,48 @@ export function denialView(page, query, denied, version) {
   const key = `denial ${denied.rule} ${keyOf(query)}`;
   const isOpen = page.opened.has(key);
   const id = `check-${query.ask}-${query.table ?? 0}-${query.board ?? 0}`;
-  return element("div", { class: "denial", "data-rule": denied.rule, "data-board": denied.board, "data-table": denied.table },
-    element("p", { class: "denial-sentence" }, texts.denial.sentence(denied, texts.denial.thing[query.ask] ?? texts.denial.thing.board)),
+  const { rule, board, table } = denied;
+  return element("div", { class: "denial", "data-rule": rule, "data-board": board, "data-table": table },
+    element(
+      "p",
+      { class: "denial-sentence" },
+      texts.denial.sentence(denied, texts.denial.thing[query.ask] ?? texts.denial.thing.board),
+    ),
     element("p", { class: "note" }, texts.denial.rule(denied), " ", texts.denial.serverSays(denied.why)),
-    button(id, isOpen ? texts.denial.hideCheck : texts.denial.check, () => page.toggle(key), { "aria-expanded": String(isOpen), "aria-controls": `${id}-facts`, class: "quiet" }),
-    isOpen && element("div", { id: `${id}-facts`, class: "evidence", role: "status" }, evidence(page, query, denied, version)));
+    button(
+      id,
+      isOpen ? texts.denial.hideCheck : texts.denial.check,
+      () => page.toggle(key),
+      { "aria-expanded": String(isOpen), "aria-controls": `${id}-facts`, class: "quiet" },
+    ),
+    isOpen && element(
+      "div",
+      { id: `${id}-facts`, class: "evidence", role: "status" },
+      evidence(page, query, denied, version),
+    ));
 }
 
 function evidence(page, query, denied, version) {
   const { facts, user } = page.state;
   if (denied.rule > 2 && (!facts || page.state.version !== version)) return element("p", {}, texts.denial.movedOn);
-  const { verdict, evidence: found } = denied.rule <= 2 ? { verdict: "unseen", evidence: [] } : checkDenial(facts, user, query, denied);
+  const { verdict, evidence: found } = denied.rule <= 2 ? {
+    verdict: "unseen",
+    evidence: [],
+  } : checkDenial(facts, user, query, denied);
   return [
     element("p", { class: `verdict verdict-${verdict}`, "data-verdict": verdict }, texts.denial.verdict[verdict]),
     element("p", {}, texts.denial.condition[denied.rule]),
     found.length > 0 && element("p", {}, texts.denial.factsOf(version)),
-    found.length > 0 && element("ul", {}, found.map(({ text, values }) => element("li", {}, texts.evidence[text](values)))),
-    (verdict === "roles" || verdict === "unseen") && element("p", { class: "note" }, texts.denial.roles[rolesBehind[denied.rule]] ?? texts.denial.roles.account),
+    found.length > 0 && element(
+      "ul",
+      {},
+      found.map(({ text, values }) => element("li", {}, texts.evidence[text](values))),
+    ),
+    (verdict === "roles" || verdict === "unseen") && element(
+      "p",
+      { class: "note" },
+      texts.denial.roles[rolesBehind[denied.rule]] ?? texts.denial.roles.account,
+    ),
   ];
 }
 

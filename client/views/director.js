@@ -1,11 +1,12 @@
 // The director's desk: the round, held boards, seats, and what belongs to a table's result.
 
-import { button, choice, element, field, link } from "../dom.js";
+import { button, choice, element, link } from "../dom.js";
 import { ask, command } from "../messages.js";
-import { awaitedCells, playersOf } from "../public_facts.js";
+import { awaitedCells } from "../public_facts.js";
 import { addressOf } from "../routes.js";
 import { texts } from "../texts.js";
 import { cellDeskView } from "./director_cell.js";
+import { seatsSection } from "./director_seats.js";
 import { heading, section } from "./marks.js";
 
 export function directorNeeds(state, { table, board }) {
@@ -28,25 +29,66 @@ function roundSection(page) {
     element("p", {}, texts.session.roundOf(facts.round, facts.rounds), " · ", texts.phase[facts.phase]),
     awaited.length > 0 && element("p", { id: "awaited" }, texts.director.awaited(awaited.length)),
     awaited.length > 0 && awaited.length <= 24 && element("ul", { class: "awaited" }, awaited.map((cell) =>
-      element("li", {}, link(addressOf("director", cell.table, cell.board), texts.director.cell(cell.table, cell.board), { id: `awaited-${cell.table}-${cell.board}` })))),
+      element(
+        "li",
+        {},
+        link(
+          addressOf("director", cell.table, cell.board),
+          texts.director.cell(cell.table, cell.board),
+          { id: `awaited-${cell.table}-${cell.board}` },
+        ),
+      ))),
     element("div", { class: "actions" },
-      isRunning && facts.round < facts.rounds && page.twoStep("next-round", texts.director.nextRound, texts.director.nextRoundSure(awaited.length), () => page.perform([command.nextRound()], texts.director.nextRoundDone)),
-      isRunning && page.twoStep("close", texts.director.close, texts.director.closeSure, () => page.perform([command.close()], texts.director.closeDone)),
-      facts.phase === "Closed" && page.twoStep("finalise", texts.director.finalise, texts.director.finaliseSure, () => page.perform([command.finalise()], texts.director.finaliseDone))));
+      isRunning && facts.round < facts.rounds && page.twoStep(
+        "next-round",
+        texts.director.nextRound,
+        texts.director.nextRoundSure(awaited.length),
+        () => page.perform([command.nextRound()], texts.director.nextRoundDone),
+      ),
+      isRunning && page.twoStep(
+        "close",
+        texts.director.close,
+        texts.director.closeSure,
+        () => page.perform([command.close()], texts.director.closeDone),
+      ),
+      facts.phase === "Closed" && page.twoStep(
+        "finalise",
+        texts.director.finalise,
+        texts.director.finaliseSure,
+        () => page.perform([command.finalise()], texts.director.finaliseDone),
+      )));
 }
 
 function resultSection(page) {
   const { facts } = page.state;
   const form = page.forms.cell;
   const numbers = (most) => Array.from({ length: most }, (_, index) => [index + 1, String(index + 1)]);
-  const tables = facts.rows.filter((row) => Math.ceil(form.board / facts.per_set) === row.set).map((row) => row.table).sort((one, other) => one - other);
+  const tables = facts.rows.filter(
+    (row) => Math.ceil(form.board / facts.per_set) === row.set,
+  ).map((row) => row.table).sort((one, other) => one - other);
   if (!tables.includes(form.table)) form.table = tables[0];
   return section(texts.director.result,
     element("p", {}, texts.director.resultExplained),
     element("div", { class: "fields" },
-      choice("cell-board", texts.director.board, numbers(facts.boards.length), form.board, (value) => { form.board = Number(value); page.draw(); }),
-      choice("cell-table", texts.director.table, tables.map((number) => [number, String(number)]), form.table, (value) => { form.table = Number(value); page.draw(); }),
-      button("open-cell", texts.director.open, () => page.setRoute({ view: "director", table: form.table, board: form.board }))));
+      choice(
+        "cell-board",
+        texts.director.board,
+        numbers(facts.boards.length),
+        form.board,
+        (value) => { form.board = Number(value); page.draw(); },
+      ),
+      choice(
+        "cell-table",
+        texts.director.table,
+        tables.map((number) => [number, String(number)]),
+        form.table,
+        (value) => { form.table = Number(value); page.draw(); },
+      ),
+      button(
+        "open-cell",
+        texts.director.open,
+        () => page.setRoute({ view: "director", table: form.table, board: form.board }),
+      )));
 }
 
 function heldSection(page) {
@@ -58,29 +100,23 @@ function heldSection(page) {
     element("p", {}, texts.director.heldExplained),
     facts.held.length === 0 && element("p", {}, texts.director.noneHeld),
     element("ul", { class: "rows" }, facts.held.map((board) => element("li", {}, texts.board.title(board), " ",
-      button(`release-${board}`, texts.director.release(board), () => page.perform([command.release(board)], texts.director.released(board)), { class: "quiet" })))),
+      button(
+        `release-${board}`,
+        texts.director.release(board),
+        () => page.perform([command.release(board)], texts.director.released(board)),
+        { class: "quiet" },
+      )))),
     free.length > 0 && element("div", { class: "fields" },
-      choice("hold-board", texts.director.board, free.map((board) => [board, String(board)]), form.board, (value) => { form.board = Number(value); page.draw(); }),
-      button("hold", texts.director.hold, () => page.perform([command.hold(form.board)], texts.director.heldDone(form.board)))));
-}
-
-function seatsSection(page) {
-  const { facts } = page.state;
-  const form = page.forms.seat;
-  const users = page.answer(ask.accounts())?.value?.users ?? [];
-  const pairs = ["NS", "EW"].flatMap((side) => Array.from({ length: facts.tables }, (_, index) => `${side}${index + 1}`));
-  const seats = form.pair.startsWith("NS") ? ["N", "S"] : ["E", "W"];
-  if (!seats.includes(form.place)) form.place = seats[0];
-  const set = (part) => (value) => { form[part] = value; page.draw(); };
-  return section(texts.director.seats,
-    element("details", { id: "seats-list" }, element("summary", { id: "seats-summary" }, texts.director.seatsCount(facts.seats.length)),
-      element("ul", { class: "rows" }, facts.seats.map(([name, pair, place]) => element("li", {}, element("span", {}, `${pair} ${place} `, element("b", {}, name)), " ",
-        page.twoStep(`unseat-${name}`, texts.director.unseat(name), texts.director.unseatSure(name), () => page.perform([command.unseat(name)], texts.director.unseated(name))))))),
-    element("h3", {}, texts.director.seatTitle),
-    element("datalist", { id: "user-names" }, users.filter(([name]) => !facts.seats.some((seat) => seat[0] === name)).map(([name]) => element("option", { value: name }))),
-    element("div", { class: "fields" },
-      field("seat-name", texts.director.user, { value: form.name, list: "user-names", onInput: (event) => { form.name = event.target.value; } }),
-      choice("seat-pair", texts.director.pair, pairs.map((pair) => [pair, [pair, ...playersOf(facts, pair)].join(" ")]), form.pair, set("pair")),
-      choice("seat-place", texts.director.place, seats.map((place) => [place, texts.place[place]]), form.place, set("place")),
-      button("seat", texts.director.seat, () => page.perform([command.seat(form.name.trim(), form.pair, form.place)], texts.director.seated(form.name.trim(), form.pair), () => { form.name = ""; }))));
+      choice(
+        "hold-board",
+        texts.director.board,
+        free.map((board) => [board, String(board)]),
+        form.board,
+        (value) => { form.board = Number(value); page.draw(); },
+      ),
+      button(
+        "hold",
+        texts.director.hold,
+        () => page.perform([command.hold(form.board)], texts.director.heldDone(form.board)),
+      )));
 }

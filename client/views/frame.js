@@ -18,12 +18,28 @@ export function viewsOf({ facts, user, permissions }) {
 
 export function headView(page) {
   const { state, route } = page;
-  const present = { board: seatOf(state.facts ?? { seats: [] }, state.user) ? "boards" : "session" }[route.view] ?? route.view;
+  const present = {
+    board: seatOf(state.facts ?? { seats: [] }, state.user) ? "boards" : "session",
+  }[route.view] ?? route.view;
   return element("div", { class: "bar" },
     element("p", { class: "brand" }, texts.title),
-    state.user && element("p", { class: "who" }, element("span", {}, texts.frame.signedInAs(state.user)), " ", button("sign-out", texts.frame.signOut, page.signOut, { class: "quiet" })),
+    state.user && element(
+      "p",
+      { class: "who" },
+      element("span", {}, texts.frame.signedInAs(state.user)),
+      " ",
+      button("sign-out", texts.frame.signOut, page.signOut, { class: "quiet" }),
+    ),
     state.user && element("nav", { "aria-label": texts.frame.nav }, element("ul", {}, viewsOf(state).map((view) =>
-      element("li", {}, link(addressOf(view), texts.frame.view[view], { id: `nav-${view}`, "aria-current": view === present ? "page" : null }))))));
+      element(
+        "li",
+        {},
+        link(
+          addressOf(view),
+          texts.frame.view[view],
+          { id: `nav-${view}`, "aria-current": view === present ? "page" : null },
+        ),
+      )))));
 }
 
 export function footView(page) {
@@ -31,15 +47,32 @@ export function footView(page) {
   return element("div", { class: "bar" },
     state.facts && element("p", { id: "as-of", "data-version": state.version }, texts.frame.asOf(state.version)),
     element("p", {}, element("label", { for: "letters", class: "check" },
-      element("input", { type: "checkbox", id: "letters", checked: page.hasLetters, onChange: (event) => page.setLetters(event.target.checked) }), " ", texts.frame.letters)));
+      element(
+        "input",
+        {
+          type: "checkbox",
+          id: "letters",
+          checked: page.hasLetters,
+          onChange: (event) => page.setLetters(event.target.checked),
+        },
+      ),
+      " ",
+      texts.frame.letters)));
 }
 
 export function offlineView(page) {
   if (page.isSlow) return element("p", {}, texts.frame.slow);
-  if (page.offlineFor) return element("p", {}, texts.frame.offline(page.offlineFor), " ", button("try-now", texts.frame.tryNow, page.tryNow));
-  return null;
+  if (!page.offlineFor) return null;
+  const again = button("try-now", texts.frame.tryNow, page.tryNow);
+  return element("p", {}, texts.frame.offline(page.offlineFor), " ", again);
 }
 
 export function restartView(page) {
-  return page.state.wasRestarted && element("p", { class: "restarted" }, texts.frame.restarted, " ", button("understood", texts.frame.understood, page.understood));
+  return page.state.wasRestarted && element(
+    "p",
+    { class: "restarted" },
+    texts.frame.restarted,
+    " ",
+    button("understood", texts.frame.understood, page.understood),
+  );
 }

@@ -10,14 +10,23 @@ import { strainMark, unseen } from "./marks.js";
 export function handsView(board) {
   const hands = handsOf(board.deal);
   if (!hands) return element("p", { class: "error" }, texts.error("BadDeal"));
-  return element("div", { class: "diagram" }, places.map((place) => handView(place, hands[place], board)), compass(board));
+  return element(
+    "div",
+    { class: "diagram" },
+    places.map((place) => handView(place, hands[place], board)),
+    compass(board),
+  );
 }
 
 function handView(place, hand, board) {
   return element("section", { class: `hand hand-${place}`, "aria-label": texts.place[place], "data-place": place },
     element("h3", {}, texts.place[place], " ", element("span", { class: "points" }, texts.points(pointsOf(hand))),
       board.dealer === place && element("span", { class: "dealer" }, texts.dealer)),
-    element("dl", {}, suits.map((suit) => [element("dt", {}, strainMark(suit)), element("dd", {}, ranksView(hand[suit]))])));
+    element(
+      "dl",
+      {},
+      suits.map((suit) => [element("dt", {}, strainMark(suit)), element("dd", {}, ranksView(hand[suit]))]),
+    ));
 }
 
 function ranksView(ranks) {
@@ -26,7 +35,11 @@ function ranksView(ranks) {
 }
 
 function compass(board) {
-  const mark = (place) => element("span", { class: `compass-${place}${isVulnerable(place, board.vul) ? " vulnerable" : ""}` }, place);
+  const mark = (place) => element(
+    "span",
+    { class: `compass-${place}${isVulnerable(place, board.vul) ? " vulnerable" : ""}` },
+    place,
+  );
   return element("div", { class: "compass" },
     element("div", { class: "compass-box", "aria-hidden": "true" }, places.map(mark), element("b", {}, board.number)),
     element("p", { class: "unseen" }, texts.marks(board.dealer, board.vul)));

@@ -25,7 +25,13 @@ export function resultMark(result) {
   const doubled = texts.doubledMark[result.doubled];
   return element("span", { class: "result" },
     element("span", { "aria-hidden": "true" },
-      element("b", {}, result.level, strainMark(result.strain), doubled && element("span", { class: "doubled" }, doubled)),
+      element(
+        "b",
+        {},
+        result.level,
+        strainMark(result.strain),
+        doubled && element("span", { class: "doubled" }, doubled),
+      ),
       " ", element("span", { class: "declarer" }, result.by), " ", tricksText(result)),
     unseen(texts.resultInWords(result)));
 }
@@ -36,14 +42,33 @@ export const cardMark = (card) => element("span", { class: "card" }, strainMark(
 /** A pair with the names of its players. */
 export function pairMark(facts, pair) {
   const players = playersOf(facts, pair).join(" · ");
-  return element("span", { class: "pair" }, element("b", {}, pair), players && " ", players && element("span", { class: "players" }, players));
+  return element(
+    "span",
+    { class: "pair" },
+    element("b", {}, pair),
+    players && " ",
+    players && element("span", { class: "players" }, players),
+  );
 }
 
 export const stateMark = (state, text) => element("span", { class: `state state-${state}` }, text);
 
 /** The heading of a view, to which the focus goes when the view is opened. */
-export const heading = (text, ...more) => element("div", { class: "heading" }, element("h1", { id: "heading", tabindex: "-1" }, text), ...more);
+export const heading = (text, ...more) => element(
+  "div",
+  { class: "heading" },
+  element("h1", { id: "heading", tabindex: "-1" }, text),
+  ...more,
+);
 
-export const section = (title, ...children) => element("section", { class: "panel" }, title && element("h2", {}, title), ...children);
+export const section = (title, ...children) => element(
+  "section",
+  { class: "panel" },
+  title && element("h2", {}, title),
+  ...children,
+);
 
 export const waiting = () => element("p", { class: "waiting" }, texts.waiting);
+
+/** A view of what the session doesn't have. */
+export const notThere = (title, error) => [heading(title), element("p", { class: "error" }, texts.error(error))];

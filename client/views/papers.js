@@ -32,11 +32,27 @@ export function papersView(page) {
     heading(texts.papers.title),
     element("div", { class: "no-print" },
       element("p", {}, texts.papers.explained),
-      tiles("paper", texts.papers.kindLegend, kindsOf(pairOf(page.state)).map((kind) => [kind, texts.papers.kind[kind]]), form.kind, choose),
+      tiles(
+        "paper",
+        texts.papers.kindLegend,
+        kindsOf(pairOf(page.state)).map((kind) => [kind, texts.papers.kind[kind]]),
+        form.kind,
+        choose,
+      ),
       element("p", { class: "actions" },
         button("print", texts.papers.print, () => globalThis.print(), { class: "main" }),
-        text !== null && button("csv", texts.papers.csv, () => download(`${form.kind}.csv`, text), { class: "quiet" }))),
-    element("div", { class: `paper paper-${form.kind}` }, element("h2", {}, texts.papers.kind[form.kind]), paper(page, form.kind)),
+        text !== null && button(
+          "csv",
+          texts.papers.csv,
+          () => download(`${form.kind}.csv`, text),
+          { class: "quiet" },
+        ))),
+    element(
+      "div",
+      { class: `paper paper-${form.kind}` },
+      element("h2", {}, texts.papers.kind[form.kind]),
+      paper(page, form.kind),
+    ),
   ];
 }
 
@@ -48,7 +64,11 @@ function paper(page, kind) {
     if (boards.length === 0) return element("p", {}, texts.papers.noBoards);
     if (kind === "results") return resultsView(ownResults(page, boards, pair), pair);
     if (kind === "records") return boards.map((board) => recordView(page, board));
-    return boards.map((board) => element("section", { class: "sheet" }, answerView(page, ask.traveller(board), (traveller) => travellerView(traveller, pair))));
+    return boards.map((board) => element(
+      "section",
+      { class: "sheet" },
+      answerView(page, ask.traveller(board), (traveller) => travellerView(traveller, pair)),
+    ));
   });
 }
 
@@ -63,15 +83,32 @@ function ownResults(page, boards, pair) {
 
 function ownResult(board, row, top, isNorthSouth) {
   const against = isNorthSouth ? row.ew : row.ns;
-  if (row.ruling) return { board, against, result: null, score: null, points: null, percent: String(row.ruling[isNorthSouth ? 0 : 1]) };
+  if (row.ruling) {
+    const percent = String(row.ruling[isNorthSouth ? 0 : 1]);
+    return { board, against, result: null, score: null, points: null, percent };
+  }
   const points = isNorthSouth ? row.points : top - row.points;
-  return { board, against, result: row.result, score: isNorthSouth ? row.score : -row.score || 0, points, percent: percentText(points, top) };
+  return {
+    board,
+    against,
+    result: row.result,
+    score: isNorthSouth ? row.score : -row.score || 0,
+    points,
+    percent: percentText(points, top),
+  };
 }
 
 function resultsView(results, pair) {
   if (results.length === 0) return element("p", {}, texts.papers.noResults);
   const rows = results.map(({ board, against, result, score, points, percent }) =>
-    [String(board), against, result ? resultMark(result) : texts.traveller.ruling, score === null ? "" : String(score).replace("-", "−"), points ?? "", percent && `${percent} %`]);
+    [
+      String(board),
+      against,
+      result ? resultMark(result) : texts.traveller.ruling,
+      score === null ? "" : String(score).replace("-", "−"),
+      points ?? "",
+      percent && `${percent} %`,
+    ]);
   return table(texts.papers.resultsCaption(pair), texts.papers.resultHeads, rows, { class: "results" });
 }
 
@@ -83,7 +120,11 @@ function recordView(page, board) {
 
 function makesView(analysis) {
   if (analysis.tricks === null) return element("p", { class: "note" }, texts.board.pending);
-  return element("p", { class: "makes" }, ["N", "S", "E", "W"].map((place) => `${place}: ${texts.papers.tricks(analysis.tricks[place])}   `));
+  return element(
+    "p",
+    { class: "makes" },
+    ["N", "S", "E", "W"].map((place) => `${place}: ${texts.papers.tricks(analysis.tricks[place])}   `),
+  );
 }
 
 /** @returns {string|null} null where there is nothing to write yet */
@@ -99,6 +140,12 @@ function csvOf(page, kind) {
       [board, against, result ? texts.resultInWords(result) : texts.traveller.ruling, score, points, percent]);
     return csvText([texts.papers.resultHeads, ...lines]);
   }
-  if (kind === "records") return csvText([texts.papers.recordHeads, ...boards.map((board) => page.answer(ask.board(board))?.value).filter(Boolean).map((board) => [board.number, board.dealer, board.vul, board.deal])]);
-  return csvText([texts.papers.travellerHeads, ...boards.map((board) => page.answer(ask.traveller(board))?.value).filter(Boolean).flatMap(travellerLines)]);
+  if (kind === "records") {
+    const known = boards.map((board) => page.answer(ask.board(board))?.value).filter(Boolean);
+    return csvText([texts.papers.recordHeads, ...known.map(({ number, dealer, vul, deal }) => [number, dealer, vul, deal])]);
+  }
+  return csvText([
+    texts.papers.travellerHeads,
+    ...boards.map((board) => page.answer(ask.traveller(board))?.value).filter(Boolean).flatMap(travellerLines),
+  ]);
 }

@@ -16,7 +16,12 @@ export function playView(cards, costs, result) {
   if (!result || result === "pass") return element("p", {}, cards.map((card) => [cardMark(card), " "]));
   const tricks = tricksOf(cards, result);
   return [
-    table(texts.play.caption, [texts.play.trick, ...places.map((place) => texts.place[place])], tricks.map((trick, index) => trickRow(trick, index, costs)), { class: "play" }),
+    table(
+      texts.play.caption,
+      [texts.play.trick, ...places.map((place) => texts.place[place])],
+      tricks.map((trick, index) => trickRow(trick, index, costs)),
+      { class: "play" },
+    ),
     element("p", { class: "note" }, texts.play.note, " ", costsNote(costs)),
   ];
 }
@@ -24,7 +29,12 @@ export function playView(cards, costs, result) {
 function trickRow(trick, index, costs) {
   const cellOf = (place) => {
     const played = trick.played.find((card) => card.place === place);
-    return element("td", { class: place === trick.winner ? "winner" : null }, played && cardView(played, costs), place === trick.leader && element("span", { class: "lead" }, texts.play.lead));
+    return element(
+      "td",
+      { class: place === trick.winner ? "winner" : null },
+      played && cardView(played, costs),
+      place === trick.leader && element("span", { class: "lead" }, texts.play.lead),
+    );
   };
   return [String(index + 1), ...places.map(cellOf)];
 }

@@ -18,8 +18,20 @@ export function rankingView(page) {
     element("p", {}, texts.ranking.explained),
     ranking && element("p", { class: "actions no-print" },
       button("print-ranking", texts.papers.print, () => globalThis.print(), { class: "quiet" }),
-      button("csv-ranking", texts.papers.csv, () => download("ranking.csv", rankingCsv(page.state.facts, ranking)), { class: "quiet" })),
-    section(null, answerView(page, ask.ranking(), (rows) => rankingTable(page.state.facts, rows, seatOf(page.state.facts, page.state.user)?.pair))),
+      button(
+        "csv-ranking",
+        texts.papers.csv,
+        () => download("ranking.csv", rankingCsv(page.state.facts, ranking)),
+        { class: "quiet" },
+      )),
+    section(
+      null,
+      answerView(
+        page,
+        ask.ranking(),
+        (rows) => rankingTable(page.state.facts, rows, seatOf(page.state.facts, page.state.user)?.pair),
+      ),
+    ),
   ];
 }
 
@@ -27,8 +39,18 @@ export function rankingTable(facts, ranking, ownPair) {
   const places = placesOf(ranking);
   const rows = ranking.map(([pair, earned, tops], index) => {
     const { place, shared } = places[index];
-    const head = element("th", { scope: "row", class: pair === ownPair ? "own" : null }, place === null ? "–" : `${place}${shared ? "=" : ""}`);
-    return [head, pairMark(facts, pair), tops ? `${percentText(earned, tops)} %` : texts.ranking.none, unitsText(earned), unitsText(tops)];
+    const head = element(
+      "th",
+      { scope: "row", class: pair === ownPair ? "own" : null },
+      place === null ? "–" : `${place}${shared ? "=" : ""}`,
+    );
+    return [
+      head,
+      pairMark(facts, pair),
+      tops ? `${percentText(earned, tops)} %` : texts.ranking.none,
+      unitsText(earned),
+      unitsText(tops),
+    ];
   });
   return table(texts.ranking.caption, texts.ranking.heads, rows, { class: "ranking" });
 }
@@ -36,6 +58,13 @@ export function rankingTable(facts, ranking, ownPair) {
 export function rankingCsv(facts, ranking) {
   const places = placesOf(ranking);
   const lines = ranking.map(([pair, earned, tops], index) =>
-    [places[index].place, pair, playersOf(facts, pair).join(" "), percentText(earned, tops), unitsText(earned), unitsText(tops)]);
+    [
+      places[index].place,
+      pair,
+      playersOf(facts, pair).join(" "),
+      percentText(earned, tops),
+      unitsText(earned),
+      unitsText(tops),
+    ]);
   return csvText([texts.ranking.csvHeads, ...lines]);
 }

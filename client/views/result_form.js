@@ -10,14 +10,20 @@ import { resultMark, strainMark } from "./marks.js";
 /**
  * @param {string} name of the form, for the ids of its fields
  * @param {import("../results.js").Draft} draft
- * @param {(draft: import("../results.js").Draft, isTyping?: boolean) => void} onChange
+ * @param {(draft: import("../results.js").Draft) => void} onChange
  * @param {{vulnerability: string, hasPlay: boolean}} options
  */
 export function resultForm(name, draft, onChange, { vulnerability, hasPlay }) {
   const set = (part) => (value) => onChange(changed(draft, part, value));
   const ended = [["played", texts.form.played], ["passed", texts.passedOut]];
   return element("div", { class: "result-form" },
-    tiles(`${name}-ended`, texts.form.ended, ended, draft.passedOut ? "passed" : "played", (value) => onChange({ ...draft, passedOut: value === "passed" })),
+    tiles(
+      `${name}-ended`,
+      texts.form.ended,
+      ended,
+      draft.passedOut ? "passed" : "played",
+      (value) => onChange({ ...draft, passedOut: value === "passed" }),
+    ),
     !draft.passedOut && contractTiles(name, draft, set, vulnerability),
     !draft.passedOut && tricksTiles(name, draft, set),
     hasPlay && !draft.passedOut && playField(name, draft, onChange),
@@ -26,12 +32,44 @@ export function resultForm(name, draft, onChange, { vulnerability, hasPlay }) {
 
 function contractTiles(name, draft, set, vulnerability) {
   const strain = (value) => [value, strainMark(value), texts.strain[value]];
-  const declarer = (place) => [place, place, isVulnerable(place, vulnerability) ? texts.form.vulnerable(texts.place[place]) : texts.place[place]];
+  const declarer = (place) => [
+    place,
+    place,
+    isVulnerable(place, vulnerability) ? texts.form.vulnerable(texts.place[place]) : texts.place[place],
+  ];
   return [
-    tiles(`${name}-level`, texts.form.level, [1, 2, 3, 4, 5, 6, 7].map((level) => [level, level]), draft.level, set("level"), { class: "tiles columns-7" }),
-    tiles(`${name}-strain`, texts.form.strain, ["C", "D", "H", "S", "N"].map(strain), draft.strain, set("strain"), { class: "tiles columns-5" }),
-    tiles(`${name}-by`, texts.form.by, ["N", "E", "S", "W"].map(declarer), draft.by, set("by"), { class: "tiles columns-4" }),
-    tiles(`${name}-doubled`, texts.form.doubled, [0, 1, 2].map((count) => [count, texts.form.doublings[count], texts.form.doublingsInWords[count]]), draft.doubled, set("doubled"), { class: "tiles columns-3" }),
+    tiles(
+      `${name}-level`,
+      texts.form.level,
+      [1, 2, 3, 4, 5, 6, 7].map((level) => [level, level]),
+      draft.level,
+      set("level"),
+      { class: "tiles columns-7" },
+    ),
+    tiles(
+      `${name}-strain`,
+      texts.form.strain,
+      ["C", "D", "H", "S", "N"].map(strain),
+      draft.strain,
+      set("strain"),
+      { class: "tiles columns-5" },
+    ),
+    tiles(
+      `${name}-by`,
+      texts.form.by,
+      ["N", "E", "S", "W"].map(declarer),
+      draft.by,
+      set("by"),
+      { class: "tiles columns-4" },
+    ),
+    tiles(
+      `${name}-doubled`,
+      texts.form.doubled,
+      [0, 1, 2].map((count) => [count, texts.form.doublings[count], texts.form.doublingsInWords[count]]),
+      draft.doubled,
+      set("doubled"),
+      { class: "tiles columns-3" },
+    ),
   ];
 }
 
@@ -39,24 +77,58 @@ function tricksTiles(name, draft, set) {
   if (draft.level === null) return element("p", { class: "note" }, texts.form.levelFirst);
   const { made, set: under } = oversOf(draft.level);
   const option = (over) => [over, overText(over), texts.overInWords(over, draft.level + 6 + over)];
-  return tiles(`${name}-over`, texts.form.tricks(draft.level + 6), [...made, ...under].map(option), draft.over, set("over"), { class: "tiles columns-7" });
+  return tiles(
+    `${name}-over`,
+    texts.form.tricks(draft.level + 6),
+    [...made, ...under].map(option),
+    draft.over,
+    set("over"),
+    { class: "tiles columns-7" },
+  );
 }
 
 function playField(name, draft, onChange) {
   const { cards, fault } = readPlay(draft.play);
-  const note = fault ? texts.form.playFault(fault) : cards.length ? texts.form.playCards(cards.length) : texts.form.playNote;
-  return element("details", { id: `${name}-play-part`, open: draft.play !== "" },
+  const counted = cards.length ? texts.form.playCards(cards.length) : texts.form.playNote;
+  const attributes = {
+    id: `${name}-play`,
+    rows: 3,
+    value: draft.play,
+    spellcheck: "false",
+    autocapitalize: "characters",
+    "aria-describedby": `${name}-play-note`,
+    onInput: (event) => onChange({ ...draft, play: event.target.value }),
+  };
+  return element(
+    "details",
+    { id: `${name}-play-part`, open: draft.play !== "" },
     element("summary", { id: `${name}-play-summary` }, texts.form.play),
-    element("div", { class: "field" },
+    element(
+      "div",
+      { class: "field" },
       element("label", { for: `${name}-play` }, texts.form.playLabel),
-      element("textarea", { id: `${name}-play`, rows: 3, value: draft.play, spellcheck: "false", autocapitalize: "characters", "aria-describedby": `${name}-play-note`,
-        onInput: (event) => onChange({ ...draft, play: event.target.value }, true) }),
-      element("p", { id: `${name}-play-note`, class: fault ? "note fault" : "note" }, note)));
+      element("textarea", attributes),
+      element(
+        "p",
+        { id: `${name}-play-note`, class: fault ? "note fault" : "note" },
+        fault ? texts.form.playFault(fault) : counted,
+      ),
+    ),
+  );
 }
+
+/** What is still to be told of a draft. */
+export const missingText = (draft) => texts.form.missing(missingParts(draft).map((part) => texts.form.part[part]));
 
 function preview(draft, vulnerability) {
   const result = resultOf(draft);
-  if (!result) return element("p", { class: "preview waiting" }, texts.form.missing(missingParts(draft).map((part) => texts.form.part[part])));
+  if (!result) return element("p", { class: "preview waiting" }, missingText(draft));
   const score = scoreOf(result, vulnerability);
-  return element("p", { class: "preview", "data-score": score }, resultMark(result), " ", element("b", { class: "preview-score" }, texts.form.scores(score)));
+  return element(
+    "p",
+    { class: "preview", "data-score": score },
+    resultMark(result),
+    " ",
+    element("b", { class: "preview-score" }, texts.form.scores(score)),
+  );
 }

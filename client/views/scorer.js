@@ -4,11 +4,11 @@ import { readPlay } from "../cards.js";
 import { button, element, link } from "../dom.js";
 import { command } from "../messages.js";
 import { cellsOfTable, isLive, isScheduled, marksOf } from "../public_facts.js";
-import { missingParts, resultOf } from "../results.js";
+import { resultOf } from "../results.js";
 import { addressOf } from "../routes.js";
 import { texts } from "../texts.js";
 import { heading, pairMark, section, stateMark } from "./marks.js";
-import { resultForm } from "./result_form.js";
+import { missingText, resultForm } from "./result_form.js";
 
 export const scorerNeeds = () => [];
 
@@ -22,9 +22,18 @@ export function scorerView(page, { table, board }) {
 
 function chooseTable(page) {
   const { facts } = page.state;
-  return [element("p", {}, texts.scorer.explained), element("ul", { class: "table-grid" }, facts.rows.filter((row) => row.round === facts.round).map((row) => {
+  const rows = facts.rows.filter((row) => row.round === facts.round);
+  return [element("p", {}, texts.scorer.explained), element("ul", { class: "table-grid" }, rows.map((row) => {
     const left = cellsOfTable(facts, row.table).filter((cell) => !cell.live).length;
-    return element("li", {}, link(addressOf("scorer", row.table), [element("b", {}, texts.scorer.table(row.table)), element("span", {}, texts.scorer.left(left))], { id: `table-${row.table}` }));
+    return element(
+      "li",
+      {},
+      link(
+        addressOf("scorer", row.table),
+        [element("b", {}, texts.scorer.table(row.table)), element("span", {}, texts.scorer.left(left))],
+        { id: `table-${row.table}` },
+      ),
+    );
   }))];
 }
 
@@ -36,7 +45,11 @@ function boardsOfTable(page, table) {
     const row = facts.rows.find((each) => each.round === round && each.table === table);
     return section(texts.scorer.round(round, round === facts.round),
       element("p", {}, pairMark(facts, row.ns), " – ", pairMark(facts, row.ew)),
-      element("ul", { class: "board-list" }, cells.filter((cell) => cell.round === round).map((cell) => cellItem(page, user, cell))));
+      element(
+        "ul",
+        { class: "board-list" },
+        cells.filter((cell) => cell.round === round).map((cell) => cellItem(page, user, cell)),
+      ));
   });
 }
 
@@ -45,12 +58,15 @@ function cellItem(page, user, cell) {
   const state = cell.live ? "complete" : isEntered ? "waits" : "to_play";
   const text = cell.live ? texts.scorer.hasResult : isEntered ? texts.scorer.toConfirm : texts.scorer.toEnter;
   return element("li", {}, link(addressOf("scorer", cell.table, cell.board),
-    [element("b", {}, texts.board.title(cell.board)), stateMark(state, text)], { id: `cell-${cell.table}-${cell.board}` }));
+    [element("b", {}, texts.board.title(cell.board)), stateMark(state, text)],
+    { id: `cell-${cell.table}-${cell.board}` }));
 }
 
 function cellDesk(page, table, board) {
   const { facts, user } = page.state;
-  const row = cellsOfTable(facts, table).find((cell) => cell.board === board) ?? facts.rows.find((each) => each.table === table);
+  const row = cellsOfTable(facts, table).find((cell) => cell.board === board) ?? facts.rows.find(
+    (each) => each.table === table,
+  );
   const live = isLive(facts, table, board);
   const step = page.drafts.isEntered(user, table, board) ? "confirm" : "enter";
   const { dealer, vulnerability } = marksOf(facts, board);
@@ -66,7 +82,11 @@ function cellDesk(page, table, board) {
 function liveView(facts, table) {
   const next = cellsOfTable(facts, table).find((cell) => !cell.live);
   return [element("p", { class: "verdict verdict-holds", id: "cell-live" }, texts.scorer.isLive),
-    next && element("p", {}, link(addressOf("scorer", table, next.board), texts.scorer.next(next.board), { id: "next-cell", class: "turn" }))];
+    next && element(
+      "p",
+      {},
+      link(addressOf("scorer", table, next.board), texts.scorer.next(next.board), { id: "next-cell", class: "turn" }),
+    )];
 }
 
 /** Who confirms begins with an empty form, so that the result is typed twice. */
@@ -83,7 +103,12 @@ function stepView(page, table, board, step, vulnerability) {
     element("p", {}, texts.scorer.stepExplained[step]),
     resultForm(step, draft, onChange, { vulnerability, hasPlay: step === "enter" }),
     element("p", { class: "actions" },
-      button(`${step}-button`, texts.scorer.stepButton[step], send, { class: "main", "aria-disabled": resultOf(draft) && !page.isBusy ? null : "true" }),
+      button(
+        `${step}-button`,
+        texts.scorer.stepButton[step],
+        send,
+        { class: "main", "aria-disabled": resultOf(draft) && !page.isBusy ? null : "true" },
+      ),
       button(`to-${other}`, texts.scorer.toStep[other], () => {
         page.drafts.setEntered(user, table, board, other === "confirm");
         page.drawAnew();
@@ -93,17 +118,25 @@ function stepView(page, table, board, step, vulnerability) {
 function enter(page, table, board, draft) {
   const result = resultOf(draft);
   const { cards, fault } = readPlay(draft.play);
-  if (!result) return page.refuse(texts.form.missing(missingParts(draft).map((part) => texts.form.part[part])));
+  if (!result) return page.refuse(missingText(draft));
   if (fault && !draft.passedOut) return page.refuse(texts.form.playFault(fault));
   const play = draft.passedOut ? [] : cards;
   const { user } = page.state;
-  return page.perform([command.enter(table, board, result, play)], texts.scorer.entered(table, board), () => page.drafts.setEntered(user, table, board, true));
+  return page.perform(
+    [command.enter(table, board, result, play)],
+    texts.scorer.entered(table, board),
+    () => page.drafts.setEntered(user, table, board, true),
+  );
 }
 
 /** A confirmed result is the server's: its drafts go. */
 function confirm(page, table, board, draft) {
   const result = resultOf(draft);
-  if (!result) return page.refuse(texts.form.missing(missingParts(draft).map((part) => texts.form.part[part])));
+  if (!result) return page.refuse(missingText(draft));
   const { user } = page.state;
-  return page.perform([command.confirm(table, board, result)], texts.scorer.confirmed(table, board), () => page.forget(user, table, board));
+  return page.perform(
+    [command.confirm(table, board, result)],
+    texts.scorer.confirmed(table, board),
+    () => page.forget(user, table, board),
+  );
 }

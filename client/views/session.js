@@ -14,7 +14,15 @@ export function sessionView(page) {
   const seat = seatOf(facts, user);
   return [
     heading(texts.session.title),
-    element("p", { class: "lead-text" }, texts.session.roundOf(facts.round, facts.rounds), " · ", texts.phase[facts.phase], " · ", texts.session.entries(version)),
+    element(
+      "p",
+      { class: "lead-text" },
+      texts.session.roundOf(facts.round, facts.rounds),
+      " · ",
+      texts.phase[facts.phase],
+      " · ",
+      texts.session.entries(version),
+    ),
     element("p", {}, seat ? texts.session.seat(seat.pair, texts.place[seat.place]) : texts.session.noSeat),
     section(texts.session.tables(facts.round), tablesView(facts, seat)),
     section(texts.session.boards, element("p", { class: "note" }, texts.session.boardsNote), boardsGrid(facts)),
@@ -33,7 +41,8 @@ function tablesView(facts, seat) {
 
 function boardLink(facts, tableNumber, board) {
   const live = isLive(facts, tableNumber, board);
-  return link(addressOf("board", board), [board, live ? " ✓" : "", element("span", { class: "unseen" }, live ? texts.session.hasResult : texts.session.noResult)],
+  const spoken = element("span", { class: "unseen" }, live ? texts.session.hasResult : texts.session.noResult);
+  return link(addressOf("board", board), [board, live ? " ✓" : "", spoken],
     { id: `table-${tableNumber}-board-${board}`, class: live ? "live" : null });
 }
 
@@ -43,6 +52,7 @@ function boardsGrid(facts) {
     const count = of - awaitedTables(facts, board).length;
     const state = isHeld(facts, board) ? "held" : isComplete(facts, board) ? "complete" : count ? "waits" : "to_play";
     return element("li", {}, link(addressOf("board", board),
-      [element("b", {}, board), stateMark(state, texts.session.boardState(state, count, of))], { id: `grid-board-${board}` }));
+      [element("b", {}, board), stateMark(state, texts.session.boardState(state, count, of))],
+      { id: `grid-board-${board}` }));
   }));
 }

@@ -15,9 +15,33 @@ export function signInView(page) {
     heading(texts.signIn.title),
     element("p", {}, texts.signIn.explained),
     element("form", { id: "sign-in", class: "panel narrow", onSubmit: submit },
-      field("name", texts.signIn.name, { value: signIn.name, required: true, autocomplete: "username", onInput: (event) => { signIn.name = event.target.value; } }),
-      field("token", texts.signIn.token, { type: "password", value: signIn.token, required: true, autocomplete: "off", onInput: (event) => { signIn.token = event.target.value; } }, texts.signIn.tokenNote),
-      element("button", { id: "sign-in-button", class: "main", "aria-disabled": page.isBusy ? "true" : null }, page.isBusy ? texts.signIn.busy : texts.signIn.button)),
+      field(
+        "name",
+        texts.signIn.name,
+        {
+          value: signIn.name,
+          required: true,
+          autocomplete: "username",
+          onInput: (event) => { signIn.name = event.target.value; },
+        },
+      ),
+      field(
+        "token",
+        texts.signIn.token,
+        {
+          type: "password",
+          value: signIn.token,
+          required: true,
+          autocomplete: "off",
+          onInput: (event) => { signIn.token = event.target.value; },
+        },
+        texts.signIn.tokenNote,
+      ),
+      element(
+        "button",
+        { id: "sign-in-button", class: "main", "aria-disabled": page.isBusy ? "true" : null },
+        page.isBusy ? texts.signIn.busy : texts.signIn.button,
+      )),
     settings(page),
   ];
 }
@@ -32,5 +56,10 @@ function settings(page) {
   };
   return element("details", { id: "settings", class: "narrow" },
     element("summary", { id: "settings-summary" }, texts.signIn.settings),
-    field("server-path", texts.signIn.path, { value: page.serverPath, onChange: change }, texts.signIn.pathNote(globalThis.location.host)));
+    field(
+      "server-path",
+      texts.signIn.path,
+      { value: page.serverPath, onChange: change },
+      texts.signIn.pathNote(globalThis.location.host),
+    ));
 }
