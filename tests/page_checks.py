@@ -2,6 +2,12 @@
 import traceback
 
 PASSED, FAILED = [], []
+FIVE_CLUBS = {"by": "S", "doubled": 0, "level": 5, "strain": "C", "tricks": 11}  # board 1, nobody vulnerable: 100 + 300
+THREE_NO_TRUMP = {"by": "W", "doubled": 1, "level": 3, "strain": "N", "tricks": 7}  # board 4, both vulnerable: 200 + 300 for NS
+
+
+class OutOfTime(BaseException):
+    """No part of the test goes on after it."""
 
 
 def check(what, wanted, got):
@@ -30,3 +36,12 @@ def console(windows):
     for window in windows:
         found += [entry["message"] for entry in window.here().get_log("browser")]
     return found
+
+
+def type_result(window, form, result):
+    if result == "pass":
+        window.press(f"{form}-ended-passed")
+        return
+    for name, value in (("level", result["level"]), ("strain", result["strain"]), ("by", result["by"]), ("doubled", result["doubled"]),
+                        ("over", result["tricks"] - result["level"] - 6)):
+        window.press(f"{form}-{name}-{value}")

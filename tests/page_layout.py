@@ -8,7 +8,9 @@ NAMES = """
 const all = (selector) => [...document.querySelectorAll(selector)];
 const found = [];
 const expect = (good, what, each) => { if (!good) found.push(`${what}: ${each.id || each.tagName}`); };
-for (const each of all("input, select, textarea")) expect(each.labels?.length || each.getAttribute("aria-label"), "no label", each);
+for (const each of all("input, select, textarea")) {
+    expect(each.labels?.[0]?.textContent.trim() || each.getAttribute("aria-label"), "no label", each);
+}
 for (const each of all("button, a, summary")) expect(each.textContent.trim() || each.getAttribute("aria-label"), "no text", each);
 for (const each of all("nav")) expect(each.getAttribute("aria-label"), "no name", each);
 for (const each of all("table")) {

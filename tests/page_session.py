@@ -15,29 +15,17 @@ import sys
 import tempfile
 import time
 
-from page_checks import FAILED, PASSED, check, console, holds, part
+from page_checks import FAILED, FIVE_CLUBS, PASSED, OutOfTime, THREE_NO_TRUMP, check, console, holds, part, type_result
+from page_desks import administrator, audit, correct_and_void, director, end_of_play, ruling, seats, spoiled
 from page_devices import Browser, Hostile, Keys, Nginx, Server, until
 from page_layout import keyboard_player, laid_out, on_paper
-
-FIVE_CLUBS = {"by": "S", "doubled": 0, "level": 5, "strain": "C", "tricks": 11}  # board 1, nobody vulnerable: 100 + 300
-THREE_NO_TRUMP = {"by": "W", "doubled": 1, "level": 3, "strain": "N", "tricks": 7}  # board 4, both vulnerable: 200 + 300 for North-South
-
-
-def type_result(window, form, result):
-    if result == "pass":
-        window.press(f"{form}-ended-passed")
-        return
-    for name, value in (("level", result["level"]), ("strain", result["strain"]), ("by", result["by"]), ("doubled", result["doubled"]),
-                        ("over", result["tricks"] - result["level"] - 6)):
-        window.press(f"{form}-{name}-{value}")
+from page_servers import all_displays_taken, connections, hostile_texts, over_tls, played_numbers, restart
 
 
 def percent(earned, tops):
     hundredths = (20000 * earned + tops) // (2 * tops)
     return f"{hundredths // 100}.{hundredths % 100:02d} %"
 
-
-# ---- signing in, and a denial that can be checked
 
 @part
 def sign_in(page, server):
@@ -87,8 +75,6 @@ def other_denials(carla, vera, server):
         check(f"the check for {name} is {verdict}", verdict, window.script("return document.querySelector('.verdict').dataset.verdict"))
     holds("where it hangs on roles, the page says so", vera.shows("roles, which this page can't see"))
 
-
-# ---- a result is entered and confirmed
 
 @part
 def keyboard_scorer(sam):
@@ -188,74 +174,6 @@ def lead_and_follow(server):
     check("a play of four cards is entered past the page", ["ok", "ok"], answers)
 
 
-# ---- the director
-
-@part
-def director(dora, anna, carla, server):
-    dora.sign_in("dora")
-    dora.go("director")
-    dora.choose("hold-board", "1")
-    dora.press("hold")
-    holds("a board is held", dora.shows("Board 1 is held", "#done"))
-    check("the server holds it", [1], server.reply("dora", {"ask": "status"})["status"]["held"])
-    check("its rule is the fourth", 4, server.reply("anna", {"ask": "board", "board": 1})["denied"]["rule"])
-    holds("who saw it is denied now", anna.shows("because the director holds the board"))
-    check("its cards are off the page", "", anna.text(".hand"))
-    anna.press("check-board-0-1")
-    check("the check says that it holds", "holds", anna.script("return document.querySelector('.verdict').dataset.verdict"))
-    holds("and shows that it is held", anna.shows("Board 1 is among the boards that are held.", ".evidence"))
-    dora.press("release-1")
-    holds("it is released", dora.shows("Board 1 is released", "#done"))
-    holds("and shown again", anna.shows("North", ".diagram"))
-
-
-@part
-def ruling(dora, carla, server):
-    dora.go("director/2/5")
-    for name, value in (("rule-ns", "60"), ("rule-ew", "101"), ("rule-reason", "7")):
-        dora.type(name, value)
-    dora.press("rule-button")
-    holds("101 percent is refused in words", dora.shows("0 to 100 percent", "#refusal"))
-    dora.type("rule-ew", "40")
-    dora.press("rule-button")
-    holds("the ruling is given", dora.shows("The ruling is given", "#done"))
-    check("the server has it", [60, 40], server.reply("carla", {"ask": "traveller", "board": 5})["traveller"]["rows"][0]["ruling"])
-    carla.go("board/5/2")
-    holds("the pair sees it", carla.shows("60 %", "table.traveller"))
-    code = server.reply("carla", {"ask": "reason", "table": 2, "board": 5})["reason"]["code"]
-    holds("and its reason", carla.shows(f"has the code {code}"))
-
-
-@part
-def correct_and_void(dora, server):
-    dora.go("director/2/4")
-    until("the form is there", lambda: dora.find("correct-level-1"))
-    type_result(dora, "correct", {**THREE_NO_TRUMP, "tricks": 8})
-    dora.press("correct-button")
-    holds("the result is corrected", dora.shows("The result is corrected", "#done"))
-    row = server.reply("dora", {"ask": "traveller", "board": 4})["traveller"]["rows"][0]
-    check("the server has the correction", (8, 200), (row["result"]["tricks"], row["score"]))
-    holds("it is shown", dora.shows("scores 200 for North-South", "#cell-now"))
-    dora.press("void")
-    dora.press("void-cancel")
-    check("what is cancelled isn't done", [2], server.reply("dora", {"ask": "status"})["status"]["live"][3])
-    dora.press("void")
-    dora.press("void-sure")
-    holds("the result is void", dora.shows("The result is void", "#done"))
-    check("the server has none", [], server.reply("dora", {"ask": "status"})["status"]["live"][3])
-
-
-@part
-def spoiled(sam, server):
-    """NS2 was shown board 4, whose result is void now: no result of it can be entered there."""
-    sam.go("scorer/2/4")
-    type_result(sam, "enter", THREE_NO_TRUMP)
-    sam.press("enter-button")
-    answer = server.reply("sam", {"do": [{"cmd": "Enter", "table": 2, "board": 4, "result": THREE_NO_TRUMP}]})["answers"][0]
-    holds("the server names a player", answer.startswith("Spoiled("))
-    holds("and the page does in words", sam.shows(f"{answer[8:-1]} sits at this table and was shown something of the board", "#refusal"))
-
-
 def play_round(server):
     """The first round, past the page: each North-South pair bids three no trump, which goes down at odd tables. Board 4 was seen at
     table 2, and board 12 is left to table 4."""
@@ -279,10 +197,10 @@ def ranking(dora, anna, server, downloads):
     holds("the next round has begun", dora.shows("The next round has begun", "#done"))
     status = server.reply("dora", {"ask": "status"})["status"]
     check("the server is in round 2", 2, status["round"])
-    second = {"by": "S", "doubled": 0, "level": 3, "strain": "N", "tricks": 9}
-    more = [{"cmd": word, "table": table, "board": 3 * table + 1, "result": {**second, "tricks": 8 + table % 3}}
-            for table in (1, 3, 5) for word in ("Enter", "Confirm")]
-    check("three tables give a result in round 2", ["ok"] * 6, server.reply("sam", {"do": more})["answers"])
+    tricks = {4: 9, 10: 8, 11: 10, 16: 10, 17: 10, 18: 8}  # at tables 1, 3 and 5: two thirds of the tops for NS5 against EW4
+    more = [{"cmd": word, "table": (board - 1) // 3, "board": board, "result": {"by": "S", "doubled": 0, "level": 3, "strain": "N", "tricks": count}}
+            for board, count in tricks.items() for word in ("Enter", "Confirm")]
+    check("three tables give results in round 2", ["ok"] * 12, server.reply("sam", {"do": more})["answers"])
     for window, name in ((anna, "anna"), (dora, "dora")):
         window.go("ranking")
         until("the ranking is there", lambda: window.rows("table.ranking"))
@@ -297,7 +215,7 @@ def ranking(dora, anna, server, downloads):
         except AssertionError:
             check(what, server.reply(name, {"ask": "ranking"})["ranking"], window.rows("table.ranking"))
     rows = server.reply("dora", {"ask": "ranking"})["ranking"]
-    holds("somebody has earned more than another", len({earned for _, earned, _ in rows}) > 1)
+    check("two thirds of the tops are 66.67 percent", "66.67 %", next(percent(earned, tops) for pair, earned, tops in rows if pair == "NS5"))
     dora.press("csv-ranking")
     path = until("the file is there", lambda: next(iter(pathlib.Path(downloads).glob("ranking*.csv")), None))
     until("the file is whole", lambda: path.read_text(encoding="utf-8-sig").count("\n") == len(rows) + 1)
@@ -356,251 +274,6 @@ def analysis(dora, server, has_workers):
     check("what the cards cost is the server's", sorted(f"−{cost}" for cost in costs if cost), sorted(marks))
 
 
-# ---- the administrator
-
-@part
-def administrator(page, nginx, server):
-    page.sign_in("ada")
-    page.go("accounts")
-    page.type("new-name", "viola")
-    page.choose("new-role", "Spectator")
-    page.press("add-user")
-    token = until("the token is shown", lambda: page.text("#new-token"))
-    accounts = dict(server.reply("ada", {"ask": "accounts"})["accounts"]["users"])
-    check("the server has the user with the role", ["Spectator"], accounts.get("viola"))
-    page.choose("senior", "Administrator")
-    page.choose("junior", "Spectator")
-    page.press("add-pair")
-    holds("an inheritance is added", page.shows("Administrator is above Spectator now", "#done"))
-    holds("the server has it", ["Administrator", "Spectator"] in server.reply("ada", {"ask": "accounts"})["accounts"]["inherits"])
-    page.press("delete-Administrator-Spectator")
-    page.press("delete-Administrator-Spectator-sure")
-    holds("and deleted", page.shows("Administrator isn't above Spectator any more", "#done"))
-    page.press("deassign-ada-Administrator")
-    page.press("deassign-ada-Administrator-sure")
-    holds("the last administrator can't go, in words", page.shows("Nobody would be an administrator any more", "#refusal"))
-    page.press("sign-out")
-    check("the token is off the page", False, token in page.script("return document.documentElement.outerHTML"))
-    page.sign_in("viola", token)
-    holds("its user signs in by it", page.shows("Signed in as viola", "#top"))
-    page.go("board/1")
-    until("the denial is there", lambda: page.find("check-board-0-1"))
-    check("the spectator is denied by rule 8", 8, page.denial()[0])
-    page.press("sign-out")
-    page.here().get(f"http://bridge.example.org:{nginx.port}/")
-    until("the page is there", lambda: page.find("name"))
-    page.sign_in("ada")
-    page.go("accounts")
-    holds("over plain HTTP from elsewhere the page says that it has no SHA-256", page.shows("the browser offers no SHA-256"))
-    page.type("new-name", "wim")
-    page.type("new-digest", "7" * 63)
-    page.press("add-user")
-    holds("a digest of 63 digits is refused", page.shows("64 hexadecimal digits", "#refusal"))
-    page.press("sign-out")
-
-
-@part
-def audit(dora, server):
-    dora.go("audit")
-    rows = until("the audit is there", lambda: dora.rows("table.audit"))
-    version = server.reply("dora", {"ask": "status"})["version"]
-    reply = server.reply("dora", {"audit": {"from": max(1, version - 99), "limit": 100}})["audit"]
-    first = {str(number): (user, about) for number, user, _, about in reply}
-    same = [row for row in rows if row[0] in first]
-    wanted = [(first[row[0]][0] or "the solver", first[row[0]][1]) for row in same]
-    check("the audit's rows are the server's", wanted, [(row[1], row[3]) for row in same])
-    holds("and there are many", len(same) > 50)
-
-
-# ---- the server goes away and comes back
-
-@part
-def restart(sam, server):
-    sam.go("scorer/4/12")
-    type_result(sam, "enter", {**FIVE_CLUBS, "level": 4})
-    until("the form is filled", lambda: sam.shows("scores", ".preview"))
-    server.stop()
-    sam.press("to-confirm")
-    sam.press("to-enter")
-    sam.press("enter-button")
-    holds("without a server nothing is sent, in words", sam.shows("Nothing was sent, and what you typed is kept", "#refusal"))
-    holds("the page says that it is offline", sam.shows("No connection to the server", "#offline"))
-    check("what was typed is still there", "4", sam.chosen("enter-level"))
-    server.start()
-    holds("the page comes back by itself, and says that the session began anew", sam.shows("was started again", "#offline", 40))
-    sam.press("understood")
-    check("no table has a result any more", [[]] * 24, server.reply("sam", {"ask": "status"})["status"]["live"])
-    check("what was typed outlived the server", "4", sam.chosen("enter-level"))
-    sam.here().refresh()
-    until("the page is there again", lambda: sam.find("name"))
-    check("the token didn't outlive the page", "", sam.script("return document.getElementById('token').value"))
-    kept = sam.script("return JSON.stringify([Object.entries(sessionStorage), Object.entries(localStorage), document.cookie])")
-    check("no token is stored", False, "sam-example" in kept)
-    sam.sign_in("sam")
-    sam.go("scorer/4/12")
-    until("the form is there", lambda: sam.find("enter-level-4"))
-    check("what was typed outlived the page", ["4", "C", "S", "1"], [sam.chosen(f"enter-{part}") for part in ("level", "strain", "by", "over")])
-    sam.press("enter-button")
-    holds("and is entered", sam.shows("Entered for table 4, board 12", "#done"))
-
-
-# ---- seats, and the end of the session
-
-@part
-def seats(dora, server):
-    dora.go("director")
-    dora.press("seats-summary")
-    dora.press("unseat-paul")
-    dora.press("unseat-paul-sure")
-    holds("a player loses the seat", dora.shows("paul has no seat any more", "#done"))
-    check("the server has no seat for paul", [], [seat for seat in server.reply("dora", {"ask": "status"})["status"]["seats"] if seat[0] == "paul"])
-    dora.type("seat-name", "paul")
-    dora.choose("seat-pair", "NS8")
-    dora.press("seat")
-    holds("a seat that is taken is refused in words", dora.shows("Somebody sits there already", "#refusal"))
-    dora.choose("seat-place", "S")
-    dora.press("seat")
-    holds("and gets it again", dora.shows("paul sits in NS8", "#done"))
-    seated = server.reply("dora", {"ask": "status"})["status"]["seats"]
-    check("the server has the seat", [["paul", "NS8", "S"]], [seat for seat in seated if seat[0] == "paul"])
-
-
-def play_to_the_end(server):
-    """All results of all rounds, past the page, table 1's last board aside."""
-    refused = []
-    for number in range(1, 8):
-        status = server.reply("dora", {"ask": "status"})["status"]
-        commands = []
-        for table in range(1, 9):
-            first = 3 * ((table + number - 2) % 8) + 1
-            for board in range(first, first + 3):
-                result = {"by": "NESW"[(table + board) % 4], "doubled": 0, "level": 1, "strain": "N", "tricks": 5 + (table * board) % 4}
-                if table not in status["live"][board - 1] and (number, table, board) != (7, 1, 21):
-                    commands += [{"cmd": word, "table": table, "board": board, "result": result} for word in ("Enter", "Confirm")]
-        commands += [{"cmd": "NextRound"}] if number < 7 else []
-        receipts = server.ask("dora", {"do": commands[:64]}, {"do": commands[64:]})
-        refused += [answer for receipt in receipts for answer in receipt["answers"] if answer != "ok"]
-    return refused
-
-
-@part
-def end_of_play(dora, anna, server):
-    check("a whole session is played", [], play_to_the_end(server))
-    dora.go("session")
-    dora.go("director")
-    dora.press("close")
-    dora.press("close-sure")
-    holds("play doesn't end while a result is awaited", dora.shows("A table has still a result to give", "#refusal"))
-    last = {"table": 1, "board": 21, "result": "pass"}
-    check("the last result is entered", ["ok", "ok"], server.reply("sam", {"do": [{"cmd": "Enter", **last}, {"cmd": "Confirm", **last}]})["answers"])
-    anna.go("board/2/4")
-    holds("the play of others is denied while the session is running", anna.shows("denied until the session is closed"))
-    dora.press("close")
-    dora.press("close-sure")
-    holds("play ends", dora.shows("Play has ended", "#done"))
-    check("the server has closed", "Closed", server.reply("dora", {"ask": "status"})["status"]["phase"])
-    holds("and then the play of others is shown", anna.shows("The play wasn't noted"))
-    dora.press("finalise")
-    dora.press("finalise-sure")
-    holds("the results are final", dora.shows("The results are final", "#done"))
-    check("the server has them final", "Final", server.reply("dora", {"ask": "status"})["status"]["phase"])
-    dora.go("director/1/1")
-    dora.press("rule-button")
-    holds("afterwards a ruling is refused in words", dora.shows("can't be done in the present phase", "#refusal"))
-
-
-# ---- what a text can do, and how a page is laid out
-
-@part
-def played_numbers(page, nginx):
-    """A board whose numbers the test knows: its double-dummy table, a play with its costs, and a ruling."""
-    page.here().get(f"http://127.0.0.1:{nginx.port}/?server=/hostile/session#/board/2/1")
-    page.here().refresh()
-    until("the page is there", lambda: page.find("name"))
-    page.sign_in("n1", "x")
-    until("the board is there", lambda: page.rows("table.play"))
-    names = {"N": "North", "S": "South", "E": "East", "W": "West"}
-    wanted = [[names[place], *(str(Hostile.TRICKS[place][index]) for index in (4, 0, 1, 2, 3))] for place in "NSEW"]
-    check("the double-dummy table has its declarers and strains", wanted, page.rows("table.analysis"))
-    rows = page.rows("table.traveller")
-    wanted = [["200", "0", "2"], ["0", "", "2", "0"], ["60 %", "40 %"]]
-    check("the traveller has what was set, passed out and ruled", wanted, [rows[0][5:], rows[1][4:], rows[2][4:]])
-    cells = page.script("""return [...document.querySelectorAll("table.play tbody tr")].map((row) => [...row.cells].slice(1).map((cell) => {
-        const card = cell.querySelector(".card");
-        const cost = cell.querySelector(".cost")?.textContent ?? "";
-        return card && [card.querySelector(".letter").textContent + card.lastChild.textContent, cost, cell.className];
-    }))""")
-    check("each card stands in the column of who played it, with what it cost, and the winner is marked",
-          [[["S2", "−1", ""], ["S3", "", ""], ["SA", "", "winner"], ["SK", "", ""]],
-           [["H3", "", ""], ["HA", "", "winner"], ["H2", "", ""], ["HK", "−2", ""]],
-           [None, ["D4", "", ""], None, None]], cells)
-    total = sum(Hostile.COSTS)
-    holds("and told together", page.shows(f"cost their side {total} tricks together"))
-    page.press("letters")
-    letters = page.script("return [...document.querySelectorAll('.hand-N dt')].map((suit) => suit.innerText.trim()[0])")
-    check("suits can be read as letters", ["S", "H", "D", "C"], letters)
-    page.press("letters")
-    page.press("sign-out")
-
-
-@part
-def hostile_texts(page, nginx):
-    for route in ("session", "boards", "board/1", "board/1/1", "ranking", "find", "accounts", "audit", "director", "scorer", "papers"):
-        page.here().get(f"http://127.0.0.1:{nginx.port}/?server=/hostile/session#/{route}")
-        page.here().refresh()
-        until("the page is there", lambda: page.find("name"))
-        page.sign_in("n1", "x")
-        time.sleep(0.4)
-        made = page.script("""const isMade = (each) => ["IMG", "SCRIPT", "IFRAME", "OBJECT"].includes(each.tagName) ||
-            [...each.attributes].some(({name}) => name.startsWith("on"));
-            return [...document.querySelectorAll("main *, header *")].filter(isMade).length""")
-        check(f"{route}: no text became an element or a listener", 0, made)
-        if route in ("session", "ranking", "accounts", "audit"):
-            holds(f"{route}: such a text is shown as it is", page.shows(Hostile.MARKUP))
-    page.press("sign-out")
-    for elsewhere in ("//evil.example/session", "wss://evil.example/session", "https:evil"):
-        page.here().get(f"http://127.0.0.1:{nginx.port}/?server={elsewhere}")
-        path = until("the field is there", lambda: page.find("server-path")).get_attribute("value")
-        check(f"no link leads elsewhere: {elsewhere}", "/session", path)
-
-
-@part
-def all_displays_taken(page, server):
-    """Four strangers hold the four displays: the page waits, says so, and goes on once one has left."""
-    strangers = server.hold(4)
-    page.type("name", "vera")
-    page.type("token", "vera-example")
-    page.press("sign-in-button")
-    holds("where all displays are taken the page says so", page.shows("All places at the server are taken", "#offline"))
-    strangers[0].close()
-    until("vera is signed in", lambda: page.find("as-of"))
-    holds("and goes on with the first that is free", page.shows("Signed in as vera", "#top"))
-    for stranger in strangers[1:]:
-        stranger.close()
-    page.press("sign-out")
-
-
-@part
-def connections(server):
-    """Pages that are looked at hold no display while nothing is asked."""
-    def held():
-        ports = [line.split()[1:4] for line in pathlib.Path("/proc/net/tcp").read_text().splitlines()[1:]]
-        return sum(1 for local, _, state in ports if int(local.split(":")[1], 16) == server.port and state == "01")
-    holds("there are moments at which no page holds a display", until("no connection is open", lambda: held() == 0, 15) if held() else True)
-
-
-@part
-def over_tls(nginx, server):
-    number = server.reply("vera", {"ask": "status"})["status"]["round"]
-    page = Browser(f"https://bridge.example.org:{nginx.tls_port}/")
-    page.sign_in("vera")
-    holds("with RUNNING's configuration the page works over TLS", page.shows(f"Round {number} of 7"))
-    head = page.script("return fetch('index.html').then((reply) => [...reply.headers.entries()])")
-    check("the headers that RUNNING names are sent", ["no-cache", "frame-ancestors 'none'", "no-referrer", "nosniff"],
-          [dict(head).get(name) for name in ("cache-control", "content-security-policy", "referrer-policy", "x-content-type-options")])
-    page.press("sign-out")
-
-
 def play(server, nginx, downloads, has_workers):
     address = f"http://127.0.0.1:{nginx.port}/"
     Browser.open(downloads)
@@ -640,11 +313,16 @@ def play(server, nginx, downloads, has_workers):
     over_tls(nginx, server)
 
 
+def stop_in_time(signal_number, frame):
+    raise OutOfTime("it takes more than four and a half minutes" if signal_number == signal.SIGALRM else "it was told to end")
+
+
 def main():
     program = sys.argv[1] if len(sys.argv) > 1 else "crates/bridge_server/out/bridge_server"
     workers = int(sys.argv[2]) if len(sys.argv) > 2 else 1
-    signal.signal(signal.SIGALRM, lambda *_: (_ for _ in ()).throw(TimeoutError("the test takes more than five minutes")))
-    signal.alarm(290)
+    for each in (signal.SIGALRM, signal.SIGTERM, signal.SIGINT):
+        signal.signal(each, stop_in_time)
+    signal.alarm(270)
     server, hostile = Server(program, workers), Hostile()
     nginx = Nginx(server.port, hostile.port)
     try:
@@ -652,7 +330,10 @@ def main():
             each.start()
         with tempfile.TemporaryDirectory() as downloads:
             part(play)(server, nginx, downloads, workers > 0)
+    except OutOfTime as why:
+        check("the test ends by itself", "", str(why))
     finally:
+        signal.alarm(0)
         if Browser.driver:
             Browser.driver.quit()
         for each in (nginx, hostile, server):
