@@ -13,14 +13,15 @@ const resendable = ["NoEntry", "OutOfMemory"];
  * @property {string|null} user who is signed in
  * @property {import("./public_facts.js").Facts|null} facts the status, of `version`
  * @property {import("./messages.js").Denied|null} statusDenied why there is no status
- * @property {number} version
+ * @property {number} version of the status
+ * @property {number} known the greatest version that an answer told: nothing older is wanted from another connection
  * @property {{score: boolean, direct: boolean, administer: boolean}|null} permissions null until they are known
  * @property {Map<string, {reply: object, version: number}>} answers by `keyOf` of the query
  * @property {boolean} wasRestarted whether the server was seen to begin anew
  */
 
 const firstState = () => ({
-  user: null, facts: null, statusDenied: null, version: -1, answers: new Map(), wasRestarted: false, permissions: null,
+  user: null, facts: null, statusDenied: null, version: -1, known: 0, answers: new Map(), wasRestarted: false, permissions: null,
 });
 
 export class Store {
@@ -84,7 +85,7 @@ export class Store {
   /** By `since` the server sends a status only where there is a newer one, and a short `Behind` else. */
   async #refreshStatus() {
     const { state } = this;
-    const next = Number.isSafeInteger(state.version + 1) ? state.version + 1 : 0;
+    const next = Number.isSafeInteger(state.version + 1) ? Math.max(state.version + 1, state.known) : 0;
     const reply = await this.#query({ ...ask.status(), since: next });
     if (this.state !== state) return;
     if (reply.status) {
@@ -92,7 +93,7 @@ export class Store {
       this.#changeStatus(publicFacts(reply.status), null, reply.version);
     } else if (reply.denied) {
       this.#changeStatus(null, reply.denied, reply.version);
-    } else if (reply.error === "Behind" && reply.version < state.version) {
+    } else if (reply.error === "Behind" && reply.version < Math.max(state.version, state.known)) {
       this.#sawOlder();
     } else {
       this.#olderReplies = 0;
@@ -112,7 +113,7 @@ export class Store {
     this.#olderReplies += 1;
     if (this.#olderReplies < repliesBeforeRestart) return;
     this.#olderReplies = 0;
-    Object.assign(this.state, { version: -1, wasRestarted: true });
+    Object.assign(this.state, { version: -1, known: 0, wasRestarted: true });
     this.state.answers.clear();
     this.#onChange();
   }
@@ -149,8 +150,10 @@ export class Store {
    * @returns {Promise<import("./messages.js").Receipt|{error: string}>}
    */
   async perform(commands) {
+    const { state } = this;
     const receipt = await this.#connection.ask({ do: commands });
-    if (receipt.answers?.includes("NotPermitted")) await this.probePermissions();
+    state.known = Math.max(state.known, receipt.version ?? 0);
+    if (receipt.answers?.includes("NotPermitted")) state.permissions = null;
     return receipt;
   }
 

@@ -288,8 +288,8 @@ class Browser:
         return self.script("const {rule, board, table} = document.querySelector('.denial').dataset; return [rule, board, table].map(Number)")
 
     def text(self, selector="main"):
-        found = self.here().find_elements(By.CSS_SELECTOR, selector)
-        return found[0].text if found else ""
+        """What is seen of an element: asked for at one moment, since the page may draw it anew."""
+        return self.script("return document.querySelector(arguments[0])?.innerText ?? ''", selector)
 
     def script(self, code, *arguments):
         return self.here().execute_script(code, *arguments)

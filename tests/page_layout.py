@@ -86,7 +86,7 @@ def keyboard_player(page):
     holds("the check is reached by Tab", page.tab_to("check-board-0-7"))
     page.keys(Keys.SPACE)
     until("the check is open", lambda: page.find("check-board-0-7-facts"))
-    check("the button says that it is open", "true", page.find("check-board-0-7").get_attribute("aria-expanded"))
+    check("the button says that it is open", "true", page.script("return document.getElementById('check-board-0-7').ariaExpanded"))
     check("and keeps the focus", "check-board-0-7", page.script("return document.activeElement.id"))
     nodes = page.here().execute_cdp_cmd("Accessibility.getFullAXTree", {})["nodes"]
     roles = {node["role"]["value"] for node in nodes if not node.get("ignored")}

@@ -80,6 +80,18 @@ test("a lower version for a moment changes nothing, and one that stays is a serv
   assert.equal(store.answerOf(ask.board(1)).version, 0);
 });
 
+test("what a receipt told isn't asked for in an older version", async () => {
+  const server = playedServer();
+  const { store } = storeOf(server, () => []);
+  await store.signIn("k", "token");
+  const answer = server.ask;
+  server.ask = async (message) => (message.do ? { answers: ["ok"], first: 4, last: 4, version: 4 } : answer(message));
+  await store.perform([{ cmd: "Hold", board: 1 }]);
+  server.asked = [];
+  await store.refresh();
+  assert.deepEqual(server.asked[0], { ask: "status", since: 4 });
+});
+
 test("permissions are asked by commands that no session takes", async () => {
   const { do: commands } = permissionProbe();
   assert.deepEqual(
