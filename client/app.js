@@ -38,6 +38,7 @@ class Page {
   #timer = null;
   #announced = "";
   #isStale = false;
+  #isPressed = false;
   #store = this.#newStore();
 
   get state() {
@@ -53,7 +54,11 @@ class Page {
       part("content").focus();
     });
     part("content").addEventListener("toggle", (event) => this.#noteDetails(event.target), true);
-    part("content").addEventListener("focusout", () => this.#isStale && queueMicrotask(() => this.draw()));
+    part("content").addEventListener("focusout", () => this.#drawIfStale());
+    document.addEventListener("pointerdown", () => {
+      this.#isPressed = true;
+    });
+    for (const released of ["pointerup", "pointercancel"]) document.addEventListener(released, () => this.#released());
     this.draw();
     part("name")?.focus();
   }
@@ -114,7 +119,7 @@ class Page {
     if (receipt.error) this.#notice(texts.error(receipt.error), "");
     else if (refused) this.#notice(texts.refusal(refused), answers[0] === "ok" ? done : "");
     else this.#notice("", done);
-    this.draw();
+    this.#stateChanged();
     this.#poll();
   }
 
@@ -208,7 +213,7 @@ class Page {
     this.#failures = 0;
     if (this.offlineFor) {
       this.offlineFor = 0;
-      this.draw();
+      this.#stateChanged();
     }
   }
 
@@ -239,7 +244,7 @@ class Page {
       return undefined;
     } finally {
       this.isBusy = false;
-      this.draw();
+      this.#stateChanged();
     }
   }
 
@@ -253,10 +258,20 @@ class Page {
     if (this.state.user) this.#poll();
   }
 
-  /** A list of choices that is open isn't drawn over. */
+  /** What the server answered is drawn at once, but not over an open list of choices, nor under a finger that is down. */
   #stateChanged() {
-    if (document.activeElement?.tagName === "SELECT") this.#isStale = true;
+    if (this.#isPressed || document.activeElement?.tagName === "SELECT") this.#isStale = true;
     else this.draw();
+  }
+
+  #released() {
+    this.#isPressed = false;
+    this.#drawIfStale();
+  }
+
+  /** After the click or the choice that is being made. */
+  #drawIfStale() {
+    setTimeout(() => this.#isStale && this.#stateChanged(), 0);
   }
 
   #setSlow(isSlow) {

@@ -10,7 +10,7 @@ export class ConnectionFault extends Error {
   }
 }
 
-const usualTimes = { idle: 700, slow: 3_000, opening: 25_000, answer: 20_000 };
+const usualTimes = { idle: 200, slow: 3_000, opening: 25_000, answer: 20_000 };
 const normalClosure = 1000;
 
 export class Connection {

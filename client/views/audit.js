@@ -5,7 +5,7 @@ import { csvText, download } from "../csv.js";
 import { ask } from "../messages.js";
 import { texts } from "../texts.js";
 import { answerView } from "./denial.js";
-import { heading } from "./marks.js";
+import { heading, section } from "./marks.js";
 
 export const rowsOfPage = 100;
 
@@ -20,7 +20,7 @@ export function auditView(page) {
     heading(texts.audit.title),
     element("p", {}, texts.audit.explained),
     turns(page, query.audit.from, rows),
-    answerView(page, query, auditTable),
+    section(null, answerView(page, query, auditTable)),
   ];
 }
 
