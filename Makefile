@@ -1,14 +1,42 @@
+# The kit's command `rt` must be on the path (README.md, "Get it, build it, run it").
+RT ?= rt
 # The built server: `rt run` in crates/bridge_server builds it.
 PROGRAM ?= crates/bridge_server/out/bridge_server
+PORT ?= 8080
 PAGE_PORT ?= 8000
 
-.PHONY: demo-page test-page
+.PHONY: demo quick serve demo-page test test-page
+
+# Proves and builds all that the program stands on, answers the example's script, and says what was seen. What `rt` says of
+# its own work goes to standard error.
+demo:
+	mkdir -p out
+	cd crates/bridge_server && $(RT) run -- script < ../../examples/first_round.script > ../../out/first_round.answers
+	python3 examples/say_round.py out/first_round.answers
+
+# The same before any proof: it shows what the program does, and proves nothing.
+quick:
+	mkdir -p out
+	cd crates/bridge_server && $(RT) try -- script < ../../examples/first_round.script > ../../out/first_round.answers
+	python3 examples/say_round.py out/first_round.answers
+	@echo "Nothing was proved: make demo proves it all."
+
+# The example session for clients over WebSocket, on this computer, until Ctrl-C.
+serve: $(PROGRAM)
+	$(PROGRAM) serve --session examples/session.json --deals examples/club.pbn --port $(PORT)
 
 # The page with the example session, on this computer, until Ctrl-C.
-demo-page:
+demo-page: $(PROGRAM)
 	python3 client/demo.py $(PROGRAM) $(PAGE_PORT)
 
+$(PROGRAM):
+	@echo "make demo builds $(PROGRAM)."; exit 1
+
+# The gate, and then the cheap checks of the pages. The last line is `N passed, M failed`.
+test:
+	python3 tests/all_checks.py "$(RT) ci"
+
 # The page's own tests: its plain functions, and a session in real browsers (client/README.md says what they need).
-test-page:
+test-page: $(PROGRAM)
 	node --test client/tests/
 	/usr/bin/python3 tests/page_session.py $(PROGRAM)
