@@ -56,10 +56,9 @@ test("every text that a view names is in the table", () => {
 
 test("every refusal of docs/PROTOCOL.md has words of its own", () => {
   const protocol = readFileSync(new URL("../../docs/PROTOCOL.md", import.meta.url), "utf8");
-  const part = protocol.slice(
-    protocol.indexOf("| Refusal | When |"),
-    protocol.indexOf("Where several hold, the first in this order"),
-  );
+  const [begins, ends] = ["| Refusal | When |", "Where several hold, the first of this order"].map((words) => protocol.indexOf(words));
+  assert.ok(begins >= 0 && begins < ends);
+  const part = protocol.slice(begins, ends);
   const names = [...part.matchAll(/`([A-Z]\w+)(?:\(\w+\))?`/gu)].map(([, name]) => name);
   assert.ok(names.length > 35);
   for (const name of names) assert.doesNotMatch(texts.refusal(name), /The server refused/u, name);
