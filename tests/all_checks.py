@@ -5,10 +5,12 @@
     tests/all_checks.py             # the cheap checks alone
 
 The last line is `N passed, M failed`, the gate's own numbers and one for each check; the status is 1 where something failed.
+The tests of the page's functions need Node.js 20 or later, and are not run where there is none.
 """
 import os
 import pathlib
 import re
+import shutil
 import subprocess
 import sys
 
@@ -22,6 +24,9 @@ CHECKS = (
     ("tests/session_doctor.py", "--check"),
     ("tests/links.py",),
 )
+NODE = 20
+# named one by one, since versions of Node.js differ in how they read a folder
+PAGE = ("--test", *sorted(str(path.relative_to(ROOT)) for path in ROOT.glob("client/tests/*.test.js")))
 
 
 # the numbers with which the gate ends, as it writes them
@@ -37,17 +42,30 @@ def run_gate(words):
     return passed, failed
 
 
-def run_check(words):
+def run_check(program, words):
     environment = os.environ | {"PYTHONDONTWRITEBYTECODE": "1"}
-    status = subprocess.run([sys.executable, *words], cwd=ROOT, env=environment, check=False).returncode
-    print(f"{'ok     ' if status == 0 else 'FAILED '} {' '.join(words)}", flush=True)
-    return status == 0
+    ran = subprocess.run([program, *words], cwd=ROOT, env=environment, check=False)
+    print(f"{'ok     ' if ran.returncode == 0 else 'FAILED '} {' '.join(words)}", flush=True)
+    return ran.returncode == 0
+
+
+def has_node():
+    if not shutil.which("node"):
+        return False
+    version = subprocess.run(["node", "--version"], stdout=subprocess.PIPE, text=True, check=False).stdout
+    number = re.match(r"v(\d+)\.", version)
+    return bool(number) and int(number[1]) >= NODE
 
 
 def main():
     passed, failed = run_gate(sys.argv[1].split()) if len(sys.argv) > 1 else (0, 0)
-    for words in CHECKS:
-        if run_check(words):
+    checks = [(sys.executable, words) for words in CHECKS]
+    if has_node():
+        checks.append(("node", PAGE))
+    else:
+        print(f"not run, since there is no Node.js {NODE} here: {' '.join(PAGE)}")
+    for program, words in checks:
+        if run_check(program, words):
             passed += 1
         else:
             failed += 1
