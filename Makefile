@@ -32,9 +32,10 @@ demo-page: $(PROGRAM)
 $(PROGRAM):
 	@echo "make demo builds $(PROGRAM)."; exit 1
 
-# The gate, and then the cheap checks of the pages. The last line is `N passed, M failed`.
+# The gate, the cheap checks of the pages, and then the built programs: want of memory at each growth, clients over real
+# sockets, and the page in a browser (README.md, "Checking it", says what they need). The last line is `N passed, M failed`.
 test:
-	python3 tests/all_checks.py "$(RT) ci"
+	python3 tests/all_checks.py "$(RT) ci" --built
 
 # The page's own tests: its plain functions, and a session in real browsers (client/README.md says what they need).
 test-page: $(PROGRAM)

@@ -1,11 +1,13 @@
 #!/usr/bin/env python3
 """Runs the gate, and then the cheap checks that stand beside it (docs/GATE.md).
 
-    tests/all_checks.py "rt ci"     # as `make test` does
-    tests/all_checks.py             # the cheap checks alone
+    tests/all_checks.py                     # the cheap checks alone
+    tests/all_checks.py "rt ci"             # the gate before them, as .ci/run does
+    tests/all_checks.py "rt ci" --built     # and the checks of built programs after them, as `make test` does
 
 The last line is `N passed, M failed`, the gate's own numbers and one for each check; the status is 1 where something failed.
-The tests of the page's functions need Node.js 20 or later, and are not run where there is none.
+The tests of the page's functions need Node.js 20 or later, and are not run where there is none. What the checks of built programs
+need is in README.md, "Checking it"; where it is missing, they fail.
 """
 import os
 import pathlib
@@ -13,6 +15,7 @@ import re
 import shutil
 import subprocess
 import sys
+import tempfile
 
 ROOT = pathlib.Path(__file__).resolve().parent.parent
 CHECKS = (
@@ -27,6 +30,19 @@ CHECKS = (
 NODE = 20
 # named one by one, since versions of Node.js differ in how they read a folder
 PAGE = ("--test", *sorted(str(path.relative_to(ROOT)) for path in ROOT.glob("client/tests/*.test.js")))
+SERVER = "crates/bridge_server/out/bridge_server"
+STORED_RUNS = "crates/bridge_server_stored_runs/out/bridge_server_stored_runs"
+# Debian's own Python, which has Debian's packages
+DEBIAN_PYTHON = "/usr/bin/python3"
+BUILT = (
+    (sys.executable, ("tests/refuse_growths.py", STORED_RUNS, "solver")),
+    (sys.executable, ("tests/refuse_growths.py", "crates/rules_tests/out/rules_tests_tests", "loses_no_more")),
+    (sys.executable, ("tests/refuse_connection_growths.py", STORED_RUNS)),
+    (sys.executable, ("tests/refuse_serving_growths.py", SERVER)),
+    (DEBIAN_PYTHON, ("tests/websocket_client.py", SERVER)),
+    (DEBIAN_PYTHON, ("tests/many_clients.py", SERVER)),
+    (DEBIAN_PYTHON, ("tests/page_session.py", SERVER, "1", "420")),
+)
 
 
 # the numbers with which the gate ends, as it writes them
@@ -44,9 +60,13 @@ def run_gate(words):
 
 def run_check(program, words):
     environment = os.environ | {"PYTHONDONTWRITEBYTECODE": "1"}
-    ran = subprocess.run([program, *words], cwd=ROOT, env=environment, check=False)
-    print(f"{'ok     ' if ran.returncode == 0 else 'FAILED '} {' '.join(words)}", flush=True)
-    return ran.returncode == 0
+    try:
+        passed = subprocess.run([program, *words], cwd=ROOT, env=environment, check=False).returncode == 0
+    except FileNotFoundError as missing:
+        print(missing)
+        passed = False
+    print(f"{'ok     ' if passed else 'FAILED '} {' '.join(words)}", flush=True)
+    return passed
 
 
 def has_node():
@@ -57,18 +77,30 @@ def has_node():
     return bool(number) and int(number[1]) >= NODE
 
 
+# the checks of built programs, one of which reads a stored run's script
+def built_checks(folder):
+    script = pathlib.Path(folder, "desk")
+    with script.open("w", encoding="utf-8") as file:
+        subprocess.run([sys.executable, "tests/stored_runs.py", "desk"], cwd=ROOT, stdout=file, check=True)
+    return [(sys.executable, ("tests/refuse_growths.py", SERVER, str(script))), *BUILT]
+
+
 def main():
-    passed, failed = run_gate(sys.argv[1].split()) if len(sys.argv) > 1 else (0, 0)
-    checks = [(sys.executable, words) for words in CHECKS]
+    words = [word for word in sys.argv[1:] if word != "--built"]
+    passed, failed = run_gate(words[0].split()) if words else (0, 0)
+    checks = [(sys.executable, check) for check in CHECKS]
     if has_node():
         checks.append(("node", PAGE))
     else:
         print(f"not run, since there is no Node.js {NODE} here: {' '.join(PAGE)}")
-    for program, words in checks:
-        if run_check(program, words):
-            passed += 1
-        else:
-            failed += 1
+    with tempfile.TemporaryDirectory() as folder:
+        if "--built" in sys.argv[1:]:
+            checks += built_checks(folder)
+        for program, check in checks:
+            if run_check(program, check):
+                passed += 1
+            else:
+                failed += 1
     print(f"{passed} passed, {failed} failed")
     return 1 if failed else 0
 
