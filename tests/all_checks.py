@@ -2,8 +2,8 @@
 """Runs the gate, and then the cheap checks that stand beside it (docs/GATE.md).
 
     tests/all_checks.py                     # the cheap checks alone
-    tests/all_checks.py "rt ci"             # the gate before them, as .ci/run does
-    tests/all_checks.py "rt ci" --built     # and the checks of built programs after them, as `make test` does
+    tests/all_checks.py "rt ci"             # the gate before them
+    tests/all_checks.py "rt ci" --built     # and the checks of built programs after them: `make test`
 
 The last line is `N passed, M failed`, the gate's own numbers and one for each check; the status is 1 where something failed.
 The tests of the page's functions need Node.js 20 or later, and are not run where there is none. What the checks of built programs
@@ -41,7 +41,7 @@ BUILT = (
     (sys.executable, ("tests/refuse_serving_growths.py", SERVER)),
     (DEBIAN_PYTHON, ("tests/websocket_client.py", SERVER)),
     (DEBIAN_PYTHON, ("tests/many_clients.py", SERVER)),
-    (DEBIAN_PYTHON, ("tests/page_session.py", SERVER, "1", "420")),
+    (DEBIAN_PYTHON, ("tests/page_session.py", SERVER)),
 )
 
 

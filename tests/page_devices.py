@@ -19,7 +19,8 @@ from selenium.webdriver.chrome.service import Service
 
 TOP = pathlib.Path(__file__).resolve().parent.parent
 EXAMPLES = TOP / "examples"
-WAIT = 20
+# seconds: a processor may have much else to do, and what is waited for is looked at each tenth of a second
+WAIT = 60
 
 
 def free_port():

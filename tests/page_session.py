@@ -1,14 +1,14 @@
 #!/usr/bin/env python3
 """Plays the example session on the page, in a real browser, and says what it found, a line a check.
 
-    /usr/bin/python3 tests/page_session.py crates/bridge_server/out/bridge_server [workers, else 1 [seconds, else 270]]
+    /usr/bin/python3 tests/page_session.py crates/bridge_server/out/bridge_server [workers, else 1 [seconds, else 900]]
 
-It needs Debian's chromium, chromium-driver, python3-selenium, python3-websockets, nginx-light and openssl, and is not part of the
+It needs Debian's chromium, chromium-driver, python3-selenium, python3-websockets, nginx-light and openssl; `make test` runs it after the
 gate. It starts the server with four displays, nginx with the configuration of docs/RUNNING.md before it, and one Chromium with a
 window for each of five users; all of it on 127.0.0.1, and all of it ends with the test. What is wanted comes from the server's
 replies, read past the page, from docs/PROTOCOL.md, docs/POLICY.md and the Laws, never from what the page shows. It takes two to four
-minutes where the processors are free, and ends after so many seconds whatever happens: give it more on a machine that is busy. The
-last line is `N passed, M failed`; the status is 1 where one failed.
+minutes where the processors are free, and ends after so many seconds whatever happens. The last line is `N passed, M failed`; the
+status is 1 where one failed.
 """
 import pathlib
 import signal
@@ -323,7 +323,7 @@ def main():
     workers = int(sys.argv[2]) if len(sys.argv) > 2 else 1
     for each in (signal.SIGALRM, signal.SIGTERM, signal.SIGINT):
         signal.signal(each, stop_in_time)
-    signal.alarm(int(sys.argv[3]) if len(sys.argv) > 3 else 270)
+    signal.alarm(int(sys.argv[3]) if len(sys.argv) > 3 else 900)
     server, hostile = Server(program, workers), Hostile()
     nginx = Nginx(server.port, hostile.port)
     try:
