@@ -6,9 +6,8 @@ ghost use Rattle.program.specs.Status.{IsStatus};
 
 use crate::files::read_file;
 use crate::serving_fault::{ServingFault, status_of_serving_fault};
-use opened_session::open_book;
+use opened_session::{OpenedSession, open_session};
 use server_words::Serving;
-use session_book::Book;
 use session_threads::{ServingError, ServingPlan, serve_book};
 use std::io::Write;
 use std::net::Net;
@@ -49,8 +48,8 @@ where
     R::Listener: Sync,
     R::Stream: Send,
 {
-    match book_of_files(rt, serving) {
-        Ok((book, budget)) => serve_session(rt, serving, book, budget),
+    match session_of_files(rt, serving) {
+        Ok(session) => serve_session(rt, serving, session),
         Err(fault) => Err(fault),
     }
 }
@@ -59,14 +58,14 @@ where
 fn serve_session<R: Net + Clock + Wait + Threads + AllocGlobal + Sync>(
     rt: &R,
     serving: &Serving<'_>,
-    book: Book,
-    budget: u64,
+    session: OpenedSession,
 ) -> Result<(), ServingFault>
 where
     R::Listener: Sync,
     R::Stream: Send,
-    requires { book.journal ≡ [] }
+    requires { session.book.journal ≡ [] }
 {
+    let OpenedSession { book, budget } = session;
     let plan = ServingPlan {
         port: serving.port,
         displays: serving.displays,
@@ -83,17 +82,16 @@ where
     }
 }
 
-// The book of the session that the files open, with how many visits a solver's call may make: the session object's file
-// is read first.
-fn book_of_files<R: Files + AllocGlobal>(
+// The session that the files open: the session object's file is read first.
+fn session_of_files<R: Files + AllocGlobal>(
     rt: &R,
     serving: &Serving<'_>,
-) -> Result<(Book, u64), ServingFault>
-    ensures { IfOk result (λ t. t.0.journal ≡ []) }
+) -> Result<OpenedSession, ServingFault>
+    ensures { IfOk result (λ session. session.book.journal ≡ []) }
 {
     let session = read_file(rt, serving.session)?;
     let deals = read_file(rt, serving.deals)?;
-    match open_book(rt.alloc(), session.as_slice(), Some(deals.as_slice())) {
+    match open_session(rt.alloc(), session.as_slice(), Some(deals.as_slice())) {
         Ok(opened) => Ok(opened),
         Err(fault) => Err(ServingFault::Unopened(fault)),
     }

@@ -1,11 +1,10 @@
 //! Messages on connections. The text begins with a session object. Each line after it is a message on a connection; an
 //! empty line ends the connection, and on the next one nobody has signed in.
 
+use crate::keeping::keeper_of;
 use connections::Connection;
 use json_fields::RequestFault;
-use session_keeper::{CommandKeeper, PlainKeeper};
-use session_object::{SessionObject, read_session};
-use std::alloc::Global;
+use session_keeper::CommandKeeper;
 use std::io::Write;
 use std::sync::Wait;
 use wire::fault_text;
@@ -19,17 +18,9 @@ pub(crate) fn answer_connections<R: Wait + AllocGlobal, O: Write>(
     let Some((object, messages)) = text.split_once('\n') else {
         return false;
     };
-    match opened(rt.alloc(), object) {
+    match keeper_of(rt.alloc(), object) {
         Some(keeper) => answer_one_by_one(rt, keeper, messages, writer),
         None => false,
-    }
-}
-
-// The session of an object, where it is one.
-fn opened(alloc: Global, object: &str) -> Option<PlainKeeper> {
-    match read_session(alloc, object.as_bytes(), None) {
-        Ok(SessionObject { config, .. }) => PlainKeeper::open(alloc, config).ok(),
-        Err(_) => None,
     }
 }
 

@@ -6,6 +6,7 @@
 #![tactic(auto)]
 
 mod connecting;
+mod keeping;
 mod opening;
 mod policy;
 mod repeating;

@@ -5,9 +5,9 @@
 //! which rule a copy of the state forbids them to a user, and `check NAME BOARD RULE TABLE`, whether that is how they
 //! are denied.
 
+use crate::keeping::keeper_of;
 use crate::policy::{checked_text, decided_text};
 use crate::solver::{costs_told, table_told};
-use opened_session::open_session;
 use request_answers::answer_request;
 use session_book::Answer;
 use session_keeper::{CommandKeeper, PlainKeeper};
@@ -57,10 +57,8 @@ pub(crate) struct Session {
 impl Session {
     /// The session of an object, if it opens one.
     pub(crate) fn open(alloc: Global, object: &str) -> Option<Session> {
-        match open_session(alloc, object.as_bytes(), None) {
-            Ok(keeper) => Some(Session { keeper }),
-            Err(_) => None,
-        }
+        let keeper = keeper_of(alloc, object)?;
+        Some(Session { keeper })
     }
 
     /// The answer to a line.

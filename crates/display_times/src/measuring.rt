@@ -6,7 +6,7 @@ use crate::tasks::{Counts, End, Read, Rest, Write};
 use desks::Shared;
 use displays::{Display, Server, open_displays};
 use history::History;
-use opened_session::open_book;
+use opened_session::{OpenedSession, open_session};
 use published_view::View;
 use service_threads::run_tasks;
 use session_book::Book;
@@ -54,8 +54,10 @@ pub(crate) fn measured<R: Threads + Wait + Clock + Sync>(
     let (object, messages) = text.split_once('\n')?;
     let (query, rest) = messages.split_once('\n')?;
     let (batch, _) = rest.split_once('\n')?;
-    match open_book(alloc, object.as_bytes(), None) {
-        Ok((book, _)) => measure(rt, alloc, book, Messages { query, batch }, plan),
+    match open_session(alloc, object.as_bytes(), None) {
+        Ok(OpenedSession { book, .. }) => {
+            measure(rt, alloc, book, Messages { query, batch }, plan)
+        }
         Err(_) => None,
     }
 }

@@ -20,11 +20,11 @@ pub record OpensWith (given : Option (List ℕ)) (text : List ℕ) (opening : Se
   pub allowed : opening_refusal object.config ≡ None
   pub opens : opening ≡ opening_of object.config
 
--- so many visits the session object gives each call of the solver's
-pub record GivesVisits (given : Option (List ℕ)) (text : List ℕ) (visits : ℕ) : Type 0 where
+-- the text is a session object, and so many visits it gives each call of the solver's
+pub record GivesBudget (given : Option (List ℕ)) (text : List ℕ) (budget : ℕ) : Type 0 where
   pub object : SessionObject
   pub reads : ReadsSession given text object
-  pub is : visits ≡ object.budget
+  pub is : budget ≡ object.budget
 
 -- the text is a session object, and this is the first cause not to open its session
 pub record IsNotOpened (given : Option (List ℕ)) (text : List ℕ) (cause : OpeningRefusal) : Type 0 where

@@ -1,8 +1,10 @@
-//! A session opened by a session object: a keeper of it, or its book.
+//! A session opened by a session object: its book, and what the object gives the solver.
 #![tactic(auto)]
 
+mod opened_session;
 mod opening;
 mod opening_fault;
 
-pub use opening::{open_book, open_session};
+pub use opened_session::OpenedSession;
+pub use opening::open_session;
 pub use opening_fault::OpeningFault;

@@ -1,13 +1,14 @@
 //! A script, from its first line to its last.
 
-ghost use Rattle.std.specs.Prelude.{◌≡◌, ◌+◌, ◌≤◌, List, ℕ, Option, Some, IfSome, IfOk, IfErr, OnOk};
-ghost use Rattle.program.specs.FirstLine.{fault_of_unopened};
+ghost use Rattle.std.specs.Prelude.{◌≡◌, ◌+◌, ◌≤◌, ◌⊎◌, [], List, ℕ, Option, Some, IfSome, IfOk, IfErr, OnOk};
+ghost use Rattle.program.specs.FirstLine.{Opens, OpensNone, fault_of_unopened};
+ghost use Rattle.program.specs.declared.fault.Fault.TheVariants.{OutOfMemory};
 ghost use Rattle.program.specs.Writes.{IsDone, EndsWith};
 ghost use Rattle.program.specs.Standing.{StandsAtLine, StandsAtEnd, StandsAfter, line_feeds, fault_of_read};
 
 use crate::fault::Fault;
 use crate::response::respond;
-use opened_session::{OpeningFault, open_session};
+use opened_session::{OpenedSession, OpeningFault, open_session};
 use script_lines::{LineEnd, ReadFault, read_line, read_short_line};
 use session_keeper::PlainKeeper;
 use session_object::{MOST_BYTES, SessionFault};
@@ -59,7 +60,7 @@ impl ScriptRun {
         let mut line = Vec::new(alloc);
         let mut left = SCRIPT_LIMIT;
         match read_short_line(reader, &mut line, MOST_BYTES, &mut left) {
-            Ok(Some(first)) => match open_session(alloc, line.as_slice(), None) {
+            Ok(Some(first)) => match keeper_of(alloc, line.as_slice()) {
                 Ok(keeper) => Ok(ScriptRun {
                     alloc,
                     keeper,
@@ -67,7 +68,7 @@ impl ScriptRun {
                     line,
                     left,
                 }),
-                Err(fault) => Err(fault_of_unopened(fault)),
+                Err(fault) => Err(fault),
             },
             Ok(None) => Err(Fault::Session(SessionFault::TooLong)),
             Err(fault) => Err(fault_of_read(fault)),
@@ -131,6 +132,23 @@ impl ScriptRun {
             }
             Err(fault) => Err(fault_of_read(fault)),
         }
+    }
+}
+
+// The keeper of the session that a script's first line opens. In a script nothing is solved, so the object's budget has
+// no use.
+#[tactic(auto, using(crate::proofs::FirstLineLemmas::opens_none))]
+fn keeper_of(alloc: Global, line: &[u8]) -> Result<PlainKeeper, Fault>
+    ensures opens { IfOk result (λ keeper. Opens line.now keeper.opening) }
+    ensures journal { IfOk result (λ keeper. keeper.journal ≡ []) }
+    ensures none { IfErr result (λ fault. OpensNone fault line.now ⊎ (fault ≡ OutOfMemory)) }
+{
+    match open_session(alloc, line, None) {
+        Ok(OpenedSession { book, .. }) => match PlainKeeper::new(alloc, book) {
+            Ok(keeper) => Ok(keeper),
+            Err(_) => Err(Fault::OutOfMemory),
+        },
+        Err(fault) => Err(fault_of_unopened(fault)),
     }
 }
 

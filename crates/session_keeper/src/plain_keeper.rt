@@ -1,12 +1,8 @@
 //! The plain keeper: it keeps its session alone, waits for nobody, and each version can be entered.
 
-ghost use Rattle.std.specs.Prelude.{◌≡◌, ◌+◌, ◌<◌, ◌≤◌, ◌⊎◌, [], None, Some, length, IfOk, IfErr};
-ghost use Rattle.movement.specs.Movement.{boards_of};
+ghost use Rattle.std.specs.Prelude.{◌≡◌, ◌+◌, ◌<◌, ◌≤◌, [], length, IfOk};
 ghost use Rattle.session_state.specs.Refusal.{most_entries};
 ghost use Rattle.session_book.specs.Journal.{IsAccepted, state_of};
-ghost use Rattle.session_opening.specs.Opening.{opening_of};
-ghost use Rattle.session_opening.specs.OpeningRefusal.{opening_refusal};
-ghost use Rattle.session_opening.specs.declared.opening_refusal.OpeningRefusal.TheVariants as opening_cause;
 ghost use Rattle.published_view.specs.View.{StandsFor};
 ghost use Rattle.session_keeper.specs.PlainKeeping.{IsBehind};
 
@@ -15,7 +11,6 @@ use crate::keeper::Keeper;
 use crate::receipt::{AuditReceipt, BatchReceipt};
 use published_view::{NoEntry, QueryFault, View};
 use session_book::{Answer, Book, State};
-use session_opening::{Config, OpeningRefusal};
 use session_queries::{Query, Reply};
 use session_state::{Cell, Command, DdTable, Digest, PlayCosts};
 use std::alloc::{AllocError, Global};
@@ -44,33 +39,13 @@ impl Model for PlainKeeper {
 }
 
 impl PlainKeeper {
-    /// Opens a session, in which nothing is entered yet, with all the room that its state can need.
-    pub fn open(alloc: Global, config: Config) -> Result<PlainKeeper, OpeningRefusal>
-        requires { boards_of config.movement ≤ length config.boards }
-        ensures opening { IfOk result (λ keeper. keeper.opening ≡ opening_of config) }
+    /// Keeps a book in which nothing is entered yet, with all the room that a view of it can need.
+    pub fn new(alloc: Global, book: Book) -> Result<PlainKeeper, AllocError>
+        requires { book.journal ≡ [] }
+        ensures opening { IfOk result (λ keeper. keeper.opening ≡ book.opening) }
         ensures journal { IfOk result (λ keeper. keeper.journal ≡ []) }
-        ensures ok { IfOk result (λ keeper. opening_refusal config ≡ None) }
-        ensures err { IfErr result (λ cause. (opening_refusal config ≡ Some cause)
-            ⊎ ((cause ≡ opening_cause.OutOfMemory) × (opening_refusal config ≡ None))) }
     {
-        match config.open(alloc) {
-            Ok(opening) => PlainKeeper::of(alloc, opening),
-            Err(cause) => Err(cause),
-        }
-    }
-
-    // The keeper of a session that opens in a state.
-    fn of(alloc: Global, opening: State) -> Result<PlainKeeper, OpeningRefusal>
-        ensures opening { IfOk result (λ keeper. keeper.opening ≡ opening) }
-        ensures journal { IfOk result (λ keeper. keeper.journal ≡ []) }
-        ensures err { IfErr result (λ cause. cause ≡ opening_cause.OutOfMemory) }
-    {
-        let Ok(book) = Book::open(alloc, opening) else {
-            return Err(OpeningRefusal::OutOfMemory);
-        };
-        let Ok(view) = View::open(alloc, &book) else {
-            return Err(OpeningRefusal::OutOfMemory);
-        };
+        let view = View::open(alloc, &book)?;
         Ok(PlainKeeper { book, view })
     }
 

@@ -6,7 +6,7 @@ use super::session::session;
 use desks::Shared;
 use displays::{Display, Server, open_displays};
 use history::History;
-use opened_session::open_book;
+use opened_session::{OpenedSession, open_session};
 use published_view::View;
 use session_book::Book;
 use std::alloc::Global;
@@ -68,8 +68,8 @@ fn is_served_by<N: Server, R: Wait, P: Part>(
 pub(super) fn opened_book(alloc: Global) -> Option<Book>
     ensures { IfSome result (λ book. book.journal ≡ []) }
 {
-    match open_book(alloc, session().as_bytes(), None) {
-        Ok((book, _)) => Some(book),
+    match open_session(alloc, session().as_bytes(), None) {
+        Ok(OpenedSession { book, .. }) => Some(book),
         Err(_) => None,
     }
 }

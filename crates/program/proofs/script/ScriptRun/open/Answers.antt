@@ -4,7 +4,6 @@ use Rattle.session_object.specs.Reading.{most_bytes}
 use Rattle.program.specs.FirstLine.{Opens, OpensNone}
 use Rattle.program.specs.Writes.{script_limit}
 use Rattle.program.specs.declared.fault.Fault.TheVariants.{OutOfMemory}
-use Rattle.program.proofs.FirstLineLemmas.{opens_none}
 use Rattle.program.proofs.ScriptLemmas.{begins, first_refused, first_too_long, first_unread}
 use Rattle.program.proofs.script.ScriptRun.open.Goals as goal
 
@@ -18,16 +17,16 @@ returns-in-Ok-clause-opened g c writer =
     begins reader after writer c.in-Ok.keeper c.read_short_line.new.left line c.in-Ok-Some.first
     (subst (λ l. Opens l c.in-Ok.keeper.opening) c.as_slice.ensures.value c.in-Ok.ensures.opens) c.in-Ok.ensures.journal takes.0
 
-pub returns-in-Err-open_session-clause-ended : goal.returns-in-Err-open_session-clause-ended
-returns-in-Err-open_session-clause-ended g c writer =
+pub returns-in-Err-keeper_of-clause-ended : goal.returns-in-Err-keeper_of-clause-ended
+returns-in-Err-keeper_of-clause-ended g c writer =
     let reader : Option (List ℕ) = g.R.Read.remaining c.args.reader.now in
     let after : Option (List ℕ) = g.R.Read.remaining c.read_short_line.new.reader in
     let line : List ℕ = c.read_short_line.new.line.items in
     let takes : TakesUpTo (Some c.in-Ok-Some.first) reader after line most_bytes script_limit c.read_short_line.new.left =
     subst (λ o. TakesUpTo o reader after line most_bytes script_limit c.read_short_line.new.left) c.in-Ok-Some.field-0-is c.in-Ok-Some.ensures.line in
-    first_refused reader after writer c.in-Ok-Some.first line c.read_short_line.new.left c.fault_of_unopened.result takes.0 takes.1
-    (subst (λ l. OpensNone c.fault_of_unopened.result l ⊎ (c.fault_of_unopened.result ≡ OutOfMemory)) c.as_slice.ensures.value
-    (opens_none _ c.in-Err-open_session.fault c.fault_of_unopened.result c.fault_of_unopened.ensures c.in-Err-open_session.ensures.none))
+    first_refused reader after writer c.in-Ok-Some.first line c.read_short_line.new.left c.in-Err-keeper_of.fault takes.0 takes.1
+    (subst (λ l. OpensNone c.in-Err-keeper_of.fault l ⊎ (c.in-Err-keeper_of.fault ≡ OutOfMemory)) c.as_slice.ensures.value
+    c.in-Err-keeper_of.ensures.none)
 
 pub returns-in-Err-clause-ended : goal.returns-in-Err-clause-ended
 returns-in-Err-clause-ended g c writer =
