@@ -1,5 +1,6 @@
 -- The first piece of a text, computed.
 use Rattle.std.specs.Prelude.{ℕ, Bool, true, false, ◌==◌, ◌&&◌, if◌then◌else◌, List, [], ◌∷◌, Option, Some, None}
+use Rattle.pbn_pieces.specs.Bytes.{line_feed, carriage_return, quote, percent, semicolon, open_bracket, close_bracket, open_brace, close_brace}
 use Rattle.pbn_pieces.specs.Pieces.{is_blank, is_space, is_tag_name_byte, is_other_than, is_escape, Tag, Piece, Comment, OpenComment, LineComment, EscapeLine, BlankLine, Quoted, Tagged, Broken, Plain}
 
 -- the bytes up to the first that fails the test, and the others
@@ -20,10 +21,10 @@ in_front byte (Some (within, rest)) = Some (byte ∷ within, rest)
 -- what stands before the closing `"` on the line, and after it
 abbrev pub closing : List ℕ → Option (List ℕ × List ℕ)
 closing [] = None
-closing (byte ∷ []) = if byte == 34 then Some ([], []) else None
+closing (byte ∷ []) = if byte == quote then Some ([], []) else None
 closing (byte ∷ next ∷ bytes) =
-    if byte == 34 then Some ([], next ∷ bytes)
-    else if byte == 10 then None
+    if byte == quote then Some ([], next ∷ bytes)
+    else if byte == line_feed then None
     else if is_escape byte next then in_front byte (in_front next (closing bytes))
     else in_front byte (closing (next ∷ bytes))
 
@@ -46,17 +47,19 @@ tag_at bytes = do
   before ← Some (split is_blank bytes)
   name ← tag_name_at before.1
   between ← Some (split is_blank name.1)
-  opened ← after_byte 34 between.1
+  opened ← after_byte quote between.1
   value ← closing opened
   after ← Some (split is_blank value.1)
-  rest ← after_byte 93 after.1
+  rest ← after_byte close_bracket after.1
   Some (record { before = before.0; name = name.0; between = between.0; value = value.0; after = after.0 }, rest)
 
 abbrev pub line_end : List ℕ → Option (Bool × List ℕ)
 line_end [] = None
-line_end (byte ∷ []) = if byte == 10 then Some (false, []) else None
+line_end (byte ∷ []) = if byte == line_feed then Some (false, []) else None
 line_end (byte ∷ next ∷ bytes) =
-    if byte == 10 then Some (false, next ∷ bytes) else if byte == 13 && next == 10 then Some (true, bytes) else None
+    if byte == line_feed then Some (false, next ∷ bytes)
+    else if byte == carriage_return && next == line_feed then Some (true, bytes)
+    else None
 
 abbrev pub blank_before : List ℕ → Option (Bool × List ℕ) → Option (Piece × List ℕ)
 blank_before spaces None = None
@@ -70,7 +73,7 @@ comment_at inside [] = (OpenComment inside, [])
 comment_at inside (byte ∷ rest) = (Comment inside, rest)
 
 abbrev pub quoted_at : List ℕ → Option (List ℕ × List ℕ) → Piece × List ℕ
-quoted_at bytes None = (Plain 34, bytes)
+quoted_at bytes None = (Plain quote, bytes)
 quoted_at bytes (Some (within, rest)) = (Quoted within, rest)
 
 abbrev pub tagged_at : List ℕ → Option (Tag × List ℕ) → Piece × List ℕ
@@ -80,12 +83,14 @@ tagged_at bytes (Some (tag, rest)) = (Tagged tag, rest)
 -- the piece that begins with this byte, where no blank line does
 abbrev pub piece_at : Bool → ℕ → List ℕ → Piece × List ℕ
 piece_at starting byte bytes =
-    if byte == 123 then comment_at (split (is_other_than 125) bytes).0 (split (is_other_than 125) bytes).1
-    else if byte == 59 then (LineComment (split (is_other_than 10) bytes).0, (split (is_other_than 10) bytes).1)
-    else if byte == 37 && starting
-    then (EscapeLine (split (is_other_than 10) bytes).0, (split (is_other_than 10) bytes).1)
-    else if byte == 34 then quoted_at bytes (closing bytes)
-    else if byte == 91 then tagged_at bytes (tag_at bytes)
+    if byte == open_brace
+    then comment_at (split (is_other_than close_brace) bytes).0 (split (is_other_than close_brace) bytes).1
+    else if byte == semicolon
+    then (LineComment (split (is_other_than line_feed) bytes).0, (split (is_other_than line_feed) bytes).1)
+    else if byte == percent && starting
+    then (EscapeLine (split (is_other_than line_feed) bytes).0, (split (is_other_than line_feed) bytes).1)
+    else if byte == quote then quoted_at bytes (closing bytes)
+    else if byte == open_bracket then tagged_at bytes (tag_at bytes)
     else (Plain byte, bytes)
 
 abbrev pub or_piece : Option (Piece × List ℕ) → Piece × List ℕ → Piece × List ℕ

@@ -1,24 +1,35 @@
--- What a PBN text is joined of (PBN 2.1, in this project's reading): comments, escape lines, quoted texts, tags,
--- lines of nothing but
--- blanks, and plain bytes. Bytes are ASCII.
+-- What a PBN text is joined of (PBN 2.1, in this project's reading): comments, escape lines, quoted texts, tags, lines of
+-- nothing but blanks, and plain bytes. Bytes are ASCII.
 use Rattle.std.specs.Prelude.{◌≡◌, ◌≢◌, ℕ, ◌<◌, Bool, true, false, not, ◌||◌, ◌&&◌, ◌==◌, nat_le, if◌then◌else◌, List, [], ◌∷◌, ◌++◌, length}
+use Rattle.pbn_pieces.specs.Bytes.{tab, line_feed, carriage_return, space, quote, percent, semicolon, open_bracket, backslash, close_bracket, underscore, open_brace, close_brace}
 use Rattle.std.specs.List.{AllByRecursion}
 
 -- space, tab, CR, LF
 abbrev pub is_blank : ℕ → Bool
-is_blank byte = byte == 32 || (byte == 9 || (byte == 13 || byte == 10))
+is_blank byte = byte == space || (byte == tab || (byte == carriage_return || byte == line_feed))
 
 -- space and tab
 abbrev pub is_space : ℕ → Bool
-is_space byte = byte == 32 || byte == 9
+is_space byte = byte == space || byte == tab
 
 abbrev pub is_byte_between : ℕ → ℕ → ℕ → Bool
 is_byte_between least most byte = nat_le least byte && nat_le byte most
 
+-- A to Z
+abbrev pub is_capital : ℕ → Bool
+is_capital byte = is_byte_between 65 90 byte
+
+-- a to z
+abbrev pub is_small : ℕ → Bool
+is_small byte = is_byte_between 97 122 byte
+
+-- 0 to 9
+abbrev pub is_digit : ℕ → Bool
+is_digit byte = is_byte_between 48 57 byte
+
 -- ASCII letters, digits and `_`
 abbrev pub is_tag_name_byte : ℕ → Bool
-is_tag_name_byte byte =
-    is_byte_between 65 90 byte || (is_byte_between 97 122 byte || (is_byte_between 48 57 byte || byte == 95))
+is_tag_name_byte byte = is_capital byte || (is_small byte || (is_digit byte || byte == underscore))
 
 abbrev pub is_other_than : ℕ → ℕ → Bool
 is_other_than end byte = not (byte == end)
@@ -29,17 +40,17 @@ Each test bytes = AllByRecursion (λ byte. test byte ≡ true) bytes
 
 -- `\"` and `\\`
 abbrev pub is_escape : ℕ → ℕ → Bool
-is_escape first second = first == 92 && (second == 34 || second == 92)
+is_escape first second = first == backslash && (second == quote || second == backslash)
 
 -- a byte that stands for itself within quotes: neither `"` nor LF
 abbrev pub is_letter : ℕ → Bool
-is_letter byte = not (byte == 34) && not (byte == 10)
+is_letter byte = not (byte == quote) && not (byte == line_feed)
 
 -- what may stand within quotes: `\"`, `\\`, and other bytes but `"` and LF; the last isn't a `\`, which would be read
 -- with the closing `"`
 abbrev pub is_within_quotes : List ℕ → Bool
 is_within_quotes [] = true
-is_within_quotes (byte ∷ []) = is_letter byte && not (byte == 92)
+is_within_quotes (byte ∷ []) = is_letter byte && not (byte == backslash)
 is_within_quotes (byte ∷ next ∷ bytes) =
     if is_escape byte next then is_within_quotes bytes else is_letter byte && is_within_quotes (next ∷ bytes)
 
@@ -50,7 +61,7 @@ IsWithinQuotes bytes = is_within_quotes bytes ≡ true
 pub record Quotes (bytes : List ℕ) : Type 0 where
   pub within : List ℕ
   pub rest : List ℕ
-  pub joined : bytes ≡ within ++ 34 ∷ rest
+  pub joined : bytes ≡ within ++ quote ∷ rest
   pub is_within : IsWithinQuotes within
 
 -- a tag as it is written: blanks, a name, blanks, a value in quotes, blanks
@@ -62,7 +73,8 @@ pub record Tag : Type 0 where
   pub after : List ℕ
 
 abbrev pub tag_text : Tag → List ℕ → List ℕ
-tag_text tag rest = tag.before ++ (tag.name ++ (tag.between ++ 34 ∷ (tag.value ++ 34 ∷ (tag.after ++ 93 ∷ rest))))
+tag_text tag rest =
+    tag.before ++ (tag.name ++ (tag.between ++ quote ∷ (tag.value ++ quote ∷ (tag.after ++ close_bracket ∷ rest))))
 
 pub record IsTag (tag : Tag) : Type 0 where
   pub before : Each is_blank tag.before
@@ -99,14 +111,15 @@ pub data Piece : Type 0 where
 
 -- a piece's bytes, and a text after them
 abbrev pub spelled : Piece → List ℕ → List ℕ
-spelled (Comment inside) rest = 123 ∷ (inside ++ 125 ∷ rest)
-spelled (OpenComment inside) rest = 123 ∷ (inside ++ rest)
-spelled (LineComment inside) rest = 59 ∷ (inside ++ rest)
-spelled (EscapeLine inside) rest = 37 ∷ (inside ++ rest)
-spelled (BlankLine spaces return) rest = spaces ++ (if return then 13 ∷ 10 ∷ rest else 10 ∷ rest)
-spelled (Quoted within) rest = 34 ∷ (within ++ 34 ∷ rest)
-spelled (Tagged tag) rest = 91 ∷ tag_text tag rest
-spelled (Broken after) rest = 91 ∷ (after ++ rest)
+spelled (Comment inside) rest = open_brace ∷ (inside ++ close_brace ∷ rest)
+spelled (OpenComment inside) rest = open_brace ∷ (inside ++ rest)
+spelled (LineComment inside) rest = semicolon ∷ (inside ++ rest)
+spelled (EscapeLine inside) rest = percent ∷ (inside ++ rest)
+spelled (BlankLine spaces return) rest =
+    spaces ++ (if return then carriage_return ∷ line_feed ∷ rest else line_feed ∷ rest)
+spelled (Quoted within) rest = quote ∷ (within ++ quote ∷ rest)
+spelled (Tagged tag) rest = open_bracket ∷ tag_text tag rest
+spelled (Broken after) rest = open_bracket ∷ (after ++ rest)
 spelled (Plain byte) rest = byte ∷ rest
 
 -- how many bytes a piece has
@@ -116,7 +129,7 @@ size piece = length (spelled piece [])
 -- nothing stands there, or an LF
 abbrev pub AtLineEnd : List ℕ → Type 0
 AtLineEnd [] = Unit {0}
-AtLineEnd (byte ∷ bytes) = byte ≡ 10
+AtLineEnd (byte ∷ bytes) = byte ≡ line_feed
 
 -- a line of nothing but blanks stands at the front
 pub record HasBlankLine (bytes : List ℕ) : Type 0 where
@@ -128,17 +141,17 @@ pub record HasBlankLine (bytes : List ℕ) : Type 0 where
 
 -- the piece may stand here, at a line's start or within a line, before this rest
 abbrev pub MayStand : Bool → Piece → List ℕ → Type 0
-MayStand starting (Comment inside) rest = Each (is_other_than 125) inside
-MayStand starting (OpenComment inside) rest = Each (is_other_than 125) inside × (rest ≡ [])
-MayStand starting (LineComment inside) rest = Each (is_other_than 10) inside × AtLineEnd rest
-MayStand starting (EscapeLine inside) rest = (starting ≡ true) × Each (is_other_than 10) inside × AtLineEnd rest
+MayStand starting (Comment inside) rest = Each (is_other_than close_brace) inside
+MayStand starting (OpenComment inside) rest = Each (is_other_than close_brace) inside × (rest ≡ [])
+MayStand starting (LineComment inside) rest = Each (is_other_than line_feed) inside × AtLineEnd rest
+MayStand starting (EscapeLine inside) rest = (starting ≡ true) × Each (is_other_than line_feed) inside × AtLineEnd rest
 MayStand starting (BlankLine spaces return) rest = (starting ≡ true) × Each is_space spaces
 MayStand starting (Quoted within) rest = IsWithinQuotes within
 MayStand starting (Tagged tag) rest = IsTag tag
 MayStand starting (Broken after) rest = (rest ≡ []) × ¬ HasTag after
 MayStand starting (Plain byte) rest =
-    (byte ≢ 123) × (byte ≢ 59) × (byte ≢ 91) × (byte ≡ 34 → ¬ Quotes rest) ×
-    (starting ≡ true → (byte ≢ 37) × ¬ HasBlankLine (byte ∷ rest))
+    (byte ≢ open_brace) × (byte ≢ semicolon) × (byte ≢ open_bracket) × (byte ≡ quote → ¬ Quotes rest) ×
+    (starting ≡ true → (byte ≢ percent) × ¬ HasBlankLine (byte ∷ rest))
 
 -- whether a line starts after the piece
 abbrev pub starts_line : Piece → Bool
@@ -150,7 +163,7 @@ starts_line (BlankLine spaces return) = true
 starts_line (Quoted within) = false
 starts_line (Tagged tag) = false
 starts_line (Broken after) = false
-starts_line (Plain byte) = byte == 10
+starts_line (Plain byte) = byte == line_feed
 
 -- the text, at a line's start or within a line, is these pieces one after another, and each may stand where it does
 abbrev pub Joins : Bool → List Piece → List ℕ → Type 0

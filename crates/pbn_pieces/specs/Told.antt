@@ -1,5 +1,6 @@
 -- What a reader is told of a text's first piece.
 use Rattle.std.specs.Prelude.{◌≡◌, ℕ, ◌≤◌, Bool, List, ◌∷◌, ◌++◌, length}
+use Rattle.pbn_pieces.specs.Bytes.{quote}
 use Rattle.pbn_pieces.specs.declared.piece.NextPiece.{NextPiece}
 use Rattle.pbn_pieces.specs.declared.piece.NextPiece.TheVariants as found
 use Rattle.pbn_pieces.specs.Pieces.{Tag, Piece, Comment, OpenComment, LineComment, EscapeLine, BlankLine, Quoted, Tagged, Broken, Plain, Quotes, spelled, MayStand, starts_line}
@@ -44,7 +45,7 @@ pub record Takes (old : Uncut) (seen : NextPiece) (new : Uncut) : Type 0 where
 
 -- no `"` that has so many bytes after it begins a quoted text
 abbrev pub NoneCloses : List ℕ → ℕ → Type 0
-NoneCloses text least = (front back : List ℕ) → text ≡ front ++ 34 ∷ back → least ≤ length back → ¬ Quotes back
+NoneCloses text least = (front back : List ℕ) → text ≡ front ++ quote ∷ back → least ≤ length back → ¬ Quotes back
 
 -- ---- for private clauses
 

@@ -1,4 +1,5 @@
 ghost use Rattle.std.specs.Prelude.{◌≡◌, ◌∷◌, [], List, ℕ, Bool, Some, None, IfSome, IfNone};
+ghost use Rattle.pbn_pieces.specs.Bytes.{line_feed, quote, close_brace};
 ghost use Rattle.pbn_pieces.specs.Cutting.{closing, split};
 ghost use Rattle.pbn_pieces.specs.Cutting as cutting;
 ghost use Rattle.pbn_pieces.specs.Pieces as pieces;
@@ -101,7 +102,7 @@ fn tag_from(after: &[u8]) -> (NextPiece<'_>, &[u8])
 }
 
 fn after_line(after: &[u8]) -> &[u8]
-    ensures { result.now ≡ (split (pieces.is_other_than 10) after.now).1 }
+    ensures { result.now ≡ (split (pieces.is_other_than line_feed) after.now).1 }
 {
     split_off(Kind::OtherThan(b'\n'), after).1
 }
@@ -123,7 +124,8 @@ fn blank_line(text: &[u8]) -> Option<&[u8]>
 }
 
 fn after_comment(after: &[u8]) -> &[u8]
-    ensures { result.now ≡ (cutting.comment_at (split (pieces.is_other_than 125) after.now).0 (split (pieces.is_other_than 125) after.now).1).1 }
+    ensures { result.now ≡ (cutting.comment_at (split (pieces.is_other_than close_brace) after.now).0
+        (split (pieces.is_other_than close_brace) after.now).1).1 }
 {
     match split_off(Kind::OtherThan(b'}'), after).1 {
         [_, rest @ ..] => rest,
@@ -133,9 +135,9 @@ fn after_comment(after: &[u8]) -> &[u8]
 
 /// What stands after a quoted text, or after its `"` alone.
 fn after_quoted<'t>(after: &'t [u8], unclosed: &mut usize) -> &'t [u8]
-    requires { NoneCloses (34 ∷ after.now) unclosed.old }
+    requires { NoneCloses (quote ∷ after.now) unclosed.old }
     ensures rest { result.now ≡ (cutting.quoted_at after.now (closing after.now)).1 }
-    ensures unclosed { NoneCloses (34 ∷ after.now) unclosed.new }
+    ensures unclosed { NoneCloses (quote ∷ after.now) unclosed.new }
 {
     if *unclosed <= after.len() {
         return after;
