@@ -41,15 +41,19 @@ abbrev pub trick_score : Contract → ℕ
 trick_score contract =
     (first_odd_trick contract.strain + (contract.level - 1) * trick_value contract.strain) * factor contract.doubling
 
+-- the two columns of the law's table, for declarer's side not vulnerable and vulnerable: a line has a number for each, in
+-- this order
+abbrev pub by_column : Bool → ℕ → ℕ → ℕ
+by_column false not_vulnerable vulnerable = not_vulnerable
+by_column true not_vulnerable vulnerable = vulnerable
+
 -- for a small slam, level 6, bid and made
 abbrev pub small_slam : Bool → ℕ
-small_slam false = 500
-small_slam true = 750
+small_slam vulnerable = by_column vulnerable 500 750
 
 -- for a grand slam, level 7, bid and made
 abbrev pub grand_slam : Bool → ℕ
-grand_slam false = 1000
-grand_slam true = 1500
+grand_slam vulnerable = by_column vulnerable 1000 1500
 
 -- for making a slam
 abbrev pub slam : Bool → ℕ → ℕ
@@ -58,15 +62,12 @@ slam vulnerable level = if level == 6 then small_slam vulnerable else if level =
 -- for each overtrick
 abbrev pub overtrick : Bool → Strain → Doubling → ℕ
 overtrick _ strain Undoubled = trick_value strain
-overtrick false _ Doubled = 100
-overtrick true _ Doubled = 200
-overtrick false _ Redoubled = 200
-overtrick true _ Redoubled = 400
+overtrick vulnerable _ Doubled = by_column vulnerable 100 200
+overtrick vulnerable _ Redoubled = by_column vulnerable 200 400
 
 -- for making game: a trick score of 100 or more
 abbrev pub game : Bool → ℕ
-game false = 300
-game true = 500
+game vulnerable = by_column vulnerable 300 500
 
 -- for making any partscore: a trick score below 100
 abbrev pub partscore : ℕ
@@ -84,28 +85,21 @@ doubled_contract Redoubled = 100
 
 -- for the first undertrick
 abbrev pub first_undertrick : Bool → Doubling → ℕ
-first_undertrick false Undoubled = 50
-first_undertrick false Doubled = 100
-first_undertrick false Redoubled = 200
-first_undertrick true Undoubled = 100
-first_undertrick true Doubled = 200
-first_undertrick true Redoubled = 400
+first_undertrick vulnerable Undoubled = by_column vulnerable 50 100
+first_undertrick vulnerable Doubled = by_column vulnerable 100 200
+first_undertrick vulnerable Redoubled = by_column vulnerable 200 400
 
 -- for each additional undertrick
 abbrev pub additional_undertrick : Bool → Doubling → ℕ
-additional_undertrick false Undoubled = 50
-additional_undertrick false Doubled = 200
-additional_undertrick false Redoubled = 400
-additional_undertrick true Undoubled = 100
-additional_undertrick true Doubled = 300
-additional_undertrick true Redoubled = 600
+additional_undertrick vulnerable Undoubled = by_column vulnerable 50 100
+additional_undertrick vulnerable Doubled = by_column vulnerable 200 300
+additional_undertrick vulnerable Redoubled = by_column vulnerable 400 600
 
 -- the bonus for the fourth and each subsequent undertrick
 abbrev pub fourth_undertrick_bonus : Bool → Doubling → ℕ
-fourth_undertrick_bonus false Undoubled = 0
-fourth_undertrick_bonus false Doubled = 100
-fourth_undertrick_bonus false Redoubled = 200
-fourth_undertrick_bonus true _ = 0
+fourth_undertrick_bonus vulnerable Undoubled = 0
+fourth_undertrick_bonus vulnerable Doubled = by_column vulnerable 100 0
+fourth_undertrick_bonus vulnerable Redoubled = by_column vulnerable 200 0
 
 -- an undertrick, after so many others
 abbrev pub undertrick : Bool → Doubling → ℕ → ℕ
