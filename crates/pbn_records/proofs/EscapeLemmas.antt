@@ -6,7 +6,8 @@ use Rattle.std.proofs.lemmas.Bool.{true≢false, cases_Bool, and_parts}
 use Rattle.pbn_pieces.specs.Pieces.{is_escape}
 use Rattle.pbn_records.specs.Values.{read_value, is_inherited_form}
 use Rattle.pbn_records.specs.MarkValue.{is_open}
-use Rattle.pbn_records.specs.Boards.{is_digit, are_digits, decimal_number, board_number}
+use Rattle.pbn_pieces.specs.Pieces.{is_digit}
+use Rattle.pbn_records.specs.Boards.{are_digits, decimal_number, board_number}
 
 -- neither `"` nor `\`
 abbrev pub is_free : ℕ → Bool

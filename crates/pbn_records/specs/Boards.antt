@@ -4,16 +4,13 @@ use Rattle.std.specs.Prelude.{ℕ, ◌+◌, ◌*◌, ◌-◌, Bool, false, not, 
 use Rattle.std.specs.List.{list_all}
 use Rattle.pbn_records.specs.declared.board.Board.{Board}
 use Rattle.cards.specs.Hands.{Hands}
-use Rattle.pbn_pieces.specs.Pieces.{is_byte_between}
+use Rattle.pbn_pieces.specs.Pieces.{is_digit}
+use Rattle.pbn_records.specs.Bytes.{digit_zero}
 use Rattle.pbn_records.specs.declared.used.Used.TheVariants as used
 use Rattle.pbn_records.specs.Tags.{Valued}
 use Rattle.pbn_records.specs.Values.{Values}
 use Rattle.pbn_records.specs.MarkValue.{is_open, ReadsDealer, ReadsVulnerable}
 use Rattle.pbn_records.specs.DealValue.{IsDealValue}
-
--- decimal digits
-abbrev pub is_digit : ℕ → Bool
-is_digit byte = is_byte_between 48 57 byte
 
 -- one digit or more
 abbrev pub are_digits : List ℕ → Bool
@@ -22,7 +19,7 @@ are_digits (byte ∷ bytes) = list_all is_digit (byte ∷ bytes)
 
 -- the number of decimal digits, leading zeros allowed
 abbrev pub decimal_number : List ℕ → ℕ
-decimal_number digits = fold (λ number digit. 10 * number + (digit - 48)) 0 digits
+decimal_number digits = fold (λ number digit. 10 * number + (digit - digit_zero)) 0 digits
 
 -- the number of a value, if it is that of a board
 abbrev pub board_number : ℕ → List ℕ → Option ℕ

@@ -6,6 +6,8 @@ use Rattle.table_terms.specs.declared.place.Place.{Place}
 use Rattle.cards.specs.declared.rank.Rank.{Rank}
 use Rattle.table_terms.specs.Place.{place_letter, left_of, partner_of}
 use Rattle.cards.specs.Hands.{Hands, hand_of, IsDeal}
+use Rattle.pbn_pieces.specs.Bytes.{space}
+use Rattle.pbn_records.specs.Bytes.{dot, colon}
 use Rattle.cards.specs.HandReading.{Names, IsHandText}
 
 -- a part that has come to its end: it has at least one byte
@@ -16,7 +18,7 @@ ended_part (byte ∷ part) parts = (byte ∷ part) ∷ parts
 -- the parts of a text between its spaces, where the first has these bytes already
 abbrev pub parts_from : List ℕ → List ℕ → List (List ℕ)
 parts_from part [] = ended_part part []
-parts_from part (byte ∷ bytes) = if byte == 32
+parts_from part (byte ∷ bytes) = if byte == space
     then ended_part part (parts_from [] bytes) else parts_from (part ++ byte ∷ []) bytes
 
 -- the parts of a text between its spaces
@@ -27,7 +29,7 @@ parts text = parts_from [] text
 pub record HasParts (value : List ℕ) (first : Place) (own left opposite right : List ℕ) : Type 0 where
   pub letter : ℕ
   pub names : to_ascii_uppercase letter ≡ place_letter first
-  pub four : parts value ≡ (letter ∷ 58 ∷ own) ∷ left ∷ opposite ∷ right ∷ []
+  pub four : parts value ≡ (letter ∷ colon ∷ own) ∷ left ∷ opposite ∷ right ∷ []
 
 -- the parts are the texts of the hands of a deal, clockwise from a player's
 pub record IsDealOf (hands : Hands) (first : Place) (own left opposite right : List ℕ) : Type 0 where
@@ -53,8 +55,8 @@ IsRankLetter letter = (rank : Rank) × Names letter rank
 
 -- four lists of rank letters with a dot between them, by form alone
 pub record IsHandForm (part : List ℕ) : Type 0 where
-  pub each : All (λ byte. (byte ≡ 46) ⊎ IsRankLetter byte) part
-  pub dots : count_by (nat_eq 46) part ≡ 3
+  pub each : All (λ byte. (byte ≡ dot) ⊎ IsRankLetter byte) part
+  pub dots : count_by (nat_eq dot) part ≡ 3
 
 -- a hand that isn't shown, or the form of one that is
 abbrev pub IsPart : List ℕ → Type 0

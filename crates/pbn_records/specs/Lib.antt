@@ -1,5 +1,6 @@
 pub mod At
 pub mod Boards
+pub mod Bytes
 pub mod DealValue
 pub mod Each
 pub mod Faults

@@ -1,6 +1,7 @@
 -- What value each used tag has in a game (PBN 2.1, in this project's profile).
 use Rattle.std.specs.Prelude.{ℕ, Bool, false, ◌&&◌, ◌==◌, if◌then◌else◌, List, [], ◌∷◌, Option, Some, None, codes, bytes_eq}
 use Rattle.pbn_pieces.specs.Pieces.{is_escape}
+use Rattle.pbn_records.specs.Bytes.{hash}
 use Rattle.pbn_records.specs.declared.used.Used.{Used}
 use Rattle.pbn_records.specs.Tags.{Placed, Valued, tag_in}
 
@@ -44,4 +45,4 @@ all_values before (game ∷ games) = values_of before game ∷ all_values (value
 abbrev pub is_inherited_form : List ℕ → Bool
 is_inherited_form [] = false
 is_inherited_form (byte ∷ []) = false
-is_inherited_form (byte ∷ next ∷ bytes) = byte == 35 && next == 35
+is_inherited_form (byte ∷ next ∷ bytes) = byte == hash && next == hash

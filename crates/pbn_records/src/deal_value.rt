@@ -4,6 +4,7 @@ ghost use Rattle.cards.specs.Cards.{Cards};
 ghost use Rattle.cards.specs.Hands.{Hands, IsDeal};
 ghost use Rattle.cards.specs.FourHands.{clockwise_from};
 ghost use Rattle.cards.specs.HandReading.{IsHandText};
+ghost use Rattle.pbn_records.specs.Bytes.{dot};
 ghost use Rattle.pbn_records.specs.DealValue.{parts, HasParts, IsDealOf, IsDealValue, IsRankLetter, IsHandForm, IsPart, AreHidden, IsHiddenValue};
 ghost use Rattle.pbn_records.specs.Faults.{DealFault};
 
@@ -120,14 +121,14 @@ fn is_hand_form(part: &[u8]) -> bool
 }
 
 fn has_rank_letters_and_dots(part: &[u8]) -> bool
-    ensures { IsTrue result ↔ All (λ byte. (byte ≡ 46) ⊎ IsRankLetter byte) part.now }
+    ensures { IsTrue result ↔ All (λ byte. (byte ≡ dot) ⊎ IsRankLetter byte) part.now }
 {
     part.iter()
         .all(|byte| *byte == b'.' || is_rank_letter(*byte))
 }
 
 fn dots(part: &[u8]) -> usize
-    ensures { result ≡ count_by (nat_eq 46) part.now }
+    ensures { result ≡ count_by (nat_eq dot) part.now }
 {
     part.iter().filter(|byte| **byte == b'.').count()
 }

@@ -1,7 +1,8 @@
 ghost use Rattle.std.specs.Prelude.{◌≡◌, ℕ, List, true, false, min, MatchOption};
 ghost use Rattle.std.specs.List.{list_all};
 ghost use Rattle.pbn_records.specs.Boards as board;
-ghost use Rattle.pbn_records.specs.Boards.{is_digit, decimal_number};
+ghost use Rattle.pbn_pieces.specs.Pieces.{is_digit};
+ghost use Rattle.pbn_records.specs.Boards.{decimal_number};
 
 /// More than any board's number.
 const OVER: u16 = 256;

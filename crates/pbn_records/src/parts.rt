@@ -2,6 +2,8 @@ ghost use Rattle.std.specs.Prelude.{◌≡◌, ◌≢◌, ◌++◌, ℕ, List, [
 ghost use Rattle.std.specs.Char as char_words;
 ghost use Rattle.table_terms.specs.declared.place.Place.{Place};
 ghost use Rattle.table_terms.specs.Place.{place_letter};
+ghost use Rattle.pbn_pieces.specs.Bytes.{space};
+ghost use Rattle.pbn_records.specs.Bytes.{colon};
 ghost use Rattle.pbn_records.specs.DealValue.{parts, four_of, HasParts};
 ghost use Rattle.pbn_records.specs.FourParts.{kept_parts};
 
@@ -79,9 +81,9 @@ pub(crate) fn deal_parts<'t>(tag: &TagAt<'t>) -> Option<DealParts<'t>>
 /// The player whose letter stands before a colon, and what follows it.
 fn first_player(begin: &[u8]) -> Option<(Place, &[u8])>
     ensures player { IfSome result (λ found. (letter : ℕ) × (char_words.to_ascii_uppercase letter
-        ≡ place_letter found.0) × (begin.now ≡ letter ∷ 58 ∷ found.1.now)) }
+        ≡ place_letter found.0) × (begin.now ≡ letter ∷ colon ∷ found.1.now)) }
     ensures none { IfNone result ((place : Place) (letter : ℕ) (own : List ℕ) →
-        char_words.to_ascii_uppercase letter ≡ place_letter place → begin.now ≢ letter ∷ 58 ∷ own) }
+        char_words.to_ascii_uppercase letter ≡ place_letter place → begin.now ≢ letter ∷ colon ∷ own) }
 {
     match begin {
         [letter, b':', own @ ..] => {
@@ -109,7 +111,7 @@ fn next_part(text: &[u8]) -> Option<(&[u8], &[u8])>
 /// What follows the spaces at the front.
 fn after_spaces(text: &[u8]) -> &[u8]
     ensures parts { parts result.now ≡ parts text.now }
-    ensures first { (byte : ℕ) (bytes : List ℕ) → result.now ≡ byte ∷ bytes → byte ≢ 32 }
+    ensures first { (byte : ℕ) (bytes : List ℕ) → result.now ≡ byte ∷ bytes → byte ≢ space }
 {
     let mut rest = text;
     while let [b' ', after @ ..] = rest {
@@ -121,8 +123,8 @@ fn after_spaces(text: &[u8]) -> &[u8]
 /// What stands before the first space, and from it on.
 fn split_at_space(text: &[u8]) -> (&[u8], &[u8])
     ensures joined { text.now ≡ result.0.now ++ result.1.now }
-    ensures each { All (λ byte. byte ≢ 32) result.0.now }
-    ensures first { (byte : ℕ) (bytes : List ℕ) → result.1.now ≡ byte ∷ bytes → byte ≡ 32 }
+    ensures each { All (λ byte. byte ≢ space) result.0.now }
+    ensures first { (byte : ℕ) (bytes : List ℕ) → result.1.now ≡ byte ∷ bytes → byte ≡ space }
 {
     for (i, byte) in text.iter().enumerate() {
         if *byte == b' ' {
