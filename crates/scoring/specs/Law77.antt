@@ -109,7 +109,7 @@ undertrick vulnerable doubling (suc (suc zero)) = additional_undertrick vulnerab
 undertrick vulnerable doubling (suc (suc (suc _))) =
     additional_undertrick vulnerable doubling + fourth_undertrick_bonus vulnerable doubling
 
--- so many undertricks, added one by one
+-- so many undertricks, added one by one: doubled and not vulnerable, four are 100 + 200 + 200 + 300
 abbrev pub undertricks : Bool → Doubling → ℕ → ℕ
 undertricks vulnerable doubling zero = 0
 undertricks vulnerable doubling (suc others) =
