@@ -1,0 +1,2 @@
+pub mod NumberBitsLemmas
+pub mod NumbersLemmas
