@@ -3,6 +3,7 @@ use Rattle.std.specs.Prelude.{◌≡◌, ℕ, zero, suc, Bool, ◌||◌, ◌&&�
 use Rattle.session_roles.specs.declared.role.Role.{Role}
 use Rattle.session_roles.specs.declared.role.Role.TheVariants.{Member, Spectator, Contestant, Scorer, Director, Administrator}
 use Rattle.rbac.specs.declared.inheritance.Inheritance.{Inheritance}
+use Rattle.rbac.specs.declared.roles.TheConstants.Roles.{MOST_PAIRS}
 use Rattle.session_roles.specs.Role.{same_role}
 
 -- the pair in which the senior inherits the junior
@@ -25,7 +26,7 @@ IsAcyclic pairs = (role : Role) (n : ℕ) → ¬ Chain pairs (suc n) role role
 
 -- how many pairs there are at most: each role over each
 abbrev pub most_pairs : ℕ
-most_pairs = 36
+most_pairs = MOST_PAIRS
 
 -- the pairs of a new session, in their order
 abbrev pub opening_pairs : List Inheritance

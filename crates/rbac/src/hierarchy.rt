@@ -8,7 +8,7 @@ use session_roles::{Role, RoleSet};
 /// For each role the roles that it reaches down the inheritance pairs, itself among them.
 #[derive(Clone, Copy)]
 pub struct Hierarchy {
-    reached: [RoleSet; 6],
+    reached: [RoleSet; Role::COUNT as usize],
 }
 
 impl Hierarchy {
@@ -17,7 +17,7 @@ impl Hierarchy {
     pub fn new() -> Hierarchy
         ensures { IsClosure [] result.reached }
     {
-        let mut reached = [RoleSet::new(); 6];
+        let mut reached = [RoleSet::new(); Role::COUNT as usize];
         for (place, role) in Role::ALL.iter().enumerate() {
             reached[place] = RoleSet::new().with(*role);
         }

@@ -60,7 +60,7 @@ impl Roles {
     pub const MOST_USERS: usize = 256;
 
     /// How many ordered pairs of roles there are.
-    const MOST_PAIRS: usize = 36;
+    const MOST_PAIRS: usize = Role::COUNT as usize * Role::COUNT as usize;
 
     /// No users, the inheritance pairs of a new session, and room for all users and pairs.
     pub fn new(alloc: Global) -> Result<Roles, AllocError>

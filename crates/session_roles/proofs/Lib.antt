@@ -1,3 +1,3 @@
-pub mod RoleBitsLemmas
+pub mod RoleNumbersLemmas
 pub mod RoleLemmas
 pub mod SeparationLemmas

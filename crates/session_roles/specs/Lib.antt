@@ -1,4 +1,4 @@
 pub mod Operation
 pub mod Role
-pub mod RoleBits
+pub mod RoleNumbers
 pub mod Separation

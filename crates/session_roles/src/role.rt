@@ -1,6 +1,7 @@
 ghost use Rattle.std.specs.Prelude.{◌≡◌, ◌≢◌, ◌<◌, IfSome, IfNone, Some};
 ghost use Rattle.session_roles.specs.Role.{role_name, role_number};
 ghost use Rattle.session_roles.specs.declared.role.Role.{Role};
+ghost use Rattle.session_roles.specs.declared.role.TheConstants.Role.{COUNT};
 
 use std::fmt;
 
@@ -16,8 +17,11 @@ pub enum Role {
 }
 
 impl Role {
+    /// How many roles there are.
+    pub const COUNT: u8 = 6;
+
     /// The roles, in their order.
-    pub const ALL: [Role; 6] = [
+    pub const ALL: [Role; Role::COUNT as usize] = [
         Role::Member,
         Role::Spectator,
         Role::Contestant,
@@ -29,7 +33,7 @@ impl Role {
     /// The role's place in their order, from 0.
     pub fn number(self) -> u8
         ensures number { result ≡ role_number self }
-        ensures below { result < 6 }
+        ensures below { result < COUNT }
     {
         self as u8
     }

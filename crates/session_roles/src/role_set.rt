@@ -2,75 +2,77 @@ ghost use Rattle.std.specs.Prelude.{◌≡◌, [], ◌↔◌, IsTrue};
 ghost use Rattle.session_roles.specs.Role.{has, with_role, without_role, union_of, IsListed};
 
 use crate::role::Role;
+use small_sets::NumberSet;
 use std::marker::Model;
 
 /// A set of roles, which clauses see as the list of its roles in their order.
 #[derive(Clone, Copy)]
 pub struct RoleSet {
-    bits: u8,
+    places: NumberSet<{ Role::COUNT }>,
 }
 
 impl Model for RoleSet {
-    ghost use Rattle.std.specs.Prelude.{List, ◌<◌};
+    ghost use Rattle.std.specs.Prelude.{List};
+    ghost use Rattle.small_sets.specs.Numbers.{IsSetUpTo};
     ghost use Rattle.session_roles.specs.declared.role.Role.{Role};
-    ghost use Rattle.session_roles.specs.RoleBits.{roles_of_bits, bits_of_roles, bits_of_roles_of_bits};
+    ghost use Rattle.session_roles.specs.declared.role.TheConstants.Role.{COUNT};
+    ghost use Rattle.session_roles.specs.RoleNumbers.{roles_of_numbers, numbers_of_roles, numbers_of_roles_of_numbers};
 
     ghost Value = { List Role };
 
-    ghost view = { λ roles. roles_of_bits roles.bits };
+    ghost view = { λ roles. roles_of_numbers roles.places };
 
-    ghost invariant = { λ roles. roles.bits < 64 };
+    ghost invariant = { λ roles. IsSetUpTo COUNT roles.places };
 
-    ghost inverse = { λ roles. record { bits = bits_of_roles roles } };
+    ghost inverse = { λ roles. record { places = numbers_of_roles roles } };
 
-    ghost inverse_ok = { λ roles below i. record { bits = bits_of_roles_of_bits roles.bits below i } };
+    ghost inverse_ok = { λ roles is_set i. record { places = numbers_of_roles_of_numbers roles.places is_set i } };
 }
 
 impl RoleSet {
     /// No role.
-    #[tactic(auto, using(crate::proofs::RoleBitsLemmas::zero_is_none))]
+    #[tactic(auto, using(crate::proofs::RoleNumbersLemmas::none_of_none))]
     pub fn new() -> RoleSet
         ensures { result ≡ [] }
     {
-        RoleSet { bits: 0 }
+        RoleSet {
+            places: NumberSet::new(),
+        }
     }
 
     /// Whether the role is in the set.
-    #[tactic(auto, using(crate::proofs::RoleBitsLemmas::bit_is_has, crate::proofs::RoleBitsLemmas::listed_roles_of_bits))]
+    #[tactic(auto, using(crate::proofs::RoleNumbersLemmas::has_roles_of_numbers, crate::proofs::RoleNumbersLemmas::listed_roles_of_numbers))]
     pub fn has(self, role: Role) -> bool
         ensures has { result ≡ has self role }
         ensures listed { IsListed self }
     {
-        self.bits >> role.number() & 1 == 1
+        self.places.contains(role.number() + 1)
     }
 
     /// The set with this role in it.
-    #[tactic(auto, using(crate::proofs::RoleBitsLemmas::or_below, crate::proofs::RoleBitsLemmas::or_is_with))]
     pub fn with(self, role: Role) -> RoleSet
         ensures { result ≡ with_role self role }
     {
-        RoleSet {
-            bits: self.bits | 1 << role.number(),
-        }
+        let mut places = self.places;
+        places.insert(role.number() + 1);
+        RoleSet { places }
     }
 
     /// The set without this role.
-    #[tactic(auto, using(crate::proofs::RoleBitsLemmas::and_below, crate::proofs::RoleBitsLemmas::and_is_without))]
     pub fn without(self, role: Role) -> RoleSet
         ensures { result ≡ without_role self role }
     {
-        RoleSet {
-            bits: self.bits & !(1 << role.number()),
-        }
+        let mut places = self.places;
+        places.remove(role.number() + 1);
+        RoleSet { places }
     }
 
     /// The roles of both sets.
-    #[tactic(auto, using(crate::proofs::RoleBitsLemmas::or_sets_below, crate::proofs::RoleBitsLemmas::or_is_union))]
     pub fn union(self, other: RoleSet) -> RoleSet
         ensures { result ≡ union_of self other }
     {
         RoleSet {
-            bits: self.bits | other.bits,
+            places: self.places.union(other.places),
         }
     }
 }
@@ -84,9 +86,9 @@ impl PartialEq for RoleSet {
 
     ghost laws = { partial_equiv_from_equiv (lists_equiv (on_equiv role_number nat_eq_equiv)) };
 
-    #[tactic(auto, using(crate::proofs::RoleBitsLemmas::same_bits))]
+    #[tactic(auto, using(crate::proofs::RoleNumbersLemmas::same_places))]
     fn eq(&self, other: &RoleSet) -> bool {
-        self.bits == other.bits
+        self.places == other.places
     }
 }
 
