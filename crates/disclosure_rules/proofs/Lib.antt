@@ -1,7 +1,6 @@
 pub use Rattle.movement.proofs as movement_lemmas
 pub mod FirstLemmas
 pub mod LiveCellsLemmas
-pub mod NumbersLemmas
 pub mod RuleLemmas
 pub mod SeatingLemmas
 pub mod SeatingTests

@@ -2,7 +2,7 @@
 use Rattle.std.specs.Prelude.{ℕ, Bool, zero, suc, List, [], slice_index_or, slice_set, ◌-◌}
 use Rattle.movement.specs.declared.cell.Cell.{Cell}
 use Rattle.movement.specs.Movement.{most_tables}
-use Rattle.disclosure_rules.specs.Numbers.{has_number, with_number, without_number}
+use Rattle.small_sets.specs.Numbers.{has_number, with_number, without_number}
 
 -- the tables that have a result on a board, from the lists of board 1, 2, ..; there is no board 0
 abbrev pub tables_at : List (List ℕ) → ℕ → List ℕ

@@ -19,7 +19,7 @@ use Rattle.disclosure_rules.specs.declared.rule.Rule.TheVariants.{NoResult}
 use Rattle.disclosure_rules.specs.declared.viewer.Viewer.{Viewer}
 use Rattle.disclosure_rules.specs.Fact.{board_of_fact, cell_of_fact, is_accounts, is_analysed, is_of_play, is_reason}
 use Rattle.disclosure_rules.specs.LiveCells.{is_live}
-use Rattle.disclosure_rules.specs.Numbers.{has_number}
+use Rattle.small_sets.specs.Numbers.{has_number}
 use Rattle.disclosure_rules.specs.Phase.{is_running}
 use Rattle.disclosure_rules.specs.Seating.{some_that, is_complete, plays_board, has_still_to_play, is_seated_at}
 

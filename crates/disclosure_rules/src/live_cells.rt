@@ -1,25 +1,26 @@
-ghost use Rattle.std.specs.Prelude.{◌≡◌, ℕ, ◌+◌, ◌<◌, ◌≤◌, ◌↔◌, [], IsBitSet, true, replicate};
+ghost use Rattle.std.specs.Prelude.{◌≡◌, ◌≤◌, [], replicate};
 ghost use Rattle.movement.specs.Movement.{most_tables, most_boards};
 ghost use Rattle.disclosure_rules.specs.LiveCells.{tables_at, is_live, with_live, without_live};
-ghost use Rattle.disclosure_rules.specs.Numbers.{has_number};
 
 use movement::{Cell, Movement};
+use small_sets::NumberSet;
 use std::marker::Model;
 
 /// Where there is a result: clauses see, for each board, the list of the tables, ascending.
 #[derive(Drop)]
 pub struct LiveCells {
-    words: [u16; Movement::MOST_BOARDS as usize],
+    tables: [NumberSet<{ Movement::MOST_TABLES }>; Movement::MOST_BOARDS as usize],
 }
 
 impl Model for LiveCells {
-    ghost use Rattle.std.specs.Prelude.{ℕ, List, map};
-    ghost use Rattle.movement.specs.Movement.{most_tables};
-    ghost use Rattle.disclosure_rules.specs.Numbers.{numbers_of_bits};
+    ghost use Rattle.std.specs.Prelude.{◌≡◌, ℕ, List, length};
+    ghost use Rattle.movement.specs.Movement.{most_boards};
 
     ghost Value = { List (List ℕ) };
 
-    ghost view = { λ live. map (numbers_of_bits most_tables) live.words };
+    ghost view = { λ live. live.tables };
+
+    ghost invariant = { λ live. length live.tables ≡ most_boards };
 }
 
 impl LiveCells {
@@ -28,39 +29,34 @@ impl LiveCells {
         ensures { result ≡ replicate most_boards [] }
     {
         LiveCells {
-            words: [0; Movement::MOST_BOARDS as usize],
+            tables: [NumberSet::new(); Movement::MOST_BOARDS as usize],
         }
     }
 
     pub fn copy(&self) -> LiveCells
         ensures { result ≡ self.now }
     {
-        LiveCells { words: self.words }
+        LiveCells {
+            tables: self.tables,
+        }
     }
 
-    /// The tables that have a result on a board: bit `t` stands for table `t + 1`.
-    pub fn tables(&self, board: u8) -> u16
-        ensures bits { (t : ℕ) → t < most_tables →
-            (IsBitSet result t ↔ (has_number (tables_at self.now board) (t + 1) ≡ true)) }
-        ensures within { (table : ℕ) → has_number (tables_at self.now board) table ≡ true →
-            (1 ≤ table) × (table ≤ most_tables) }
+    /// The tables that have a result on a board.
+    pub fn tables(&self, board: u8) -> NumberSet<{ Movement::MOST_TABLES }>
+        ensures { result ≡ tables_at self.now board }
     {
-        let words = &self.words;
+        let tables = &self.tables;
         if board < 1 || board > Movement::MOST_BOARDS {
-            return 0;
+            return NumberSet::new();
         }
-        words[board as usize - 1]
+        tables[board as usize - 1]
     }
 
     /// Whether the table has a result on the board.
     pub fn contains(&self, cell: Cell) -> bool
         ensures { result ≡ is_live self.now cell }
     {
-        let tables = self.tables(cell.board);
-        if cell.table < 1 || cell.table > Movement::MOST_TABLES {
-            return false;
-        }
-        tables >> (cell.table - 1) & 1 == 1
+        self.tables(cell.board).contains(cell.table)
     }
 
     /// There is a result at a table from now on.
@@ -71,7 +67,10 @@ impl LiveCells {
         requires to_board { cell.board ≤ most_boards }
         ensures { self.new ≡ with_live self.old cell }
     {
-        self.words[cell.board as usize - 1] |= 1 << (cell.table - 1);
+        let place = cell.board as usize - 1;
+        let mut tables = self.tables[place];
+        tables.insert(cell.table);
+        self.tables[place] = tables;
     }
 
     /// There is no result at a table any more.
@@ -82,6 +81,9 @@ impl LiveCells {
         requires to_board { cell.board ≤ most_boards }
         ensures { self.new ≡ without_live self.old cell }
     {
-        self.words[cell.board as usize - 1] &= !(1 << (cell.table - 1));
+        let place = cell.board as usize - 1;
+        let mut tables = self.tables[place];
+        tables.remove(cell.table);
+        self.tables[place] = tables;
     }
 }

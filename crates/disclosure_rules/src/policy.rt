@@ -2,7 +2,7 @@ ghost use Rattle.std.specs.Prelude.{◌≡◌, ◌&&◌, ◌||◌, not};
 ghost use Rattle.session_roles.specs.declared.role.Role.TheVariants.{Spectator, Director, Administrator};
 ghost use Rattle.disclosure_rules.specs.Fact.{is_accounts, is_analysed, is_of_play, is_reason};
 ghost use Rattle.disclosure_rules.specs.LiveCells.{is_live};
-ghost use Rattle.disclosure_rules.specs.Numbers.{has_number};
+ghost use Rattle.small_sets.specs.Numbers.{has_number};
 ghost use Rattle.disclosure_rules.specs.Phase.{is_running};
 ghost use Rattle.disclosure_rules.specs.Policy.{is_authorized, is_contestant, forbids, guarded, first_rule};
 ghost use Rattle.disclosure_rules.specs.Seating.{some_that, is_complete, plays_board, has_still_to_play, is_seated_at};

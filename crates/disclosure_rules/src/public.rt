@@ -30,7 +30,7 @@ impl Public {
             marks: self.marks,
             round: self.round,
             phase: self.phase,
-            held: self.held.copy(),
+            held: self.held,
             live: self.live.copy(),
         }
     }
@@ -40,6 +40,6 @@ impl Public {
         ensures { result ≡ is_complete self.now board }
     {
         let scheduled = self.movement.scheduled(board);
-        scheduled & !self.live.tables(board) == 0
+        scheduled.is_subset(self.live.tables(board))
     }
 }

@@ -1,64 +1,65 @@
--- The tables that are scheduled to play a board, as the bits of a number.
-use Rattle.std.proofs.Common.{◌≡◌, ◌≢◌, ℕ, ◌+◌, ◌*◌, ◌%◌, ◌^◌, ◌<◌, ◌↔◌, inl, inr, sym, ap, ◌∙◌, bit_and, bit_or, IsBitSet, true, false, Option, Some, None, is_some, IfSome, IfNone, arith}
-use Rattle.std.specs.Int.{bit_at, w16}
-use Rattle.std.proofs.lemmas.Bool.{cases_eq}
-use Rattle.std.proofs.lemmas.Nat.{pow_pos}
-use Rattle.std.proofs.lemmas.Nat.Bits.{and_pow, bit_at_set_same, bit_at_set_other}
+-- The tables that are scheduled to play a board.
+use Rattle.std.proofs.Common.{◌≡◌, ◌≢◌, ℕ, ◌+◌, ◌≤◌, ◌↔◌, nat_eq, List, [], inl, inr, sym, ap, ◌∙◌, subst, true, false, Option, Some, None, is_some, IfSome, IfNone, arith}
+use Rattle.std.specs.Prelude.{◌||◌}
+use Rattle.std.proofs.lemmas.Bool.{cases_eq, or_cases, or_left, or_right, eqb-true, eq-eqb, false≢true}
+use Rattle.small_sets.specs.Numbers.{has_number, with_number}
+use Rattle.small_sets.proofs.NumbersLemmas.{has_with_number, set_with, within}
 use Rattle.movement.specs.declared.cell.Cell.{Cell}
-use Rattle.movement.specs.Movement.{Section, IsCell}
+use Rattle.movement.specs.Movement.{Section, IsCell, most_tables}
 use Rattle.movement.proofs.CellLemmas.{scheduled_of}
 
--- the number with one more bit
-abbrev pub with_bit : ℕ → ℕ → ℕ
-with_bit n k = bit_or n (1 * 2 ^ k % 2 ^ 16)
+-- the numbers are those of the tables so far that play the board
+abbrev pub IsSoFar : Section → ℕ → List ℕ → ℕ → Type 0
+IsSoFar section board numbers tables =
+    (t : ℕ) → (has_number numbers t ≡ true) ↔ ((t ≤ tables) × IsCell section (record { table = t; board = board }))
 
-pub IsBitSet-same : (n k : ℕ) → k < 16 → IsBitSet (with_bit n k) k
-IsBitSet-same n k below zero =
-    let one : bit_at (with_bit n k) k ≡ 1 = bit_at_set_same w16 n k below in
-    let is_one : bit_and (with_bit n k) (2 ^ k) ≡ 1 * 2 ^ k = rw one at (and_pow (with_bit n k) k) in
-    omega (arith, pow_pos k)
+pub so_far_none : (section : Section) (board : ℕ) → IsSoFar section board [] 0
+so_far_none section board t = (
+  λ held. absurd (false≢true held),
+  λ found. let scheduled = scheduled_of section (record { table = t; board = board }) found.1 in
+      absurd (omega (arith, scheduled.from_table, found.0)),
+)
 
-pub IsBitSet-other : (n k t : ℕ) → k < 16 → t ≢ k → bit_and (with_bit n k) (2 ^ t) ≡ bit_and n (2 ^ t)
-IsBitSet-other n k t below other =
-    let same : bit_at (with_bit n k) t ≡ bit_at n t = bit_at_set_other w16 n k below t other in
-    and_pow (with_bit n k) t ∙ ap (λ (bit : ℕ). bit * 2 ^ t) same ∙ sym (and_pow n t)
+pub so_far_more : (section : Section) (board : ℕ) (numbers : List ℕ) (table : ℕ) → table + 1 ≤ most_tables →
+    IsCell section (record { table = table + 1; board = board }) → IsSoFar section board numbers table →
+    IsSoFar section board (with_number most_tables numbers (table + 1)) (table + 1)
+so_far_more section board numbers table below is_cell so_far t = (
+  λ held.
+      let range = within most_tables (with_number most_tables numbers (table + 1)) t (set_with most_tables numbers (table + 1)) held in
+      let either = sym (has_with_number most_tables numbers (table + 1) t range.0 range.1) ∙ held in
+      elim (or_cases (nat_eq t (table + 1)) (has_number numbers t) either) [
+        | inl here ↦
+            let same : t ≡ table + 1 = eqb-true t (table + 1) here in
+            (omega arith, subst (λ k. IsCell section (record { table = k; board = board })) (sym same) is_cell)
+        | inr before ↦ let found = (so_far t).0 before in (omega (arith, found.0), found.1)
+      ],
+  λ found.
+      let scheduled = scheduled_of section (record { table = t; board = board }) found.1 in
+      has_with_number most_tables numbers (table + 1) t (omega (arith, scheduled.from_table)) (omega (arith, found.0))
+      ∙ elim (cases_eq t (table + 1)) as (λ _. (nat_eq t (table + 1) || has_number numbers t) ≡ true) [
+        | inl same ↦ or_left (nat_eq t (table + 1)) (has_number numbers t) (eq-eqb t (table + 1) same)
+        | inr other ↦
+            or_right (nat_eq t (table + 1)) (has_number numbers t) ((so_far t).1 (omega (arith, found.0), found.1))
+      ],
+)
 
--- the bits that are set are those of the tables so far that play the board
-abbrev pub IsSoFar : Section → ℕ → ℕ → ℕ → Type 0
-IsSoFar section board bits tables =
-    (t : ℕ) → IsBitSet bits t ↔ ((t < tables) × IsCell section (record { table = t + 1; board = board }))
-
-pub so_far_more : (section : Section) (board bits table : ℕ) → table < 16 →
-    IsCell section (record { table = table + 1; board = board }) → IsSoFar section board bits table →
-    IsSoFar section board (with_bit bits table) (table + 1)
-so_far_more section board bits table below is_cell so_far t =
-    elim (cases_eq t table) [
-      | inl same ↦
-          (λ is_set. (omega arith, rw same is_cell), λ found. rw same (IsBitSet-same bits table below))
-      | inr other ↦
-          let bit = IsBitSet-other bits table t below other in (
-            λ is_set. let found = (so_far t).0 (λ zero. is_set (bit ∙ zero)) in (omega (arith, found.0), found.1),
-            λ found zero. (so_far t).1 (omega (arith, found.0), found.1) (sym bit ∙ zero),
-          )
-    ]
-
-pub so_far_same : (section : Section) (board bits table : ℕ) →
-    ¬ IsCell section (record { table = table + 1; board = board }) → IsSoFar section board bits table →
-    IsSoFar section board bits (table + 1)
-so_far_same section board bits table no_cell so_far t = (
-  λ is_set. let found = (so_far t).0 is_set in (omega (arith, found.0), found.1),
-  λ found. elim (cases_eq t table) [
-    | inl same ↦ absurd (no_cell (rw same at found.1))
+pub so_far_same : (section : Section) (board : ℕ) (numbers : List ℕ) (table : ℕ) →
+    ¬ IsCell section (record { table = table + 1; board = board }) → IsSoFar section board numbers table →
+    IsSoFar section board numbers (table + 1)
+so_far_same section board numbers table no_cell so_far t = (
+  λ held. let found = (so_far t).0 held in (omega (arith, found.0), found.1),
+  λ found. elim (cases_eq t (table + 1)) [
+    | inl same ↦ absurd (no_cell (subst (λ k. IsCell section (record { table = k; board = board })) same found.1))
     | inr other ↦ (so_far t).1 (omega (arith, found.0), found.1)
   ],
 )
 
-pub so_far_all : (section : Section) (board bits : ℕ) → IsSoFar section board bits section.tables → (t : ℕ) →
-    IsBitSet bits t ↔ IsCell section (record { table = t + 1; board = board })
-so_far_all section board bits so_far t = (
-  λ is_set. ((so_far t).0 is_set).1,
+pub so_far_all : (section : Section) (board : ℕ) (numbers : List ℕ) → IsSoFar section board numbers section.tables →
+    (t : ℕ) → (has_number numbers t ≡ true) ↔ IsCell section (record { table = t; board = board })
+so_far_all section board numbers so_far t = (
+  λ held. ((so_far t).0 held).1,
   λ is_cell.
-      let scheduled = scheduled_of section (record { table = t + 1; board = board }) is_cell in
+      let scheduled = scheduled_of section (record { table = t; board = board }) is_cell in
       (so_far t).1 (omega (arith, scheduled.to_table), is_cell),
 )
 

@@ -8,6 +8,7 @@ use Rattle.std.specs.List.{flat_map, range_with_len}
 use Rattle.table_terms.specs.declared.pair.Pair.{Pair}
 use Rattle.table_terms.specs.declared.side.Side.TheVariants.{NorthSouth, EastWest}
 use Rattle.movement.specs.declared.cell.Cell.{Cell}
+use Rattle.movement.specs.declared.movement.TheConstants.Movement.{MOST_TABLES, MOST_PER_SET, MOST_BOARDS}
 
 -- a section: its tables, the rounds that are played, and the boards in a set
 pub record Section : Type 0 where
@@ -82,15 +83,15 @@ most_rounds tables = if tables % 2 == 0 then tables - 1 else tables
 
 -- how many tables a section has at most
 abbrev pub most_tables : ℕ
-most_tables = 16
+most_tables = MOST_TABLES
 
 -- how many boards a set has at most
 abbrev pub most_per_set : ℕ
-most_per_set = 8
+most_per_set = MOST_PER_SET
 
 -- how many boards a section plays at most
 abbrev pub most_boards : ℕ
-most_boards = 64
+most_boards = MOST_BOARDS
 
 -- what is kept of every section
 pub record IsSection (section : Section) : Type 0 where

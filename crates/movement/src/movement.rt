@@ -1,7 +1,8 @@
-ghost use Rattle.std.specs.Prelude.{◌≡◌, ℕ, ◌+◌, ◌-◌, ◌*◌, ◌<◌, ◌≤◌, Any, All, IfOk, OnOk, IfErr, IfSome, IfNone, IsBitSet, IsTrue, ◌↔◌};
+ghost use Rattle.std.specs.Prelude.{◌≡◌, ℕ, ◌+◌, ◌-◌, ◌*◌, ◌<◌, ◌≤◌, Any, All, IfOk, OnOk, IfErr, IfSome, IfNone, true, IsTrue, ◌↔◌};
 ghost use Rattle.movement.specs.Movement.{Section, IsSection, IsOfSet, HasCell, IsCell, boards_of, rows};
 ghost use Rattle.movement.specs.Row.{IsAt, Seats, Plays, board_of_set, IsCellInRange};
 ghost use Rattle.user_names.specs.First.{IsFirst};
+ghost use Rattle.small_sets.specs.Numbers.{has_number};
 ghost use Rattle.movement.specs.Refusal.{Refuses, number_of};
 ghost use Rattle.table_terms.specs.declared.side.Side.TheVariants.{EastWest};
 ghost use Rattle.movement.specs.declared.movement_error.MovementError.{MovementError};
@@ -9,6 +10,7 @@ ghost use Rattle.movement.specs.declared.movement_error.MovementError.{MovementE
 use crate::cell::Cell;
 use crate::mitchell;
 use crate::movement_error::MovementError;
+use small_sets::NumberSet;
 use std::marker::Model;
 use table_terms::{Pair, Side};
 
@@ -177,14 +179,15 @@ impl Movement {
         }
     }
 
-    /// The tables that are scheduled to play a board: bit `t` stands for table `t + 1`.
-    pub fn scheduled(self, board: u8) -> u16
-        ensures { (t : ℕ) → (IsBitSet result t ↔ IsCell self (record { table = t + 1; board = board })) }
+    /// The tables that are scheduled to play a board.
+    pub fn scheduled(self, board: u8) -> NumberSet<{ Movement::MOST_TABLES }>
+        ensures { (table : ℕ) →
+            ((has_number result table ≡ true) ↔ IsCell self (record { table = table; board = board })) }
     {
-        let mut scheduled = 0;
+        let mut scheduled = NumberSet::new();
         for table in 0..self.tables {
             if self.cell(table + 1, board).is_some() {
-                scheduled |= 1 << table;
+                scheduled.insert(table + 1);
             }
         }
         scheduled

@@ -1,21 +1,11 @@
 -- The numbers from 1 on, with one number more.
-use Rattle.std.proofs.Common.{◌≡◌, ℕ, ◌+◌, Bool, true, false, [], ◌∷◌, ◌++◌, map, ap, sym, ◌∙◌, arith}
-use Rattle.std.specs.Prelude.{filter, cond}
+use Rattle.std.proofs.Common.{◌≡◌, ℕ, ◌+◌, Bool, true, false, [], ◌∷◌, ◌++◌, map, ap, ◌∙◌, arith}
+use Rattle.std.specs.Prelude.{cond}
 use Rattle.std.specs.List.{range_with_len}
-use Rattle.std.proofs.lemmas.List.{map-id, append-nil}
-use Rattle.std.proofs.lemmas.List.Elements.{filter-append}
+use Rattle.std.proofs.lemmas.List.{append-nil}
 use Rattle.std.proofs.lemmas.List.FromFn.{map-range_with_len_more}
-use Rattle.disclosure_rules.specs.Numbers.{numbers_that}
-
-range_more : (n : ℕ) → range_with_len 1 (n + 1) ≡ range_with_len 1 n ++ (n + 1) ∷ []
-range_more n =
-    sym (map-id (range_with_len 1 (n + 1)))
-    ∙ map-range_with_len_more (λ (k : ℕ). k) 1 n (n + 1) (omega arith)
-    ∙ ap (λ xs. xs ++ (n + 1) ∷ []) (map-id (range_with_len 1 n))
-
-numbers_more : (test : ℕ → Bool) (n : ℕ)
-    → numbers_that (n + 1) test ≡ numbers_that n test ++ cond (test (n + 1)) ((n + 1) ∷ []) []
-numbers_more test n = ap (filter test) (range_more n) ∙ filter-append test (range_with_len 1 n) ((n + 1) ∷ [])
+use Rattle.small_sets.specs.NumberBits.{numbers_more}
+use Rattle.small_sets.specs.Numbers.{numbers_that}
 
 -- where the next number passes the test it is among those that do
 pub numbers_with_next : (test : ℕ → Bool) (n : ℕ) → test (n + 1) ≡ true

@@ -12,7 +12,7 @@ use Rattle.disclosure_rules.specs.declared.phase.Phase.{Phase}
 use Rattle.disclosure_rules.specs.declared.phase.Phase.TheVariants.{Running, Closed, Final}
 use Rattle.disclosure_rules.specs.declared.public.Public.{Public}
 use Rattle.disclosure_rules.specs.LiveCells.{is_live}
-use Rattle.disclosure_rules.specs.Numbers.{has_number, numbers_that}
+use Rattle.small_sets.specs.Numbers.{has_number, numbers_that}
 use Rattle.session_queries.specs.session_state.declared.seated.Seated.{Seated}
 use Rattle.reply_texts.specs.DataOf.{number_data, list_data}
 

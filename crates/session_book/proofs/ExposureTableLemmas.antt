@@ -1,4 +1,4 @@
--- The table of who was shown something of which board: its words, what it has after the policy was asked, and one entry more.
+-- The table of who was shown something of which board: what it has after the policy was asked, and one entry more.
 use Rattle.std.proofs.Common.{◌≡◌, ◌≢◌, ℕ, zero, suc, ◌+◌, ◌-◌, ◌*◌, ◌^◌, ◌%◌, ◌<◌, ◌≤◌, Bool, true, false, List, [], ◌∷◌, ◌++◌, map, length, get_or, replicate, nat_eq, bit_or, w64, refl, sym, ap, ◌∙◌, subst, inl, inr, arith}
 use Rattle.std.specs.Prelude.{◌||◌, ◌&&◌, nat_le, nat_lt, Contains, slice_set}
 use Rattle.std.specs.Int.{bit_at}
@@ -13,13 +13,13 @@ use Rattle.disclosure_rules.specs.declared.viewer.Viewer.{Viewer}
 use Rattle.disclosure_rules.specs.Seating.{is_seated_at}
 use Rattle.disclosure_rules.proofs.SeatingTests.{seated_decides}
 use Rattle.disclosure_rules.proofs.FirstLemmas.{find_place, find_none}
-use Rattle.movement.specs.Movement.{boards_of}
-use Rattle.rbac.specs.Account.{same_name}
+use Rattle.movement.specs.Movement.{boards_of, most_boards}
+use Rattle.rbac.specs.Account.{same_name, most_users}
 use Rattle.rbac.specs.Authorization.{IsValid}
 use Rattle.rbac.proofs.AccountLemmas.{same_name_decides}
 use Rattle.rbac.specs.declared.account.Account.{Account}
-use Rattle.disclosure_rules.specs.Numbers.{has_number, numbers_of_bits}
-use Rattle.disclosure_rules.proofs.NumbersLemmas.{has_number-numbers_of_bits, has_number-numbers_that, numbers_of_bits-set}
+use Rattle.small_sets.specs.Numbers.{has_number, with_number}
+use Rattle.small_sets.proofs.NumbersLemmas.{has_with_number}
 use Rattle.session_state.specs.SessionState.{SessionState, viewer_of}
 use Rattle.session_state.specs.session_commands.declared.entry.Entry.{Entry}
 use Rattle.session_book.specs.Exposure.{sees_hands, is_exposed, users_of, spoils, spoiler_at}
@@ -29,56 +29,31 @@ use Rattle.session_book.proofs.ExposureLemmas.{exposed_more, exposed_at_opening}
 use Rattle.session_book.proofs.LastingLemmas.{Lasts, replay_lasts}
 use Rattle.session_book.proofs.SpoilerLemmas.{stranger_unexposed}
 
--- what the words have
-pub noted_word : (words : List ℕ) (place board : ℕ) → place < length words → 1 ≤ board → board ≤ 64 →
-    is_noted (map (numbers_of_bits 64) words) place board ≡ nat_eq (bit_at (get_or words place 0) (board - 1)) 1
-noted_word words place board below from to =
-    ap (λ row. has_number row board) (get_or-map (numbers_of_bits 64) words place 0 [] below) ∙ has_number-numbers_of_bits 64 (get_or words place 0) board from to
-
--- a word, read where it stands
-pub word_read : (words : List ℕ) (place word : ℕ) → place < length words → word ≡ get_or words place word → word ≡ get_or words place 0
-word_read words place word below is = is ∙ get_or_default words place word 0 below
-
 -- nothing is noted in a new table
 none_in : (n place board : ℕ) → is_noted (replicate n []) place board ≡ false
 none_in zero place board = refl
 none_in (suc n) zero board = refl
 none_in (suc n) (suc place) board = none_in n place board
 
-map_same : (f : ℕ → List ℕ) (n a : ℕ) → map f (replicate n a) ≡ replicate n (f a)
-map_same f zero a = refl
-map_same f (suc n) a = ap (λ rows. f a ∷ rows) (map_same f n a)
-
-no_bits : numbers_of_bits 64 0 ≡ []
-unfolding numbers_of_bits
-no_bits = refl
-
-pub nothing_noted : (n : ℕ) → map (numbers_of_bits 64) (replicate n 0) ≡ replicate n []
-nothing_noted n = map_same (numbers_of_bits 64) n 0 ∙ ap (replicate n) no_bits
-
--- a bit that is set notes its board, and no other
-pub noted_set : (words : List ℕ) (place board p b : ℕ) → place < length words → 1 ≤ board → board ≤ 64 → 1 ≤ b → b ≤ 64 →
-    is_noted (map (numbers_of_bits 64) (slice_set words place (bit_or (get_or words place 0) (1 * 2 ^ (board - 1) % 2 ^ 64)))) p b
-    ≡ (is_noted (map (numbers_of_bits 64) words) p b || one_board place board p b)
-noted_set words place board p b below from to from_b to_b =
+-- a board that is added for an account is noted, and no other
+pub noted_set : (table : List (List ℕ)) (place board p b : ℕ) → place < length table → 1 ≤ b → b ≤ most_boards →
+    is_noted (slice_set table place (with_number most_boards (get_or table place []) board)) p b
+    ≡ (is_noted table p b || one_board place board p b)
+noted_set table place board p b below from to =
     elim (cases_eq p place) [
       | inl same ↦
-          let row = get_or words place 0 in
-          let new = bit_or row (1 * 2 ^ (board - 1) % 2 ^ 64) in
-          ap (λ q. is_noted (map (numbers_of_bits 64) (slice_set words place new)) q b) same
-          ∙ ap (λ rows. has_number (get_or rows place []) b) (map-set (numbers_of_bits 64) words place new)
-          ∙ ap (λ r. has_number r b) (get_or-set_same (map (numbers_of_bits 64) words) place (numbers_of_bits 64 new) [] (subst (λ n. place < n) (sym (length-map words _)) below))
-          ∙ ap (λ r. has_number r b) (numbers_of_bits-set w64 64 row board (omega arith) from to)
-          ∙ has_number-numbers_that 64 (λ n. nat_eq n board || has_number (numbers_of_bits 64 row) n) b from_b to_b
-          ∙ swap (nat_eq b board) (has_number (numbers_of_bits 64 row) b)
-          ∙ (λ i. has_number (sym (get_or-map (numbers_of_bits 64) words place 0 [] below) i) b || (sym (eq-eqb p place same) i && nat_eq b board))
-          ∙ ap (λ q. is_noted (map (numbers_of_bits 64) words) q b || one_board place board p b) (sym same)
+          let row = get_or table place [] in
+          ap (λ q. is_noted (slice_set table place (with_number most_boards row board)) q b) same
+          ∙ ap (λ r. has_number r b) (get_or-set_same table place (with_number most_boards row board) [] below)
+          ∙ has_with_number most_boards row board b from to
+          ∙ swap (nat_eq b board) (has_number row b)
+          ∙ ap (λ x. has_number row b || (x && nat_eq b board)) (sym (eq-eqb place place refl))
+          ∙ ap (λ q. is_noted table q b || one_board place board q b) (sym same)
       | inr other ↦
-          let new = bit_or (get_or words place 0) (1 * 2 ^ (board - 1) % 2 ^ 64) in
-          ap (λ rows. has_number (get_or rows p []) b) (map-set (numbers_of_bits 64) words place new)
-          ∙ ap (λ r. has_number r b) (get_or-set_other (map (numbers_of_bits 64) words) place p (numbers_of_bits 64 new) [] other)
-          ∙ unchanged (is_noted (map (numbers_of_bits 64) words) p b)
-          ∙ ap (λ x. is_noted (map (numbers_of_bits 64) words) p b || (x && nat_eq b board)) (sym (ne_eqb p place other))
+          let row = get_or table place [] in
+          ap (λ r. has_number r b) (get_or-set_other table place p (with_number most_boards row board) [] other)
+          ∙ unchanged (is_noted table p b)
+          ∙ ap (λ x. is_noted table p b || (x && nat_eq b board)) (sym (ne_eqb p place other))
     ]
   where
     swap : (x y : Bool) → (x || y) ≡ (y || (true && x))
@@ -93,7 +68,7 @@ noted_set words place board p b below from to from_b to_b =
 
 -- one pair was asked about: it is noted where it was, or where the user sees the hands
 pub asked_one : (state : SessionState) (old new : List (List ℕ)) (place board : ℕ) (added : Bool) →
-    ((p b : ℕ) → 1 ≤ b → b ≤ 64 → is_noted new p b ≡ (is_noted old p b || (one_board place board p b && added))) →
+    ((p b : ℕ) → 1 ≤ b → b ≤ most_boards → is_noted new p b ≡ (is_noted old p b || (one_board place board p b && added))) →
     (is_noted old place board || added) ≡ (is_noted old place board || sees_hands state (user_at state place) board) →
     IsAsked state (one_board place board) old new
 asked_one state old new place board added now agrees p b from to =
@@ -112,7 +87,7 @@ asked_one state old new place board added now agrees p b from to =
     ]
 
 -- a table that is as it was
-pub as_before : (place board : ℕ) (table : List (List ℕ)) (p b : ℕ) → 1 ≤ b → b ≤ 64 → is_noted table p b ≡ (is_noted table p b || (one_board place board p b && false))
+pub as_before : (place board : ℕ) (table : List (List ℕ)) (p b : ℕ) → 1 ≤ b → b ≤ most_boards → is_noted table p b ≡ (is_noted table p b || (one_board place board p b && false))
 as_before place board table p b from to = same (is_noted table p b) (one_board place board p b)
   where
     same : (x y : Bool) → x ≡ (x || (y && false))
@@ -251,7 +226,7 @@ module _ (before after : SessionState) (lasts : Lasts before after) (valid : IsV
 
 -- the table after one entry more, where all were asked who may see something now
 module _ (opening : SessionState) (journal : List Entry) (entry : Entry) (before after : SessionState) (old new : List (List ℕ)) (asked : ℕ → ℕ → Bool)
-    (replayed : before ≡ replay opening journal) (leads : after ≡ replay opening (journal ++ entry ∷ [])) (lasts : Lasts before after) (valid : IsValid after.roles) (few : boards_of opening.public.movement ≤ 64)
+    (replayed : before ≡ replay opening journal) (leads : after ≡ replay opening (journal ++ entry ∷ [])) (lasts : Lasts before after) (valid : IsValid after.roles) (few : boards_of opening.public.movement ≤ most_boards)
     (kept : IsNoted opening journal before old) (answers : IsAsked after asked old new)
     (covers : (p b : ℕ) → p < length (users_of after) → 1 ≤ b → b ≤ boards_of opening.public.movement → asked p b ≡ false →
     sees_hands after (user_at after p) b ≡ true → is_exposed opening journal (user_at after p) b ≡ true)
@@ -294,7 +269,7 @@ module _ (opening : SessionState) (journal : List Entry) (entry : Entry) (before
           ]
 
 -- the table at the opening, where all were asked
-pub noted_first : (opening state : SessionState) (none table : List (List ℕ)) (boards : ℕ) → state ≡ opening → none ≡ replicate 256 [] → boards ≡ boards_of opening.public.movement → boards ≤ 64 →
+pub noted_first : (opening state : SessionState) (none table : List (List ℕ)) (boards : ℕ) → state ≡ opening → none ≡ replicate most_users [] → boards ≡ boards_of opening.public.movement → boards ≤ most_boards →
     IsAsked opening (first_users (length (users_of opening)) boards) none table → IsNoted opening [] state table
 noted_first opening state none table boards same nothing all few answers =
     subst (λ (s : SessionState). IsNoted opening [] s table) (sym same) (record {
@@ -307,7 +282,7 @@ noted_first opening state none table boards same nothing all few answers =
     })
   where
     unnoted : (p b : ℕ) → is_noted none p b ≡ false
-    unnoted p b = ap (λ table. is_noted table p b) nothing ∙ none_in 256 p b
+    unnoted p b = ap (λ table. is_noted table p b) nothing ∙ none_in most_users p b
 
 -- the first who passes a test is found, where nobody before does
 pub first_spoiler : (p : List ℕ → Bool) (users : List (List ℕ)) (place : ℕ) (user : List ℕ) → place < length users → user ≡ get_or users place [] → p user ≡ true →

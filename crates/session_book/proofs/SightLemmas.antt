@@ -17,7 +17,7 @@ use Rattle.disclosure_rules.specs.declared.rule.Rule.TheVariants.{NoAccount, Not
 use Rattle.disclosure_rules.specs.declared.seat.Seat.{Seat}
 use Rattle.disclosure_rules.specs.declared.viewer.Viewer.{Viewer}
 use Rattle.disclosure_rules.specs.LiveCells.{is_live}
-use Rattle.disclosure_rules.specs.Numbers.{has_number}
+use Rattle.small_sets.specs.Numbers.{has_number}
 use Rattle.disclosure_rules.specs.Policy.{is_authorized, guarding, forbids}
 use Rattle.disclosure_rules.specs.Seating.{some_that, cell_in, plays_board, has_still_to_play, is_complete}
 use Rattle.disclosure_rules.proofs.FirstLemmas.{none_forbids, no_first}

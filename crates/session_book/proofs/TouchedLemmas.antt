@@ -2,7 +2,7 @@
 use Rattle.std.proofs.Common.{◌≡◌, ℕ, ◌+◌, ◌<◌, ◌≤◌, ◌⊎◌, Bool, true, false, List, [], ◌∷◌, ◌++◌, length, nat_eq, refl, sym, ap, ◌∙◌, subst, inl, inr, arith}
 use Rattle.std.specs.Prelude.{◌||◌, ◌&&◌, nat_le, nat_lt}
 use Rattle.std.proofs.lemmas.Bool.{cases_Bool, cases_eq, le-leb, lt-leb, lt-ltb, le-ltb, eq-eqb, ne_eqb, and_left, and_right, or_left}
-use Rattle.movement.specs.Movement.{boards_of}
+use Rattle.movement.specs.Movement.{boards_of, most_boards}
 use Rattle.rbac.specs.Account.{same_name}
 use Rattle.rbac.specs.Authorization.{IsValid}
 use Rattle.session_state.specs.Apply.{apply}
@@ -110,7 +110,7 @@ pub touched_none : (state : SessionState) (touched : Touched) (last p b : ℕ) �
 touched_none state touched last p b from = and_left _ _ (le-ltb p 0 (omega arith))
 
 -- an entry exposes nobody anew to what it doesn't touch
-pub untouched_exposed : (opening : SessionState) (journal : List Entry) (entry : Entry) (user : List ℕ) (board : ℕ) → 1 ≤ board → board ≤ 64 → is_touched (touched_by entry.command) user board ≡ false →
+pub untouched_exposed : (opening : SessionState) (journal : List Entry) (entry : Entry) (user : List ℕ) (board : ℕ) → 1 ≤ board → board ≤ most_boards → is_touched (touched_by entry.command) user board ≡ false →
     is_exposed opening (journal ++ entry ∷ []) user board ≡ is_exposed opening journal user board
 untouched_exposed opening journal entry user board low high untouched =
     let before = replay opening journal in
@@ -126,7 +126,7 @@ untouched_exposed opening journal entry user board low high untouched =
 
 -- the table after one entry more, where all were asked about whom the entry touches
 pub noted_by_touched : (opening : SessionState) (journal : List Entry) (entry : Entry) (before after : SessionState) (old new : List (List ℕ)) (touched : Touched) (boards : ℕ) →
-    before ≡ replay opening journal → after ≡ apply before entry → IsValid after.roles → touched ≡ touched_by entry.command → boards ≡ boards_of opening.public.movement → boards ≤ 64 →
+    before ≡ replay opening journal → after ≡ apply before entry → IsValid after.roles → touched ≡ touched_by entry.command → boards ≡ boards_of opening.public.movement → boards ≤ most_boards →
     IsNoted opening journal before old → IsAsked after (touched_before after touched boards (length (users_of after))) old new → IsNoted opening (journal ++ entry ∷ []) after new
 noted_by_touched opening journal entry before after old new touched boards replayed applied valid touches all few kept answers =
     noted_more opening journal entry before after old new (touched_before after touched boards (length (users_of after))) replayed

@@ -9,6 +9,7 @@ use Rattle.std.proofs.lemmas.List.{get_or-set_other}
 use Rattle.std.proofs.lemmas.List.Folds.{find-append}
 use Rattle.table_terms.specs.Bits.{any_filter}
 use Rattle.movement.specs.declared.cell.Cell.{Cell}
+use Rattle.movement.specs.Movement.{most_tables, most_boards}
 use Rattle.movement.specs.Schedule.{is_scheduled}
 use Rattle.movement.proofs.CellLemmas.{cell_in_range}
 use Rattle.movement.proofs.ScheduleTests.{scheduled-cell}
@@ -21,11 +22,11 @@ use Rattle.session_roles.specs.declared.role.Role.{Role}
 use Rattle.rbac.proofs.AccountLemmas.{same_name_decides, changed, changed_other, name_kept}
 use Rattle.rbac.proofs.AuthorizationLemmas.{decides_is_reached}
 use Rattle.disclosure_rules.specs.LiveCells.{is_live, tables_at, with_live, without_live}
-use Rattle.disclosure_rules.specs.Numbers.{has_number, with_number, without_number}
+use Rattle.small_sets.specs.Numbers.{has_number, with_number, without_number}
 use Rattle.disclosure_rules.specs.Policy.{is_authorized}
 use Rattle.disclosure_rules.specs.Seating.{some_that}
 use Rattle.disclosure_rules.specs.declared.seat.Seat as the_seat
-use Rattle.disclosure_rules.proofs.NumbersLemmas.{has_number-numbers_that}
+use Rattle.small_sets.proofs.NumbersLemmas.{has_number-numbers_that}
 use Rattle.session_state.specs.Apply.{apply, effect, confirmed, with_result}
 use Rattle.session_state.specs.session_commands.Command.{subject_cell}
 use Rattle.session_state.specs.Refusal.{hindrance_of}
@@ -54,7 +55,7 @@ other_board : (live : List (List ℕ)) (cell : Cell) (table board : ℕ) → 1 �
     is_live (with_live live cell) (record { table = table; board = board }) ≡ is_live live (record { table = table; board = board })
 other_board live cell table zero from from_other differ = absurd (omega arith)
 other_board live cell table (suc b) from from_other differ =
-    ap (λ tables. has_number tables table) (get_or-set_other live (cell.board - 1) b (with_number 16 (tables_at live cell.board) cell.table) [] (λ same. differ (omega (arith, same, from))))
+    ap (λ tables. has_number tables table) (get_or-set_other live (cell.board - 1) b (with_number most_tables (tables_at live cell.board) cell.table) [] (λ same. differ (omega (arith, same, from))))
 
 -- what stands at a place after a write is what was written, or what stood there
 written : {X : Type 0} (xs : List X) (i j : ℕ) (x d : X) → (get_or (set xs i x) j d ≡ get_or xs j d) ⊎ ((j ≡ i) × (get_or (set xs i x) j d ≡ x))
@@ -78,23 +79,23 @@ fewer_live : (live : List (List ℕ)) (cell : Cell) (table board : ℕ) → 1 �
     is_live (without_live live cell) (record { table = table; board = board }) ≡ true → is_live live (record { table = table; board = board }) ≡ true
 fewer_live live cell table zero from left = left
 fewer_live live cell table (suc b) from left =
-    let tables = without_number 16 (tables_at live cell.board) cell.table in
+    let tables = without_number most_tables (tables_at live cell.board) cell.table in
     elim (written live (cell.board - 1) b tables []) [
       | inl same ↦ ap (λ numbers. has_number numbers table) (sym same) ∙ left
       | inr here ↦
           let number : cell.board ≡ suc b = omega (arith, here.0, from) in
           ap (λ n. has_number (tables_at live n) table) (sym number)
-          ∙ fewer 16 (tables_at live cell.board) cell.table table (ap (λ numbers. has_number numbers table) (sym here.1) ∙ left)
+          ∙ fewer most_tables (tables_at live cell.board) cell.table table (ap (λ numbers. has_number numbers table) (sym here.1) ∙ left)
     ]
 
 -- boards that are held: one more, and another one less
-still_held : (held : List ℕ) (number board : ℕ) → 1 ≤ board → board ≤ 64 → has_number held board ≡ true → has_number (with_number 64 held number) board ≡ true
+still_held : (held : List ℕ) (number board : ℕ) → 1 ≤ board → board ≤ most_boards → has_number held board ≡ true → has_number (with_number most_boards held number) board ≡ true
 still_held held number board from to is =
-    has_number-numbers_that 64 (λ n. nat_eq n number || has_number held n) board from to ∙ or_right _ _ is
+    has_number-numbers_that most_boards (λ n. nat_eq n number || has_number held n) board from to ∙ or_right _ _ is
 
-other_held : (held : List ℕ) (number board : ℕ) → 1 ≤ board → board ≤ 64 → nat_eq board number ≡ false → has_number held board ≡ true → has_number (without_number 64 held number) board ≡ true
+other_held : (held : List ℕ) (number board : ℕ) → 1 ≤ board → board ≤ most_boards → nat_eq board number ≡ false → has_number held board ≡ true → has_number (without_number most_boards held number) board ≡ true
 other_held held number board from to differ is =
-    has_number-numbers_that 64 (λ n. not (nat_eq n number) && has_number held n) board from to ∙ and_from _ _ (not_from_false _ differ) is
+    has_number-numbers_that most_boards (λ n. not (nat_eq n number) && has_number held n) board from to ∙ and_from _ _ (not_from_false _ differ) is
 
 -- seats: another user's, and one that is left
 not_named : (user name : List ℕ) → same_name user name ≡ false → same_name name user ≡ false
@@ -218,7 +219,7 @@ confirmed_elsewhere state cell (Ruled north_south east_west reason) user board f
     nothing_changed state user board
 
 -- one line for each command: of what it doesn't touch it shows no more
-effect_shows : (state : SessionState) (command : Command) (user : List ℕ) (board : ℕ) → ((cell : Cell) → subject_cell command ≡ Some cell → 1 ≤ cell.board) → 1 ≤ board → board ≤ 64 →
+effect_shows : (state : SessionState) (command : Command) (user : List ℕ) (board : ℕ) → ((cell : Cell) → subject_cell command ≡ Some cell → 1 ≤ cell.board) → 1 ≤ board → board ≤ most_boards →
     is_touched (touched_by command) user board ≡ false → ShowsNoMore state (effect state command) user board
 effect_shows state (Enter table number outcome play) user board from low high untouched =
     record { movement = refl; roles = λ role. refl; seat = inl refl; held = λ is. is; live = λ place is. is }
@@ -325,7 +326,7 @@ its_board_is_there state command none cell at =
     (cell_in_range state.public.movement cell (scheduled-cell state.public.movement cell scheduled)).from_board
 
 -- of what an entry doesn't touch it shows no more
-pub untouched_shows : (state : SessionState) (entry : Entry) (user : List ℕ) (board : ℕ) → 1 ≤ board → board ≤ 64 → is_touched (touched_by entry.command) user board ≡ false →
+pub untouched_shows : (state : SessionState) (entry : Entry) (user : List ℕ) (board : ℕ) → 1 ≤ board → board ≤ most_boards → is_touched (touched_by entry.command) user board ≡ false →
     ShowsNoMore state (apply state entry) user board
 untouched_shows state entry user board low high untouched = by_hindrance (hindrance_of state entry.command) refl
   where

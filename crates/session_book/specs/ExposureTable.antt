@@ -1,7 +1,7 @@
 -- For private clauses: the table in which a book keeps who was shown something of which board.
 use Rattle.std.specs.Prelude.{◌≡◌, ℕ, ◌<◌, ◌≤◌, Bool, false, ◌||◌, ◌&&◌, nat_eq, nat_le, nat_lt, List, [], length, slice_index_or}
 use Rattle.movement.specs.Movement.{boards_of, most_boards}
-use Rattle.disclosure_rules.specs.Numbers.{has_number}
+use Rattle.small_sets.specs.Numbers.{has_number}
 use Rattle.session_state.specs.session_commands.declared.entry.Entry.{Entry}
 use Rattle.session_state.specs.SessionState.{SessionState}
 use Rattle.session_book.specs.Exposure.{sees_hands, is_exposed, users_of}

@@ -10,12 +10,13 @@ use Rattle.session_state.specs.session_commands.declared.entry.Entry.{Entry}
 use Rattle.session_state.specs.session_commands.declared.refusal.Refusal.{Refusal}
 use Rattle.session_state.specs.session_commands.declared.refusal.Refusal.TheVariants.{OutOfMemory, NotTried}
 use Rattle.session_state.specs.session_commands.Refusal.{is_out_of_memory}
+use Rattle.session_book.specs.declared.book.TheConstants.Book.{MOST_COMMANDS}
 use Rattle.session_book.specs.Journal.{Ledger, refusal_after, refusal_at}
 use Rattle.session_state.specs.SessionState.{SessionState}
 
 -- how many commands a batch has at most
 abbrev pub most_commands : ℕ
-most_commands = 64
+most_commands = MOST_COMMANDS
 
 -- a journal, and the answers to the commands so far
 pub record Progress : Type 0 where

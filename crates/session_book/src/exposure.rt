@@ -9,7 +9,7 @@ ghost use Rattle.session_book.specs.declared.touched.Touched.TheVariants.{Board,
 ghost use Rattle.session_book.specs.ExposureTable.{is_noted, user_at, IsAsked, IsNoted, one_board, first_boards, first_users};
 
 use crate::touched::Touched;
-use disclosure_rules::{Fact, Viewer, decide};
+use disclosure_rules::{Boards, Fact, Viewer, decide};
 use rbac::Roles;
 use session_state::State;
 use session_state::room::filled;
@@ -21,20 +21,18 @@ use user_names::Name;
 /// ascending.
 #[derive(Drop)]
 pub struct Exposure {
-    words: Vec<u64>,
+    boards: Vec<Boards>,
 }
 
 impl Model for Exposure {
-    ghost use Rattle.std.specs.Prelude.{◌≡◌, ℕ, List, map, vec_len};
-    ghost use Rattle.movement.specs.Movement.{most_boards};
+    ghost use Rattle.std.specs.Prelude.{◌≡◌, ℕ, List, vec_len};
     ghost use Rattle.rbac.specs.Account.{most_users};
-    ghost use Rattle.disclosure_rules.specs.Numbers.{numbers_of_bits};
 
     ghost Value = { List (List ℕ) };
 
-    ghost view = { λ exposure. map (numbers_of_bits most_boards) exposure.words.items };
+    ghost view = { λ exposure. exposure.boards.items };
 
-    ghost invariant = { λ exposure. vec_len exposure.words ≡ most_users };
+    ghost invariant = { λ exposure. vec_len exposure.boards ≡ most_users };
 }
 
 impl Exposure {
@@ -53,8 +51,8 @@ impl Exposure {
     fn new(alloc: Global) -> Result<Exposure, AllocError>
         ensures { IfOk result (λ exposure. exposure ≡ replicate most_users []) }
     {
-        let words = filled(alloc, 0, Roles::MOST_USERS)?;
-        Ok(Exposure { words })
+        let boards = filled(alloc, Boards::new(), Roles::MOST_USERS)?;
+        Ok(Exposure { boards })
     }
 
     /// Whether the board is noted for the account at a place.
@@ -64,7 +62,7 @@ impl Exposure {
         requires to { board ≤ most_boards }
         ensures { result ≡ is_noted self.now place board }
     {
-        self.words[place] >> (board - 1) & 1 == 1
+        self.boards[place].contains(board)
     }
 
     // Notes a board for the account at a place.
@@ -75,7 +73,7 @@ impl Exposure {
         ensures { (p b : ℕ) → 1 ≤ b → b ≤ most_boards →
             is_noted self.new p b ≡ (is_noted self.old p b || one_board place board p b) }
     {
-        self.words[place] |= 1 << (board - 1);
+        self.boards[place].insert(board);
     }
 
     // Notes what the users are allowed, of so many boards: each that isn't noted yet is asked about.

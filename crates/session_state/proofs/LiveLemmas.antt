@@ -4,9 +4,10 @@ use Rattle.std.specs.Prelude.{nat_eq, slice_index_or, slice_set, ◌||◌, ◌&&
 use Rattle.std.proofs.lemmas.Bool.{cases_eq, eq-eqb, ne_eqb, or_left}
 use Rattle.std.proofs.lemmas.List.{get_or-set_same, get_or-set_other}
 use Rattle.session_state.specs.movement.declared.cell.Cell.{Cell}
+use Rattle.session_state.specs.movement.Movement.{most_tables, most_boards}
 use Rattle.session_state.specs.disclosure_rules.LiveCells.{tables_at, is_live, with_live, without_live}
-use Rattle.session_state.specs.disclosure_rules.Numbers.{has_number, numbers_that}
-use Rattle.session_state.proofs.disclosure_rules_lemmas.NumbersLemmas.{has_number-numbers_that}
+use Rattle.small_sets.specs.Numbers.{has_number, numbers_that}
+use Rattle.small_sets.proofs.NumbersLemmas.{has_number-numbers_that}
 use Rattle.session_commands.specs.declared.cell_state.CellState.{CellState}
 use Rattle.session_commands.specs.declared.cell_state.CellState.TheVariants.{Empty, Entered, Confirmed, Ruled}
 use Rattle.session_state.specs.solver_results.PlayAnswer.{PlayedDeal}
@@ -23,9 +24,9 @@ no_tables : (n board table : ℕ) → has_number (tables_at (replicate n []) boa
 no_tables n zero table = refl
 no_tables n (suc board) table = ap (λ tables. has_number tables table) (same_items n board [])
 
-pub none_live : (live : List (List ℕ)) (cells : List CellState) → live ≡ replicate 64 [] → cells ≡ replicate most_cells Empty → AreLive live cells
+pub none_live : (live : List (List ℕ)) (cells : List CellState) → live ≡ replicate most_boards [] → cells ≡ replicate most_cells Empty → AreLive live cells
 none_live live cells none empty cell placed =
-    ap (λ bits. is_live bits cell) none ∙ no_tables 64 cell.board cell.table
+    ap (λ bits. is_live bits cell) none ∙ no_tables most_boards cell.board cell.table
     ∙ sym (ap (λ known. has_result (get_or known (cell_index cell) Empty)) empty ∙ ap has_result (same_items most_cells (cell_index cell) Empty))
 
 -- the place of a cell is its own
@@ -41,34 +42,34 @@ tables_of live i zero is = absurd (omega (arith, is))
 tables_of live i (suc board) is = let same : board ≡ i = omega (arith, is) in ap (λ k. get_or live k []) same
 
 -- the tables of the cell's board become those that pass a test, and those of another board stay
-module _ (live : List (List ℕ)) (cell other : Cell) (boards : length live ≡ 64) (placed : IsPlaced cell) (placed_other : IsPlaced other) where
-  on_its_board : (test : ℕ → Bool) → other.board ≡ cell.board → is_live (slice_set live (cell.board - 1) (numbers_that 16 test)) other ≡ test other.table
+module _ (live : List (List ℕ)) (cell other : Cell) (boards : length live ≡ most_boards) (placed : IsPlaced cell) (placed_other : IsPlaced other) where
+  on_its_board : (test : ℕ → Bool) → other.board ≡ cell.board → is_live (slice_set live (cell.board - 1) (numbers_that most_tables test)) other ≡ test other.table
   on_its_board test same =
       let from = placed.from_board in
       let to = placed.to_board in
       let at : other.board ≡ (cell.board - 1) + 1 = omega (arith, same, from) in
       let below : cell.board - 1 < length live = omega (arith, boards, from, to) in
       ap (λ numbers. has_number numbers other.table)
-      (tables_of (slice_set live (cell.board - 1) (numbers_that 16 test)) (cell.board - 1) other.board at
-      ∙ get_or-set_same live (cell.board - 1) (numbers_that 16 test) [] below)
-      ∙ has_number-numbers_that 16 test other.table placed_other.from_table placed_other.to_table
+      (tables_of (slice_set live (cell.board - 1) (numbers_that most_tables test)) (cell.board - 1) other.board at
+      ∙ get_or-set_same live (cell.board - 1) (numbers_that most_tables test) [] below)
+      ∙ has_number-numbers_that most_tables test other.table placed_other.from_table placed_other.to_table
 
-  on_another_board : (test : ℕ → Bool) → other.board ≢ cell.board → is_live (slice_set live (cell.board - 1) (numbers_that 16 test)) other ≡ is_live live other
+  on_another_board : (test : ℕ → Bool) → other.board ≢ cell.board → is_live (slice_set live (cell.board - 1) (numbers_that most_tables test)) other ≡ is_live live other
   on_another_board test differ =
       let from = placed.from_board in
       let from_other = placed_other.from_board in
       let at : other.board ≡ (other.board - 1) + 1 = omega (arith, from_other) in
       let apart : other.board - 1 ≢ cell.board - 1 = λ same. differ (omega (arith, same, from, from_other)) in
       ap (λ numbers. has_number numbers other.table)
-      (tables_of (slice_set live (cell.board - 1) (numbers_that 16 test)) (other.board - 1) other.board at
-      ∙ get_or-set_other live (cell.board - 1) (other.board - 1) (numbers_that 16 test) [] apart
+      (tables_of (slice_set live (cell.board - 1) (numbers_that most_tables test)) (other.board - 1) other.board at
+      ∙ get_or-set_other live (cell.board - 1) (other.board - 1) (numbers_that most_tables test) [] apart
       ∙ sym (tables_of live (other.board - 1) other.board at))
 
   on_board : other.board ≡ cell.board → has_number (tables_at live cell.board) other.table ≡ is_live live other
   on_board same = ap (λ board. has_number (tables_at live board) other.table) (sym same)
 
   another_table : cell_index other ≢ cell_index cell → other.board ≡ cell.board → nat_eq other.table cell.table ≡ false
-  another_table differ same = ne_eqb other.table cell.table (λ table. differ (λ i. (same i - 1) * 16 + (table i - 1)))
+  another_table differ same = ne_eqb other.table cell.table (λ table. differ (λ i. (same i - 1) * most_tables + (table i - 1)))
 
   -- with a result at the cell
   own_bit_set : cell_index other ≡ cell_index cell → is_live (with_live live cell) other ≡ true
@@ -116,7 +117,7 @@ module _ (cells : List CellState) (cell other : Cell) (known : CellState) where
 -- the live bits stay those of the results: where a result is set, where none is, and where
 -- there is one just where there was
 module _ (live : List (List ℕ)) (cells : List CellState) (cell : Cell) (known : CellState)
-    (placed : IsPlaced cell) (below : cell_index cell < length cells) (boards : length live ≡ 64) (kept : AreLive live cells) where
+    (placed : IsPlaced cell) (below : cell_index cell < length cells) (boards : length live ≡ most_boards) (kept : AreLive live cells) where
   pub result_live : has_result known ≡ true → AreLive (with_live live cell) (slice_set cells (cell_index cell) known)
   result_live is_result other placed_other =
       elim (cases_eq (cell_index other) (cell_index cell)) [

@@ -6,7 +6,7 @@ use Rattle.rbac.specs.RoleData.{RoleData, add_user, assign_user, deassign_user, 
 use Rattle.session_state.specs.disclosure_rules.declared.phase.Phase.TheVariants.{Closed, Final}
 use Rattle.session_state.specs.disclosure_rules.declared.public.Public.{Public}
 use Rattle.session_state.specs.disclosure_rules.LiveCells.{with_live, without_live}
-use Rattle.session_state.specs.disclosure_rules.Numbers.{with_number, without_number}
+use Rattle.small_sets.specs.Numbers.{with_number, without_number}
 use Rattle.session_commands.specs.declared.command.Command.{Command}
 use Rattle.session_commands.specs.declared.command.Command.TheVariants.{Enter, Confirm, Correct, Rule, Void, Hold, Release}
 use Rattle.session_commands.specs.declared.command.Command.TheVariants.{Seat, Unseat, NextRound, Close, Finalise}

@@ -18,7 +18,7 @@ use Rattle.rbac.specs.RoleData.{RoleData, assign_user, deassign_user, add_inheri
 use Rattle.session_roles.specs.declared.role.Role.TheVariants.{Contestant}
 use Rattle.session_state.specs.scoring.declared.outcome.Outcome.{Outcome}
 use Rattle.session_state.specs.scoring.declared.outcome.Outcome.TheVariants.{PassedOut, Played}
-use Rattle.session_state.specs.disclosure_rules.Numbers.{has_number}
+use Rattle.small_sets.specs.Numbers.{has_number}
 use Rattle.session_state.specs.disclosure_rules.Seating.{some_that, is_complete}
 use Rattle.session_state.specs.disclosure_rules.declared.public.Public.{Public}
 use Rattle.session_commands.specs.declared.command.Command.{Command}
@@ -38,6 +38,7 @@ use Rattle.session_commands.specs.declared.refusal.Refusal.TheVariants.{NotAssig
 use Rattle.session_commands.specs.declared.refusal.Refusal.TheVariants.{AlreadyThere, NotThere, StrangeDeal, AlreadySolved, StrangePlay}
 use Rattle.session_commands.specs.declared.refusal.Refusal.TheVariants.{JournalFull}
 use Rattle.session_state.specs.Accounts.{has_account, is_assigned, is_authorized_for, has_administrator, seats_a_stranger}
+use Rattle.session_state.specs.declared.acceptance.TheConstants.{MOST_ENTRIES}
 use Rattle.session_state.specs.Accounts.{first_broken, has_pair}
 use Rattle.session_commands.specs.CellState.{has_result, is_empty, is_entered_otherwise, is_played_as, is_counted}
 use Rattle.session_commands.specs.Command.{operation_of, is_solvers, phases_of, subject_user, subject_cell, subject_board}
@@ -51,7 +52,7 @@ use Rattle.session_state.specs.SessionState.{SessionState, cell_at, table_at, is
 
 -- how many entries a journal has at most
 abbrev pub most_entries : ℕ
-most_entries = 60000
+most_entries = MOST_ENTRIES
 
 -- the first of the causes that is met; a cause that isn't met is none
 abbrev pub first_cause : {Cause : Type 0} → List (Option Cause) → Option Cause

@@ -1,6 +1,6 @@
 //! What is read of the parts of a state.
 ghost use Rattle.std.specs.Prelude.{◌≡◌, length, option_map, slice_get};
-ghost use Rattle.session_state.specs.disclosure_rules.Numbers.{has_number};
+ghost use Rattle.small_sets.specs.Numbers.{has_number};
 ghost use Rattle.session_state.specs.Readers.{digest_among, digest_of, seated_of};
 
 use crate::seated::Seated;

@@ -1,5 +1,5 @@
 use Rattle.std.proofs.Common.{◌+◌, ◌++◌, ◌∷◌, [], ap, sym, ◌∙◌}
-use Rattle.disclosure_rules.specs.Numbers.{has_number}
+use Rattle.small_sets.specs.Numbers.{has_number}
 use Rattle.reply_texts.proofs.RangeLemmas.{numbers_with_next, numbers_without_next}
 use Rattle.reply_texts.proofs.status_writing.held_boards.Goals as goal
 use Rattle.reply_texts.proofs.status_writing.held_boards.Goals.{then-contains+in_ok-push, else-contains}

@@ -1,5 +1,5 @@
 use Rattle.std.proofs.Common.{◌≡◌}
-use Rattle.disclosure_rules.specs.Numbers.{has_number, numbers_that}
+use Rattle.small_sets.specs.Numbers.{has_number, numbers_that}
 use Rattle.reply_texts.proofs.status_writing.held_boards.Given as goal
 
 -- the boards so far are those that are held

@@ -1,6 +1,6 @@
 use Rattle.std.proofs.Common.{◌≡◌}
 use Rattle.disclosure_rules.specs.LiveCells.{is_live}
-use Rattle.disclosure_rules.specs.Numbers.{numbers_that}
+use Rattle.small_sets.specs.Numbers.{numbers_that}
 use Rattle.reply_texts.proofs.status_writing.live_tables.Given as goal
 
 -- the tables so far are those that have a result on the board

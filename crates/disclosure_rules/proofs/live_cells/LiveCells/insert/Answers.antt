@@ -1,19 +1,23 @@
-use Rattle.std.proofs.Common.{◌≡◌, ◌+◌, ◌-◌, get_or, sym, ap, ◌∙◌, arith, w16}
+use Rattle.std.proofs.Common.{[], ◌-◌, sym, ap, ◌∙◌, arith}
 use Rattle.std.specs.Prelude.{slice_set}
-use Rattle.std.proofs.lemmas.List.{map-set}
-use Rattle.disclosure_rules.specs.Numbers.{with_number, numbers_of_bits}
+use Rattle.std.proofs.lemmas.List.{get_or_default, length-set}
+use Rattle.small_sets.specs.Numbers.{with_number}
+use Rattle.movement.specs.Movement.{most_tables}
 use Rattle.disclosure_rules.specs.LiveCells.{tables_at}
-use Rattle.disclosure_rules.proofs.NumbersLemmas.{numbers_of_bits-set}
-use Rattle.disclosure_rules.proofs.LiveCellsLemmas.{tables_at-words}
+use Rattle.disclosure_rules.proofs.LiveCellsLemmas.{tables_at_place}
 use Rattle.disclosure_rules.proofs.live_cells.LiveCells.insert.Goals as goal
+
+pub invariant_of-self : goal.invariant_of-self
+invariant_of-self c = length-set c.self.inside.tables _ _ ∙ c.self.invariant
 
 pub returns : goal.returns
 returns c =
-    let words = c.self.inside.words in
-    let cell = c.args.cell in
-    let place : cell.board ≡ cell.board - 1 + 1 = omega arith in
-    let tables = tables_at-words words cell.board (cell.board - 1) place (omega arith) in
-    map-set (numbers_of_bits 16) words (cell.board - 1) _
-    ∙ (λ i. slice_set (c.self.view_is i) (cell.board - 1) (
-    (numbers_of_bits-set w16 16 (get_or words (cell.board - 1) 0) cell.table (omega arith) c.requires.from_table c.requires.to_table
-    ∙ ap (λ numbers. with_number 16 numbers cell.table) (sym tables ∙ ap (λ live. tables_at live cell.board) c.self.view_is)) i))
+    let live = c.self.inside.tables in
+    let board = c.args.cell.board in
+    let all = c.self.invariant in
+    let tables =
+    get_or_default live _ _ [] (omega (arith, all))
+    ∙ sym (tables_at_place live board c.requires.from_board)
+    ∙ ap (λ live. tables_at live board) c.self.view_is in
+    let more = c.insert.ensures ∙ ap (λ numbers. with_number most_tables numbers c.args.cell.table) tables in
+    λ i. slice_set (c.self.view_is i) (board - 1) (more i)

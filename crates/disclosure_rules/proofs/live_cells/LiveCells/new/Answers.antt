@@ -1,7 +1,6 @@
-use Rattle.std.proofs.Common.{refl}
-use Rattle.disclosure_rules.specs.Numbers.{numbers_of_bits}
+use Rattle.std.proofs.Common.{ap, replicate}
+use Rattle.movement.specs.Movement.{most_boards}
 use Rattle.disclosure_rules.proofs.live_cells.LiveCells.new.Goals as goal
 
 pub returns : goal.returns
-unfolding numbers_of_bits
-returns c = refl
+returns c = ap (replicate most_boards) c.new.ensures

@@ -1,9 +1,15 @@
-use Rattle.std.proofs.Common.{◌≡◌, ◌+◌, sym, ◌∙◌, arith}
+use Rattle.std.proofs.Common.{◌≡◌, ◌≤◌, ◌+◌, sym, ◌∙◌, subst, arith}
 use Rattle.movement.specs.declared.cell.Cell.{Cell}
+use Rattle.movement.specs.Movement.{most_tables}
 use Rattle.movement.proofs.RowLemmas.{same_tables}
-use Rattle.movement.proofs.ScheduledLemmas.{so_far_more, so_far_same, so_far_all, some_is_cell, none_is_no_cell}
+use Rattle.movement.proofs.ScheduledLemmas.{IsSoFar, so_far_none, so_far_more, so_far_same, so_far_all, some_is_cell, none_is_no_cell}
 use Rattle.movement.proofs.movement.Movement.scheduled.Goals as goal
 use Rattle.movement.proofs.movement.Movement.scheduled.Goals.{then-is_some, else-is_some}
+
+pub loop-table-init : goal.loop-table-init
+loop-table-init c =
+    subst (λ numbers. IsSoFar c.args.self c.args.board numbers 0) (sym c.new-scheduled.ensures)
+    (so_far_none c.args.self c.args.board)
 
 pub loop-table-preserved : goal.loop-table-preserved
 loop-table-preserved c =
@@ -13,7 +19,7 @@ loop-table-preserved c =
           let is_cell =
           some_is_cell c.args.self cell c.cell.result (sym c.is_some.ensures ∙ w.if-is_some.true) c.cell.ensures.cell
           c.cell.ensures.some in
-          rw w.scheduled-is
+          rw (w.scheduled-is, w.insert.ensures)
           (so_far_more c.args.self c.args.board c.loop-table.scheduled c.loop-table.table (omega arith) is_cell
           c.loop-table.invariant)
       | else-is_some w ↦

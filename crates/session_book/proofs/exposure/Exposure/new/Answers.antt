@@ -1,7 +1,6 @@
-use Rattle.std.proofs.Common.{map, ap, ◌∙◌}
-use Rattle.disclosure_rules.specs.Numbers.{numbers_of_bits}
-use Rattle.session_book.proofs.ExposureTableLemmas.{nothing_noted}
+use Rattle.std.proofs.Common.{replicate, ap, ◌∙◌}
+use Rattle.rbac.specs.Account.{most_users}
 use Rattle.session_book.proofs.exposure.Exposure.new.Goals as goal
 
 pub returns : goal.returns
-returns c = ap (map (numbers_of_bits 64)) c.in_ok-words.ensures.items ∙ nothing_noted 256
+returns c = c.in_ok-boards.ensures.items ∙ ap (replicate most_users) c.new.ensures

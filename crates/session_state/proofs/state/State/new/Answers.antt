@@ -1,5 +1,6 @@
 use Rattle.std.proofs.Common.{ℕ, List, [], ap, ◌∙◌, arith, length}
 use Rattle.std.proofs.lemmas.List.{length-replicate}
+use Rattle.session_state.specs.movement.Movement.{most_boards}
 use Rattle.session_state.proofs.LiveLemmas.{none_live}
 use Rattle.session_state.proofs.state.State.new.Goals as goal
 
@@ -7,7 +8,7 @@ pub invariant_of-result : goal.invariant_of-result
 invariant_of-result c = record {
   cells = c.in_ok-cells.ensures.len;
   marks = c.requires.marks;
-  boards = ap length c.requires.live ∙ length-replicate {A = List ℕ} 64 [];
+  boards = ap length c.requires.live ∙ length-replicate {A = List ℕ} most_boards [];
   tables = c.in_ok-tables.ensures.len;
   deals = omega (arith, c.args.deals.ok.0, c.requires.deals);
   digests = omega (arith, c.args.digests.ok.0, c.requires.digests);
