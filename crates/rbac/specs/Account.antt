@@ -5,19 +5,21 @@ use Rattle.std.specs.Char.{is_ascii_alphanumeric}
 use Rattle.std.specs.Cmp.Lexicographic.{pointwise}
 use Rattle.session_roles.specs.declared.role.Role.{Role}
 use Rattle.rbac.specs.declared.account.Account.{Account}
+use Rattle.rbac.specs.declared.roles.TheConstants.Roles.{MOST_USERS}
+use Rattle.user_names.specs.declared.name.TheConstants.Name.{MOST}
 use Rattle.session_roles.specs.Role.{has}
 
 -- how many users there are at most
 abbrev pub most_users : ℕ
-most_users = 256
+most_users = MOST_USERS
 
 -- a letter, a digit, `-` or `_`
 abbrev pub is_name_byte : ℕ → Bool
 is_name_byte b = is_ascii_alphanumeric b || nat_eq b 45 || nat_eq b 95
 
--- 1 to 32 of them
+-- from 1 of them to the most that a name has
 abbrev pub is_user_name : List ℕ → Bool
-is_user_name name = nat_le 1 (length name) && nat_le (length name) 32 && list_all is_name_byte name
+is_user_name name = nat_le 1 (length name) && nat_le (length name) MOST && list_all is_name_byte name
 
 -- whether two names are one
 abbrev pub same_name : List ℕ → List ℕ → Bool

@@ -2,12 +2,13 @@
 use Rattle.std.specs.Prelude.{◌≡◌, ℕ, ◌-◌, ◌≤◌, List, ◌++◌, length, take, drop, replicate, IsUtf8}
 use Rattle.std.proofs.Common.{sym, ap, subst, ◌∙◌, take-append-drop, length-take-le}
 use Rattle.user_names.specs.declared.name.Name.TheInside.{Inside}
+use Rattle.user_names.specs.declared.name.TheConstants.Name.{MOST}
 
--- the text fills the front of the 32 places, and zeros the rest
+-- the text fills the front of the places, and zeros the rest
 pub record IsNameInPlaces (name : Inside) : Type 0 where
-  pub places : length name.bytes ≡ 32
-  pub short : name.len ≤ 32
-  pub rest : drop name.len name.bytes ≡ replicate (32 - name.len) 0
+  pub places : length name.bytes ≡ MOST
+  pub short : name.len ≤ MOST
+  pub rest : drop name.len name.bytes ≡ replicate (MOST - name.len) 0
   pub text : IsUtf8 (take name.len name.bytes)
 
 -- the text
@@ -16,7 +17,7 @@ text_of name = take name.len name.bytes
 
 -- a text followed by zeros
 abbrev pub in_places : List ℕ → List ℕ
-in_places text = text ++ replicate (32 - length text) 0
+in_places text = text ++ replicate (MOST - length text) 0
 
 -- the fields of a text
 abbrev pub name_of : List ℕ → Inside
@@ -26,5 +27,5 @@ name_of text = record { bytes = in_places text; len = length text }
 pub name_of-text_of : (name : Inside) → IsNameInPlaces name → name_of (text_of name) ≡ name
 name_of-text_of name kept =
     let len = length-take-le name.len name.bytes (subst (λ n. name.len ≤ n) (sym kept.places) kept.short) in
-    let bytes = ap (λ n. take name.len name.bytes ++ replicate (32 - n) 0) len ∙ ap (λ rest. take name.len name.bytes ++ rest) (sym kept.rest) ∙ take-append-drop name.len name.bytes in
+    let bytes = ap (λ n. take name.len name.bytes ++ replicate (MOST - n) 0) len ∙ ap (λ rest. take name.len name.bytes ++ rest) (sym kept.rest) ∙ take-append-drop name.len name.bytes in
     λ i. record { bytes = bytes i; len = len i }

@@ -1,4 +1,5 @@
 ghost use Rattle.std.specs.Prelude.{◌≡◌, ◌<◌, ◌≤◌, length, IfOk, OnErr, Some};
+ghost use Rattle.user_names.specs.declared.name.TheConstants.Name.{MOST};
 
 use std::marker::Model;
 use std::{fmt, str};
@@ -7,7 +8,7 @@ use thiserror::Error;
 /// The name of a user: a text of at most 32 bytes, which lies in the value itself.
 #[derive(Clone, Copy)]
 pub struct Name {
-    bytes: [u8; 32],
+    bytes: [u8; Name::MOST],
     len: u8,
 }
 
@@ -39,14 +40,14 @@ impl Name {
     /// The name that is this text.
     pub fn new(text: &str) -> Result<Name, NameTooLong>
         ensures ok { IfOk result (λ name. name ≡ text.now) }
-        ensures short { IfOk result (λ name. length text.now ≤ 32) }
-        ensures err { OnErr result (32 < length text.now) }
+        ensures short { IfOk result (λ name. length text.now ≤ MOST) }
+        ensures err { OnErr result (MOST < length text.now) }
     {
         let len = text.len();
         if len > Name::MOST {
             return Err(NameTooLong);
         }
-        let mut bytes = [0; 32];
+        let mut bytes = [0; Name::MOST];
         bytes[..len].copy_from_slice(text.as_bytes());
         Ok(Name {
             bytes,
@@ -57,7 +58,7 @@ impl Name {
     /// The text.
     pub fn as_str(&self) -> &str
         ensures text { result.now ≡ self.now }
-        ensures short { length result.now ≤ 32 }
+        ensures short { length result.now ≤ MOST }
     {
         match str::from_utf8(&self.bytes[..self.len as usize]) {
             Ok(text) => text,
