@@ -1,15 +1,16 @@
 -- Of the causes of a refusal the first is answered, and where none holds the change is made.
-use Rattle.std.proofs.Common.{◌≡◌, ◌≢◌, ℕ, ◌<◌, ◌+◌, Bool, true, false, List, [], length, get_or, set, Option, Some, None, sym, ap, subst, ◌∙◌, arith}
+use Rattle.std.proofs.Common.{◌≡◌, ◌≢◌, ℕ, ◌<◌, ◌+◌, Bool, true, false, List, [], length, get_or, set, Option, Some, None, inl, inr, sym, ap, subst, ◌∙◌, arith}
 use Rattle.std.specs.Prelude.{◌&&◌, not, All, Contains, find}
 use Rattle.std.specs.Option.{is_some, IfSome, IfNone}
 use Rattle.std.specs.Bool.{Decides}
 use Rattle.std.proofs.lemmas.Bool.Decides.{Decides-at}
 use Rattle.std.specs.List.{Any, HoldsAt, list_any}
-use Rattle.std.proofs.lemmas.Bool.{both_ways, and_parts, false≢true}
+use Rattle.std.proofs.lemmas.Bool.{both_ways, and_parts, cases_lt, false_from_ne_true, true_from_ne_false, false≢true}
 use Rattle.session_roles.specs.declared.role.Role.{Role}
 use Rattle.rbac.specs.declared.inheritance.Inheritance.{Inheritance}
 use Rattle.rbac.specs.declared.account.Account.{Account}
 use Rattle.session_roles.specs.declared.separation_set.SeparationSet.{SeparationSet}
+use Rattle.rbac.specs.declared.add_user_error.AddUserError.{AddUserError}
 use Rattle.rbac.specs.declared.add_user_error.AddUserError.TheVariants.{BadName, UserExists, TooManyUsers}
 use Rattle.rbac.specs.declared.assign_error.AssignError.{AssignError}
 use Rattle.rbac.specs.declared.assign_error.AssignError.TheVariants.{NoSuchUser, AlreadyAssigned, Separation}
@@ -23,8 +24,8 @@ use Rattle.session_roles.specs.Role.{has, same_role, with_role, without_role}
 use Rattle.rbac.specs.Inheritance.{Reaches, pair_of, same_inheritance}
 use Rattle.rbac.specs.Hierarchy.{IsClosure, reach, reached_from, is_broken_in}
 use Rattle.session_roles.specs.Separation.{separation_sets, set_number, has_both}
-use Rattle.rbac.specs.Account.{is_user_name, HasAccount, IsAssigned, with_change}
-use Rattle.rbac.specs.RoleData.{RoleData, assign_user, deassign_user, add_inheritance}
+use Rattle.rbac.specs.Account.{most_users, is_user_name, HasAccount, IsAssigned, with_change}
+use Rattle.rbac.specs.RoleData.{RoleData, add_user, assign_user, deassign_user, add_inheritance}
 use Rattle.rbac.specs.Authorization.{IsReached, IsBroken, IsValid, reached}
 use Rattle.user_names.specs.First.{IsFirst}
 use Rattle.rbac.specs.Refusals.{add_user_place, RefusesUser, assign_place, RefusesAssignment, deassign_place, RefusesDeassignment, inheritance_place, RefusesInheritance, RefusesDeletion}
@@ -35,7 +36,7 @@ use Rattle.rbac.proofs.InheritanceLemmas.{decides_reaches}
 use Rattle.rbac.proofs.ListLemmas.{decides_contains}
 use Rattle.rbac.proofs.PairLemmas.{same_pair_decides, same_pair_equivalence}
 use Rattle.session_roles.proofs.SeparationLemmas.{first_found, none_found}
-use Rattle.rbac.proofs.ValidityLemmas.{breaks_itself, valid_change}
+use Rattle.rbac.proofs.ValidityLemmas.{breaks_itself, valid_change, valid_add_user}
 
 -- the account that is read at a place is the one there
 pub has_there : (accounts : List Account) (place : ℕ) (account : Account) (role : Role) (tested answer : Bool) → account ≡ get_or accounts place account → tested ≡ has account.assigned role → tested ≡ answer → has (get_or accounts place account).assigned role ≡ answer
@@ -209,3 +210,23 @@ refused_existing state name fits there = record {
 
 pub accepted_deletion : (state : RoleData) (senior junior : Role) → Contains state.pairs (pair_of senior junior) → (cause : DeleteInheritanceError) → ¬ RefusesDeletion state senior junior cause
 accepted_deletion state senior junior there NotThere gone = gone there
+
+-- a pair that isn't among them is found nowhere
+pub absent_pair : (pairs : List Inheritance) (pair : Inheritance) → ¬ Contains pairs pair → list_any (same_inheritance pair) pairs ≡ false
+absent_pair pairs pair new =
+    not_there pairs pair (false_from_ne_true _ (λ there. new ((decides_there pairs pair).0 there)))
+
+-- a user whom nothing refuses has a proper name, which is nobody else's, and there is room
+module _ (state : RoleData) (name : List ℕ) (valid : IsValid state) (unrefused : (cause : AddUserError) → ¬ RefusesUser state name cause) where
+  pub room_for_another : length state.accounts < most_users
+  room_for_another =
+      elim (cases_lt (length state.accounts) most_users) [
+        | inl below ↦ below
+        | inr full ↦ absurd (unrefused TooManyUsers (omega (arith, full, valid.few)))
+      ]
+
+  pub valid_added : IsValid (add_user state name)
+  valid_added =
+      valid_add_user state name valid (true_from_ne_false _ (unrefused BadName))
+      (λ k d within same. unrefused UserExists (k, get_or state.accounts k d, within, same_default state.accounts k (get_or state.accounts k d) d within, same))
+      room_for_another

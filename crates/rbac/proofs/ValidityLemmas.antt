@@ -11,12 +11,13 @@ use Rattle.session_roles.specs.declared.role.Role.{Role}
 use Rattle.rbac.specs.declared.inheritance.Inheritance.{Inheritance}
 use Rattle.rbac.specs.declared.account.Account.{Account}
 use Rattle.session_roles.specs.declared.separation_set.SeparationSet.{SeparationSet}
-use Rattle.session_roles.specs.Role.{roles_that, IsListed}
+use Rattle.session_roles.specs.Role.{roles_that, IsListed, with_role}
+use Rattle.session_roles.proofs.RoleLemmas.{listed_roles_that}
 use Rattle.rbac.specs.Inheritance.{Reaches, pair_of, same_inheritance, without_pair}
 use Rattle.session_roles.specs.Separation.{apart}
 use Rattle.rbac.specs.Account.{most_users, is_user_name, same_name, new_account, with_change}
-use Rattle.rbac.specs.RoleData.{RoleData, opening_data, add_user, add_inheritance, delete_inheritance}
-use Rattle.rbac.specs.Authorization.{IsReached, IsBroken, IsValid}
+use Rattle.rbac.specs.RoleData.{RoleData, opening_data, add_user, assign_user, add_inheritance, delete_inheritance}
+use Rattle.rbac.specs.Authorization.{IsReached, IsBroken, KeepsSeparation, IsValid}
 use Rattle.rbac.proofs.InheritanceLemmas.{acyclic_push, acyclic_without, reaches_without}
 use Rattle.rbac.proofs.ListLemmas.{Any-push_cases, distinct_filter}
 use Rattle.rbac.proofs.AccountLemmas.{FoundAt, with_roles, changed, name_kept, any_changed, apart_changed, length_changed}
@@ -59,6 +60,24 @@ listed_as : (b : Bool) (account : Account) (set : List Role) → IsListed accoun
 listed_as true account set old new = new
 listed_as false account set old new = old
 
+-- the roles of a user change, and nobody comes to be authorized for both roles of a separation set
+valid_changed : (state : RoleData) (change : List Role → List Role) (name : List ℕ) → IsValid state → ((set : List Role) → IsListed (change set))
+    → KeepsSeparation (record { accounts = with_change change name state.accounts; pairs = state.pairs })
+    → IsValid (record { accounts = with_change change name state.accounts; pairs = state.pairs })
+valid_changed state change name valid listed keeps = record {
+  named = All-map (λ account. is_user_name account.name ≡ true) (changed change name) state.accounts (λ k e within. subst (λ text. is_user_name text ≡ true) (sym (name_kept change name (get_or state.accounts k e))) (valid.named k e within));
+  listed = All-map (λ account. IsListed account.assigned) (changed change name) state.accounts (λ k e within. listed_as (same_name (get_or state.accounts k e).name name) (get_or state.accounts k e) (change (get_or state.accounts k e).assigned) (valid.listed k e within) (listed (get_or state.accounts k e).assigned));
+  names = apart_changed change name state.accounts valid.names;
+  few = subst (λ n. n ≤ most_users) (sym (length_changed change name state.accounts)) valid.few;
+  once = valid.once;
+  acyclic = valid.acyclic;
+  separate = keeps;
+}
+
+pub valid_assigned : (state : RoleData) (name : List ℕ) (role : Role) → IsValid state → KeepsSeparation (assign_user state name role) → IsValid (assign_user state name role)
+valid_assigned state name role valid keeps =
+    valid_changed state (λ set. with_role set role) name valid (λ set. listed_roles_that _) keeps
+
 -- the roles of one user change
 module _ (state : RoleData) (change : List Role → List Role) (name : List ℕ) (place : ℕ) (at : FoundAt state.accounts name place) (valid : IsValid state) (d : Account) where
   -- of the separation sets only those can be broken that the user breaks
@@ -70,15 +89,7 @@ module _ (state : RoleData) (change : List Role → List Role) (name : List ℕ)
       itself set (inr new) = new
 
   pub valid_change : ((set : List Role) → IsListed (change set)) → ((set : SeparationSet) → ¬ ReachesBoth state.pairs (change (get_or state.accounts place d).assigned) set) → IsValid (record { accounts = with_change change name state.accounts; pairs = state.pairs })
-  valid_change listed keeps = record {
-    named = All-map (λ account. is_user_name account.name ≡ true) (changed change name) state.accounts (λ k e within. subst (λ text. is_user_name text ≡ true) (sym (name_kept change name (get_or state.accounts k e))) (valid.named k e within));
-    listed = All-map (λ account. IsListed account.assigned) (changed change name) state.accounts (λ k e within. listed_as (same_name (get_or state.accounts k e).name name) (get_or state.accounts k e) (change (get_or state.accounts k e).assigned) (valid.listed k e within) (listed (get_or state.accounts k e).assigned));
-    names = apart_changed change name state.accounts valid.names;
-    few = subst (λ n. n ≤ most_users) (sym (length_changed change name state.accounts)) valid.few;
-    once = valid.once;
-    acyclic = valid.acyclic;
-    separate = λ set broken. keeps set (breaks_itself set broken);
-  }
+  valid_change listed keeps = valid_changed state change name valid listed (λ set broken. keeps set (breaks_itself set broken))
 
 pub valid_add_inheritance : (state : RoleData) (senior junior : Role) → IsValid state → ¬ Reaches state.pairs junior senior → list_any (same_inheritance (pair_of senior junior)) state.pairs ≡ false → ((set : SeparationSet) → ¬ IsBroken (add_inheritance state senior junior) set) → IsValid (add_inheritance state senior junior)
 valid_add_inheritance state senior junior valid up new keeps = record {

@@ -1,4 +1,5 @@
 mod review;
+mod unrefused;
 
 ghost use Rattle.std.specs.Prelude.{◌≡◌, ◌<◌, ◌≢◌, ◌↔◌, length, All, find, option_map, slice_get, Some, IsTrue, IfOk, IfErr, IfSome, IfNone, OnOk, OnErr, OnSome};
 ghost use Rattle.std.specs.List.{list_any, HoldsAt};

@@ -81,13 +81,9 @@ fn join(roles: &mut Roles, user: &NewUser)
     ensures joined { roles.new ≡ with_user roles.old user.now }
     ensures separate { KeepsSeparation roles.new }
 {
-    let Ok(()) = roles.add_user(user.name.as_str()) else {
-        unreachable!()
-    };
+    roles.add_user_unrefused(user.name);
     for role in user.roles.as_slice() {
-        let Ok(()) = roles.assign(user.name.as_str(), *role) else {
-            unreachable!()
-        };
+        roles.assign_unrefused(user.name.as_str(), *role);
     }
 }
 

@@ -24,9 +24,7 @@ impl State {
         requires { hindrance_of self.old (AddUser name digest) ≡ None }
         ensures { self.new ≡ effect self.old (AddUser name digest) }
     {
-        let Ok(()) = self.roles.add_user(name.as_str()) else {
-            unreachable!()
-        };
+        self.roles.add_user_unrefused(name);
         push_within(&mut self.digests, digest);
     }
 
@@ -35,9 +33,7 @@ impl State {
         requires { hindrance_of self.old (Assign name role) ≡ None }
         ensures { self.new ≡ effect self.old (Assign name role) }
     {
-        let Ok(()) = self.roles.assign(name.as_str(), role) else {
-            unreachable!()
-        };
+        self.roles.assign_unrefused(name.as_str(), role);
     }
 
     // Takes an assigned role from a user.
@@ -45,9 +41,7 @@ impl State {
         requires { hindrance_of self.old (Deassign name role) ≡ None }
         ensures { self.new ≡ effect self.old (Deassign name role) }
     {
-        let Ok(()) = self.roles.deassign(name.as_str(), role) else {
-            unreachable!()
-        };
+        self.roles.deassign_unrefused(name.as_str(), role);
     }
 
     // Lets the senior role inherit the junior one.
@@ -55,9 +49,7 @@ impl State {
         requires { hindrance_of self.old (AddInheritance senior junior) ≡ None }
         ensures { self.new ≡ effect self.old (AddInheritance senior junior) }
     {
-        let Ok(()) = self.roles.add_inheritance(senior, junior) else {
-            unreachable!()
-        };
+        self.roles.add_inheritance_unrefused(senior, junior);
     }
 
     // Deletes an inheritance pair.
@@ -65,8 +57,6 @@ impl State {
         requires { hindrance_of self.old (DeleteInheritance senior junior) ≡ None }
         ensures { self.new ≡ effect self.old (DeleteInheritance senior junior) }
     {
-        let Ok(()) = self.roles.delete_inheritance(senior, junior) else {
-            unreachable!()
-        };
+        self.roles.delete_inheritance_unrefused(senior, junior);
     }
 }
