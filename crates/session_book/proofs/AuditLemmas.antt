@@ -2,7 +2,7 @@
 use Rattle.std.proofs.Common.{◌≡◌, ℕ, zero, suc, ◌+◌, ◌-◌, ◌<◌, ◌≤◌, min, List, [], ◌∷◌, ◌++◌, length, get_or, take, drop, refl, sym, ap, ◌∙◌, inl, inr, arith, length-drop}
 use Rattle.std.proofs.lemmas.Bool.{cases_lt}
 use Rattle.std.proofs.lemmas.List.{take_more}
-use Rattle.session_book.specs.Audit.{numbered_from, audit_rows}
+use Rattle.session_book.specs.Audit.{audit_row, numbered_from, audit_rows}
 use Rattle.session_book.specs.declared.audit.AuditRow.{AuditRow}
 use Rattle.session_state.specs.session_commands.declared.entry.Entry.{Entry}
 
@@ -11,28 +11,28 @@ count_numbered number [] = refl
 count_numbered number (entry ∷ entries) = ap (λ n. suc n) (count_numbered (number + 1) entries)
 
 row_at : (number : ℕ) (entries : List Entry) (before k place : ℕ) (entry : Entry) (d : AuditRow) → place ≡ before + k → place < length entries →
-    get_or (drop before (numbered_from number entries)) k d ≡ record { number = number + place; entry = get_or entries place entry }
+    get_or (drop before (numbered_from number entries)) k d ≡ audit_row (number + place) (get_or entries place entry)
 row_at number [] before k place entry d at below = absurd (omega arith)
-row_at number (e ∷ es) zero zero zero entry d at below = let same : number ≡ number + 0 = omega arith in λ i. record { number = same i; entry = e }
+row_at number (e ∷ es) zero zero zero entry d at below = let same : number ≡ number + 0 = omega arith in λ i. audit_row (same i) e
 row_at number (e ∷ es) zero zero (suc place) entry d at below = absurd (omega arith)
 row_at number (e ∷ es) zero (suc k) zero entry d at below = absurd (omega arith)
 row_at number (e ∷ es) zero (suc k) (suc place) entry d at below =
     let same : (number + 1) + place ≡ number + suc place = omega arith in
-    row_at (number + 1) es zero k place entry d (omega arith) (omega arith) ∙ (λ i. record { number = same i; entry = get_or es place entry })
+    row_at (number + 1) es zero k place entry d (omega arith) (omega arith) ∙ (λ i. audit_row (same i) (get_or es place entry))
 row_at number (e ∷ es) (suc before) k zero entry d at below = absurd (omega arith)
 row_at number (e ∷ es) (suc before) k (suc place) entry d at below =
     let same : (number + 1) + place ≡ number + suc place = omega arith in
-    row_at (number + 1) es before k place entry d (omega arith) (omega arith) ∙ (λ i. record { number = same i; entry = get_or es place entry })
+    row_at (number + 1) es before k place entry d (omega arith) (omega arith) ∙ (λ i. audit_row (same i) (get_or es place entry))
 
 -- one row more
 pub rows_more : (journal : List Entry) (before k number : ℕ) (entry : Entry) (rows : List AuditRow) → before + k < length journal → number ≡ before + k + 1 → entry ≡ get_or journal (before + k) entry →
-    rows ≡ take k (drop before (numbered_from 1 journal)) → rows ++ record { number = number; entry = entry } ∷ [] ≡ take (k + 1) (drop before (numbered_from 1 journal))
+    rows ≡ take k (drop before (numbered_from 1 journal)) → rows ++ audit_row number entry ∷ [] ≡ take (k + 1) (drop before (numbered_from 1 journal))
 rows_more journal before k number entry rows below counted here so_far =
     let all = numbered_from 1 journal in
-    let row : AuditRow = record { number = number; entry = entry } in
+    let row = audit_row number entry in
     let within : k < length (drop before all) = omega (arith, length-drop before all, count_numbered 1 journal, below) in
     let same : number ≡ 1 + (before + k) = omega (arith, counted) in
-    (λ i. so_far i ++ record { number = same i; entry = here i } ∷ [])
+    (λ i. so_far i ++ audit_row (same i) (here i) ∷ [])
     ∙ (λ i. take k (drop before all) ++ sym (row_at 1 journal before k (before + k) entry row refl below) i ∷ [])
     ∙ sym (take_more (drop before all) k row within)
 

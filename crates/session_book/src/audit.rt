@@ -2,18 +2,20 @@
 ghost use Rattle.std.specs.Prelude.{◌≡◌, IfOk};
 ghost use Rattle.session_book.specs.Audit.{audit_rows};
 
-use session_state::Entry;
 use session_state::room::push_within;
+use session_state::{Actor, CommandWord, Entry, Target};
 use std::alloc::{AllocError, Global};
 use std::fmt;
 use std::marker::Model;
 use thiserror::Error;
 
-/// An entry of the journal, and its number from 1.
+/// What an audit tells of an entry: its number from 1, who gave the command, how it is called, and what it is about.
 #[derive(Clone, Copy)]
 pub struct AuditRow {
     pub number: usize,
-    pub entry: Entry,
+    pub actor: Actor,
+    pub word: CommandWord,
+    pub target: Target,
 }
 
 /// Rows of the audit, in the order of their numbers: clauses see the list of the rows.
@@ -81,9 +83,12 @@ pub fn rows_of(
     let count = limit.min(journal.len() - before);
     let mut rows = Vec::with_capacity(alloc, count)?;
     for k in 0..count {
+        let entry = journal[before + k];
         let row = AuditRow {
             number: before + k + 1,
-            entry: journal[before + k],
+            actor: entry.actor,
+            word: entry.command.word(),
+            target: entry.command.target(),
         };
         push_within(&mut rows, row);
     }

@@ -4,3 +4,4 @@ pub use Rattle.solver_results.specs.scoring as scoring
 pub mod CellState
 pub mod Command
 pub mod Refusal
+pub mod Told

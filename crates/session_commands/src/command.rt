@@ -1,4 +1,6 @@
+use crate::command_word::CommandWord;
 use crate::refusal::Refusal;
+use crate::target::Target;
 use disclosure_rules::{Cell, Phase};
 use session_roles::{Operation, Role};
 use solver_results::{DdTable, Outcome, Play, PlayCosts};
@@ -108,6 +110,7 @@ impl Command {
     ghost use Rattle.session_commands.specs.Command.{operation_of, is_solvers, phases_of, subject_user, subject_cell, subject_board};
     ghost use Rattle.session_commands.specs.Command.{is_told_by_table, is_among};
     ghost use Rattle.session_commands.specs.Refusal.{spoiled};
+    ghost use Rattle.session_commands.specs.Told.{word_of, target_of};
 
     /// The operation for which a user needs the permission; the solver's commands have none.
     pub fn operation(&self) -> Option<Operation>
@@ -231,6 +234,60 @@ impl Command {
             spoiler.map(Refusal::Spoiled)
         } else {
             None
+        }
+    }
+
+    /// How it is called.
+    pub fn word(&self) -> CommandWord
+        ensures { result ≡ word_of self.now }
+    {
+        match self {
+            Command::Enter { .. } => CommandWord::Enter,
+            Command::Confirm { .. } => CommandWord::Confirm,
+            Command::Correct { .. } => CommandWord::Correct,
+            Command::Rule { .. } => CommandWord::Rule,
+            Command::Void { .. } => CommandWord::Void,
+            Command::Hold { .. } => CommandWord::Hold,
+            Command::Release { .. } => CommandWord::Release,
+            Command::Seat { .. } => CommandWord::Seat,
+            Command::Unseat { .. } => CommandWord::Unseat,
+            Command::NextRound => CommandWord::NextRound,
+            Command::Close => CommandWord::Close,
+            Command::Finalise => CommandWord::Finalise,
+            Command::AddUser { .. } => CommandWord::AddUser,
+            Command::Assign { .. } => CommandWord::Assign,
+            Command::Deassign { .. } => CommandWord::Deassign,
+            Command::AddInheritance { .. } => CommandWord::AddInheritance,
+            Command::DeleteInheritance { .. } => CommandWord::DeleteInheritance,
+            Command::Solved { .. } => CommandWord::Solved,
+            Command::Analysed { .. } => CommandWord::Analysed,
+        }
+    }
+
+    /// What it is about.
+    pub fn target(&self) -> Target
+        ensures { result ≡ target_of self.now }
+    {
+        match *self {
+            Command::Enter { table, board, .. }
+            | Command::Confirm { table, board, .. }
+            | Command::Correct { table, board, .. }
+            | Command::Rule { table, board, .. }
+            | Command::Void { table, board }
+            | Command::Analysed { table, board, .. } => Target::Cell(Cell { table, board }),
+            Command::Hold { board } | Command::Release { board } | Command::Solved { board, .. } =>
+                { Target::Board(board) }
+            Command::Seat { name, .. } | Command::Unseat { name } | Command::AddUser { name, .. } =>
+                { Target::User(name) }
+            Command::Assign { name, role } | Command::Deassign { name, role } => {
+                Target::Assignment { name, role }
+            }
+            Command::AddInheritance { senior, junior }
+            | Command::DeleteInheritance { senior, junior } => Target::Inheritance {
+                senior,
+                junior,
+            },
+            Command::NextRound | Command::Close | Command::Finalise => Target::Session,
         }
     }
 }

@@ -5,13 +5,17 @@
 mod actor;
 mod cell_state;
 mod command;
+mod command_word;
 mod entry;
 mod refusal;
 pub mod room;
+mod target;
 
 pub use actor::Actor;
 pub use cell_state::CellState;
 pub use command::Command;
+pub use command_word::CommandWord;
 pub use entry::Entry;
 pub use refusal::Refusal;
 pub use solver_results::{Costs, DdTable, Deal, Outcome, Play, PlayAnswer, PlayCosts};
+pub use target::Target;

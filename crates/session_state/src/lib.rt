@@ -14,8 +14,8 @@ pub use disclosure_rules::{Cell, Fact, Marks, Movement, Phase, Public, Rule, Sea
 pub use schedule::has_cell;
 pub use seated::Seated;
 pub use session_commands::{
-    Actor, CellState, Command, Costs, DdTable, Deal, Entry, Outcome, Play, PlayAnswer, PlayCosts,
-    Refusal, room,
+    Actor, CellState, Command, CommandWord, Costs, DdTable, Deal, Entry, Outcome, Play, PlayAnswer,
+    PlayCosts, Refusal, Target, room,
 };
 pub use state::State;
 pub use user_names::Digest;

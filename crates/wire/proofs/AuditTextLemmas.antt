@@ -13,7 +13,7 @@ no_float_in_an_actor Solver = refl
 
 no_float_in_rows : (rows : List AuditRow) → items_have_float (items_of (map audit_row_data rows)) ≡ false
 no_float_in_rows [] = refl
-no_float_in_rows (row ∷ rows) = λ i. (no_float_in_an_actor row.entry.actor i || false) || no_float_in_rows rows i
+no_float_in_rows (row ∷ rows) = λ i. (no_float_in_an_actor row.actor i || false) || no_float_in_rows rows i
 
 pub no_float_in_an_audit : (rows : List AuditRow) (version : ℕ) → has_float (audit_data rows version) ≡ false
 no_float_in_an_audit rows version = ap (λ b. b || false) (no_float_in_rows rows)

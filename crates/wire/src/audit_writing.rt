@@ -3,12 +3,12 @@
 ghost use Rattle.std.specs.Prelude.{◌≡◌, map, IfOk, string_bytes};
 ghost use Rattle.serde_json.specs.Data.{array};
 ghost use Rattle.serde_json.specs.View.{view, items_of};
-ghost use Rattle.wire.specs.AuditText.{actor_data, command_word, target, audit_row_data, audit_data, audit_text, refusal_data, audit_refusal_text};
+ghost use Rattle.wire.specs.AuditText.{actor_data, word_text, target_text, audit_row_data, audit_data, audit_text, refusal_data, audit_refusal_text};
 
 use json_fields::{ArrayWriter, ObjectWriter, array_value, string_value};
 use serde_json::{Value, push};
 use session_book::{AuditRow, AuditRows};
-use session_commands::{Actor, Command};
+use session_commands::{Actor, CommandWord, Target};
 use std::alloc::{AllocError, Global};
 
 /// The text of an audit's rows, where the journal has this version.
@@ -60,9 +60,9 @@ fn row_value(alloc: Global, row: &AuditRow) -> Result<Value, AllocError>
 {
     ArrayWriter::new(alloc)
         .item(Ok(Value::from(row.number)))
-        .item(actor_value(alloc, row.entry.actor))
-        .item(Value::try_from_str(alloc, command_word(&row.entry.command)))
-        .item(string_value(target_text(alloc, &row.entry.command)))
+        .item(actor_value(alloc, row.actor))
+        .item(Value::try_from_str(alloc, word_text(row.word)))
+        .item(string_value(target_text(alloc, &row.target)))
         .array()
 }
 
@@ -77,56 +77,45 @@ fn actor_value(alloc: Global, actor: Actor) -> Result<Value, AllocError>
 }
 
 // How a command is called.
-fn command_word(command: &Command) -> &'static str
-    ensures { result.now ≡ command_word command.now }
+fn word_text(word: CommandWord) -> &'static str
+    ensures { result.now ≡ word_text word }
 {
-    match command {
-        Command::Enter { .. } => "Enter",
-        Command::Confirm { .. } => "Confirm",
-        Command::Correct { .. } => "Correct",
-        Command::Rule { .. } => "Rule",
-        Command::Void { .. } => "Void",
-        Command::Hold { .. } => "Hold",
-        Command::Release { .. } => "Release",
-        Command::Seat { .. } => "Seat",
-        Command::Unseat { .. } => "Unseat",
-        Command::NextRound => "NextRound",
-        Command::Close => "Close",
-        Command::Finalise => "Finalise",
-        Command::AddUser { .. } => "AddUser",
-        Command::Assign { .. } => "Assign",
-        Command::Deassign { .. } => "Deassign",
-        Command::AddInheritance { .. } => "AddInheritance",
-        Command::DeleteInheritance { .. } => "DeleteInheritance",
-        Command::Solved { .. } => "Solved",
-        Command::Analysed { .. } => "Analysed",
+    match word {
+        CommandWord::Enter => "Enter",
+        CommandWord::Confirm => "Confirm",
+        CommandWord::Correct => "Correct",
+        CommandWord::Rule => "Rule",
+        CommandWord::Void => "Void",
+        CommandWord::Hold => "Hold",
+        CommandWord::Release => "Release",
+        CommandWord::Seat => "Seat",
+        CommandWord::Unseat => "Unseat",
+        CommandWord::NextRound => "NextRound",
+        CommandWord::Close => "Close",
+        CommandWord::Finalise => "Finalise",
+        CommandWord::AddUser => "AddUser",
+        CommandWord::Assign => "Assign",
+        CommandWord::Deassign => "Deassign",
+        CommandWord::AddInheritance => "AddInheritance",
+        CommandWord::DeleteInheritance => "DeleteInheritance",
+        CommandWord::Solved => "Solved",
+        CommandWord::Analysed => "Analysed",
     }
 }
 
 // What a command is about.
-fn target_text(alloc: Global, command: &Command) -> Result<String, AllocError>
-    ensures { IfOk result (λ text. string_bytes text ≡ target command.now) }
+fn target_text(alloc: Global, target: &Target) -> Result<String, AllocError>
+    ensures { IfOk result (λ text. string_bytes text ≡ target_text target.now) }
 {
-    match command {
-        Command::Enter { table, board, .. }
-        | Command::Confirm { table, board, .. }
-        | Command::Correct { table, board, .. }
-        | Command::Rule { table, board, .. }
-        | Command::Void { table, board }
-        | Command::Analysed { table, board, .. } => format!(in alloc; "{table}/{board}"),
-        Command::Hold { board } | Command::Release { board } | Command::Solved { board, .. } => {
-            board.to_string(alloc)
+    match target {
+        Target::Session => Ok(String::new(alloc)),
+        Target::Cell(cell) => {
+            let (table, board) = (cell.table, cell.board);
+            format!(in alloc; "{table}/{board}")
         }
-        Command::Seat { name, .. } | Command::Unseat { name } | Command::AddUser { name, .. } => {
-            name.to_string(alloc)
-        }
-        Command::Assign { name, role } | Command::Deassign { name, role } => {
-            format!(in alloc; "{name}:{role}")
-        }
-        Command::AddInheritance { senior, junior }
-        | Command::DeleteInheritance { senior, junior } => {
-            format!(in alloc; "{senior}>{junior}")
-        }
-        Command::NextRound | Command::Close | Command::Finalise => Ok(String::new(alloc)),
+        Target::Board(board) => board.to_string(alloc),
+        Target::User(name) => name.to_string(alloc),
+        Target::Assignment { name, role } => format!(in alloc; "{name}:{role}"),
+        Target::Inheritance { senior, junior } => format!(in alloc; "{senior}>{junior}"),
     }
 }
