@@ -17,6 +17,9 @@ ghost use Rattle.session_state.specs.session_commands.declared.command.Command.T
 ghost use Rattle.session_book.specs.declared.answer.Answer.{Answer};
 ghost use Rattle.session_state.specs.session_commands.declared.entry.Entry.{Entry};
 ghost use Rattle.session_state.specs.session_commands.declared.refusal.Refusal.TheVariants.{OutOfMemory};
+ghost use Rattle.session_opening.specs.Opening.{opening_of};
+ghost use Rattle.session_opening.specs.OpeningRefusal.{opening_refusal};
+ghost use Rattle.session_opening.specs.declared.opening_refusal.OpeningRefusal.TheVariants as opening_cause;
 
 use crate::answer::Answer;
 use crate::audit::{AuditError, AuditRows, rows_of};
@@ -26,6 +29,7 @@ use crate::touched::touched_by;
 use disclosure_rules::is_seated_at;
 use movement::Cell;
 use rbac::Account;
+use session_opening::{Config, OpeningRefusal};
 use session_roles::Operation;
 use session_state::room::{push_copy, push_within};
 use session_state::{Actor, Command, DdTable, Entry, PlayCosts, Refusal, State};
@@ -70,9 +74,27 @@ impl Book {
     /// How many commands a batch has at most.
     pub const MOST_COMMANDS: usize = 64;
 
-    /// The book of a session that opens in a state. Its journal is empty, and there is room for all that the session's
-    /// state can need.
-    pub fn open(alloc: Global, opening: State) -> Result<Book, AllocError>
+    /// The book of the session that this opens, or the first cause not to open it. Its journal is empty, and there is room
+    /// for all that the session's state can need.
+    pub fn open(alloc: Global, config: Config) -> Result<Book, OpeningRefusal>
+        requires { boards_of config.movement ≤ length config.boards }
+        ensures opening { IfOk result (λ book. book.opening ≡ opening_of config) }
+        ensures journal { IfOk result (λ book. book.journal ≡ []) }
+        ensures ok { IfOk result (λ book. opening_refusal config ≡ None) }
+        ensures err { IfErr result (λ cause. (opening_refusal config ≡ Some cause)
+            ⊎ ((cause ≡ opening_cause.OutOfMemory) × (opening_refusal config ≡ None))) }
+    {
+        match config.open(alloc) {
+            Ok(opening) => match Book::at_opening(alloc, opening) {
+                Ok(book) => Ok(book),
+                Err(_) => Err(OpeningRefusal::OutOfMemory),
+            },
+            Err(cause) => Err(cause),
+        }
+    }
+
+    // The book of a session that opens in a state.
+    fn at_opening(alloc: Global, opening: State) -> Result<Book, AllocError>
         ensures opening { IfOk result (λ book. book.opening ≡ opening) }
         ensures journal { IfOk result (λ book. book.journal ≡ []) }
     {

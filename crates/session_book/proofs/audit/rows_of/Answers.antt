@@ -1,4 +1,4 @@
-use Rattle.std.proofs.Common.{◌≡◌, ◌+◌, ◌-◌, ◌<◌, min, length, take, drop, refl, ap, ◌∙◌, arith}
+use Rattle.std.proofs.Common.{◌≡◌, ◌+◌, ◌-◌, ◌<◌, min, [], ◌∷◌, ◌++◌, length, take, drop, refl, ap, ◌∙◌, arith}
 use Rattle.session_book.specs.Audit.{numbered_from}
 use Rattle.session_book.proofs.AuditLemmas.{rows_more, rows_all}
 use Rattle.session_book.proofs.audit.rows_of.Goals as goal
@@ -14,6 +14,7 @@ loop-k-preserved c =
       room = omega (arith, c.push_within.ensures.capacity, c.loop-k.invariant.room);
       rows =
           c.push_within.ensures.items
+          ∙ (λ i. c.loop-k.rows.items ++ record { number = before + k + 1; actor = c.index-journal-before.result.actor; word = c.word.ensures i; target = c.target.ensures i } ∷ [])
           ∙ rows_more journal before k (before + k + 1) c.index-journal-before.result c.loop-k.rows.items below refl c.index-journal-before.is c.loop-k.invariant.rows;
     }
 

@@ -2,7 +2,7 @@ use Rattle.std.proofs.Common.{[], sym, ap, ◌∙◌, subst}
 use Rattle.session_book.specs.ExposureTable.{IsNoted}
 use Rattle.session_book.specs.Journal.{IsAccepted}
 use Rattle.session_book.specs.Replay.{replay}
-use Rattle.session_book.proofs.book.Book.open.Goals as goal
+use Rattle.session_book.proofs.book.Book.at_opening.Goals as goal
 
 pub invariant_of-result : goal.invariant_of-result
 unfolding replay
