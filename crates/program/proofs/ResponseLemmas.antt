@@ -1,19 +1,20 @@
 -- What a message's line leads to.
 use Rattle.std.proofs.Common.{◌≡◌, inl, inr, ℕ, true, false, List, [], ◌∷◌, ◌++◌, refl, sym, ap, subst, ◌∙◌}
-use Rattle.std.specs.Prelude.{Result, Ok, Err, IfOk, IfErr, None, if◌then◌else◌}
+use Rattle.std.specs.Prelude.{Result, Ok, Err, IfOk, IfErr, None, ◌&&◌, if◌then◌else◌}
 use Rattle.session_state.specs.SessionState.{SessionState}
 use Rattle.session_state.specs.session_commands.declared.entry.Entry.{Entry}
 use Rattle.json_fields.specs.Reading.{Fails}
 use Rattle.json_fields.specs.declared.request_fault.RequestFault.{RequestFault}
 use Rattle.json_fields.specs.declared.request_fault.RequestFault.TheVariants.{TooLong, Malformed, UnknownRequest, BadField, OutOfMemory}
 use Rattle.wire.specs.ReceiptText.{fault_text}
-use Rattle.wire.specs.Request.{meaning, said_of, script_meaning}
+use Rattle.wire.specs.Request.{meaning, is_message_text, said_of, script_meaning}
 use Rattle.wire.specs.declared.request.ScriptRequest.{ScriptRequest}
 use Rattle.wire.specs.declared.request.UserRequest.{UserRequest}
 use Rattle.wire.specs.declared.request.UserRequest.TheVariants.{Query, Batch, Audit}
 use Rattle.wire.specs.declared.source.Source.TheVariants.{Script}
 use Rattle.request_answers.specs.Answering.{IsAnsweredOnce, IsTakenIn, LeadsOn}
 use Rattle.request_answers.specs.Response.{Response, response_at}
+use Rattle.wire.proofs.LineLemmas.{said_is_text}
 use Rattle.program.specs.Script.{MemoryRefusals, ample, response_to_line, response_to_meaning}
 use Rattle.program.specs.Standing.{line_of}
 use Rattle.program.specs.Writes.{Responds}
@@ -29,16 +30,21 @@ left_alone (Audit range) left now went = went
 
 module _ (opening : SessionState) (journal : List Entry) (line : List ℕ) where
   -- memory was refused before there was any effect
-  pub responds_no_memory : Responds opening journal line journal (fault_text OutOfMemory ++ 10 ∷ [])
+  pub responds_no_memory : is_message_text line ≡ true → Responds opening journal line journal (fault_text OutOfMemory ++ 10 ∷ [])
   unfolding response_to_line
-  responds_no_memory = record { memory = record { refused_before = true; refused_at = None; refused_after = false }; journal_is = refl; text_is = refl }
+  responds_no_memory is =
+      let memory : MemoryRefusals = record { refused_before = true; refused_at = None; refused_after = false } in
+      let nothing : Response = record { journal = journal; text = fault_text OutOfMemory } in
+      let step : response_to_line opening journal (record { line = line; memory = memory }) ≡ nothing =
+      ap (λ b. if b then nothing else response_to_meaning opening journal memory (script_meaning line)) is in
+      record { memory = memory; journal_is = ap (λ (t : Response). t.journal) step; text_is = ap (λ (t : Response). t.text ++ 10 ∷ []) step }
 
   -- with this memory, a line leads to what its meaning does
   response_by : (memory : MemoryRefusals) (meant : Result ScriptRequest RequestFault) → memory.refused_before ≡ false → script_meaning line ≡ meant →
       response_to_line opening journal (record { line = line; memory = memory }) ≡ response_to_meaning opening journal memory meant
   unfolding response_to_line
   response_by memory meant goes_on means =
-      ap (λ b. if b then record { journal = journal; text = fault_text OutOfMemory } else response_to_meaning opening journal memory (script_meaning line)) goes_on
+      ap (λ b. if b && is_message_text line then record { journal = journal; text = fault_text OutOfMemory } else response_to_meaning opening journal memory (script_meaning line)) goes_on
       ∙ ap (response_to_meaning opening journal memory) means
 
   responds_by : (meant : Result ScriptRequest RequestFault) → script_meaning line ≡ meant →
@@ -48,12 +54,13 @@ module _ (opening : SessionState) (journal : List Entry) (line : List ℕ) where
       record { memory = ample; journal_is = ap (λ (t : Response). t.journal) step; text_is = ap (λ (t : Response). t.text ++ 10 ∷ []) step }
 
   -- what isn't read is answered by its fault
-  pub responds_fault : (fault : RequestFault) → Fails fault (script_meaning line) → Responds opening journal line journal (fault_text fault ++ 10 ∷ [])
-  responds_fault TooLong fails = responds_by (Err TooLong) fails
-  responds_fault Malformed fails = responds_by (Err Malformed) fails
-  responds_fault UnknownRequest fails = responds_by (Err UnknownRequest) fails
-  responds_fault BadField fails = responds_by (Err BadField) fails
-  responds_fault OutOfMemory fails = responds_no_memory
+  pub responds_fault : (fault : RequestFault) → (fault ≡ OutOfMemory → is_message_text line ≡ true) → Fails fault (script_meaning line)
+      → Responds opening journal line journal (fault_text fault ++ 10 ∷ [])
+  responds_fault TooLong memory fails = responds_by (Err TooLong) fails
+  responds_fault Malformed memory fails = responds_by (Err Malformed) fails
+  responds_fault UnknownRequest memory fails = responds_by (Err UnknownRequest) fails
+  responds_fault BadField memory fails = responds_by (Err BadField) fails
+  responds_fault OutOfMemory memory fails = responds_no_memory (memory refl)
 
   module _ (said : ScriptRequest) (means : script_meaning line ≡ Ok said) (text : List ℕ) (after : List Entry)
       (answered : IsAnsweredOnce Alone opening journal said.user said.request text after) where
@@ -90,19 +97,20 @@ module _ (opening : SessionState) (journal : List Entry) (line : List ℕ) where
   pub responds_taken_in : (said : ScriptRequest) (after : List Entry) → script_meaning line ≡ Ok said →
       IsTakenIn Alone opening journal said.user said.request after → Responds opening journal line after (fault_text OutOfMemory ++ 10 ∷ [])
   responds_taken_in said after means (inl same) =
-      subst (λ j. Responds opening journal line j (fault_text OutOfMemory ++ 10 ∷ [])) (sym same) responds_no_memory
+      subst (λ j. Responds opening journal line j (fault_text OutOfMemory ++ 10 ∷ [])) (sym same) (responds_no_memory (said_is_text line said means))
   responds_taken_in said after means (inr (text, answered)) = responds_untold said means text after answered
 
 -- a line of which as much is kept as tells what it means
 pub responds_whole : (opening : SessionState) (journal : List Entry) (line whole : List ℕ) (after : List Entry) (text : List ℕ)
-    → meaning Script line ≡ meaning Script whole → Responds opening journal line after text
+    → meaning Script line ≡ meaning Script whole → is_message_text line ≡ is_message_text whole → Responds opening journal line after text
     → Responds opening journal whole after text
 unfolding response_to_line script_meaning
-responds_whole opening journal line whole after text same responds =
+responds_whole opening journal line whole after text same texts responds =
     let memory : MemoryRefusals = responds.memory in
     let step : response_to_line opening journal (record { line = line; memory = memory })
     ≡ response_to_line opening journal (record { line = whole; memory = memory }) =
-    ap (λ meant. if memory.refused_before then record { journal = journal; text = fault_text OutOfMemory } else response_to_meaning opening journal memory (said_of meant)) same in
+    ap (λ meant. if memory.refused_before && is_message_text line then record { journal = journal; text = fault_text OutOfMemory } else response_to_meaning opening journal memory (said_of meant)) same
+    ∙ ap (λ b. if memory.refused_before && b then record { journal = journal; text = fault_text OutOfMemory } else response_to_meaning opening journal memory (said_of (meaning Script whole))) texts in
     record {
       memory = memory;
       journal_is = ap (λ (t : Response). t.journal) (sym step) ∙ responds.journal_is;

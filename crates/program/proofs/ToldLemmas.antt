@@ -1,6 +1,7 @@
 -- A script is a conversation, which a history tells.
 use Rattle.std.proofs.Common.{◌≡◌, inl, inr, ℕ, Bool, true, false, List, [], ◌∷◌, ◌++◌, refl, sym, subst, ◌∙◌, append_assoc, append-nil}
-use Rattle.std.specs.Prelude.{Result, Ok, Err, if◌then◌else◌}
+use Rattle.std.specs.Prelude.{Result, Ok, Err, ◌&&◌, if◌then◌else◌}
+use Rattle.std.proofs.lemmas.Bool.{and_parts}
 use Rattle.std.specs.List.{fold}
 use mathlib.Core.List.{IsPrefix}
 use Rattle.session_state.specs.SessionState.{SessionState}
@@ -10,7 +11,7 @@ use Rattle.json_fields.specs.declared.request_fault.RequestFault.{RequestFault}
 use Rattle.json_fields.specs.declared.request_fault.RequestFault.TheVariants.{OutOfMemory}
 use Rattle.session_keeper.proofs.KeepingLemmas.{prefix_self}
 use Rattle.wire.specs.ReceiptText.{fault_text}
-use Rattle.wire.specs.Request.{script_meaning}
+use Rattle.wire.specs.Request.{is_message_text, script_meaning}
 use Rattle.wire.specs.declared.request.ScriptRequest.{ScriptRequest}
 use Rattle.wire.specs.declared.request.UserRequest.{UserRequest}
 use Rattle.wire.specs.declared.request.UserRequest.TheVariants.{Query, Batch, Audit}
@@ -18,7 +19,7 @@ use Rattle.request_answers.specs.Answering.{IsAnsweredOnce, LeadsOn}
 use Rattle.request_answers.specs.Conversing.{Turn, Answered, TakenIn, Passed, TakesTurn, Stop, journal_now, IsConversation, OnlyAdd}
 use Rattle.request_answers.specs.Response.{Response, response_at}
 use Rattle.request_answers.proofs.ConversingLemmas.{response_accepted, telling}
-use Rattle.program.specs.Script.{Received, respond, response_to_line, response_to_meaning, responses_to, text_with}
+use Rattle.program.specs.Script.{Received, respond, response_to_line, response_to_meaning, responses_to}
 use Rattle.program.specs.Told.{IsLineOf, AreLinesOf, IsScriptTold}
 use Rattle.program.proofs.ResponseLemmas.{Alone}
 
@@ -76,16 +77,18 @@ module _ (opening : SessionState) (journal : List Entry) (received : Received) w
 
   of_meaning : (meant : Result ScriptRequest RequestFault) → script_meaning received.line ≡ meant → TurnFor opening journal received (response_to_meaning opening journal received.memory meant)
   of_meaning (Ok said) means = of_request said means received.memory.refused_after refl
-  of_meaning (Err fault) means = passed (text_with received.memory (fault_text fault)) (inr (fault, means, refl))
+  of_meaning (Err fault) means = passed (fault_text fault) (inr (fault, means, refl))
 
-  of_refused : (b : Bool) → received.memory.refused_before ≡ b →
+  of_refused : (b : Bool) → (received.memory.refused_before && is_message_text received.line) ≡ b →
       TurnFor opening journal received (if b then record { journal = journal; text = fault_text OutOfMemory } else response_to_meaning opening journal received.memory (script_meaning received.line))
-  of_refused true refused = passed (fault_text OutOfMemory) (inl (refused, refl))
+  of_refused true refused =
+      let both = and_parts received.memory.refused_before (is_message_text received.line) refused in
+      passed (fault_text OutOfMemory) (inl (both.0, both.1, refl))
   of_refused false goes_on = of_meaning (script_meaning received.line) refl
 
   takes_turn : TurnFor opening journal received (response_to_line opening journal received)
   unfolding response_to_line
-  takes_turn = of_refused received.memory.refused_before refl
+  takes_turn = of_refused (received.memory.refused_before && is_message_text received.line) refl
 
 -- ---- messages
 

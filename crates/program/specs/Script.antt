@@ -1,5 +1,5 @@
 -- A script: each of its lines after the first that isn't empty is a message, and one line responds to each, in order.
-use Rattle.std.specs.Prelude.{ℕ, Bool, true, false, if◌then◌else◌, Option, None, Result, Ok, Err, List, [], ◌∷◌, ◌++◌, map, filter, drop}
+use Rattle.std.specs.Prelude.{ℕ, Bool, true, false, ◌&&◌, if◌then◌else◌, Option, None, Result, Ok, Err, List, [], ◌∷◌, ◌++◌, map, filter, drop}
 use Rattle.std.specs.List.{fold}
 use Rattle.script_lines.specs.Lines.{lines_of}
 use Rattle.session_state.specs.SessionState.{SessionState}
@@ -7,7 +7,7 @@ use Rattle.session_state.specs.session_commands.declared.entry.Entry.{Entry}
 use Rattle.json_fields.specs.declared.request_fault.RequestFault.{RequestFault}
 use Rattle.json_fields.specs.declared.request_fault.RequestFault.TheVariants.{OutOfMemory}
 use Rattle.wire.specs.ReceiptText.{fault_text}
-use Rattle.wire.specs.Request.{script_meaning}
+use Rattle.wire.specs.Request.{is_message_text, script_meaning}
 use Rattle.wire.specs.declared.request.ScriptRequest.{ScriptRequest}
 use Rattle.request_answers.specs.Response.{Response, response_at}
 
@@ -56,16 +56,18 @@ response_to_request opening journal memory said =
     let response = response_at opening journal memory.refused_at said.user said.request in
     record { journal = response.journal; text = text_with memory response.text }
 
--- what is no request has its fault
+-- what is no request has its fault, whose text takes no memory
 abbrev pub response_to_meaning : SessionState → List Entry → MemoryRefusals → Result ScriptRequest RequestFault → Response
 response_to_meaning opening journal memory (Ok said) = response_to_request opening journal memory said
 response_to_meaning opening journal memory (Err fault) =
-    record { journal = journal; text = text_with memory (fault_text fault) }
+    record { journal = journal; text = fault_text fault }
 
--- a message is what its line means, unless memory was refused before it had any effect
+-- a message is what its line means, unless memory was refused before it had any effect. A line that is too long, or no text
+-- in UTF-8, takes none
 unfoldable pub response_to_line : SessionState → List Entry → Received → Response
 response_to_line opening journal received =
-    if received.memory.refused_before then record { journal = journal; text = fault_text OutOfMemory }
+    if received.memory.refused_before && is_message_text received.line
+    then record { journal = journal; text = fault_text OutOfMemory }
     else response_to_meaning opening journal received.memory (script_meaning received.line)
 
 -- ---- scripts

@@ -6,19 +6,18 @@ use Rattle.json_fields.specs.declared.request_fault.RequestFault.{RequestFault}
 use Rattle.json_fields.specs.declared.request_fault.RequestFault.TheVariants.{OutOfMemory}
 use Rattle.published_view.specs.World.{Moment, IsHistory, now}
 use Rattle.wire.specs.ReceiptText.{fault_text}
-use Rattle.wire.specs.Request.{script_meaning}
+use Rattle.wire.specs.Request.{is_message_text, script_meaning}
 use Rattle.request_answers.specs.Conversing.{Turn, Answered, TakenIn, Passed, Stop, IsConversation, IsToldBy}
-use Rattle.program.specs.Script.{Received, text_with, responses_to}
+use Rattle.program.specs.Script.{Received, responses_to}
 
 -- ---- lines
 
--- the line for a message of which nothing came: memory was refused before there was any effect, or the message means no
--- request, and its fault responds to it
+-- the line for a message of which nothing came: it is a text, and memory was refused before there was any effect, or it means
+-- no request, and its fault responds to it
 abbrev pub IsLineOfNothing : Received → List ℕ → Type 0
 IsLineOfNothing received line =
-    ((received.memory.refused_before ≡ true) × (line ≡ fault_text OutOfMemory))
-    ⊎ ((fault : RequestFault)
-    × (script_meaning received.line ≡ Err fault) × (line ≡ text_with received.memory (fault_text fault)))
+    ((received.memory.refused_before ≡ true) × (is_message_text received.line ≡ true) × (line ≡ fault_text OutOfMemory))
+    ⊎ ((fault : RequestFault) × (script_meaning received.line ≡ Err fault) × (line ≡ fault_text fault))
 
 -- the line for a message that took a turn: the text of the user's request that it means, or that memory was refused for
 -- that text

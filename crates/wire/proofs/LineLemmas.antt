@@ -1,5 +1,5 @@
 -- What a message says, by the text and by the object that it is.
-use Rattle.std.proofs.Common.{◌≡◌, ◌↔◌, ℕ, ◌+◌, ◌≤◌, ◌<◌, List, take, ◌==◌, nat_le, length, Bool, true, false, cond, is_some, Option, Some, None, Result, Ok, Err, IfOk, IsUtf8, refl, subst, sym, ap, ◌∙◌, arith}
+use Rattle.std.proofs.Common.{◌≡◌, ◌≢◌, ◌↔◌, ℕ, ◌+◌, ◌≤◌, ◌<◌, List, take, ◌==◌, nat_le, length, Bool, true, false, cond, ◌&&◌, is_some, Option, Some, None, Result, Ok, Err, IfOk, IfErr, IsUtf8, refl, subst, sym, ap, ◌∙◌, arith}
 use Rattle.std.specs.Str.Lossy.{utf8_valid_len}
 use Rattle.std.proofs.lemmas.List.{take_all, length-take-le}
 use Rattle.std.proofs.lemmas.Str.{utf8_valid_len-IsUtf8}
@@ -13,6 +13,7 @@ use Rattle.wire.specs.declared.audit_range.AuditRange.{AuditRange}
 use Rattle.wire.specs.declared.request.Request.{Request}
 use Rattle.wire.specs.declared.request.RequestBody.{RequestBody}
 use Rattle.wire.specs.declared.request.RequestBody.TheVariants as body
+use Rattle.wire.specs.declared.request.ScriptRequest.{ScriptRequest}
 use Rattle.wire.specs.declared.request.UserRequest.TheVariants as wanting
 use Rattle.wire.specs.declared.source.Source.{Source}
 use Rattle.wire.specs.declared.source.Source.TheVariants.{Script, Connection}
@@ -20,7 +21,7 @@ use Rattle.json_fields.specs.declared.request_fault.RequestFault.{RequestFault}
 use Rattle.json_fields.specs.declared.request_fault.RequestFault.TheVariants.{TooLong, Malformed, UnknownRequest, BadField, OutOfMemory}
 use Rattle.json_fields.specs.Reading.{Gives}
 use Rattle.wire.specs.Audit.{an_audit}
-use Rattle.wire.specs.Request.{most_message_bytes, a_query, a_batch, request_of, object_of, text_meaning, bytes_meaning, meaning, HasFewIn, IsSaid}
+use Rattle.wire.specs.Request.{most_message_bytes, is_message_text, a_query, a_batch, request_of, object_of, text_meaning, bytes_meaning, meaning, said_of, script_meaning, HasFewIn, IsSaid}
 use Rattle.json_fields.specs.Object.{IsObject}
 use Rattle.wire.specs.Grammar.{IsMessage, IsUnknownRequest, IsQuery, IsBatch, IsAudit, IsGreeting, IsNoRequest}
 use Rattle.wire.proofs.RequestLemmas.{query_object, batch_object, audit_object, greeting_object, few_in_request, user_in_script, no_user_on_connection, object_fault, unknown_object}
@@ -57,6 +58,49 @@ long_line source line long =
 pub gives_short : (source : Source) (line : List ℕ) (answer : Result Request RequestFault)
     → length line ≤ most_message_bytes → Gives answer (bytes_meaning source line) → Gives answer (meaning source line)
 gives_short source line answer short given = subst (Gives answer) (sym (short_line source line short)) given
+
+-- ---- bytes for which memory is asked
+
+pub memory_for : {A : Type 0} {P : Type 0} (answer : Result A RequestFault) → P → IfErr answer (λ fault. fault ≡ OutOfMemory → P)
+memory_for (Ok x) holds = tt
+memory_for (Err fault) holds = λ same. holds
+
+pub memory_never : {A : Type 0} {P : Type 0} (answer : Result A RequestFault) → IfErr answer (λ fault. fault ≢ OutOfMemory)
+    → IfErr answer (λ fault. fault ≡ OutOfMemory → P)
+memory_never (Ok x) never = tt
+memory_never (Err fault) never = λ same. absurd (never same)
+
+pub utf8_number : (line : List ℕ) → IsUtf8 line → utf8_valid_len line ≡ length line
+utf8_number line utf8 = utf8_valid_len-IsUtf8 line utf8
+
+pub memory_for_text : {A : Type 0} (answer : Result A RequestFault) (line : List ℕ) → length line ≤ most_message_bytes
+    → IfErr answer (λ fault. fault ≡ OutOfMemory → utf8_valid_len line ≡ length line)
+    → IfErr answer (λ fault. fault ≡ OutOfMemory → is_message_text line ≡ true)
+memory_for_text (Ok x) line short text = tt
+memory_for_text (Err fault) line short text =
+    λ same. ap (λ b. b && (utf8_valid_len line == length line)) (most_is (length line) most_message_bytes short)
+    ∙ same_number _ _ (text same)
+
+-- a request was read of a text
+text_of_request : (source : Source) (line : List ℕ) (short utf8 : Bool) (y : Request)
+    → cond short (cond utf8 (text_meaning source line) (Err Malformed)) (Err TooLong) ≡ Ok y → (short && utf8) ≡ true
+text_of_request source line true true y h = refl
+text_of_request source line true false y h = absurd (cc)
+text_of_request source line false utf8 y h = absurd (cc)
+
+request_is_text : (source : Source) (line : List ℕ) (y : Request) → meaning source line ≡ Ok y → is_message_text line ≡ true
+unfolding meaning bytes_meaning
+request_is_text source line y h =
+    text_of_request source line (nat_le (length line) most_message_bytes) (utf8_valid_len line == length line) y h
+
+text_of_said : (line : List ℕ) (meant : Result Request RequestFault) (said : ScriptRequest) → meaning Script line ≡ meant
+    → said_of meant ≡ Ok said → is_message_text line ≡ true
+text_of_said line (Ok y) said is h = request_is_text Script line y is
+text_of_said line (Err fault) said is h = absurd (cc)
+
+pub said_is_text : (line : List ℕ) (said : ScriptRequest) → script_meaning line ≡ Ok said → is_message_text line ≡ true
+unfolding script_meaning
+said_is_text line said h = text_of_said line (meaning Script line) said refl h
 
 -- ---- what is read, is read of an object
 
@@ -244,3 +288,21 @@ first_bytes_tell source line = by (nat_le (length line) most_message_bytes) refl
         let long : most_message_bytes < length line = grind (arith, is) in
         let many = length-take-le (most_message_bytes + 1) line (omega (arith, long)) in
         long_line source (take (most_message_bytes + 1) line) (omega (arith, many)) ∙ sym (long_line source line long)
+
+-- and tell whether they are a message's text
+pub first_bytes_are_text : (line : List ℕ) → is_message_text (take (most_message_bytes + 1) line) ≡ is_message_text line
+first_bytes_are_text line = by (nat_le (length line) most_message_bytes) refl
+  where
+    too_long : (line : List ℕ) → most_message_bytes < length line → is_message_text line ≡ false
+    too_long line long =
+        ap (λ b. b && (utf8_valid_len line == length line)) (not_most (length line) most_message_bytes long)
+
+    by : (short : Bool) → nat_le (length line) most_message_bytes ≡ short
+        → is_message_text (take (most_message_bytes + 1) line) ≡ is_message_text line
+    by true is =
+        let short = is_most (length line) most_message_bytes is in
+        ap is_message_text (take_all (most_message_bytes + 1) line (omega (arith, short)))
+    by false is =
+        let long : most_message_bytes < length line = grind (arith, is) in
+        let many = length-take-le (most_message_bytes + 1) line (omega (arith, long)) in
+        too_long (take (most_message_bytes + 1) line) (omega (arith, many)) ∙ sym (too_long line long)

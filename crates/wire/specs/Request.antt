@@ -2,7 +2,7 @@
 -- own: of the faults the first in this order that applies: it has too many bytes; they are no object's text; it isn't
 -- exactly one of these, or a word in it names none; a member is missing, isn't listed, or hasn't the type or the range
 -- that it should.
-use Rattle.std.specs.Prelude.{ℕ, ◌≤◌, List, [], ◌∷◌, ◌==◌, length, is_some, IsSome, nat_le, if◌then◌else◌, codes, Option, Some, None, Result, Ok, Err}
+use Rattle.std.specs.Prelude.{ℕ, Bool, ◌&&◌, ◌≤◌, List, [], ◌∷◌, ◌==◌, length, is_some, IsSome, nat_le, if◌then◌else◌, codes, Option, Some, None, Result, Ok, Err}
 use Rattle.std.specs.Str.Lossy.{utf8_valid_len}
 use Rattle.serde_json.specs.Data.{Data, Items}
 use Rattle.serde_json.specs.Read.{read}
@@ -118,6 +118,10 @@ bytes_meaning source bytes =
 unfoldable pub meaning : Source → List ℕ → Result Request RequestFault
 meaning source bytes =
     if nat_le (length bytes) most_message_bytes then bytes_meaning source bytes else Err TooLong
+
+-- whether bytes are read as JSON at all, for which memory may be asked: they are not too many, and a text in UTF-8
+abbrev pub is_message_text : List ℕ → Bool
+is_message_text bytes = nat_le (length bytes) most_message_bytes && (utf8_valid_len bytes == length bytes)
 
 -- a batch has few commands
 abbrev pub HasFew : UserRequest → Type 0

@@ -1,10 +1,12 @@
 //! A request, read from a message's bytes.
 
-ghost use Rattle.std.specs.Prelude.{◌≡◌, IfOk};
+ghost use Rattle.std.specs.Prelude.{◌≡◌, ◌≢◌, length, true, IfOk, IfErr};
+ghost use Rattle.std.specs.Str.Lossy.{utf8_valid_len};
 ghost use Rattle.serde_json.specs.Find.{as_str, as_array};
 ghost use Rattle.serde_json.specs.View.{view, items_view};
 ghost use Rattle.json_fields.specs.Reading.{wanted, Gives};
-ghost use Rattle.wire.specs.Request.{query_of, query_by, batch_of, batch_by, greeting_by, request_of, text_meaning, bytes_meaning, meaning, script_meaning, connection_meaning, said_request, HasFew, HasFewIn};
+ghost use Rattle.json_fields.specs.declared.request_fault.RequestFault.TheVariants.{OutOfMemory};
+ghost use Rattle.wire.specs.Request.{query_of, query_by, batch_of, batch_by, greeting_by, request_of, text_meaning, bytes_meaning, meaning, script_meaning, connection_meaning, said_request, is_message_text, HasFew, HasFewIn};
 
 use crate::audit_reading::audit_of;
 use crate::greeting_reading::greeting_of;
@@ -135,7 +137,8 @@ fn read_text(alloc: Global, text: &str, source: Source) -> Result<Request, Reque
 
 #[tactic(auto, unfolding(crate::specs::Request::bytes_meaning))]
 fn read_bytes(alloc: Global, bytes: &[u8], source: Source) -> Result<Request, RequestFault>
-    ensures { Gives result (bytes_meaning source bytes.now) }
+    ensures meaning { Gives result (bytes_meaning source bytes.now) }
+    ensures memory { IfErr result (λ fault. fault ≡ OutOfMemory → utf8_valid_len bytes.now ≡ length bytes.now) }
 {
     match str::from_utf8(bytes) {
         Ok(text) => read_text(alloc, text, source),
@@ -143,10 +146,11 @@ fn read_bytes(alloc: Global, bytes: &[u8], source: Source) -> Result<Request, Re
     }
 }
 
-/// The request that a message's bytes are.
+/// The request that a message's bytes are. Memory is asked for only where they are not too many, and a text.
 #[tactic(auto, unfolding(crate::specs::Request::meaning))]
 pub fn read_request(alloc: Global, bytes: &[u8], source: Source) -> Result<Request, RequestFault>
     ensures meaning { Gives result (meaning source bytes.now) }
+    ensures memory { IfErr result (λ fault. fault ≡ OutOfMemory → is_message_text bytes.now ≡ true) }
     ensures few { IfOk result (λ request. HasFewIn request.body) }
 {
     if bytes.len() > MOST_MESSAGE_BYTES {
@@ -159,6 +163,7 @@ pub fn read_request(alloc: Global, bytes: &[u8], source: Source) -> Result<Reque
 #[tactic(auto, unfolding(crate::specs::Request::script_meaning))]
 pub fn read_script_request(alloc: Global, bytes: &[u8]) -> Result<ScriptRequest, RequestFault>
     ensures meaning { Gives result (script_meaning bytes.now) }
+    ensures memory { IfErr result (λ fault. fault ≡ OutOfMemory → is_message_text bytes.now ≡ true) }
     ensures few { IfOk result (λ said. HasFew said.request) }
 {
     match read_request(alloc, bytes, Source::Script) {
@@ -171,6 +176,7 @@ pub fn read_script_request(alloc: Global, bytes: &[u8]) -> Result<ScriptRequest,
 #[tactic(auto, unfolding(crate::specs::Request::connection_meaning))]
 pub fn read_connection_request(alloc: Global, bytes: &[u8]) -> Result<RequestBody, RequestFault>
     ensures meaning { Gives result (connection_meaning bytes.now) }
+    ensures memory { IfErr result (λ fault. fault ≡ OutOfMemory → is_message_text bytes.now ≡ true) }
     ensures few { IfOk result HasFewIn }
 {
     match read_request(alloc, bytes, Source::Connection) {
@@ -181,7 +187,8 @@ pub fn read_connection_request(alloc: Global, bytes: &[u8]) -> Result<RequestBod
 
 // The user whom a request names and what it wants, where it names one and greets nobody; any other names nothing.
 fn said_request(request: Request) -> Result<ScriptRequest, RequestFault>
-    ensures { Gives result (said_request request) }
+    ensures said { Gives result (said_request request) }
+    ensures memory { IfErr result (λ fault. fault ≢ OutOfMemory) }
 {
     match request {
         Request {

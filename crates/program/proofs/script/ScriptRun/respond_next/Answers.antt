@@ -1,7 +1,7 @@
 use Rattle.std.proofs.Common.{◌≡◌, ◌≤◌, vec_len, rules, refl, sym, ap, subst, ◌∙◌}
 use Rattle.wire.specs.declared.source.Source.TheVariants.{Script}
-use Rattle.wire.specs.Request.{most_message_bytes, meaning}
-use Rattle.wire.proofs.LineLemmas.{first_bytes_tell}
+use Rattle.wire.specs.Request.{most_message_bytes, meaning, is_message_text}
+use Rattle.wire.proofs.LineLemmas.{first_bytes_tell, first_bytes_are_text}
 use Rattle.program.specs.Writes.{Responds, EndsWith}
 use Rattle.program.proofs.ResponseLemmas.{responds_whole}
 use Rattle.program.proofs.ScriptLemmas.{isnt_empty, kept_none, kept_some, passed_over, responded_next, cut_short, broken, fewer}
@@ -26,10 +26,11 @@ returns-in-Ok-respond-clause-goes_on g c input before at =
     let (text, tells, whole, part) = c.respond.ensures.response in
     let line = c.in-Ok.ensures.line in
     let same = ap (meaning Script) line.kept ∙ first_bytes_tell Script line.whole in
+    let texts = ap is_message_text line.kept ∙ first_bytes_are_text line.whole in
     responded_next input before (g.R.Read.remaining c.args.reader.now) (g.R.Read.remaining c.read_line.new.reader) (g.W.Write.contents c.args.writer.now) (g.W.Write.contents c.respond.new.writer)
     c.args.self.now.keeper c.respond.new.keeper c.args.self.now.left c.read_line.new.left line.whole c.in-Ok.end at line.takes
     (kept_some most_message_bytes c.read_line.new.line.items line.whole line.kept (subst (λ n. 1 ≤ n) c.read_line.new.line.ok.0 some)) c.respond.ensures.opening text
-    (responds_whole _ _ c.read_line.new.line.items line.whole _ text same
+    (responds_whole _ _ c.read_line.new.line.items line.whole _ text same texts
     (subst (λ l. Responds c.args.self.now.keeper.opening c.args.self.now.keeper.journal l c.respond.new.keeper.journal text) c.as_slice.ensures.value tells)) (search rules)
 
 pub returns-in-Err-respond-clause-ends : goal.returns-in-Err-respond-clause-ends
@@ -38,10 +39,11 @@ returns-in-Err-respond-clause-ends g c input before at =
     let (text, tells, whole, part) = c.in-Err-respond.ensures.response in
     let line = c.in-Ok.ensures.line in
     let same = ap (meaning Script) line.kept ∙ first_bytes_tell Script line.whole in
+    let texts = ap is_message_text line.kept ∙ first_bytes_are_text line.whole in
     broken input before (g.R.Read.remaining c.args.reader.now) (g.R.Read.remaining c.read_line.new.reader) (g.W.Write.contents c.args.writer.now) (g.W.Write.contents c.respond.new.writer)
     c.args.self.now.keeper c.args.self.now.left c.read_line.new.left line.whole c.in-Ok.end at line.takes
     (kept_some most_message_bytes c.read_line.new.line.items line.whole line.kept (subst (λ n. 1 ≤ n) c.read_line.new.line.ok.0 some)) c.respond.new.keeper.journal text
-    (responds_whole _ _ c.read_line.new.line.items line.whole _ text same
+    (responds_whole _ _ c.read_line.new.line.items line.whole _ text same texts
     (subst (λ l. Responds c.args.self.now.keeper.opening c.args.self.now.keeper.journal l c.respond.new.keeper.journal text) c.as_slice.ensures.value tells)) part
 
 pub returns-in-Err-clause-ends : goal.returns-in-Err-clause-ends
