@@ -4,10 +4,11 @@ use Rattle.std.specs.Coded.{Coded, code_by, coded×, coded_list, coded_ℕ}
 use Rattle.session_state.specs.session_commands.declared.entry.Entry.{Entry}
 use Rattle.session_state.specs.session_commands.contracts.entry.Entry as the_entry
 use Rattle.displays.specs.Copies.{publications_code}
+use Rattle.displays.specs.declared.publisher.TheConstants.{MOST_DISPLAYS}
 
 -- how many places for displays a server has
 abbrev pub most_places : ℕ
-most_places = 32
+most_places = MOST_DISPLAYS
 
 -- the publications, each as the list of its entries, and the entries that are still to be published
 pub record Outgoing : Type 0 where

@@ -5,8 +5,9 @@ use Rattle.serde_json.specs.Find.{get}
 use Rattle.scoring.specs.declared.doubling.Doubling.{Doubling}
 use Rattle.scoring.specs.declared.doubling.Doubling.TheVariants.{Undoubled, Doubled, Redoubled}
 use Rattle.scoring.specs.Doubling.{times_doubled}
+use Rattle.user_names.specs.declared.name.TheConstants.Name.{MOST}
 use Rattle.json_fields.specs.Form.{Member, Form, applied, form, ◌with◌, formed, HasForm, item_count, first_then, each, AreEach}
-use Rattle.json_fields.specs.Field.{text, number, below_256, small, numbered, at_most_32, named, at_most, limited, called, written, elements, listed}
+use Rattle.json_fields.specs.Field.{text, number, below_256, small, numbered, short_name, named, at_most, limited, called, written, elements, listed}
 use Rattle.json_fields.specs.Doubling.{doubling_numbered}
 
 -- what is read of the member is what it is
@@ -85,15 +86,15 @@ numbered_agrees name = record {
   reads = λ o n is. small_reads (number o) n is.is is.below;
 }
 
-pub name_read : (o : Option (List ℕ)) (name : List ℕ) → at_most_32 o ≡ Some name → (o ≡ Some name) × (length name ≤ 32)
+pub name_read : (o : Option (List ℕ)) (name : List ℕ) → short_name o ≡ Some name → (o ≡ Some name) × (length name ≤ MOST)
 name_read None name h = absurd (cc)
 name_read (Some text) name h =
-    let both = kept (nat_le (length text) 32) (Some text) name h in
+    let both = kept (nat_le (length text) MOST) (Some text) name h in
     let same : text ≡ name = cc (both.1) in
-    (ap Some same, subst (λ t. length t ≤ 32) same (is_most (length text) 32 both.0))
+    (ap Some same, subst (λ t. length t ≤ MOST) same (is_most (length text) MOST both.0))
 
-pub name_reads : (o : Option (List ℕ)) (name : List ℕ) → o ≡ Some name → length name ≤ 32 → at_most_32 o ≡ Some name
-name_reads o name is short = ap at_most_32 is ∙ ap (λ b. cond b (Some name) None) (most_is (length name) 32 short)
+pub name_reads : (o : Option (List ℕ)) (name : List ℕ) → o ≡ Some name → length name ≤ MOST → short_name o ≡ Some name
+name_reads o name is short = ap short_name is ∙ ap (λ b. cond b (Some name) None) (most_is (length name) MOST short)
 
 pub named_read : {A : Type 0} (read : List ℕ → Option A) (text_of : A → List ℕ) (reads : (text : List ℕ) (x : A) → read text ≡ Some x → text ≡ text_of x)
     (o : Option (List ℕ)) (x : A) → option_and_then read o ≡ Some x → o ≡ Some (text_of x)

@@ -2,6 +2,7 @@
 use Rattle.std.specs.Prelude.{◌≡◌, ℕ, ◌<◌, ◌≤◌, List, length, nat_lt, nat_le, if◌then◌else◌, Option, Some, None, option_and_then}
 use Rattle.serde_json.specs.Data.{Data, Items}
 use Rattle.serde_json.specs.Find.{get, as_str, as_number, as_u64, as_array}
+use Rattle.user_names.specs.declared.name.TheConstants.Name.{MOST}
 use Rattle.json_fields.specs.Form.{Member, each, AreEach}
 
 -- a whole number: a token without point and exponent, other than `-0`, from 0 to 2 ^ 64 - 1
@@ -56,21 +57,21 @@ pub record IsAtMost (most : ℕ) (o : Option Data) (n : ℕ) : Type 0 where
 abbrev pub limited : List ℕ → ℕ → Member ℕ
 limited name most = record { name = name; value = λ o. at_most most (number o); Is = IsAtMost most }
 
--- ---- names: at most 32 bytes
+-- ---- names
 
 -- a text that isn't too long for a name
-abbrev pub at_most_32 : Option (List ℕ) → Option (List ℕ)
-at_most_32 None = None
-at_most_32 (Some name) = if nat_le (length name) 32 then Some name else None
+abbrev pub short_name : Option (List ℕ) → Option (List ℕ)
+short_name None = None
+short_name (Some name) = if nat_le (length name) MOST then Some name else None
 
 -- what stands there is this name
 pub record SaysName (o : Option Data) (name : List ℕ) : Type 0 where
   pub is : text o ≡ Some name
-  pub short : length name ≤ 32
+  pub short : length name ≤ MOST
 
 -- a member of this name that is a name itself
 abbrev pub called : List ℕ → Member (List ℕ)
-called name = record { name = name; value = λ o. at_most_32 (text o); Is = SaysName }
+called name = record { name = name; value = λ o. short_name (text o); Is = SaysName }
 
 -- ---- texts that name something
 

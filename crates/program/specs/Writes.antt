@@ -7,12 +7,13 @@ use Rattle.session_state.specs.session_commands.declared.entry.Entry.{Entry}
 use Rattle.session_state.specs.SessionState.{SessionState}
 use Rattle.program.specs.declared.fault.Fault.{Fault}
 use Rattle.program.specs.declared.fault.Fault.TheVariants.{Session, Opening, Input, Output, OutOfMemory}
+use Rattle.program.specs.declared.script.TheConstants.{SCRIPT_LIMIT}
 use Rattle.program.specs.FirstLine.{Opens, OpensNone}
 use Rattle.program.specs.Script.{MemoryRefusals, Received, response_to_line, responses_to, messages_among}
 
 -- how many bytes a script has at most
 abbrev pub script_limit : ℕ
-script_limit = 1073741824
+script_limit = SCRIPT_LIMIT
 
 -- ---- responses, with memory refused here or there
 

@@ -1,5 +1,6 @@
 -- own: how large a filter may be.
 use Rattle.std.specs.Prelude.{ℕ, ◌+◌, ◌-◌, max, Bool, true, nat_le, ◌&&◌, if◌then◌else◌, Option, Some, None}
+use Rattle.query_filter.specs.declared.filter.TheConstants.Filter.{MOST_DEPTH, MOST_ATOMS, MOST_MEMBERS}
 use Rattle.query_filter.specs.Formula.{Formula, Is, Not, And, Or, Formulas, no_formula, formula_then}
 
 -- an atom has depth 1, every other formula one more than its deepest member
@@ -27,13 +28,13 @@ abbrev mutual
   atoms_of_all (formula_then f fs) = atoms f + atoms_of_all fs
 
 abbrev pub most_depth : ℕ
-most_depth = 8
+most_depth = MOST_DEPTH
 
 abbrev pub most_atoms : ℕ
-most_atoms = 32
+most_atoms = MOST_ATOMS
 
 abbrev pub most_members : ℕ
-most_members = 32
+most_members = MOST_MEMBERS
 
 -- how many members a list has
 abbrev pub member_count : Formulas → ℕ
@@ -56,7 +57,8 @@ abbrev mutual
   all_have_lists_within no_formula = true
   all_have_lists_within (formula_then f fs) = has_lists_within f && all_have_lists_within fs
 
--- a formula that a filter may be: at most 8 deep, with at most 32 atoms, and with 1 to 32 members in each list
+-- a formula that a filter may be: not too deep, with not too many atoms, and in each list one member or more, but not too
+-- many
 abbrev pub is_within_limits : Formula → Bool
 is_within_limits f = nat_le (depth f) most_depth && (nat_le (atoms f) most_atoms && has_lists_within f)
 

@@ -2,6 +2,7 @@
 -- with options, of which each has a value. `clap` adds its help.
 use Rattle.std.specs.Prelude.{ℕ, ℤ, [], ◌∷◌, Some, true, pos, codes}
 use Rattle.clap.specs.Words.{App, Rule, Text, new_app, new_rule, with_rule, with_subcommand}
+use Rattle.server_words.specs.declared.words.TheConstants.{MOST_DISPLAYS, MOST_WORKERS, MOST_CONNECTIONS}
 use Rattle.clap.specs.declared.builder.value_parser.ValueParser.TheVariants.{Signed}
 
 -- own: each number's limits
@@ -15,13 +16,13 @@ abbrev pub least_displays : ℕ
 least_displays = 1
 
 abbrev pub most_displays : ℕ
-most_displays = 32
+most_displays = MOST_DISPLAYS
 
 abbrev pub most_workers : ℕ
-most_workers = 16
+most_workers = MOST_WORKERS
 
 abbrev pub most_connections : ℕ
-most_connections = 1000000
+most_connections = MOST_CONNECTIONS
 
 -- an option of this name
 abbrev pub option_rule : Text → Rule

@@ -12,13 +12,14 @@ use Rattle.pbn_records.specs.declared.deals_error.DealsError.TheVariants as deal
 use Rattle.json_fields.specs.Object.{IsObject}
 use Rattle.session_object.specs.declared.object.SessionObject.{SessionObject}
 use Rattle.session_object.specs.declared.parts.Parts.{Parts}
+use Rattle.session_object.specs.declared.reading.TheConstants.{MOST_BYTES}
 use Rattle.session_object.specs.declared.session_fault.SessionFault.{SessionFault}
 use Rattle.session_object.specs.declared.session_fault.SessionFault.TheVariants.{TooLong, Malformed, BadField, Movement, Deals, OutOfMemory}
 use Rattle.session_object.specs.Session.{Session, IsSession}
 
 -- how many bytes the text of a session object has at most
 abbrev pub most_bytes : ℕ
-most_bytes = 1048576
+most_bytes = MOST_BYTES
 
 -- the section that a session object asks for
 abbrev pub section_of : Session → Section

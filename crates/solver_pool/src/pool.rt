@@ -1,5 +1,6 @@
 ghost use Rattle.std.specs.Prelude.{◌≡◌, ◌+◌, ◌-◌, ◌↔◌, ◌++◌, ◌∷◌, [], true, false, None, Some, Ok, Err, IfOk, OnOk, OnErr, length};
 ghost use Rattle.solver_pool.specs.Collected.{is_collected, with_collected};
+ghost use Rattle.solver_pool.specs.declared.pool.TheConstants.Pool.{MOST_JOBS};
 ghost use Rattle.solver_pool.specs.declared.pool_error.AddError.TheVariants.{PoolFull};
 ghost use Rattle.solver_pool.specs.declared.pool_error.CollectError.TheVariants.{Stranger, Double};
 
@@ -20,12 +21,13 @@ pub struct Pool {
 
 impl Model for Pool {
     ghost use Rattle.std.specs.Prelude.{Bool, List, ◌≤◌, length};
+    ghost use Rattle.solver_pool.specs.declared.pool.TheConstants.Pool.{MOST_JOBS};
 
     ghost Value = { List Bool };
 
     ghost view = { λ pool. pool.collected.items };
 
-    ghost invariant = { λ pool. length pool.collected.items ≤ 70000 };
+    ghost invariant = { λ pool. length pool.collected.items ≤ MOST_JOBS };
 }
 
 impl Pool {
@@ -45,7 +47,7 @@ impl Pool {
     pub fn add(&mut self, work: Work) -> Result<Job, AddError>
         ensures job { IfOk result (λ job. job ≡ record { number = length self.old + 1; work = work }) }
         ensures given { OnOk result (self.new ≡ self.old ++ false ∷ []) }
-        ensures pool_full { (result ≡ Err PoolFull) ↔ (length self.old ≡ 70000) }
+        ensures pool_full { (result ≡ Err PoolFull) ↔ (length self.old ≡ MOST_JOBS) }
         ensures unchanged { OnErr result (self.new ≡ self.old) }
     {
         if self.collected.len() == Pool::MOST_JOBS {

@@ -6,10 +6,11 @@ use Rattle.tungstenite.specs.Content.{Content, text, binary, ping, pong, close}
 use Rattle.tungstenite.specs.Heads.{Serves}
 use Rattle.tungstenite.specs.Socket.{Socket, Reads, Writes, content_of}
 use Rattle.tungstenite.specs.declared.message.Message.{Message}
+use Rattle.websocket_server.specs.declared.conversation.TheConstants.{LONGEST_MESSAGE}
 
 -- own: how many bytes a message has at most that is read whole
 abbrev pub longest_message : ℕ
-longest_message = 65537
+longest_message = LONGEST_MESSAGE
 
 -- the text that is sent for an answer: its own, or a fixed one where it found no memory
 abbrev pub sent_text : List ℕ → Option (List ℕ) → List ℕ

@@ -6,8 +6,7 @@ use Rattle.json_fields.specs.Filter.{filter_of}
 use Rattle.json_fields.specs.Form.{Member}
 use Rattle.json_fields.proofs.FormLemmas.{Agrees, numbered_agrees, kept, both_true, is_most, most_is, means_read, means_reads}
 use Rattle.wire.specs.Optional.{read_or, IsOr, optional}
-use Rattle.movement.specs.Movement.{most_boards}
-use Rattle.wire.specs.List.{filter_at, IsFilter, filter_asked, filter, from, limit_numbered, limit_asked, limit}
+use Rattle.wire.specs.List.{filter_at, IsFilter, filter_asked, filter, from, most_listed, limit_numbered, limit_asked, limit}
 
 -- ---- members that may be left out
 
@@ -51,19 +50,19 @@ filter_agrees = optional_agrees None filter_asked filter_asked_agrees
 pub from_agrees : Agrees from
 from_agrees = optional_agrees 1 _ (numbered_agrees _)
 
-limit_is : (m n : ℕ) → limit_numbered m ≡ Some n → (m ≡ n) × (1 ≤ n) × (n ≤ most_boards)
+limit_is : (m n : ℕ) → limit_numbered m ≡ Some n → (m ≡ n) × (1 ≤ n) × (n ≤ most_listed)
 limit_is m n h =
-    let parts = kept (nat_le 1 m && nat_le m most_boards) (Some m) n h in
+    let parts = kept (nat_le 1 m && nat_le m most_listed) (Some m) n h in
     let same : m ≡ n = cc (parts.1) in
-    let both = both_true (nat_le 1 m) (nat_le m most_boards) parts.0 in
+    let both = both_true (nat_le 1 m) (nat_le m most_listed) parts.0 in
     let least = is_most 1 m both.0 in
-    let most = is_most m most_boards both.1 in
+    let most = is_most m most_listed both.1 in
     (same, omega arith, omega arith)
 
-limit_back : (n : ℕ) → 1 ≤ n → n ≤ most_boards → limit_numbered n ≡ Some n
+limit_back : (n : ℕ) → 1 ≤ n → n ≤ most_listed → limit_numbered n ≡ Some n
 limit_back n least most =
-    ap (λ b. cond (b && nat_le n most_boards) (Some n) None) (most_is 1 n least)
-    ∙ ap (λ b. cond b (Some n) None) (most_is n most_boards most)
+    ap (λ b. cond (b && nat_le n most_listed) (Some n) None) (most_is 1 n least)
+    ∙ ap (λ b. cond b (Some n) None) (most_is n most_listed most)
 
 limit_asked_agrees : Agrees limit_asked
 limit_asked_agrees = record {
@@ -75,4 +74,4 @@ limit_asked_agrees = record {
 }
 
 pub limit_agrees : Agrees limit
-limit_agrees = optional_agrees most_boards limit_asked limit_asked_agrees
+limit_agrees = optional_agrees most_listed limit_asked limit_asked_agrees

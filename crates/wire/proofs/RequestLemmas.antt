@@ -23,6 +23,7 @@ use Rattle.wire.specs.Query.{queries, asking, query_called}
 use Rattle.wire.specs.Audit.{audit_range, auditing, an_audit, audit_of}
 use Rattle.wire.specs.Greeting.{a_greeting, greeting}
 use Rattle.wire.specs.Request.{a_query, query_of, query_by, doing, few_commands_in, a_batch, batch_of, batch_by, greeting_by, one_of, request_of, HasFewIn, IsNoGreeting, IsSaid}
+use Rattle.session_book.specs.Run.{most_commands}
 use Rattle.wire.specs.Source.{said_user}
 use Rattle.wire.specs.Grammar.{IsOf, IsUnknownRequest, IsQuery, IsBatch, IsAudit, IsGreeting}
 use Rattle.wire.proofs.AuditLemmas.{audits, audited}
@@ -119,14 +120,14 @@ record Wants (source : Source) (ds : Items) (d : Data) (y : Request) : Type 0 wh
   listed : has_only doing d ≡ true
   named : IsOf source d name
   each : AreEach IsCommand ds list
-  few : length list ≤ 64
+  few : length list ≤ most_commands
 
 wants : (source : Source) (ds : Items) (d : Data) (y : Request) → batch_of source ds d ≡ Some y → Wants source ds d y
 unfolding batch_of
 wants source ds d y h =
     let listed = kept (has_only doing d) (applied (applied (Some a_batch) (whose_of source d)) (few_commands_in ds)) y h in
     let parts = two a_batch (whose_of source d) (few_commands_in ds) y listed.1 in
-    let counted = kept (nat_le (item_count ds) 64) (commands_in ds) parts.1 parts.3 in
+    let counted = kept (nat_le (item_count ds) most_commands) (commands_in ds) parts.1 parts.3 in
     let all = each_read command_of IsCommand command_read ds parts.1 counted.1 in
     record {
       name = parts.0;
@@ -135,17 +136,17 @@ wants source ds d y h =
       listed = listed.0;
       named = (said_agrees source).read _ parts.0 parts.2;
       each = all;
-      few = subst (λ n. n ≤ 64) (each_count IsCommand ds parts.1 all) (is_most (item_count ds) 64 counted.0);
+      few = subst (λ n. n ≤ most_commands) (each_count IsCommand ds parts.1 all) (is_most (item_count ds) most_commands counted.0);
     }
 
 wanted_batch : (source : Source) (ds : Items) (d : Data) (name : Option (List ℕ)) (list : List Command)
-    → has_only doing d ≡ true → IsOf source d name → AreEach IsCommand ds list → length list ≤ 64
+    → has_only doing d ≡ true → IsOf source d name → AreEach IsCommand ds list → length list ≤ most_commands
     → batch_of source ds d ≡ Some (a_batch name list)
 unfolding batch_of
 wanted_batch source ds d name list listed named all few =
     ap (λ b. cond b (applied (applied (Some a_batch) (whose_of source d)) (few_commands_in ds)) None) listed
     ∙ ap (λ o. applied (applied (Some a_batch) o) (few_commands_in ds)) ((said_agrees source).reads _ name named)
-    ∙ ap (λ b. applied (Some (a_batch name)) (cond b (commands_in ds) None)) (most_is (item_count ds) 64 (subst (λ n. n ≤ 64) (sym (each_count IsCommand ds list all)) few))
+    ∙ ap (λ b. applied (Some (a_batch name)) (cond b (commands_in ds) None)) (most_is (item_count ds) most_commands (subst (λ n. n ≤ most_commands) (sym (each_count IsCommand ds list all)) few))
     ∙ ap (applied (Some (a_batch name))) (each_reads command_of IsCommand command_reads ds list all)
 
 -- ---- greetings
@@ -179,7 +180,7 @@ Makes source ask list audit hello d user (body.OfUser (wanting.Query query versi
 Makes source ask list audit hello d user (body.OfUser (wanting.Batch xs)) =
     (count_by (λ member. is_some member) (ask ∷ list ∷ audit ∷ hello ∷ []) ≡ 1)
     × ((elements : Items) × (option_and_then as_array list ≡ Some elements) × AreEach IsCommand elements xs)
-    × (length xs ≤ 64) × (has_only doing d ≡ true) × IsOf source d user
+    × (length xs ≤ most_commands) × (has_only doing d ≡ true) × IsOf source d user
 Makes source ask list audit hello d user (body.OfUser (wanting.Audit range)) =
     (count_by (λ member. is_some member) (ask ∷ list ∷ audit ∷ hello ∷ []) ≡ 1)
     × ((rows : Data) × (audit ≡ Some rows) × HasForm [] audit_range rows range)

@@ -4,6 +4,7 @@ use Rattle.std.specs.Prelude.{◌≡◌, ℕ, ◌≤◌, List, [], ◌∷◌, na
 use Rattle.serde_json.specs.Data.{Data}
 use Rattle.serde_json.specs.Find.{get}
 use Rattle.wire.specs.declared.audit_range.AuditRange.{AuditRange}
+use Rattle.wire.specs.declared.audit_reading.TheConstants.{MOST_ROWS}
 use Rattle.wire.specs.declared.request.Request.{Request}
 use Rattle.wire.specs.declared.request.RequestBody.TheVariants as body
 use Rattle.wire.specs.declared.request.UserRequest.TheVariants as wanting
@@ -35,9 +36,9 @@ counted name limit = record { name = name; value = λ o. from_1_to limit (number
 abbrev pub first_row : Member ℕ
 first_row = counted (codes "from") 18446744073709551615
 
--- how many rows at most: up to 1,000
+-- how many rows at most
 abbrev pub most_rows : Member ℕ
-most_rows = counted (codes "limit") 1000
+most_rows = counted (codes "limit") MOST_ROWS
 
 -- which rows; an object with no word
 abbrev pub audit_range : Form AuditRange

@@ -1,7 +1,7 @@
 -- The members of a list of boards: which boards, from which number on, and how many of them. Each may be left out.
 use Rattle.std.specs.Prelude.{◌≡◌, ℕ, ◌≤◌, nat_le, ◌&&◌, if◌then◌else◌, codes, Option, Some, None, option_map, option_and_then}
 use Rattle.serde_json.specs.Data.{Data}
-use Rattle.movement.specs.Movement.{most_boards}
+use Rattle.wire.specs.declared.list_reading.TheConstants.{MOST_LISTED}
 use Rattle.query_filter.specs.Formula.{Formula}
 use Rattle.json_fields.specs.Filter.{filter_of}
 use Rattle.json_fields.specs.Form.{Member}
@@ -29,20 +29,24 @@ filter = optional None filter_asked
 abbrev pub from : Member ℕ
 from = optional 1 (numbered (codes "from"))
 
--- a limit is 1 to as many boards as a section has at most
+-- how many boards a list has at most
+abbrev pub most_listed : ℕ
+most_listed = MOST_LISTED
+
+-- a limit is 1 to as many boards as a list has at most
 abbrev pub limit_numbered : ℕ → Option ℕ
-limit_numbered n = if nat_le 1 n && nat_le n most_boards then Some n else None
+limit_numbered n = if nat_le 1 n && nat_le n most_listed then Some n else None
 
 -- what stands there is this limit
 pub record IsLimit (o : Option Data) (n : ℕ) : Type 0 where
   pub is : number o ≡ Some n
   pub least : 1 ≤ n
-  pub most : n ≤ most_boards
+  pub most : n ≤ most_listed
 
 -- a member that is a limit
 abbrev pub limit_asked : Member ℕ
 limit_asked = record { name = codes "limit"; value = λ o. option_and_then limit_numbered (small o); Is = IsLimit }
 
--- how many boards are listed at most: as many as a section has at most where it is left out
+-- how many boards are listed at most: as many as a list has where it is left out
 abbrev pub limit : Member ℕ
-limit = optional most_boards limit_asked
+limit = optional most_listed limit_asked

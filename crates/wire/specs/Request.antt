@@ -16,6 +16,7 @@ use Rattle.wire.specs.declared.request.UserRequest.{UserRequest}
 use Rattle.wire.specs.declared.request.ScriptRequest.{ScriptRequest}
 use Rattle.wire.specs.declared.request.RequestBody.TheVariants as body
 use Rattle.wire.specs.declared.request.UserRequest.TheVariants as wanting
+use Rattle.wire.specs.declared.reading.TheConstants.{MOST_MESSAGE_BYTES}
 use Rattle.wire.specs.declared.source.Source.{Source}
 use Rattle.wire.specs.declared.source.Source.TheVariants.{Script, Connection}
 use Rattle.json_fields.specs.declared.request_fault.RequestFault.{RequestFault}
@@ -31,7 +32,7 @@ use Rattle.wire.specs.Source.{said_user}
 
 -- how many bytes a message has at most, without what ends its line
 abbrev pub most_message_bytes : ℕ
-most_message_bytes = 65536
+most_message_bytes = MOST_MESSAGE_BYTES
 
 -- ---- queries
 

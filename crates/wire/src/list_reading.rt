@@ -9,11 +9,13 @@ ghost use Rattle.wire.specs.List.{filter, from, limit};
 ghost use Rattle.wire.specs.Query.{query_called, IsFiltered};
 
 use json_fields::{FilterFault, RequestFault, has_only, read_filter, small_number_at};
-use movement::Movement;
 use query_filter::Filter;
 use serde_json::Value;
 use session_queries::Query;
 use std::alloc::Global;
+
+/// How many boards a list has at most, and where it names no limit.
+const MOST_LISTED: u8 = 64;
 
 fn from_of(value: &Value) -> Option<u8>
     ensures { result ≡ from.value (get from.name (view value.now)) }
@@ -28,10 +30,10 @@ fn limit_of(value: &Value) -> Option<u8>
     ensures { result ≡ limit.value (get limit.name (view value.now)) }
 {
     if value.get("limit").is_none() {
-        return Some(Movement::MOST_BOARDS);
+        return Some(MOST_LISTED);
     }
     let limit = small_number_at(value, "limit")?;
-    if 1 <= limit && limit <= Movement::MOST_BOARDS {
+    if 1 <= limit && limit <= MOST_LISTED {
         Some(limit)
     } else {
         None

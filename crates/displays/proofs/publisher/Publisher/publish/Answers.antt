@@ -1,6 +1,7 @@
 use Rattle.std.proofs.Common.{◌≡◌, ◌<◌, ◌≤◌, ◌+◌, ◌++◌, ◌∷◌, [], ℕ, length, drop, fold, refl, sym, ap, subst, arith, length-append, append-nil}
 use Rattle.session_book.specs.Journal.{IsAccepted}
 use Rattle.session_book.proofs.JournalLemmas.{accepted_length}
+use Rattle.session_state.specs.Refusal.{most_entries}
 use Rattle.history.specs.Prefixes.{entries_of}
 use Rattle.displays.specs.Copies.{with_addition}
 use Rattle.displays.specs.Publishing.{Outgoing}
@@ -21,7 +22,7 @@ overflow_add-self g c =
     let i = c.self.invariant in
     let bs = c.self.inside.writer.desk.shown.value.prefix.publications in
     let more = c.self.inside.pending.items in
-    let few : length (entries_of bs ++ more) ≤ 60000 = accepted_length _ _ i.3 in
+    let few : length (entries_of bs ++ more) ≤ most_entries = accepted_length _ _ i.3 in
     let count : length c.as_slice-count.result.now ≡ length more = rw (c.as_slice-count.ensures.value, c.replace-entries.ensures.value) refl in
     omega (arith, i.4, few, count, length-append (entries_of bs) more)
 
