@@ -15,7 +15,7 @@ use std::rt::Files;
 use std::sync::Wait;
 use std::thread::Threads;
 use std::time::Clock;
-use websocket_server::LONGEST_MESSAGE;
+use websocket_server::{ClientTerms, LONGEST_MESSAGE};
 use wire::MOST_MESSAGE_BYTES;
 
 // A message that is one byte too long is read whole, so that it can be answered.
@@ -72,6 +72,10 @@ where
         workers: serving.workers,
         connections: serving.connections,
         budget,
+        terms: ClientTerms {
+            idle: serving.idle,
+            origin: serving.origin,
+        },
     };
     match serve_book(rt, rt.alloc(), book, plan) {
         Ok(()) => Ok(()),

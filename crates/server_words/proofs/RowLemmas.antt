@@ -1,16 +1,21 @@
 -- What a caller reads of the rows of a parse.
 use Rattle.std.proofs.Common.{◌≡◌, ◌∙◌, refl, sym, subst, List, ℕ}
-use Rattle.std.specs.Prelude.{Option, Some, None, Ok, IsSomeAnd}
+use Rattle.std.specs.Prelude.{Option, Some, None, IsSomeAnd}
 use Rattle.std.specs.Str.Parse.{ParsesUnsigned, ExplainsUnsignedError, HasUnsignedDigitsIfOk, digits_value, without_leading_plus}
 use Rattle.clap.specs.Words.{ReadsOne, first_of, first_value, found_of, one_text, rows_of}
 use Rattle.clap.specs.declared.parser.matches.ArgMatches.{ArgMatches}
 use Rattle.clap.proofs.WalkLemmas.{first_value-rows, one_text-rows}
 use Rattle.server_words.specs.Words.{IsGiven}
 
+-- an option's first value, if it has any, is that of its row
+pub maybe_first_in_rows : (m : ArgMatches) (id : List ℕ) (value : Option (List ℕ)) → first_value (found_of m) id ≡ value
+    → first_of id (rows_of (found_of m)) ≡ value
+maybe_first_in_rows m id value is = sym (first_value-rows (found_of m) id) ∙ is
+
 -- an option's first value stands in its row
 pub first_in_rows : (m : ArgMatches) (id text : List ℕ) → first_value (found_of m) id ≡ Some text
     → first_of id (rows_of (found_of m)) ≡ Some text
-first_in_rows m id text is = sym (first_value-rows (found_of m) id) ∙ is
+first_in_rows m id text is = maybe_first_in_rows m id (Some text) is
 
 -- a number that is read of an option is what the digits of its text write
 module _ (m : ArgMatches) (id : List ℕ) (bits : ℕ) (found : Option ℕ) (number : ℕ) (is : found ≡ Some number) where

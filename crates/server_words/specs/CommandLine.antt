@@ -24,6 +24,12 @@ most_workers = MOST_WORKERS
 abbrev pub most_connections : ℕ
 most_connections = MOST_CONNECTIONS
 
+abbrev pub least_idle : ℕ
+least_idle = 1
+
+abbrev pub most_idle : ℕ
+most_idle = 86400
+
 -- an option of this name
 abbrev pub option_rule : Text → Rule
 option_rule name = record (new_rule name) { long = Some name; value_names = 1 }
@@ -60,9 +66,16 @@ connections_rule = default_rule (codes "connections") (pos 0) (pos most_connecti
 abbrev pub with_counts : App → App
 with_counts line = with_rule (with_rule (with_rule line displays_rule) workers_rule) connections_rule
 
+abbrev pub idle_rule : Rule
+idle_rule = default_rule (codes "idle") (pos least_idle) (pos most_idle) (codes "300")
+
+-- what is asked of each client: an option that may be left out stands last
+abbrev pub with_clients : App → App
+with_clients line = with_rule (with_rule line idle_rule) (option_rule (codes "origin"))
+
 -- how clients are served
 abbrev pub serve_line : App
-serve_line = with_counts (with_rule (with_files (new_app (codes "serve"))) port_rule)
+serve_line = with_clients (with_counts (with_rule (with_files (new_app (codes "serve"))) port_rule))
 
 -- one of the subcommands has to be there
 abbrev pub needing_one : App

@@ -5,7 +5,7 @@ use Rattle.std.specs.Str.Parse.{digits_value, without_leading_plus}
 use Rattle.clap.specs.Words.{IsAmong, Kinds, Row, Text, fault_of, first_of, one_of, subcommand_of, subcommand_rows_of}
 use Rattle.clap.specs.declared.error.kind.ErrorKind.TheVariants.{DisplayHelp, DisplayVersion}
 use Rattle.clap.specs.declared.parser.matches.ArgMatches.{ArgMatches}
-use Rattle.server_words.specs.CommandLine.{command_line, least_port, most_port, least_displays, most_displays, most_workers, most_connections}
+use Rattle.server_words.specs.CommandLine.{command_line, least_port, most_port, least_displays, most_displays, most_workers, most_connections, least_idle, most_idle}
 use Rattle.server_words.specs.declared.words.Words.{Words}
 use Rattle.server_words.specs.declared.words.Words.TheVariants.{Script, Serve}
 use Rattle.server_words.specs.declared.words.Serving.{Serving}
@@ -16,6 +16,7 @@ pub record AreNumbersInRange (serving : Serving) : Type 0 where
   pub displays : (least_displays ≤ serving.displays) × (serving.displays ≤ most_displays)
   pub workers : serving.workers ≤ most_workers
   pub connections : serving.connections ≤ most_connections
+  pub idle : (least_idle ≤ serving.idle) × (serving.idle ≤ most_idle)
 
 -- own: the option has a text, from the words or by default, and its digits write the number
 abbrev pub IsGiven : List Row → Text → ℕ → Type 0
@@ -28,6 +29,7 @@ pub record AreNumbersGiven (options : List Row) (serving : Serving) : Type 0 whe
   pub displays : IsGiven options (codes "displays") serving.displays
   pub workers : IsGiven options (codes "workers") serving.workers
   pub connections : IsGiven options (codes "connections") serving.connections
+  pub idle : IsGiven options (codes "idle") serving.idle
 
 -- the subcommand that the words name, with its options
 abbrev pub subcommand_in : List Text → Option (Text × List Row)
@@ -53,6 +55,8 @@ AsksFor words (Serve serving) =
     (faults_in words ≡ []) × (option_map (λ p. p.0) (subcommand_in words) ≡ Some (codes "serve"))
     × (first_of (codes "session") (option_map_or (λ p. p.1) (subcommand_in words) []) ≡ Some serving.session.now)
     × (first_of (codes "deals") (option_map_or (λ p. p.1) (subcommand_in words) []) ≡ Some serving.deals.now)
+    × (first_of (codes "origin") (option_map_or (λ p. p.1) (subcommand_in words) [])
+    ≡ option_map (λ o. o.now) serving.origin)
     × AreNumbersInRange serving
     × AreNumbersGiven (option_map_or (λ p. p.1) (subcommand_in words) []) serving
 

@@ -3,9 +3,9 @@
 ghost use Rattle.std.specs.Prelude.{◌≡◌, false, Ok, OnOk, codes};
 ghost use Rattle.clap.specs.Words.{app_of, new_app, rule_of, shape_of, with_rule, with_subcommand};
 ghost use Rattle.clap.specs.declared.builder.command.Command.TheViews.{out-Command};
-ghost use Rattle.server_words.specs.CommandLine.{command_line, needing_one, serve_line, with_files, with_counts, option_rule, port_rule, file_rule, number_rule, default_rule};
+ghost use Rattle.server_words.specs.CommandLine.{command_line, needing_one, serve_line, with_files, with_counts, with_clients, option_rule, port_rule, file_rule, number_rule, default_rule};
 
-use crate::words::{MOST_CONNECTIONS, MOST_DISPLAYS, MOST_WORKERS};
+use crate::words::{MOST_CONNECTIONS, MOST_DISPLAYS, MOST_IDLE, MOST_WORKERS};
 use clap::builder::ValueParser;
 use clap::{Arg, Command};
 use std::alloc::{AllocError, Global};
@@ -56,12 +56,13 @@ fn add_serve(alloc: Global, command: &mut Command<'_>) -> Result<(), AllocError>
 
 // Adds the options of the subcommand that serves clients.
 fn add_options(alloc: Global, command: &mut Command<'_>) -> Result<(), AllocError>
-    ensures line { OnOk result (app_of command.new ≡ with_counts (with_rule (with_files (app_of command.old)) port_rule)) }
+    ensures line { OnOk result (app_of command.new ≡ with_clients (with_counts (with_rule (with_files (app_of command.old)) port_rule))) }
     ensures local { OnOk result ((out-Command command.new).has_globals ≡ (out-Command command.old).has_globals) }
 {
     add_files(alloc, command)?;
     add_port(alloc, command)?;
-    add_counts(alloc, command)
+    add_counts(alloc, command)?;
+    add_clients(alloc, command)
 }
 
 // Adds the files of the session.
@@ -102,6 +103,28 @@ fn add_counts(alloc: Global, command: &mut Command<'_>) -> Result<(), AllocError
         "0",
         "After how many connections each display ends (0: never)",
     )
+}
+
+// Adds what is asked of each client.
+fn add_clients(alloc: Global, command: &mut Command<'_>) -> Result<(), AllocError>
+    ensures line { OnOk result (app_of command.new ≡ with_clients (app_of command.old)) }
+    ensures local { OnOk result ((out-Command command.new).has_globals ≡ (out-Command command.old).has_globals) }
+{
+    add_count(
+        alloc,
+        command,
+        "idle",
+        (1, MOST_IDLE as i64),
+        "300",
+        "Within how many seconds a client has to send a message or a ping",
+    )?;
+    let origin = option(
+        alloc,
+        "origin",
+        "URL",
+        "The origin that a page has to come from, as https://bridge.example.org",
+    );
+    add(alloc, command, origin)
 }
 
 // Adds an option that has to name a file.

@@ -1,6 +1,6 @@
 //! What the program's words ask for, read by `clap`.
 
-ghost use Rattle.std.specs.Prelude.{MatchResult, ◌≡◌, ◌⊎◌, ℕ, List, [], codes, map, string_bytes, Some, IfOk, IfErr, IfSome, IsSome};
+ghost use Rattle.std.specs.Prelude.{MatchResult, ◌≡◌, ◌⊎◌, ℕ, List, [], codes, map, option_map, string_bytes, Some, IfOk, IfErr, IfSome, IsSome};
 ghost use Rattle.clap.specs.Words.{HasKind, app_of, first_of, found_of, kind_of, rows_of};
 ghost use Rattle.clap.specs.declared.error.kind.ErrorKind.TheVariants.{InvalidValue, OutOfMemory};
 ghost use Rattle.server_words.specs.CommandLine.{needing_one};
@@ -82,6 +82,8 @@ fn matches_of<'a>(
 fn serving_of<'a>(given: &ArgMatches<'a>) -> Option<Serving<'a>>
     ensures session { IfSome result (λ serving. first_of (codes "session") (rows_of (found_of given.now)) ≡ Some serving.session.now) }
     ensures deals { IfSome result (λ serving. first_of (codes "deals") (rows_of (found_of given.now)) ≡ Some serving.deals.now) }
+    ensures origin { IfSome result (λ serving.
+        first_of (codes "origin") (rows_of (found_of given.now)) ≡ option_map (λ o. o.now) serving.origin) }
     ensures range { IfSome result AreNumbersInRange }
     ensures given { IfSome result (AreNumbersGiven (rows_of (found_of given.now))) }
 {
@@ -92,6 +94,8 @@ fn serving_of<'a>(given: &ArgMatches<'a>) -> Option<Serving<'a>>
         displays: given.get_one("displays")?,
         workers: given.get_one("workers")?,
         connections: given.get_one("connections")?,
+        idle: given.get_one("idle")?,
+        origin: given.get_str("origin"),
     };
     if serving.is_in_range() {
         Some(serving)

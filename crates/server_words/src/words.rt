@@ -10,6 +10,9 @@ pub(crate) const MOST_WORKERS: u8 = 16;
 /// After how many connections a display ends at most.
 pub(crate) const MOST_CONNECTIONS: u32 = 1_000_000;
 
+/// For how many seconds a client that says nothing is waited for at most.
+pub(crate) const MOST_IDLE: u32 = 86_400;
+
 /// What the program's words ask for.
 #[derive(Clone, Copy, PartialEq)]
 pub enum Words<'a> {
@@ -34,6 +37,10 @@ pub struct Serving<'a> {
     pub workers: u8,
     /// After how many connections a display ends, up to 1,000,000. With 0 it never does.
     pub connections: u32,
+    /// Within how many seconds a client has to send a message or a ping, 1 to 86,400.
+    pub idle: u32,
+    /// The origin that a page has to come from, if only one may connect.
+    pub origin: Option<&'a str>,
 }
 
 impl Serving<'_> {
@@ -45,5 +52,6 @@ impl Serving<'_> {
             && (1..=MOST_DISPLAYS).contains(&self.displays)
             && self.workers <= MOST_WORKERS
             && self.connections <= MOST_CONNECTIONS
+            && (1..=MOST_IDLE).contains(&self.idle)
     }
 }

@@ -20,14 +20,14 @@ use std::sync::{Mutex, Wait};
 use std::thread::Threads;
 use std::time::Clock;
 use thiserror::Error;
-use websocket_server::listen;
+use websocket_server::{ClientTerms, listen};
 
 // How many bytes the stack of each thread has: the longest head of a handshake takes a fifth of it.
 const STACK: usize = 1_048_576;
 
 /// How a session is served.
 #[derive(Clone, Copy)]
-pub struct ServingPlan {
+pub struct ServingPlan<'a> {
     /// The port on 127.0.0.1.
     pub port: u16,
     /// How many displays there are, 1 to 32: each serves one client at a time.
@@ -38,6 +38,8 @@ pub struct ServingPlan {
     pub connections: u32,
     /// How many visits the solver may make for a deal, or for the cards that were played at a cell.
     pub budget: u64,
+    /// What is asked of each client.
+    pub terms: ClientTerms<'a>,
 }
 
 /// Why no session is served.
@@ -65,7 +67,7 @@ pub fn serve_book<R: Threads + Wait + Clock + Net + Sync>(
     rt: &R,
     alloc: Global,
     book: Book,
-    plan: ServingPlan,
+    plan: ServingPlan<'_>,
 ) -> Result<(), ServingError>
 where
     R::Listener: Sync,
@@ -82,7 +84,7 @@ fn serve_named<N: Server + Send + Sync, R: Threads + Wait + Clock + Net + Sync>(
     alloc: Global,
     book: Book,
     history: History,
-    plan: ServingPlan,
+    plan: ServingPlan<'_>,
 ) -> Result<(), ServingError>
 where
     R::Listener: Sync,
@@ -141,7 +143,7 @@ fn serve_shared<N: Server + Send + Sync, R: Threads + Wait + Clock + Net + Sync>
     jobs: &Receiver<Job>,
     from_workers: Sender<Done>,
     results: Receiver<Done>,
-    plan: ServingPlan,
+    plan: ServingPlan<'_>,
 ) -> Result<(), ServingError>
 where
     R::Listener: Sync,
@@ -173,7 +175,7 @@ fn solvers<'a>(
     alloc: Global,
     jobs: &'a Receiver<Job>,
     from_workers: Sender<Done>,
-    plan: ServingPlan,
+    plan: ServingPlan<'_>,
 ) -> Result<Vec<Solve<'a>>, AllocError> {
     let mut solvers = Vec::with_capacity(alloc, plan.workers as usize)?;
     for _ in 0..plan.workers {
@@ -195,7 +197,7 @@ fn servers<'a, N: Server, L: OpenListener>(
     shared: &'a Shared<N>,
     displays: Vec<Display<N>>,
     queue: &JobQueue<'a>,
-    plan: ServingPlan,
+    plan: ServingPlan<'a>,
 ) -> Result<Vec<ServeClients<'a, N, L>>, AllocError> {
     let mut servers = Vec::with_capacity(alloc, displays.len())?;
     for display in displays {
@@ -211,6 +213,7 @@ fn servers<'a, N: Server, L: OpenListener>(
             display,
             queue,
             connections: plan.connections,
+            terms: plan.terms,
         })?;
     }
     Ok(servers)

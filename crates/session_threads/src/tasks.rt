@@ -14,7 +14,7 @@ use std::io::{Read, Write};
 use std::net::{OpenListener, OpenStream};
 use std::sync::{Mutex, Wait};
 use std::time::Clock;
-use websocket_server::{serve_clients, serve_forever};
+use websocket_server::{ClientTerms, serve_clients, serve_forever};
 
 /// Serves the clients of a listener, one after another, by one display: so many, or with 0 all that come.
 #[derive(Drop)]
@@ -25,6 +25,7 @@ pub(crate) struct ServeClients<'a, N: Server, L: OpenListener> {
     pub(crate) display: Display<N>,
     pub(crate) queue: Option<JobQueue<'a>>,
     pub(crate) connections: u32,
+    pub(crate) terms: ClientTerms<'a>,
 }
 
 impl<'a, N: Server, L: OpenListener> Task for ServeClients<'a, N, L>
@@ -39,13 +40,14 @@ where
             display,
             queue,
             connections,
+            terms,
         } = self;
         let keeper = AnalysingKeeper::new(DeskKeeper::new(desk, display), queue);
         let server = SessionServer::new(keeper);
         match connections {
-            0 => serve_forever(rt, alloc, listener, server),
+            0 => serve_forever(rt, alloc, listener, terms, server),
             _ => {
-                serve_clients(rt, alloc, listener, connections, server);
+                serve_clients(rt, alloc, listener, connections, terms, server);
             }
         }
     }

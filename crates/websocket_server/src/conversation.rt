@@ -6,14 +6,17 @@ ghost use Rattle.tungstenite.specs.Content.{text};
 ghost use Rattle.tungstenite.specs.Socket.{Socket, Writes, content_of};
 ghost use Rattle.websocket_server.specs.Conversation.{longest_message, sent_text, ComesOf, Meets, Exchanges, Ends, StopsAt, ServesStream};
 
+use crate::client_terms::{ClientTerms, OriginCheck};
 use crate::message_server::MessageServer;
+use crate::timed_stream::{ANSWER_SECONDS, TimedStream};
 use std::alloc::Global;
 use std::io::{Read, Write};
+use std::net::OpenStream;
 use std::sync::Wait;
+use std::time::Clock;
 use tungstenite::handshake::server::start;
 use tungstenite::{
-    CloseCode, CloseFrame, Error, Message, NoCallback, NoMask, Utf8Bytes, WebSocket,
-    WebSocketConfig,
+    CloseCode, CloseFrame, Error, Message, NoMask, Utf8Bytes, WebSocket, WebSocketConfig,
 };
 
 /// How many bytes a message has at most that is read whole: one more than one that is answered, which says that it is
@@ -23,19 +26,29 @@ pub const LONGEST_MESSAGE: usize = 65_537;
 // How many bytes one read of the stream asks for.
 const READ_SIZE: usize = 16_384;
 
-/// Shakes hands with the client of a stream, and answers its messages until the connection ends.
-pub fn serve_stream<R: Wait, S: Read + Write + Drop, A: MessageServer>(
-    rt: &R,
-    alloc: Global,
-    stream: S,
-    server: &mut A,
-)
+// Within how many seconds the whole handshake has to be done.
+const HANDSHAKE_SECONDS: u64 = 10;
+
+/// Shakes hands with the client of a stream, and answers its messages until the connection ends, or the client is late.
+pub fn serve_stream<
+    R: Wait,
+    C: Clock + Drop,
+    S: Read + Write + OpenStream + Drop,
+    A: MessageServer,
+>(rt: &R, clock: C, alloc: Global, stream: S, terms: ClientTerms<'_>, server: &mut A)
     ensures { ServesStream S.remaining S.contents A.answers A.binary_text A.memory_text server.old server.new }
 {
-    let Ok(mut socket) = start(alloc, stream, NoCallback, Some(limits())).handshake() else {
+    let Ok(timed) = TimedStream::new(clock, stream, HANDSHAKE_SECONDS) else {
         return;
     };
-    converse(rt, alloc, &mut socket, server);
+    let check = OriginCheck {
+        alloc,
+        allowed: terms.origin,
+    };
+    let Ok(mut socket) = start(alloc, timed, check, Some(limits())).handshake() else {
+        return;
+    };
+    converse(rt, alloc, &mut socket, terms.idle, server);
 }
 
 // What is kept in memory of a client's message.
@@ -50,16 +63,17 @@ fn limits() -> WebSocketConfig
 }
 
 // Answers one message after another, until one isn't read or sent.
-fn converse<R: Wait, S: Read + Write + Drop, A: MessageServer>(
+fn converse<R: Wait, C: Clock + Drop, S: Read + Write + OpenStream + Drop, A: MessageServer>(
     rt: &R,
     alloc: Global,
-    socket: &mut WebSocket<S, NoMask>,
+    socket: &mut WebSocket<TimedStream<C, S>, NoMask>,
+    idle: u32,
     server: &mut A,
 )
     ensures { Ends S.remaining S.contents A.answers A.binary_text A.memory_text socket.old server.old server.new }
 {
     for _ in rt.forever() {
-        if let Err(error) = serve_next(rt, alloc, socket, server) {
+        if let Err(error) = serve_next(rt, alloc, socket, idle, server) {
             say_why(socket, &error);
             return;
         }
@@ -67,15 +81,19 @@ fn converse<R: Wait, S: Read + Write + Drop, A: MessageServer>(
 }
 
 // Reads a message, and sends the one that it gets.
-fn serve_next<R: Wait, S: Read + Write + Drop, A: MessageServer>(
+fn serve_next<R: Wait, C: Clock + Drop, S: Read + Write + OpenStream + Drop, A: MessageServer>(
     rt: &R,
     alloc: Global,
-    socket: &mut WebSocket<S, NoMask>,
+    socket: &mut WebSocket<TimedStream<C, S>, NoMask>,
+    idle: u32,
     server: &mut A,
 ) -> Result<(), Error>
     ensures exchanged { OnOk result (Exchanges S.remaining S.contents A.answers A.binary_text A.memory_text socket.old server.old socket.new server.new) }
     ensures stopped { OnErr result (StopsAt S.remaining S.contents A.answers A.binary_text A.memory_text socket.old server.old server.new) }
 {
+    if let Err(error) = socket.get_ref().allow(u64::from(idle)) {
+        return Err(Error::Io(error));
+    }
     match socket.read() {
         Ok(message) => serve_message(rt, alloc, socket, server, &message),
         Err(error) => Err(error),
@@ -83,10 +101,10 @@ fn serve_next<R: Wait, S: Read + Write + Drop, A: MessageServer>(
 }
 
 // Sends the message that one gets which was read.
-fn serve_message<R: Wait, S: Read + Write + Drop, A: MessageServer>(
+fn serve_message<R: Wait, C: Clock + Drop, S: Read + Write + OpenStream + Drop, A: MessageServer>(
     rt: &R,
     alloc: Global,
-    socket: &mut WebSocket<S, NoMask>,
+    socket: &mut WebSocket<TimedStream<C, S>, NoMask>,
     server: &mut A,
     message: &Message,
 ) -> Result<(), Error>
@@ -96,12 +114,26 @@ fn serve_message<R: Wait, S: Read + Write + Drop, A: MessageServer>(
 {
     match message {
         Message::Text(text) => match answer_to(rt, alloc, text.as_bytes(), server) {
-            Ok(answer) => socket.send(answer),
+            Ok(answer) => send_in_time(socket, answer),
             Err(error) => Err(error),
         },
-        Message::Binary(_) => socket.send(fixed(A::binary_answer())),
+        Message::Binary(_) => send_in_time(socket, fixed(A::binary_answer())),
         // tungstenite has answered a ping, and a close.
         Message::Ping(_) | Message::Pong(_) | Message::Close(_) => Ok(()),
+    }
+}
+
+// Sends a message, which the client has to take in time.
+fn send_in_time<C: Clock + Drop, S: Read + Write + OpenStream + Drop>(
+    socket: &mut WebSocket<TimedStream<C, S>, NoMask>,
+    message: Message,
+) -> Result<(), Error>
+    ensures { OnOk result (Writes S.contents socket.old socket.new (write_step socket.old.conn (content_of message))
+        × (socket.new.output ≡ [])) }
+{
+    match socket.get_ref().allow(ANSWER_SECONDS) {
+        Ok(()) => socket.send(message),
+        Err(error) => Err(Error::Io(error)),
     }
 }
 
@@ -132,14 +164,19 @@ fn fixed(words: &'static str) -> Message
 }
 
 // Tells the client by which rule the connection ends, if a rule ends it.
-fn say_why<S: Read + Write + Drop>(socket: &mut WebSocket<S, NoMask>, error: &Error) {
+fn say_why<C: Clock + Drop, S: Read + Write + OpenStream + Drop>(
+    socket: &mut WebSocket<TimedStream<C, S>, NoMask>,
+    error: &Error,
+) {
     if let Some(code) = close_code(error) {
         let frame = CloseFrame {
             code,
             reason: Utf8Bytes::from_static(""),
         };
         // The connection ends, whether the client hears it or not.
-        let _unheard = socket.close(Some(frame));
+        if socket.get_ref().allow(ANSWER_SECONDS).is_ok() {
+            let _unheard = socket.close(Some(frame));
+        }
     }
 }
 

@@ -2,6 +2,7 @@
 
 ghost use Rattle.websocket_server.specs.Clients.{ServesOne, ServesMany};
 
+use crate::client_terms::ClientTerms;
 use crate::conversation::serve_stream;
 use crate::message_server::MessageServer;
 use std::alloc::Global;
@@ -25,6 +26,7 @@ pub fn serve_clients<R: Wait + Clock, L: OpenListener, A: MessageServer + Drop>(
     alloc: Global,
     listener: &L,
     clients: u32,
+    terms: ClientTerms<'_>,
     server: A,
 ) -> A
 where
@@ -33,7 +35,7 @@ where
 {
     let mut server = server;
     for _ in 0..clients {
-        server = serve_client(rt, alloc, listener, server);
+        server = serve_client(rt, alloc, listener, terms, server);
     }
     server
 }
@@ -43,6 +45,7 @@ pub fn serve_forever<R: Wait + Clock, L: OpenListener, A: MessageServer + Drop>(
     rt: &R,
     alloc: Global,
     listener: &L,
+    terms: ClientTerms<'_>,
     server: A,
 )
 where
@@ -50,7 +53,7 @@ where
 {
     let mut server = server;
     for _ in rt.forever() {
-        server = serve_client(rt, alloc, listener, server);
+        server = serve_client(rt, alloc, listener, terms, server);
     }
 }
 
@@ -59,6 +62,7 @@ fn serve_client<R: Wait + Clock, L: OpenListener, A: MessageServer + Drop>(
     rt: &R,
     alloc: Global,
     listener: &L,
+    terms: ClientTerms<'_>,
     server: A,
 ) -> A
 where
@@ -71,7 +75,7 @@ where
             // stream can't, the client is served all the same.
             let _unheard = stream.set_nodelay(true);
             let mut server = server.signed_out();
-            serve_stream(rt, alloc, stream, &mut server);
+            serve_stream(rt, rt, alloc, stream, terms, &mut server);
             server
         }
         Err(_) => {

@@ -82,6 +82,19 @@ static WORDS: &[(&str, Ending)] = &[
         "serve --session s --deals d --port 1 --connections 1000001",
         BAD_VALUE,
     ),
+    ("serve --session s --deals d --port 1 --idle 0", BAD_VALUE),
+    (
+        "serve --session s --deals d --port 1 --idle 86401",
+        BAD_VALUE,
+    ),
+    (
+        "serve --session s --deals d --port 1 --origin",
+        (2, "", "error: a value is required for '--origin"),
+    ),
+    (
+        "serve --session s --deals d --port 1 --origin a --origin b",
+        (2, "", "error: the argument '--origin"),
+    ),
     (
         "serve --session s --deals d --port 1 --connections -1",
         (2, "", "error: unexpected argument '-1'"),

@@ -12,12 +12,15 @@ const DEFAULTS: Serving<'static> = Serving {
     displays: 4,
     workers: 2,
     connections: 0,
+    idle: 300,
+    origin: None,
 };
 
 const LEAST: Serving<'static> = Serving {
     port: 1,
     displays: 1,
     workers: 0,
+    idle: 1,
     ..DEFAULTS
 };
 
@@ -26,6 +29,8 @@ const MOST: Serving<'static> = Serving {
     displays: 32,
     workers: 16,
     connections: 1_000_000,
+    idle: 86_400,
+    origin: Some("https://bridge.example.org"),
     ..DEFAULTS
 };
 
@@ -40,11 +45,11 @@ static LINES: &[(&str, Words<'static>)] = &[
         Words::Serve(DEFAULTS),
     ),
     (
-        "serve --session s.json --deals d.pbn --port 1 --displays 1 --workers 0 --connections 0",
+        "serve --session s.json --deals d.pbn --port 1 --displays 1 --workers 0 --connections 0 --idle 1",
         Words::Serve(LEAST),
     ),
     (
-        "serve --connections 1000000 --workers 16 --displays 32 --port 65535 --deals d.pbn --session s.json",
+        "serve --origin https://bridge.example.org --idle 86400 --connections 1000000 --workers 16 --displays 32 --port 65535 --deals d.pbn --session s.json",
         Words::Serve(MOST),
     ),
 ];
