@@ -23,6 +23,7 @@ import multiprocessing
 import os
 import pathlib
 import random
+import re
 import resource
 import signal
 import socket
@@ -280,7 +281,7 @@ class JudgedSession(Session):
     why_finalise = why_close
 
     def why_adduser(self, command):
-        return "BadName" if " " in command["name"] else "UserExists" if command["name"] in self.users else None
+        return "BadName" if not re.fullmatch("[A-Za-z0-9_-]{1,32}", command["name"]) else "UserExists" if command["name"] in self.users else None
 
     def why_assign(self, command):
         has = self.users[command["name"]]
@@ -416,6 +417,18 @@ class Sender:
         while len(commands) < size:
             commands += self.some_commands()
         return commands[:size]
+
+    def batch_after(self, gone):
+        """A batch after such a part of the time. Who is called `d` starts the rounds, closes the session late, and ends its
+        corrections."""
+        if self.name == "d":
+            if gone > 0.85 and self.phase == "Closed":
+                return [FINALISE]
+            if gone > 0.7 and self.phase == "Running":
+                return self.closing()
+            if gone > 0.13 * self.round and self.round < ROUNDS:
+                return [NEXT]
+        return self.batch()
 
     def some_commands(self):
         rng = self.rng
@@ -606,19 +619,10 @@ class Conversation:
             await self.say(self.sender.query())
 
     async def write(self, begin, until):
-        """Batches and queries. Who is called `d` starts the rounds, closes the session late, and ends its corrections."""
+        """Batches and queries."""
         sender, last = self.sender, until - begin
         while time.time() < until:
-            gone = (time.time() - begin) / last
-            commands = sender.batch()
-            if sender.name == "d":
-                if gone > 0.85 and sender.phase == "Closed":
-                    commands = [FINALISE]
-                elif gone > 0.7 and sender.phase == "Running":
-                    commands = sender.closing()
-                elif gone > 0.13 * sender.round and sender.round < ROUNDS:
-                    commands = [NEXT]
-            await self.say({"do": commands})
+            await self.say({"do": sender.batch_after((time.time() - begin) / last)})
             for _ in range(sender.rng.randint(0, 2)):
                 await self.say(sender.query())
             await self.say({"ask": "status"})
@@ -840,7 +844,7 @@ async def is_served(address, seconds):
 
 
 async def silent(seed):
-    """Clients that say nothing keep a display each, and no more."""
+    """Clients that say nothing keep a display each until they are late, and no more."""
     with Server(small_session(), some_deals(seed, 3), "--displays", 4, "--workers", 0) as server:
         streams = [server.stream() for _ in range(3)]
         streams[1].sendall(HANDSHAKE[:60])

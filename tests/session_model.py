@@ -161,7 +161,7 @@ class Session:
 
     def authorized(self, name):
         """The roles that are assigned to the user, and all that they inherit."""
-        found = set(self.users[name])
+        found = set(self.users.get(name, ()))
         while more := {junior for senior, junior in self.pairs if senior in found} - found:
             found |= more
         return found
