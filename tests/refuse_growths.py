@@ -49,6 +49,7 @@ REFUSING = r"""
 #include <sys/syscall.h>
 #include <unistd.h>
 static unsigned long asked, refused_at;
+static char *counted_after;
 static void *(*real_malloc)(size_t), *(*real_realloc)(void *, size_t);
 static int (*real_memalign)(void **, size_t, size_t);
 __attribute__((constructor)) static void begin(void) {
@@ -56,6 +57,7 @@ __attribute__((constructor)) static void begin(void) {
     real_realloc = dlsym(RTLD_NEXT, "realloc");
     real_memalign = dlsym(RTLD_NEXT, "posix_memalign");
     char *at = getenv("REFUSED_AT");
+    counted_after = getenv("COUNTED_AFTER");
     asked = 0;
     refused_at = at ? strtoul(at, 0, 10) : 0;
 }
@@ -66,9 +68,11 @@ __attribute__((destructor)) static void end(void) {
     FILE *it = to ? fopen(to, "w") : 0;
     if (it) { fprintf(it, "%lu", by_the_program); fclose(it); }
 }
-void *malloc(size_t n) { return ++asked == refused_at ? (errno = ENOMEM, (void *)0) : real_malloc(n); }
-void *realloc(void *p, size_t n) { return ++asked == refused_at ? (errno = ENOMEM, (void *)0) : real_realloc(p, n); }
-int posix_memalign(void **p, size_t a, size_t n) { return ++asked == refused_at ? ENOMEM : real_memalign(p, a, n); }
+/* requests count from the start, or once there is a file of this name */
+static int is_refused(void) { return (!counted_after || access(counted_after, F_OK) == 0) && ++asked == refused_at; }
+void *malloc(size_t n) { return is_refused() ? (errno = ENOMEM, (void *)0) : real_malloc(n); }
+void *realloc(void *p, size_t n) { return is_refused() ? (errno = ENOMEM, (void *)0) : real_realloc(p, n); }
+int posix_memalign(void **p, size_t a, size_t n) { return is_refused() ? ENOMEM : real_memalign(p, a, n); }
 /* a program with threads ends so, and no destructor is run */
 void _exit(int status) {
     end();

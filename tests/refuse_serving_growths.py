@@ -5,7 +5,9 @@
 
 Starts the program with one display and no worker, for two connections, first with ample memory, and then with the Nth request for
 memory refused, for N from 1 until a run asks less often. On the first connection a director signs in, has board 1 held and released in
-turn by one batch of 64 commands, and asks for the board; on the second one a director signs in and asks again. What each must do:
+turn by one batch of 64 commands, and asks for the board; on the second one a director signs in and asks again. That is done twice: in a
+session where nothing is entered, from the start of the program; and where 254 commands are, from the batch on, so that the journal
+outgrows its first room, which is for 256 entries, in the midst of it. What each must do:
 
 - Before it listens, and where the display's thread has no room to begin: end with status 4. Nothing is half open.
 - Later: that connection ends, or one message is answered {"error":"OutOfMemory"}, or the command that found no room is answered
@@ -30,11 +32,18 @@ from write_stored_runs import BOARDS, USERS, text_of
 SESSION = {"budget": 0, "per_set": 1, "rounds": 3, "tables": 3, "users": USERS}
 COMMANDS = 64
 HELLO = {"hello": "d", "token": "abc"}
-BATCH = {"do": [{"board": 1, "cmd": "Hold" if k % 2 == 0 else "Release"} for k in range(COMMANDS)]}
+# how many commands are entered before the batch: an even number, after which board 1 isn't held
+ENTERED = (0, 254)
 ASK = {"ask": "analysis", "board": 1}
 NO_MEMORY = {"error": "OutOfMemory"}
 HANDSHAKE = ("GET / HTTP/1.1\r\nHost: 127.0.0.1\r\nUpgrade: websocket\r\nConnection: Upgrade\r\n"
              "Sec-WebSocket-Key: dGhlIHNhbXBsZSBub25jZQ==\r\nSec-WebSocket-Version: 13\r\n\r\n").encode()
+
+
+def batches(count):
+    """So many commands that hold and release board 1 in turn, in batches."""
+    commands = [{"board": 1, "cmd": "Hold" if k % 2 == 0 else "Release"} for k in range(count)]
+    return [{"do": commands[k:k + COMMANDS]} for k in range(0, count, COMMANDS)]
 
 
 def free_port():
@@ -66,8 +75,9 @@ def answer(stream, message):
     return json.loads(exactly(stream, size))
 
 
-def connection(process, port, messages):
-    """What a client is answered, as far as the connection goes; or None where nobody listens any more."""
+def connection(process, port, messages, before=(), counted=None):
+    """What a client is answered, as far as the connection goes; or None where nobody listens any more. Where there are messages
+    before those, they must be answered, and then requests for memory begin to count."""
     for _ in range(1000):
         if process.poll() is not None:
             return None
@@ -85,6 +95,10 @@ def connection(process, port, messages):
             head = b""
             while not head.endswith(b"\r\n\r\n"):
                 head += exactly(stream, 1)
+            for message in before:
+                assert answer(stream, message).get("answers", ["ok"])[-1] == "ok"
+            if counted:
+                counted.touch()
             for message in messages:
                 told.append(answer(stream, message))
         except (ConnectionError, BrokenPipeError):
@@ -92,28 +106,34 @@ def connection(process, port, messages):
     return told
 
 
-def run(program, room, n):
+def run(program, room, entered, n):
     """What the two clients are told, the status, what is written, and how often memory was asked for."""
     port = free_port()
     env = {**os.environ, "LD_PRELOAD": f"{room}/refusing.so", "ASKED_TO": f"{room}/asked", "REFUSED_AT": str(n)}
+    batch, counted, before = batches(COMMANDS)[0], None, []
+    if entered:
+        counted, before = pathlib.Path(room, "counted"), [HELLO, *batches(entered)]
+        counted.unlink(missing_ok=True)
+        env["COUNTED_AFTER"] = str(counted)
     process = subprocess.Popen(
         [program, "serve", "--session", f"{room}/session.json", "--deals", f"{room}/deals.pbn", "--port", str(port), "--displays", "1",
          "--workers", "0", "--connections", "2"], env=env, stdin=subprocess.DEVNULL, stdout=subprocess.PIPE, stderr=subprocess.PIPE)
-    told = [connection(process, port, [HELLO, BATCH, ASK]), connection(process, port, [HELLO, ASK])]
+    told = [connection(process, port, [HELLO, batch, ASK], before, counted), connection(process, port, [HELLO, ASK])]
     out, err = process.communicate(timeout=20)
     return told, process.returncode, out + err, int(pathlib.Path(f"{room}/asked").read_text())
 
 
-def standing(receipt):
-    """How many commands stand after a batch, as its receipt tells."""
+def standing(receipt, entered):
+    """How many commands stand after a batch, as its receipt tells, where so many had been entered before."""
     answers = receipt["answers"]
     place = answers.index("OutOfMemory") if "OutOfMemory" in answers else COMMANDS
     assert answers == ["ok"] * place + (["OutOfMemory"] + ["NotTried"] * (COMMANDS - place - 1) if place < COMMANDS else []), answers
-    assert (receipt["first"], receipt["last"], receipt["version"]) == (min(place, 1), place, place), receipt
-    return place
+    numbers = (entered + 1, entered + place) if place else (0, 0)
+    assert (receipt["first"], receipt["last"], receipt["version"]) == (*numbers, entered + place), receipt
+    return entered + place
 
 
-def outcome(ample, told, status):
+def outcome(ample, told, status, entered):
     """What a run with one request refused did, in a word."""
     first, second = told
     if status != 0:
@@ -121,24 +141,28 @@ def outcome(ample, told, status):
         return "status 4"
     faults = 0
     # how many commands may stand after the batch: where its receipt was lost, any number
-    stands = {0} if len(first) < 1 or first[0] == NO_MEMORY else set(range(COMMANDS + 1))
+    stands = {entered} if len(first) < 1 or first[0] == NO_MEMORY else set(range(entered, entered + COMMANDS + 1))
     word = "as with ample memory"
     if first[:1] == [NO_MEMORY]:
-        faults, word, stands = 1, "a greeting found no memory", {0}
-        assert first[1:] == [{"error": "NotSignedIn"}] * 2, first
+        faults, word = 1, "a greeting found no memory"
+        if entered:
+            stands = {standing(first[1], entered)}
+            assert first[2]["version"] in stands, first
+        else:
+            assert first[1:] == [{"error": "NotSignedIn"}] * 2, first
     elif len(first) < 3:
         faults, word = 1, "the first connection ended"
         assert first == ample[0][: len(first)] or len(first) == 2, first
         if len(first) == 2:
-            stands = {standing(first[1])}
+            stands = {standing(first[1], entered)}
     else:
         assert first[0] == ample[0][0], first
         if first[1] == NO_MEMORY:
             faults, word = 1, "a batch's answer or room found no memory"
-            stands = {0, COMMANDS}
+            stands = {entered, entered + COMMANDS}
         else:
-            stands = {standing(first[1])}
-            if stands != {COMMANDS}:
+            stands = {standing(first[1], entered)}
+            if stands != {entered + COMMANDS}:
                 faults, word = 1, "a command found no room"
         if first[2] == NO_MEMORY:
             faults, word = faults + 1, "a query found no memory"
@@ -164,23 +188,32 @@ def main():
         (path / "session.json").write_text(text_of(SESSION))
         (path / "deals.pbn").write_text(BOARDS)
         subprocess.run(["cc", "-O1", "-shared", "-fPIC", "-o", f"{room}/refusing.so", f"{room}/refusing.c", "-ldl"], check=True)
-        ample, status, said, asked = run(program, room, 0)
-        shown = {"analysis": {"board": 1, "tricks": None}, "version": COMMANDS}
-        receipt = {"answers": ["ok"] * COMMANDS, "first": 1, "last": COMMANDS, "version": COMMANDS}
-        assert (ample, status, said) == ([[{"hello": "d"}, receipt, shown], [{"hello": "d"}, shown]], 0, b""), (ample, status, said)
-        assert asked > 0, "the program asked for no memory through this allocator: nothing is tried"
-        kinds = {}
-        for n in range(1, asked + 1):
-            told, status, said, _ = run(program, room, n)
-            try:
-                assert said == b"", (status, said)
-                kind = outcome(ample, told, status)
-            except AssertionError as fault:
-                raise SystemExit(f"with request {n} of {asked} refused: {fault}")
-            kinds.setdefault(kind, []).append(n)
-        print(f"{asked} requests for memory, each refused in turn:")
-        for kind, numbers in kinds.items():
-            print(f"    {kind}: {len(numbers)}, from request {numbers[0]} to {numbers[-1]}")
+        for entered in ENTERED:
+            refuse_each(program, room, entered)
+
+
+def refuse_each(program, room, entered):
+    """Each request in turn, where so many commands were entered before."""
+    ample, status, said, asked = run(program, room, entered, 0)
+    after = entered + COMMANDS
+    shown = {"analysis": {"board": 1, "tricks": None}, "version": after}
+    receipt = {"answers": ["ok"] * COMMANDS, "first": entered + 1, "last": after, "version": after}
+    assert (ample, status, said) == ([[{"hello": "d"}, receipt, shown], [{"hello": "d"}, shown]], 0, b""), (ample, status, said)
+    assert asked > 0, "the program asked for no memory through this allocator: nothing is tried"
+    kinds = {}
+    for n in range(1, asked + 1):
+        told, status, said, _ = run(program, room, entered, n)
+        try:
+            assert said == b"", (status, said)
+            kind = outcome(ample, told, status, entered)
+        except AssertionError as fault:
+            raise SystemExit(f"after {entered} commands, with request {n} of {asked} refused: {fault}")
+        kinds.setdefault(kind, []).append(n)
+    print(f"after {entered} commands {asked} requests for memory, each refused in turn:")
+    for kind, numbers in kinds.items():
+        print(f"    {kind}: {len(numbers)}, from request {numbers[0]} to {numbers[-1]}")
+    if entered:
+        assert "a command found no room" in kinds, "the journal didn't outgrow its room in the batch"
 
 
 if __name__ == "__main__":
