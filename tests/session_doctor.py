@@ -9,6 +9,7 @@ It reads the session by the rules of docs/SESSION.md, in the order in which they
 is the refusal as the program writes it. The status is 0 where the session would open, and 1 where it is refused.
 """
 import json
+import math
 import pathlib
 import re
 import shlex
@@ -41,6 +42,12 @@ class Number(str):
     """A number as it is written: `1.0`, `-0` and `1e3` are no whole numbers."""
 
 
+def finite(written):
+    if math.isinf(float(written)):
+        raise ValueError(f"{written[:20]} .. is larger than any number may be")
+    return Number(written)
+
+
 def no_constant(word):
     raise ValueError(f"{word} is no value of JSON")
 
@@ -69,7 +76,7 @@ def object_of(line):
         text = line.decode()
         if depth_of(text) > MOST_LEVELS:
             raise ValueError(f"values stand more than {MOST_LEVELS} levels deep")
-        found = json.loads(text, parse_int=Number, parse_float=Number, parse_constant=no_constant)
+        found = json.loads(text, parse_int=finite, parse_float=finite, parse_constant=no_constant)
         for inner in texts_in(found):
             inner.encode()
     except (ValueError, RecursionError) as fault:

@@ -1,0 +1,242 @@
+#!/usr/bin/env python3
+"""Hands `bridge_server script` texts that are nearly right, and compares each answer with a plain reader and the plain model.
+
+    /usr/bin/python3 tests/fuzz_texts.py crates/bridge_server/out/bridge_server
+    /usr/bin/python3 tests/fuzz_texts.py PROGRAM SEED MESSAGES OBJECTS
+
+It needs Debian's package python3-websockets, as tests/many_clients.py does, whose model and senders it takes. All that is random comes
+from the seed, which is told. It has three parts:
+
+- Messages (100,000 where nothing else is said): queries, batches and audits, of which most are changed in a member, a number, a byte
+  or a blank. What no reader takes must be named by its first fault (tests/message_reader.py), and all else is answered byte for byte as
+  by the model of tests/many_clients.py.
+- Session objects (2,000) and PBN texts (as many), changed likewise: the program opens each, or names the fault that
+  tests/session_doctor.py finds first.
+- Each beginning of a PBN text that is accepted whole, likewise.
+
+Each line is a check: 'ok', or 'FAILED' with what came. The status is 1 where one failed.
+"""
+import collections
+import concurrent.futures
+import json
+import random
+import subprocess
+import sys
+
+from many_clients import BOARDS, PER_SET, ROUNDS, TABLES, USERS, JudgedSession, Sender, deal_text, pbn_text, some_hands
+from message_reader import Fault, read_line
+from session_doctor import check_session, refusal_of
+from write_stored_runs import text_of
+
+PROGRAM = sys.argv[1] if len(sys.argv) > 1 else "crates/bridge_server/out/bridge_server"
+SEED, MESSAGES, OBJECTS = (int(word) for word in [*sys.argv[2:5], *(["2026", "100000", "2000"][len(sys.argv[2:5]):])])
+SENDERS = ["d", "k", "a", "n1", "e2", "s", "m", "d2", "k2", "a2"]
+# What stands in place of a value; the texts between @ are written as they are, and no JSON writer would write some of them so.
+VALUES = [0, 1, 2, 13, 14, 255, 256, 2**64 - 1, 2**64, -1, -10_000, -10_001, None, True, False, [], {}, "", "pass", "N", "NS1", "NS01",
+          "NS256", "SA", "s" * 32, "s" * 33, "Zo\u00eb", "\u6c34" * 11, "a b", "\0", "board", "Director", [0], {"min": 0, "max": 13},
+          "@-0@", "@1.0@", "@1e3@", "@1e400@", "@01@", "@+1@", "@.5@", "@1.@", "@0x1@", "@NaN@", "@-Infinity@", "@'x'@",
+          '@"\\ud800"@', '@"\\u0061"@', '@"\t"@', "@" + "9" * 30 + "@", "@" + "9" * 400 + "@", "@" + "[" * 130 + "]" * 130 + "@"]
+NAMES = ["as", "ask", "do", "audit", "hello", "token", "board", "table", "since", "filter", "from", "limit", "cmd", "name", "Board", "", "play"]
+failed = []
+
+
+def check(what, wanted, got):
+    if wanted == got:
+        print(f"ok      {what}", flush=True)
+    else:
+        failed.append(what)
+        print(f"FAILED  {what}\n        wanted {wanted!r}\n        got    {got!r}", flush=True)
+
+
+# ---- changes
+
+def places(value, at=()):
+    """Where values stand in a value."""
+    yield at
+    inner = value.items() if isinstance(value, dict) else enumerate(value) if isinstance(value, list) else ()
+    for key, one in inner:
+        yield from places(one, (*at, key))
+
+
+def changed(rng, value):
+    """The value with a change in it: another value, a member more or fewer, or one of another name."""
+    value = json.loads(json.dumps(value))
+    at = rng.choice(list(places(value)))
+    if not at:
+        return rng.choice(VALUES) if rng.random() < 0.1 else more_or_fewer(rng, value)
+    holder = value
+    for key in at[:-1]:
+        holder = holder[key]
+    kind = rng.random()
+    if kind < 0.5:
+        holder[at[-1]] = rng.choice(VALUES)
+    elif kind < 0.65:
+        del holder[at[-1]]
+    elif kind < 0.8 and isinstance(holder, dict):
+        holder[rng.choice(NAMES)] = holder.pop(at[-1])
+    else:
+        holder[at[-1]] = more_or_fewer(rng, holder[at[-1]])
+    return value
+
+
+def more_or_fewer(rng, value):
+    if isinstance(value, dict):
+        return {**value, rng.choice(NAMES): rng.choice(VALUES)}
+    if isinstance(value, list):
+        return value * rng.choice([2, 3, 70]) if value and rng.random() < 0.5 else [*value, rng.choice(VALUES)]
+    return [value] if rng.random() < 0.5 else {"not": value}
+
+
+def written(rng, value):
+    """The text of a value, with blanks and members in any order now and then, and what stands between @ as it is."""
+    pretty = rng.random() < 0.1
+    text = json.dumps(value, ensure_ascii=rng.random() < 0.5, sort_keys=rng.random() < 0.5, separators=(" ,\t", " : ") if pretty else (",", ":"))
+    for literal in (one for one in VALUES if isinstance(one, str) and one.startswith("@")):
+        text = text.replace(json.dumps(literal), literal[1:-1])
+    return text.encode("utf-8", "surrogatepass")
+
+
+def in_bytes(rng, line, alphabet):
+    """The line with a byte more, fewer, or another."""
+    at = rng.randrange(len(line) + 1)
+    byte = bytes([rng.choice(alphabet)])
+    return rng.choice([line[:at] + byte + line[at:], line[:at] + byte + line[at + 1:], line[:at] + line[at + 1:], line[:at],
+                       line[:at] + line[max(0, at - 3):]])
+
+
+MARKS = list(b'{}[]",:\\ \t0123456789-+.eEntfasul\x00\x1f\x7f\x80\xc3\xa9\xed\xa0\xff')
+
+
+# ---- messages
+
+def some_message(rng, senders):
+    sender = rng.choice(senders)
+    kind = rng.random()
+    message = {"do": sender.batch()[:rng.choice([1, 2, 4, 64])]} if kind < 0.3 else sender.query()
+    message = {"as": sender.name if rng.random() < 0.95 else rng.choice(["zz", "", "n1 ", "\u2660" * 11]), **message}
+    while rng.random() < 0.45:
+        message = changed(rng, message)
+        if not isinstance(message, (dict, list)):
+            break
+    line = written(rng, message)
+    if rng.random() < 0.2:
+        line = in_bytes(rng, line, MARKS)
+    if rng.random() < 0.001:
+        line = line.ljust(rng.choice([65_536, 65_537, 70_000]))
+    # what ends a line is no part of it, and an empty line is no message
+    line = line.replace(b"\n", b" ").rstrip(b"\r")
+    return line or b" "
+
+
+def answer_of(model, line):
+    """What the plain reader and the model answer to a line, and what kind of message it is."""
+    try:
+        actor, message = read_line(line)
+    except Fault as fault:
+        return {"error": str(fault)}, str(fault)
+    if "do" in message:
+        return model.batch(actor, message["do"]), "batches"
+    if "audit" in message:
+        if not {"Director", "Administrator"} & set(model.authorized(actor)):
+            return {"error": "NotPermitted"}, "audits"
+        return model.audit(message["audit"]["from"], message["audit"]["limit"]), "audits"
+    return model.reply(actor, message), "queries"
+
+
+def messages(seed, count):
+    """So many messages of one script."""
+    rng = random.Random(seed)
+    hands = [some_hands(rng) for _ in BOARDS]
+    deals = [deal_text(one) for one in hands]
+    senders = [Sender(name, hands, rng.random()) for name in SENDERS]
+    session = {"budget": 0, "pbn": pbn_text(deals), "per_set": PER_SET, "rounds": ROUNDS, "tables": TABLES, "users": USERS}
+    lines = [some_message(rng, senders) for _ in range(count)]
+    ran = subprocess.run([PROGRAM, "script"], input=b"\n".join([text_of(session).encode(), *lines]) + b"\n", capture_output=True, check=False)
+    model, kinds, strange = JudgedSession(hands), collections.Counter(), []
+    answers = ran.stdout.split(b"\n")
+    for number, line in enumerate(lines):
+        wanted, kind = answer_of(model, line)
+        kinds[kind] += 1
+        got = answers[number] if number < len(answers) else None
+        if text_of(wanted).encode() != got:
+            strange.append((number, line[:2000], text_of(wanted), got))
+            break
+    return (ran.returncode, ran.stderr, len(answers)), kinds, strange
+
+
+def fuzz_messages():
+    parts = 20
+    with concurrent.futures.ProcessPoolExecutor(4) as pool:
+        told = list(pool.map(messages, range(SEED, SEED + parts), [MESSAGES // parts] * parts))
+    kinds = sum((one for _, one, _ in told), collections.Counter())
+    check(f"{parts} scripts end with status 0, an answer for each line", {(0, b"", MESSAGES // parts + 1)}, {ended for ended, _, _ in told})
+    check(f"each of {sum(kinds.values())} messages is answered as by the plain reader and model: {dict(kinds)}", [],
+          [one for _, _, strange in told for one in strange][:2])
+    check("there were messages of every kind, and of every fault", set(),
+          {"batches", "queries", "audits", "TooLong", "Malformed", "UnknownRequest", "BadField"} - set(kinds))
+
+
+# ---- session objects and PBN texts
+
+def opened(line):
+    """How the program ends that is given this session object alone: why it isn't opened, or None."""
+    ran = subprocess.run([PROGRAM, "script"], input=line + b"\n", capture_output=True, check=False)
+    if (ran.returncode, ran.stdout, ran.stderr) == (0, b"", b""):
+        return None
+    if ran.returncode == 1 and not ran.stdout and ran.stderr.startswith(b"bridge_server: "):
+        return ran.stderr.decode()[len("bridge_server: "):-1]
+    return ran.returncode, ran.stdout, ran.stderr
+
+
+def compare_openings(what, lines):
+    with concurrent.futures.ThreadPoolExecutor(4) as pool:
+        got = list(pool.map(opened, lines))
+    wanted = [refusal_of(check_session, line)[0] for line in lines]
+    kinds = collections.Counter(str(one).split("(")[0] for one in wanted)
+    check(f"{what}: {len(lines)} are opened, or refused for their first fault: {dict(kinds)}", [],
+          [one for one in zip(lines, wanted, got) if one[1] != one[2]][:2])
+
+
+def small_session(pbn):
+    return {"budget": 0, "pbn": pbn, "per_set": 1, "rounds": 3, "tables": 3, "users": USERS[:12]}
+
+
+TEXT = "{ a note } % no escape\n%an escape [\n[Event \"#\"]\n[Board \"1\"]\n[Dealer \"N\"]\n[Vulnerable \"None\"]\n"
+
+
+def fuzz_openings():
+    rng = random.Random(SEED)
+    hands = [some_hands(rng) for _ in range(4)]
+    pbn = TEXT + "".join(f'[Board "{number}"]\n[Deal "{deal_text(one)}"]\n[Play "E"]\nHA D2 C2 S2\n*\n\n' for number, one in enumerate(hands, 1))
+    compare_openings("each beginning of a PBN text", [text_of(small_session(pbn[:count])).encode() for count in range(len(pbn) + 1)])
+    texts = []
+    while len(texts) < OBJECTS:
+        text = pbn.encode()
+        for _ in range(rng.choice([1, 1, 1, 2, 5])):
+            text = in_bytes(rng, text, list(b'[]{}"\\;%#?-:. \n\tNESWnesw123AKQJT98765432x'))
+        texts.append(text_of(small_session(text.decode())).encode())
+    compare_openings("changed PBN texts", texts)
+    objects = []
+    while len(objects) < OBJECTS:
+        value = small_session(pbn_text([deal_text(one) for one in hands]))
+        while rng.random() < 0.7:
+            value = changed(rng, value)
+            if not isinstance(value, (dict, list)):
+                break
+        line = written(rng, value)
+        if rng.random() < 0.2:
+            line = in_bytes(rng, line, MARKS)
+        objects.append(line.replace(b"\n", b" ").rstrip(b"\r"))
+    compare_openings("changed session objects", objects)
+
+
+def main():
+    print(f"        seed {SEED}")
+    fuzz_messages()
+    fuzz_openings()
+    print(f"{len(failed)} failed" if failed else "all is as it should be")
+    return 1 if failed else 0
+
+
+if __name__ == "__main__":
+    sys.exit(main())
