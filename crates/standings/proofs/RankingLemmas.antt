@@ -1,10 +1,10 @@
 -- Standings that are put in their places one by one stand in their order, each once.
-use Rattle.std.proofs.Common.{◌≡◌, ℕ, zero, suc, ◌+◌, ◌-◌, ◌<◌, ◌≤◌, Bool, true, false, List, [], ◌∷◌, ◌++◌, length, get_or, refl, sym, ap, ◌∙◌, subst, arith}
+use Rattle.std.proofs.Common.{◌≡◌, ℕ, zero, suc, ◌+◌, ◌-◌, ◌<◌, ◌≤◌, Bool, true, false, List, [], ◌∷◌, ◌++◌, length, drop, get_or, refl, sym, ap, ◌∙◌, subst, arith}
 use Rattle.std.specs.Prelude.{if◌then◌else◌, All, map}
 use Rattle.std.specs.List.{AllPairs, insert, range_with_len}
 use Rattle.std.specs.List.Sorted.{IsPermutation}
 use Rattle.std.proofs.lemmas.Bool.{false_from_ne_true}
-use Rattle.std.proofs.lemmas.List.{get_or_default}
+use Rattle.std.proofs.lemmas.List.{drop_more, get_or_default}
 use Rattle.std.proofs.lemmas.List.Elements.{All-nil, All-cons}
 use Rattle.std.proofs.lemmas.List.Kept.{AllPairs-cons}
 use Rattle.std.proofs.lemmas.List.Sorted.{IsPermutation-refl, IsPermutation-cons, IsPermutation-trans, IsPermutation-swap, All-permutation}
@@ -120,3 +120,25 @@ side_more earnings side tables before others below =
 pub none_ranked : (earnings : List Earning) → [] ≡ ranked (map (standing_of earnings) [])
 unfolding ranked
 none_ranked earnings = refl
+
+-- ---- one by one from the end of a list
+
+past_the_end : (standings : List Standing) → drop (length standings) standings ≡ []
+past_the_end [] = refl
+past_the_end (standing ∷ standings) = past_the_end standings
+
+pub end_ranked : (standings : List Standing) → [] ≡ ranked (drop (length standings - 0) standings)
+unfolding ranked
+end_ranked standings =
+    let all : length standings - 0 ≡ length standings = omega arith in
+    sym (ap (λ n. ranked (drop n standings)) all ∙ ap ranked (past_the_end standings))
+
+pub one_ranked : (standings : List Standing) (taken : ℕ) (standing : Standing) → taken < length standings →
+    standing ≡ get_or standings (length standings - 1 - taken) standing →
+    placed standing (ranked (drop (length standings - taken) standings)) ≡ ranked (drop (length standings - (taken + 1)) standings)
+unfolding ranked
+one_ranked standings taken standing below is =
+    let place : length standings - 1 - taken ≡ length standings - (taken + 1) = omega arith in
+    let next : length standings - (taken + 1) + 1 ≡ length standings - taken = omega (arith, below) in
+    sym (ap ranked (drop_more standings (length standings - (taken + 1)) standing (omega (arith, below)))
+    ∙ (λ i. placed (sym (is ∙ ap (λ n. get_or standings n standing) place) i) (ranked (drop (next i) standings))))

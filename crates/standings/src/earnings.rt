@@ -1,11 +1,12 @@
-ghost use Rattle.std.specs.Prelude.{◌≡◌, ◌≤◌, ◌+◌, ◌-◌, ◌*◌, ◌++◌, length, All, OnOk, vec_len};
+ghost use Rattle.std.specs.Prelude.{◌≡◌, ◌≤◌, ◌+◌, ◌-◌, ◌*◌, ◌++◌, length, All, OnOk, vec_capacity, vec_len};
 ghost use Rattle.movement.specs.Movement.{IsCell, most_tables};
 ghost use Rattle.standings.specs.Ranking.{top_of, earned_north_south, earned_east_west, earning_of, earnings_of};
 
 use crate::cell_result::CellResult;
 use crate::earning::Earning;
+use crate::push::push_within;
 use crate::table_result::TableResult;
-use crate::traveller::{east_west_at, north_south_at, scores_of};
+use crate::traveller::{east_west_at, north_south_at, put_scores, scores_of};
 use crate::units::units_of_score;
 use movement::Movement;
 use scoring::ns_score;
@@ -32,6 +33,35 @@ pub fn add_earnings(
         earnings.push(earning_of(movement, vulnerability, &scores, found))?;
     }
     Ok(())
+}
+
+/// Puts what the results of a board earn in place of what was there, for which there is room for each of them and its
+/// score.
+#[tactic(auto, unfolding(crate::specs::Ranking::earnings_of))]
+pub fn put_earnings(
+    movement: Movement,
+    vulnerability: Vulnerability,
+    results: &[TableResult],
+    scores: &mut Vec<i32>,
+    earnings: &mut Vec<Earning>,
+)
+    requires few { length results.now ≤ most_tables }
+    requires cells { All (λ found. IsCell movement found.cell) results.now }
+    requires score_room { most_tables ≤ vec_capacity scores.old }
+    requires room { most_tables ≤ vec_capacity earnings.old }
+    ensures earnings { earnings.new.items ≡ earnings_of movement vulnerability results.now }
+    ensures many { vec_len earnings.new ≡ length results.now }
+    ensures score_room { most_tables ≤ vec_capacity scores.new }
+    ensures room { most_tables ≤ vec_capacity earnings.new }
+{
+    put_scores(vulnerability, results, scores);
+    earnings.clear();
+    for found in results {
+        push_within(
+            earnings,
+            &earning_of(movement, vulnerability, scores, found),
+        );
+    }
 }
 
 /// What a result earns for its two pairs.

@@ -15,8 +15,8 @@ mod units;
 
 pub use cell_result::CellResult;
 pub use earning::Earning;
-pub use earnings::add_earnings;
-pub use ranking::ranking_of;
+pub use earnings::{add_earnings, put_earnings};
+pub use ranking::{ranked, ranking_of, standing_of};
 pub use row_result::RowResult;
 pub use table_result::TableResult;
 pub use traveller::traveller_rows;

@@ -1,4 +1,5 @@
-ghost use Rattle.std.specs.Prelude.{◌≡◌, ◌≤◌, ◌++◌, List, map, length, IfOk, OnOk};
+ghost use Rattle.std.specs.Prelude.{◌≡◌, ◌≤◌, ◌<◌, ◌*◌, ◌-◌, ◌++◌, List, get_or, map, length, IfOk, OnOk};
+ghost use Rattle.scoring.specs.declared.standing.Standing.{Standing};
 ghost use Rattle.std.specs.List.{range_with_len, insert};
 ghost use Rattle.table_terms.specs.declared.pair.Pair.{Pair};
 ghost use Rattle.standings.specs.Ranking.{most_results, earned_by, top_for, standing_of, pair_on, placed, ranked, ranking_of};
@@ -26,6 +27,25 @@ pub fn ranking_of(
     Ok(standings)
 }
 
+/// Standings in the order in which their pairs rank.
+pub fn ranked(alloc: Global, standings: &[Standing]) -> Result<Vec<Standing>, AllocError>
+    ensures { IfOk result (λ all. all.items ≡ ranked standings.now) }
+{
+    let mut all = Vec::with_capacity(alloc, standings.len())?;
+    for taken in 0..standings.len() {
+        place(&mut all, from_the_end(standings, taken))?;
+    }
+    Ok(all)
+}
+
+/// The standing after which so many others come.
+fn from_the_end(standings: &[Standing], others: usize) -> Standing
+    requires { others < length standings.now }
+    ensures { (d : Standing) → result ≡ get_or standings.now (length standings.now - 1 - others) d }
+{
+    standings[standings.len() - 1 - others]
+}
+
 /// Puts the pairs of a side in their places among those that are in their order.
 fn place_side(
     standings: &mut Vec<Standing>,
@@ -51,9 +71,11 @@ fn place_side(
 
 /// How a pair stands by what all results earn.
 #[tactic(auto, unfolding(crate::specs::Ranking::standing_of))]
-fn standing_of(earnings: &[Earning], pair: Pair) -> Standing
+pub fn standing_of(earnings: &[Earning], pair: Pair) -> Standing
     requires { length earnings.now ≤ most_results }
-    ensures { result ≡ standing_of earnings.now pair }
+    ensures standing { result ≡ standing_of earnings.now pair }
+    ensures few_earned { result.earned ≤ 4294967295 * length earnings.now }
+    ensures few_tops { result.tops ≤ 4294967295 * length earnings.now }
 {
     let mut earned = 0;
     let mut tops = 0;

@@ -1,10 +1,10 @@
-ghost use Rattle.std.specs.Prelude.{◌≡◌, ◌≤◌, length, All, IfOk, vec_len};
+ghost use Rattle.std.specs.Prelude.{◌≡◌, ◌≤◌, length, All, IfOk, vec_capacity, vec_len};
 ghost use Rattle.movement.specs.Movement.{IsCell, most_tables};
 ghost use Rattle.standings.specs.declared.cell_result.CellResult.TheVariants.{Confirmed};
 ghost use Rattle.standings.specs.Traveller.{north_south_at, east_west_at, row_result, result_score, scores_of, traveller_row, traveller_rows};
 
 use crate::cell_result::CellResult;
-use crate::push::push_copy;
+use crate::push::{push_copy, push_found_within};
 use crate::row_result::RowResult;
 use crate::table_result::TableResult;
 use crate::traveller_row::TravellerRow;
@@ -48,6 +48,24 @@ pub(crate) fn scores_of(
         .iter()
         .filter_map(|found| result_score(vulnerability, found.result))
         .collect(alloc)
+}
+
+/// Puts the scores of the results that were played in place of what was there, for which there is room.
+pub(crate) fn put_scores(
+    vulnerability: Vulnerability,
+    results: &[TableResult],
+    scores: &mut Vec<i32>,
+)
+    requires few { length results.now ≤ most_tables }
+    requires room { most_tables ≤ vec_capacity scores.old }
+    ensures scores { scores.new.items ≡ scores_of vulnerability results.now }
+    ensures few { vec_len scores.new ≤ length results.now }
+    ensures room { most_tables ≤ vec_capacity scores.new }
+{
+    scores.clear();
+    for found in results {
+        push_found_within(scores, result_score(vulnerability, found.result));
+    }
 }
 
 /// What a result scores for North-South, if it was played.
