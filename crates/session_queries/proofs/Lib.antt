@@ -2,3 +2,4 @@ pub mod FactLemmas
 pub mod ShownLemmas
 pub mod ResultLemmas
 pub mod NumberLemmas
+pub mod LiveLemmas

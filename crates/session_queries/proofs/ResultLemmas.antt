@@ -133,7 +133,7 @@ module _ (state : SessionState) (viewer : Viewer) where
           next = omega arith
 
 -- what holds of the item, where there is one, and of all others
-all_more : {X : Type 0} (P : X → Type 0) (o : Option X) (rest : List X) → IfSome o P → All P rest → All P (cons_option o rest)
+pub all_more : {X : Type 0} (P : X → Type 0) (o : Option X) (rest : List X) → IfSome o P → All P rest → All P (cons_option o rest)
 all_more P None rest one others = others
 all_more P (Some x) rest one others = All-cons P x rest one others
 

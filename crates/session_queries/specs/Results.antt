@@ -1,4 +1,4 @@
--- The results on a board, as they are looked for: table by table, each where the user may see it.
+-- The results on a board, as they are looked for table by table: all that there are, and those that a user may see.
 use Rattle.std.specs.Prelude.{ℕ, if◌then◌else◌, Option, Some, None, List, filter_map}
 use Rattle.std.specs.List.{range_with_len}
 use Rattle.std.specs.Option.{option_map}
@@ -28,3 +28,13 @@ allowed_result state viewer board table =
 -- the results on a board of so many tables that the user may see, table by table
 unfoldable pub allowed_results : SessionState → Viewer → ℕ → ℕ → List TableResult
 allowed_results state viewer board tables = filter_map (allowed_result state viewer board) (range_with_len 1 tables)
+
+-- the result of a table on a board, where the table plays it and there is one, whoever asks
+abbrev pub live_result : SessionState → ℕ → ℕ → Option TableResult
+live_result state board table =
+    if is_scheduled state.public.movement (cell_on board table)
+    then option_map (result_at (cell_on board table)) (result_of (cell_at state (cell_on board table))) else None
+
+-- all results on a board, table by table
+unfoldable pub live_results : SessionState → ℕ → List TableResult
+live_results state board = filter_map (live_result state board) (range_with_len 1 state.public.movement.tables)

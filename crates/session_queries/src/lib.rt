@@ -17,6 +17,6 @@ pub use known::{analysis_of, costs_of, play_of, reason_of};
 pub use push::push_found;
 pub use query::Query;
 pub use reply::Reply;
-pub use results::shown_results;
+pub use results::{put_results, shown_results};
 pub use session_state::{Play, Seated};
 pub use table_terms::Items;

@@ -1,8 +1,11 @@
-ghost use Rattle.std.specs.Prelude.{◌≡◌, ◌≤◌, ◌+◌, [], ◌++◌, All, IfOk, OnOk, vec_len};
+ghost use Rattle.std.specs.Prelude.{◌≡◌, ◌≤◌, ◌<◌, ◌+◌, [], ◌++◌, All, IfOk, OnOk, vec_capacity, vec_len};
+ghost use Rattle.std.specs.List.{cons_option};
+ghost use Rattle.std.specs.Option.{option_map};
 ghost use Rattle.movement.specs.Movement.{IsCell, most_tables};
-ghost use Rattle.session_state.specs.SessionState.{IsPlaced};
-ghost use Rattle.session_queries.specs.Reading.{shown_results};
-ghost use Rattle.session_queries.specs.Results.{allowed_at, allowed_result, allowed_results};
+ghost use Rattle.session_state.specs.SessionState.{IsPlaced, cell_at};
+ghost use Rattle.session_queries.specs.Content.{result_of};
+ghost use Rattle.session_queries.specs.Reading.{result_at, shown_results};
+ghost use Rattle.session_queries.specs.Results.{allowed_at, allowed_result, allowed_results, live_result, live_results};
 ghost use Rattle.session_queries.specs.Shown.{shown};
 
 use crate::known::result_of;
@@ -10,6 +13,7 @@ use crate::push::push_found;
 use disclosure_rules::{Fact, Viewer, decide};
 use movement::Cell;
 use session_state::State;
+use session_state::room::push_within;
 use standings::TableResult;
 use std::alloc::{AllocError, Global};
 
@@ -73,6 +77,66 @@ fn allowed_at(state: &State, viewer: &Viewer, cell: Cell) -> Option<TableResult>
     if decide(state.public(), viewer, Fact::Result(cell)).is_some() {
         return None;
     }
+    match result_of(&state.cell(cell)) {
+        Some(result) => Some(TableResult { cell, result }),
+        None => None,
+    }
+}
+
+/// Puts all results on a board, whoever asks, in place of what was there, for which there is room.
+pub fn put_results(state: &State, board: u8, results: &mut Vec<TableResult>)
+    requires room { most_tables ≤ vec_capacity results.old }
+    ensures results { results.new.items ≡ live_results state.now board }
+    ensures cells { All (λ found. IsCell state.now.public.movement found.cell) results.new.items }
+    ensures few { vec_len results.new ≤ most_tables }
+    ensures room { most_tables ≤ vec_capacity results.new }
+{
+    put_live(state, board, results);
+}
+
+/// Puts all results on a board in place of what was there.
+#[tactic(auto, unfolding(crate::specs::Results::live_results))]
+fn put_live(state: &State, board: u8, results: &mut Vec<TableResult>)
+    requires room { most_tables ≤ vec_capacity results.old }
+    ensures results { results.new.items ≡ live_results state.now board }
+    ensures few { vec_len results.new ≤ most_tables }
+    ensures room { most_tables ≤ vec_capacity results.new }
+{
+    let tables = state.public().movement.tables();
+    results.clear();
+    for below in 0..tables {
+        push_found_within(results, live_result(state, below + 1, board));
+    }
+}
+
+/// Adds an item, where there is one, for which there is room.
+fn push_found_within<T: Copy + Drop>(items: &mut Vec<T>, found: Option<T>)
+    requires { vec_len items.old < vec_capacity items.old }
+    ensures items { items.new.items ≡ items.old.items ++ cons_option found [] }
+    ensures few { vec_len items.new ≤ vec_len items.old + 1 }
+    ensures capacity { vec_capacity items.old ≤ vec_capacity items.new }
+{
+    if let Some(item) = found {
+        push_within(items, item);
+    }
+}
+
+/// The result of a table on a board, where there is one.
+#[tactic(auto, using(crate::proofs::LiveLemmas::unscheduled, crate::proofs::LiveLemmas::scheduled))]
+fn live_result(state: &State, table: u8, board: u8) -> Option<TableResult>
+    ensures { result ≡ live_result state.now board table }
+{
+    match state.public().movement.cell(table, board) {
+        Some(cell) => live_at(state, cell),
+        None => None,
+    }
+}
+
+/// The result of a cell, where there is one.
+fn live_at(state: &State, cell: Cell) -> Option<TableResult>
+    requires { IsPlaced cell }
+    ensures { result ≡ option_map (result_at cell) (result_of (cell_at state.now cell)) }
+{
     match result_of(&state.cell(cell)) {
         Some(result) => Some(TableResult { cell, result }),
         None => None,
