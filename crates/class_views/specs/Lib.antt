@@ -1,0 +1,4 @@
+pub mod Classes
+pub mod Kept
+pub mod Places
+pub mod Totals

@@ -1,0 +1,164 @@
+ghost use Rattle.std.specs.Prelude.{◌≡◌, ◌≢◌, ◌≤◌, ◌++◌, ℕ, Some, true, is_none, length, map, IfNone, IfOk, IfSome, OnOk};
+ghost use Rattle.std.specs.List.{range_with_len};
+ghost use Rattle.movement.specs.Movement.{boards_of, has_board, most_tables, IsSection};
+ghost use Rattle.disclosure_rules.specs.declared.fact.Fact.TheVariants as fact;
+ghost use Rattle.disclosure_rules.specs.Policy.{first_rule};
+ghost use Rattle.session_state.specs.Apply.{apply};
+ghost use Rattle.session_state.specs.SessionState.{AreLive};
+ghost use Rattle.standings.specs.Ranking.{pair_on, pairs_of};
+ghost use Rattle.class_views.specs.Classes.{class_of, is_kept_class, is_kept_pair};
+ghost use Rattle.class_views.specs.Totals.{told_board, total_for};
+
+use crate::kept::Kept;
+use crate::user_class::{UserClass, place_of};
+use disclosure_rules::Viewer;
+use scoring::Standing;
+use session_state::{Command, Entry, State};
+use std::alloc::{AllocError, Global};
+use std::marker::Model;
+use table_terms::{Pair, Side};
+
+/// A state, and what is kept beside it of what each class of its users is shown; clauses see the state.
+#[derive(Drop)]
+pub struct ClassViews {
+    state: State,
+    kept: Kept,
+}
+
+impl Model for ClassViews {
+    ghost use Rattle.movement.specs.Movement.{IsSection};
+    ghost use Rattle.session_state.specs.SessionState.{SessionState, session_code, AreLive};
+    ghost use Rattle.class_views.specs.Kept.{IsKeptOf};
+
+    ghost Value = { SessionState };
+
+    ghost coded = { session_code };
+
+    ghost view = { λ v. v.state };
+
+    ghost invariant = { λ v.
+        IsKeptOf v.state v.kept.classes.items v.kept.rows.items
+        × (IsSection v.state.public.movement × AreLive v.state.public.live v.state.cells) };
+}
+
+impl ClassViews {
+    /// A state with what is kept beside it: this takes all the room that it ever needs.
+    pub fn open(alloc: Global, state: State) -> Result<ClassViews, AllocError>
+        ensures { IfOk result (λ views. views ≡ state) }
+    {
+        let kept = Kept::open(alloc, &state)?;
+        Ok(ClassViews { state, kept })
+    }
+
+    /// The state.
+    pub fn state(&self) -> &State
+        ensures { result.now ≡ self.now }
+    {
+        &self.state
+    }
+
+    /// Takes in the next entry. Of what is kept only that of the board changes that the entry is about; it takes no
+    /// memory.
+    pub fn absorb(&mut self, entry: &Entry)
+        ensures { self.new ≡ apply self.old entry.now }
+    {
+        self.state.absorb(entry);
+        if let Some(board) = told_board(&self.state, &entry.command) {
+            self.kept.change(&self.state, board);
+        }
+    }
+
+    /// Whether a user is shown the hands of a board.
+    pub fn sees(&self, viewer: &Viewer, board: u8) -> bool
+        requires { has_board self.now.public.movement board ≡ true }
+        ensures { result ≡ is_none (first_rule self.now.public viewer.now (fact.Hands board)) }
+    {
+        match UserClass::of(viewer) {
+            Some(class) => self.kept.classes[class.place() as usize]
+                .boards
+                .contains(board),
+            None => false,
+        }
+    }
+
+    /// How each pair of the section stands by the results of the boards whose hands a user is shown.
+    pub fn standings(&self, alloc: Global, viewer: &Viewer) -> Result<Vec<Standing>, AllocError>
+        ensures standings { IfOk result (λ standings. standings.items
+            ≡ map (total_for self.now (class_of viewer.now)) (pairs_of self.now.public.movement)) }
+        ensures section { IsSection self.now.public.movement }
+        ensures live { AreLive self.now.public.live self.now.cells }
+        ensures dealt { boards_of self.now.public.movement ≤ length self.now.deals }
+    {
+        let class = UserClass::of(viewer);
+        let tables = self.state.public().movement.tables();
+        let mut standings = Vec::with_capacity(alloc, 2 * tables as usize)?;
+        add_side(&mut standings, self, class, Side::NorthSouth, tables)?;
+        add_side(&mut standings, self, class, Side::EastWest, tables)?;
+        Ok(standings)
+    }
+
+    // How a pair stands by the boards that a class is shown.
+    fn total(&self, class: Option<UserClass>, pair: Pair) -> Standing
+        requires class { IfSome class (λ class. is_kept_class class ≡ true) }
+        requires pair { is_kept_pair pair ≡ true }
+        ensures { result ≡ total_for self.now class pair }
+    {
+        match class {
+            Some(class) => self.kept.classes[class.place() as usize]
+                .totals
+                .at(place_of(pair)),
+            None => Standing {
+                pair,
+                earned: 0,
+                tops: 0,
+            },
+        }
+    }
+}
+
+/// Adds how the pairs of a side stand by the boards that a class is shown.
+fn add_side(
+    standings: &mut Vec<Standing>,
+    views: &ClassViews,
+    class: Option<UserClass>,
+    side: Side,
+    tables: u8,
+) -> Result<(), AllocError>
+    requires class { IfSome class (λ class. is_kept_class class ≡ true) }
+    requires few { tables ≤ most_tables }
+    ensures { OnOk result (standings.new.items ≡ standings.old.items
+        ++ map (total_for views.now class) (map (pair_on side) (range_with_len 1 tables))) }
+{
+    for before in 0..tables {
+        let number = before + 1;
+        standings.push(views.total(class, Pair { side, number }))?;
+    }
+    Ok(())
+}
+
+/// The board of the session that a command is about, if it is about one.
+fn told_board(state: &State, command: &Command) -> Option<u8>
+    ensures board { IfSome result (λ board. told_board command.now ≡ Some board) }
+    ensures from { IfSome result (λ board. 1 ≤ board) }
+    ensures to { IfSome result (λ board. board ≤ boards_of state.now.public.movement) }
+    ensures none { IfNone result ((board : ℕ) → 1 ≤ board → board ≤ boards_of state.now.public.movement →
+        told_board command.now ≢ Some board) }
+    ensures live { AreLive state.now.public.live state.now.cells }
+    ensures section { IsSection state.now.public.movement }
+{
+    let boards = state.public().movement.boards();
+    match named_board(command) {
+        Some(board) if 1 <= board && board <= boards => Some(board),
+        _ => None,
+    }
+}
+
+/// The board that a command names, if it names one.
+fn named_board(command: &Command) -> Option<u8>
+    ensures { result ≡ told_board command.now }
+{
+    match command.cell() {
+        Some(cell) => Some(cell.board),
+        None => command.board(),
+    }
+}
