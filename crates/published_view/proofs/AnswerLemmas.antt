@@ -1,7 +1,8 @@
 -- What is answered from what is shown, where the fact that decides a query is allowed.
-use Rattle.std.proofs.Common.{rules, ◌≡◌, ℕ, zero, suc, ◌-◌, ◌<◌, ◌≤◌, true, false, List, [], ◌∷◌, length, refl, sym, ap, ◌∙◌, arith}
-use Rattle.std.specs.Prelude.{Option, Some, None, slice_get, is_some, not, ◌&&◌}
+use Rattle.std.proofs.Common.{rules, ◌≡◌, ℕ, zero, suc, ◌-◌, ◌<◌, ◌≤◌, Bool, true, false, List, [], ◌∷◌, length, refl, sym, ap, ◌∙◌, arith}
+use Rattle.std.specs.Prelude.{Option, Some, None, slice_get, is_none, is_some, not, ◌&&◌}
 use Rattle.std.specs.Option.{option_and_then, option_map}
+use Rattle.std.proofs.lemmas.Bool.{false≢true}
 use Rattle.cards.specs.Hands.{Hands}
 use Rattle.movement.specs.declared.cell.Cell.{Cell}
 use Rattle.movement.specs.Movement.{IsSection, boards_of, has_board}
@@ -35,6 +36,11 @@ use Rattle.query_filter.specs.Formula.{Formula}
 pub none_of_none : {A B : Type 0} (f : A → B) (o : Option A) → option_map f o ≡ None → o ≡ None
 none_of_none f None none = refl
 none_of_none f (Some x) none = absurd (cc)
+
+-- what isn't seen is forbidden by some rule
+pub not_seen : (rule : Option Rule) (sees : Bool) → sees ≡ is_none rule → not sees ≡ true → is_some rule ≡ true
+not_seen None sees is hidden = absurd (false≢true (sym (ap not is) ∙ hidden))
+not_seen (Some rule) sees is hidden = refl
 
 -- a place is kept for a scheduled cell
 pub scheduled_placed : (state : SessionState) (cell : Cell) → IsSection state.public.movement → is_scheduled state.public.movement cell ≡ true → IsPlaced cell
@@ -180,6 +186,11 @@ module _ (state : SessionState) (viewer : Viewer) (board : ℕ) where
         ≡ earnings_of state.public.movement marks.vulnerability (shown_results state.public.movement items board)
     board_earned marks marked =
         λ i. earnings_by state.public.movement items board (own_shown i) ((marks_shown state viewer (fact.Hands board) board (free _ none) ∙ marked) i)
+
+    -- and without marks, nothing
+    pub unmarked_earned : slice_get state.public.marks (board - 1) ≡ None → board_earnings state.public.movement items board ≡ []
+    unmarked_earned unmarked =
+        λ i. earnings_by state.public.movement items board (own_shown i) ((marks_shown state viewer (fact.Hands board) board (free _ none) ∙ unmarked) i)
 
     -- whether it is listed
     pub listed_by : (filter : Option Formula) (marks : Marks) → slice_get state.public.marks (board - 1) ≡ Some marks →

@@ -11,3 +11,4 @@ pub mod ListLemmas
 pub mod PlaceLemmas
 pub mod StandingLemmas
 pub mod StepLemmas
+pub mod TotalLemmas

@@ -1,6 +1,6 @@
-//! What holds of the replies as a whole.
+//! What holds of the replies as a whole, and the plain way to work one out.
 
-ghost use Rattle.std.specs.Prelude.{◌≡◌, ◌≢◌, ℕ, None, List};
+ghost use Rattle.std.specs.Prelude.{◌≡◌, ◌≢◌, ℕ, None, List, IfErr, IfOk};
 ghost use Rattle.movement.specs.declared.cell.Cell.{Cell};
 ghost use Rattle.movement.specs.Movement.{IsSection};
 ghost use Rattle.disclosure_rules.specs.declared.fact.Fact.TheVariants.{Hands};
@@ -21,8 +21,16 @@ ghost use Rattle.session_queries.specs.declared.reply.Reply.{Reply};
 ghost use Rattle.published_view.specs.Agreement.{Agree, DifferAt};
 ghost use Rattle.published_view.specs.History.{IsGivenIn, state_there, NamesPublished, IsWritten, NamesFirst};
 ghost use Rattle.published_view.specs.History.{AskTheSame, IsExhaustive, IsToldAfter};
-ghost use Rattle.published_view.specs.Reply.{reply_of};
+ghost use Rattle.published_view.specs.Reply.{before_answer, body_of, reply_of};
+ghost use Rattle.published_view.specs.View.{StandsFor, reply_after};
 ghost use Rattle.published_view.specs.World.{Moment, Reading, IsHistory, MayGoOn, now};
+
+use crate::bodies::answer_of;
+use crate::preface::before_answer;
+use crate::view::View;
+use session_queries::{Body, Query, Reply};
+use std::alloc::{AllocError, Global};
+use user_names::Name;
 
 /// In two states that agree for a user, the user gets the same reply to every query, with any filter, page and wanted
 /// version: none tells of what the user may not see. So what belongs to a board whose hands a rule forbids the user is
@@ -68,3 +76,50 @@ pub fn every_run()
         IsToldAfter (now history).journal reply.version before cell → cell.board ≡ board →
         ¬ IsSeatedAt (replay opening before).public (viewer_of (replay opening before) reading.user) cell }
 {}
+
+/// The reply to a user's query as it is worked out afresh from the state alone, without what is kept beside it: by its
+/// contract it is what the view answers.
+#[tactic(auto, using(crate::proofs::StandingLemmas::stands_reply))]
+pub fn answer_afresh(
+    alloc: Global,
+    view: &View,
+    user: Name,
+    query: &Query,
+    since: u64,
+) -> Result<Reply, AllocError>
+    ensures reply { IfOk result (λ reply.
+        reply ≡ reply_of view.now.state view.now.version user query.now since) }
+    ensures stands { (opening : SessionState) (entries : List Entry) → StandsFor opening entries view.now →
+        IfOk result (λ reply. reply ≡ reply_after opening entries user query.now since) }
+    ensures memory { IfErr result (λ _.
+        before_answer view.now.state.public view.now.version (viewer_of view.now.state user) (fact_of query.now) since
+        ≡ None) }
+{
+    let body = body_afresh(alloc, view, user, query, since)?;
+    Ok(Reply {
+        version: view.version(),
+        body,
+    })
+}
+
+/// What is answered to a user.
+#[tactic(auto, unfolding(crate::specs::Reply::body_of))]
+fn body_afresh(
+    alloc: Global,
+    view: &View,
+    user: Name,
+    query: &Query,
+    since: u64,
+) -> Result<Body, AllocError>
+    ensures body { IfOk result (λ found. found ≡ body_of view.now.state view.now.version user query.now since) }
+    ensures memory { IfErr result (λ _.
+        before_answer view.now.state.public view.now.version (viewer_of view.now.state user) (fact_of query.now) since
+        ≡ None) }
+{
+    let state = view.state();
+    let viewer = state.viewer(user);
+    match before_answer(state.public(), view.version(), &viewer, query.fact(), since) {
+        Some(body) => Ok(body),
+        None => answer_of(alloc, state, &viewer, query),
+    }
+}

@@ -3,6 +3,7 @@
 #![tactic(auto)]
 
 mod bodies;
+mod kept;
 pub mod laws;
 mod listing;
 mod preface;

@@ -1,7 +1,7 @@
-ghost use Rattle.std.specs.Prelude.{◌≡◌, ◌++◌, ◌∷◌, [], ◌&&◌, nat_le, true, cond, IfOk, OnOk};
+ghost use Rattle.std.specs.Prelude.{◌≡◌, ◌≤◌, ◌++◌, ◌∷◌, [], ◌&&◌, None, length, nat_le, true, cond, IfOk, OnOk};
 ghost use Rattle.disclosure_rules.specs.declared.fact.Fact.TheVariants as fact;
 ghost use Rattle.disclosure_rules.specs.Policy.{first_rule};
-ghost use Rattle.movement.specs.Movement.{IsSection, has_board};
+ghost use Rattle.movement.specs.Movement.{IsSection, boards_of, has_board};
 ghost use Rattle.session_queries.specs.Reading.{shown_analysis};
 ghost use Rattle.session_queries.specs.Shown.{shown};
 ghost use Rattle.published_view.specs.Listing.{facts_for, is_listed, listed_from, outcome_of, outcomes_of, tricks_shown};
@@ -36,7 +36,7 @@ pub(crate) fn listed_from(
 }
 
 /// Adds a board where a test holds.
-fn push_where(boards: &mut Vec<u8>, board: u8, test: bool) -> Result<(), AllocError>
+pub(crate) fn push_where(boards: &mut Vec<u8>, board: u8, test: bool) -> Result<(), AllocError>
     ensures { OnOk result (boards.new.items ≡ boards.old.items ++ cond test (board ∷ []) []) }
 {
     if test {
@@ -81,6 +81,24 @@ fn is_listed(
     if decide(state.public(), viewer, Fact::Hands(board)).is_some() {
         return Ok(false);
     }
+    passes(alloc, state, viewer, filter, board)
+}
+
+/// Whether a filter holds of a board whose hands the user is shown; without a filter each of these is listed.
+pub(crate) fn passes(
+    alloc: Global,
+    state: &State,
+    viewer: &Viewer,
+    filter: &Option<Filter>,
+    board: u8,
+) -> Result<bool, AllocError>
+    requires section { IsSection state.now.public.movement }
+    requires there { has_board state.now.public.movement board ≡ true }
+    requires allowed { first_rule state.now.public viewer.now (fact.Hands board) ≡ None }
+    requires dealt { boards_of state.now.public.movement ≤ length state.now.deals }
+    ensures { IfOk result (λ listed. listed ≡
+        is_listed state.now.public.movement (shown state.now viewer.now) filter.now board) }
+{
     let marks = state.marks(board);
     match filter {
         None => Ok(true),

@@ -1,37 +1,11 @@
-use Rattle.std.proofs.Common.{rules, ◌≡◌, ◌-◌, ◌≤◌, true, false, Some, None, length, slice_get, sym, ap, ◌∙◌}
+use Rattle.std.proofs.Common.{rules, ◌≡◌, true}
 use Rattle.std.specs.Prelude.{is_some}
-use Rattle.movement.specs.Movement.{boards_of}
 use Rattle.disclosure_rules.specs.declared.fact.Fact.TheVariants as fact
 use Rattle.disclosure_rules.specs.Policy.{first_rule}
-use Rattle.query_filter.specs.Holds.{holds}
-use Rattle.session_queries.specs.Shown.{shown}
-use Rattle.published_view.specs.Listing.{facts_for, passes}
-use Rattle.published_view.proofs.AnswerLemmas.{not_listed, listed_by}
+use Rattle.published_view.proofs.AnswerLemmas.{not_listed}
 use Rattle.published_view.proofs.listing.is_listed.Goals as goal
 
 pub returns-then-is_some : goal.returns-then-is_some
 returns-then-is_some c =
     let forbids : is_some (first_rule c.args.state.now.public c.args.viewer.now (fact.Hands c.args.board)) ≡ true = search rules in
     not_listed c.args.state.now c.args.viewer.now c.args.board c.args.filter.now forbids
-
-pub returns-in-None : goal.returns-in-None
-returns-in-None c =
-    let state = c.args.state.now in
-    let free : is_some (first_rule state.public c.args.viewer.now (fact.Hands c.args.board)) ≡ false = search rules in
-    let dealt : boards_of state.public.movement ≤ length state.deals = search rules in
-    let marked : slice_get state.public.marks (c.args.board - 1) ≡ Some c.marks-marks.result = search rules in
-    let none : c.args.filter.now ≡ None = search rules in
-    sym (listed_by state c.args.viewer.now c.args.board c.requires.there dealt free c.args.filter.now c.marks-marks.result marked
-    ∙ ap (λ filter. passes filter (facts_for state.public.movement (shown state c.args.viewer.now) c.args.board c.marks-marks.result)) none)
-
-pub returns-in_ok-facts-in-Some : goal.returns-in_ok-facts-in-Some
-returns-in_ok-facts-in-Some c =
-    let state = c.args.state.now in
-    let free : is_some (first_rule state.public c.args.viewer.now (fact.Hands c.args.board)) ≡ false = search rules in
-    let dealt : boards_of state.public.movement ≤ length state.deals = search rules in
-    let marked : slice_get state.public.marks (c.args.board - 1) ≡ Some c.marks-marks.result = search rules in
-    let some : c.args.filter.now ≡ Some c.in-Some.filter = search rules in
-    c.holds.ensures
-    ∙ (ap (holds c.in-Some.filter) c.in_ok-facts-in-Some.ensures
-    ∙ sym (listed_by state c.args.viewer.now c.args.board c.requires.there dealt free c.args.filter.now c.marks-marks.result marked
-    ∙ ap (λ filter. passes filter (facts_for state.public.movement (shown state c.args.viewer.now) c.args.board c.marks-marks.result)) some))

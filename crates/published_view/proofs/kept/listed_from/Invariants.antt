@@ -1,0 +1,11 @@
+use Rattle.std.proofs.Common.{◌≡◌}
+use Rattle.std.specs.Prelude.{◌&&◌, nat_le, filter}
+use Rattle.std.specs.List.{range_with_len}
+use Rattle.session_queries.specs.Shown.{shown}
+use Rattle.published_view.specs.Listing.{is_listed}
+use Rattle.published_view.proofs.kept.listed_from.Given as goal
+
+abbrev pub invariant-loop-before : goal.invariant-loop-before
+invariant-loop-before l =
+    l.boards.items
+    ≡ filter (λ board. nat_le l.from board && is_listed l.views.public.movement (shown l.views l.viewer) l.filter board) (range_with_len 1 l.before)
