@@ -6,7 +6,7 @@ wanted.
     tests/stored_runs.py desk               # the script of a part, for `bridge_server script`
     tests/stored_runs.py desk answers       # the answers to it
 
-The last four parts are no scripts: the program knows them by their names.
+The last six parts are no scripts: the program knows them by their names.
 
 The crate's files stdin and stdout have one form: before each part stand an LF and a line with its name, `== desk`. So a script
 may end without an LF of its own, and no message begins so.
@@ -39,6 +39,8 @@ PARTS = {
     "traveller": "worked out apart, from the printed tables of Law 77 and Law 78A",
     "connections": "tests/write_connection_run.py: by hand, from docs/PROTOCOL.md and docs/POLICY.md",
     "solver": "tests/write_solved_run.py: by hand, of deals that give each player a whole suit",
+    "both ways": "tests/write_both_ways_run.py: how many commands the rules accept, and that no reply differs",
+    "both ways, 2,000 commands": "tests/write_both_ways_run.py: the same, of commands that are drawn with a fixed seed",
     "session objects": "tests/write_stored_runs.py: from the rules of docs/SESSION.md",
     "full journal": RULES,
 }

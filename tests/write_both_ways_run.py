@@ -1,0 +1,121 @@
+#!/usr/bin/env python3
+"""Writes the parts `both ways` and `both ways, 2,000 commands` of the stored runs of crates/bridge_server_stored_runs: sessions in which
+every question is answered from what a view keeps and afresh, after each command, for every user and for a stranger.
+
+    python3 tests/write_both_ways_run.py
+
+What is wanted is how many commands are accepted, and how many replies are the same. Every command that is given is one that the rules
+accept, and the second part's are drawn with a fixed seed: a table's first result is entered and confirmed, and from then on it is corrected,
+ruled or voided and ruled again, since contestants who were shown a board spoil what is entered there later.
+"""
+import random
+
+from stored_runs import put
+from write_stored_runs import SESSION, text_of
+
+NAMES = ["a", "d", "d2", "k", "s", "n1", "n2", "stranger"]
+TABLES = BOARDS = ROUNDS = 3
+ATOMS = ({"dd": {"by": "N", "max": 13, "min": 0, "strain": "S"}}, {"vul": "none"})
+
+
+def result(level, tricks, strain="S", by="N"):
+    return {"by": by, "doubled": 0, "level": level, "strain": strain, "tricks": tricks}
+
+
+def questions(boards, cells):
+    asked = [{"ask": word} for word in ("status", "ranking", "list", "accounts")]
+    asked += [{"ask": word, "board": board} for word in ("board", "traveller", "analysis") for board in boards]
+    asked += [{"ask": word, "board": board, "table": table} for word in ("play", "costs", "reason") for table, board in cells]
+    asked += [{"ask": "list", "filter": {"not": ATOMS[0]}}, {"ask": "list", "from": 2, "limit": 1}]
+    return [text_of({"as": "d", **each}) for each in asked]
+
+
+def write(part, asked, commands):
+    given = "\n".join([SESSION, " ".join(NAMES), *asked, "", *(text_of({"as": name, "do": [command]}) for name, command in commands)])
+    moments = len(commands) + 1
+    put(part, given + "\n", f"{len(commands)} commands, {moments * len(asked) * len(NAMES)} replies the same\n")
+
+
+def round_of(table, board):
+    """Board sets of one board move down a table each round: table 1 starts with board 1."""
+    return (board - table) % BOARDS + 1
+
+
+def played():
+    """Every table plays every board in its round; and then a board is held, a result voided, ruled and released."""
+    commands = []
+    for number in range(1, ROUNDS + 1):
+        for table in range(1, TABLES + 1):
+            board = next(b for b in range(1, BOARDS + 1) if round_of(table, b) == number)
+            told = {"board": board, "result": result(4, 8 + table), "table": table}
+            commands += [("k", {"cmd": "Enter", **told}), ("k", {"cmd": "Confirm", **told})]
+        if number < ROUNDS:
+            commands.append(("d", {"cmd": "NextRound"}))
+    cell = {"board": 1, "table": 1}
+    return commands + [("d", {"cmd": "Hold", "board": 1}), ("d", {"cmd": "Void", **cell}),
+                       ("d", {"cmd": "Rule", "ew": 40, "ns": 60, "reason": 7, **cell}), ("d", {"cmd": "Release", "board": 1})]
+
+
+class Drawn:
+    """A session of which only so much is known as says which commands are accepted."""
+
+    def __init__(self, seed):
+        self.draw, self.round = random.Random(seed), 1
+        self.entered, self.live, self.fresh, self.held = {}, set(), set(), set()
+        self.fresh = {(table, board) for table in range(1, TABLES + 1) for board in range(1, BOARDS + 1)}
+        self.watches, self.seated = True, True
+
+    def outcome(self):
+        return self.draw.choice(["pass", *(result(self.draw.randint(1, 7), self.draw.randint(0, 13), self.draw.choice("CDHSN"), self.draw.choice("NESW"))
+                                                     for _ in range(7))])
+
+    def choices(self):
+        """What may come next, each with how it changes what is known."""
+        started = [cell for cell in sorted(self.fresh) if round_of(*cell) <= self.round]
+        had = [(table, board) for table in range(1, TABLES + 1) for board in range(1, BOARDS + 1) if (table, board) not in self.fresh]
+        found = [("Enter", cell) for cell in started] + [("Confirm", cell) for cell in started if cell in self.entered]
+        found += [("Rule", cell) for cell in had]
+        found += [(word, cell) for cell in sorted(self.live) for word in ("Correct", "Void")]
+        found += [("Release" if board in self.held else "Hold", board) for board in range(1, BOARDS + 1)]
+        if self.round < ROUNDS and not started:
+            found.append(("NextRound", None))
+        if not self.fresh:
+            found += [("Deassign" if self.watches else "Assign", "s"), ("Unseat" if self.seated else "Seat", "n2")]
+        return found
+
+    def command(self):
+        word, about = self.draw.choice(self.choices())
+        named = {"cmd": word}
+        if word in ("Enter", "Confirm", "Correct", "Rule", "Void"):
+            named |= {"board": about[1], "table": about[0]}
+        if word == "Enter":
+            self.entered[about] = named["result"] = self.outcome()
+        elif word == "Confirm":
+            named["result"] = self.entered[about]
+            self.live.add(about)
+            self.fresh.discard(about)
+        elif word == "Correct":
+            named["result"] = self.outcome()
+        elif word == "Rule":
+            named |= {"ew": self.draw.randint(0, 100), "ns": self.draw.randint(0, 100), "reason": self.draw.randint(1, 99)}
+            self.live.add(about)
+        elif word == "Void":
+            self.live.discard(about)
+        elif word in ("Hold", "Release"):
+            named["board"] = about
+            self.held ^= {about}
+        elif word == "NextRound":
+            self.round += 1
+        elif word in ("Assign", "Deassign"):
+            named |= {"name": about, "role": "Spectator"}
+            self.watches = not self.watches
+        elif word in ("Seat", "Unseat"):
+            named |= {"name": about} | ({"pair": "NS2", "place": "N"} if word == "Seat" else {})
+            self.seated = not self.seated
+        return {"Enter": "k", "Confirm": "k", "Assign": "a", "Deassign": "a"}.get(word, "d"), named
+
+
+drawn = Drawn(20261126)
+write("both ways", questions((1, 2, 3), ((1, 1), (2, 1), (3, 2))), played())
+write("both ways, 2,000 commands", [text_of({"as": "d", "ask": "ranking"}), text_of({"as": "d", "ask": "list"}), text_of({"as": "d", "ask": "traveller", "board": 1})],
+      [drawn.command() for _ in range(2000)])
