@@ -19,10 +19,10 @@ use Rattle.disclosure_rules.specs.declared.rule.Rule.TheVariants.{NoAccount, Not
 use Rattle.disclosure_rules.specs.declared.seat.Seat.{Seat}
 use Rattle.disclosure_rules.specs.declared.viewer.Viewer.{Viewer}
 use Rattle.disclosure_rules.specs.LiveCells.{is_live}
-use Rattle.disclosure_rules.specs.Numbers.{has_number, with_number, without_number}
+use Rattle.small_sets.specs.Numbers.{has_number, with_number, without_number}
 use Rattle.disclosure_rules.specs.Policy.{is_authorized, guarded, forbids, first_rule, rules}
 use Rattle.disclosure_rules.specs.Seating.{some_that, plays_board, has_still_to_play, is_complete, cell_in, HasStillToPlay, IsComplete}
-use Rattle.disclosure_rules.proofs.NumbersLemmas.{has_number-numbers_that}
+use Rattle.small_sets.proofs.NumbersLemmas.{has_number-numbers_that}
 use Rattle.disclosure_rules.proofs.SeatingTests.{still_decides, complete_decides}
 use Rattle.session_state.specs.Apply.{apply, effect, confirmed}
 use Rattle.session_state.specs.session_commands.declared.cell_state.CellState.{CellState}

@@ -7,8 +7,8 @@ use Rattle.std.proofs.lemmas.List.{get_or-set_same, get_or-set_other, length-set
 use Rattle.std.proofs.lemmas.List.Sums.{sum_by-cons}
 use Rattle.movement.specs.Movement.{IsSection, boards_of}
 use Rattle.scoring.specs.declared.standing.Standing.{Standing}
-use Rattle.disclosure_rules.specs.Numbers.{has_number}
-use Rattle.disclosure_rules.proofs.NumbersLemmas.{has_number-numbers_that}
+use Rattle.small_sets.specs.Numbers.{has_number}
+use Rattle.small_sets.proofs.NumbersLemmas.{has_number-numbers_that}
 use Rattle.session_state.specs.Apply.{apply}
 use Rattle.session_state.specs.SessionState.{SessionState, AreLive}
 use Rattle.session_state.specs.session_commands.declared.entry.Entry.{Entry}

@@ -6,7 +6,7 @@ use Rattle.std.proofs.lemmas.List.Sums.{sum_by-cons}
 use Rattle.movement.specs.Movement.{IsSection, boards_of}
 use Rattle.scoring.specs.declared.standing.Standing.{Standing}
 use Rattle.table_terms.specs.declared.pair.Pair.{Pair}
-use Rattle.disclosure_rules.specs.Numbers.{has_number}
+use Rattle.small_sets.specs.Numbers.{has_number}
 use Rattle.disclosure_rules.specs.Policy.{first_rule}
 use Rattle.disclosure_rules.specs.declared.fact.Fact.TheVariants.{Hands}
 use Rattle.disclosure_rules.specs.declared.viewer.Viewer.{Viewer}

@@ -4,7 +4,7 @@ use Rattle.std.specs.List.{range_with_len, sum_by}
 use Rattle.table_terms.specs.declared.pair.Pair.{Pair}
 use Rattle.movement.specs.Movement.{most_boards, boards_of}
 use Rattle.scoring.specs.declared.standing.Standing.{Standing}
-use Rattle.disclosure_rules.specs.Numbers.{has_number, with_number, without_number}
+use Rattle.small_sets.specs.Numbers.{has_number, with_number, without_number}
 use Rattle.session_state.specs.SessionState.{SessionState}
 use Rattle.standings.specs.declared.earning.Earning.{Earning}
 use Rattle.standings.specs.Ranking.{earned_by, top_for, standing_of}

@@ -6,7 +6,7 @@ use Rattle.movement.specs.declared.cell.Cell.{Cell}
 use Rattle.movement.specs.Movement.{Section}
 use Rattle.disclosure_rules.specs.declared.marks.Marks.{Marks}
 use Rattle.disclosure_rules.specs.LiveCells.{is_live}
-use Rattle.disclosure_rules.specs.Numbers.{has_number}
+use Rattle.small_sets.specs.Numbers.{has_number}
 use Rattle.session_state.specs.SessionState.{SessionState, cell_at}
 use Rattle.session_state.specs.session_commands.Command.{subject_cell, subject_board}
 use Rattle.session_state.specs.session_commands.declared.command.Command.{Command}

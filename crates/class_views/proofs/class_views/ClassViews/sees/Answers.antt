@@ -4,7 +4,7 @@ use Rattle.disclosure_rules.specs.Policy.{first_rule}
 use Rattle.disclosure_rules.specs.declared.fact.Fact.TheVariants.{Hands}
 use Rattle.session_state.specs.SessionState.{SessionState}
 use Rattle.movement.specs.Movement.{boards_of}
-use Rattle.disclosure_rules.specs.Numbers.{has_number}
+use Rattle.small_sets.specs.Numbers.{has_number}
 use Rattle.class_views.specs.Classes.{class_of}
 use Rattle.class_views.specs.declared.class_view.ClassView.{ClassView}
 use Rattle.class_views.proofs.QueryLemmas.{sees_kept, sees_none}
