@@ -198,10 +198,10 @@ def lines_of(part, text):
 
 
 def runs():
-    """Each part's messages with their answers, but for what is no message."""
+    """Each part's messages with their answers, but for what is no message, and for answers that are only counted."""
     given, wanted = read("stdin"), read("stdout")
     for part in given:
-        if part != "session objects":
+        if part != "session objects" and not part.startswith("both ways"):
             pairs = list(zip(lines_of(part, given[part]), wanted[part].split("\n")[:-1], strict=True))
             yield part, [pair for pair in pairs if pair[1].startswith("{")]
 
