@@ -8,7 +8,7 @@ use Rattle.std.proofs.lemmas.Bool.Decides.{same_from_decides}
 use Rattle.std.proofs.lemmas.List.Sums.{sum_by-cons}
 use Rattle.session_roles.specs.declared.role.Role.TheVariants.{Contestant, Director}
 use Rattle.movement.specs.declared.cell.Cell.{Cell}
-use Rattle.movement.specs.Movement.{Section, IsSection, IsCell, Row, rows, boards_of}
+use Rattle.movement.specs.Movement.{Section, IsSection, IsCell, Row, rows, boards_of, most_boards}
 use Rattle.movement.specs.Row.{Plays}
 use Rattle.movement.specs.Schedule.{is_scheduled, plays}
 use Rattle.movement.proofs.CellLemmas.{cell_in_range}
@@ -49,14 +49,14 @@ use Rattle.class_views.proofs.ClassLemmas.{same_find}
 -- ---- what an entry leaves as it is
 
 -- whether another board is held stays
-pub held_elsewhere : (held : List ℕ) (own board : ℕ) → own ≢ board → 1 ≤ board → board ≤ 64 → has_number (with_number 64 held own) board ≡ has_number held board
+pub held_elsewhere : (held : List ℕ) (own board : ℕ) → own ≢ board → 1 ≤ board → board ≤ most_boards → has_number (with_number most_boards held own) board ≡ has_number held board
 held_elsewhere held own board other from to =
-    has_number-numbers_that 64 (λ n. nat_eq n own || has_number held n) board from to
+    has_number-numbers_that most_boards (λ n. nat_eq n own || has_number held n) board from to
     ∙ ap (λ b. b || has_number held board) (ne_eqb board own (λ same. other (sym same)))
 
-pub released_elsewhere : (held : List ℕ) (own board : ℕ) → own ≢ board → 1 ≤ board → board ≤ 64 → has_number (without_number 64 held own) board ≡ has_number held board
+pub released_elsewhere : (held : List ℕ) (own board : ℕ) → own ≢ board → 1 ≤ board → board ≤ most_boards → has_number (without_number most_boards held own) board ≡ has_number held board
 released_elsewhere held own board other from to =
-    has_number-numbers_that 64 (λ n. not (nat_eq n own) && has_number held n) board from to
+    has_number-numbers_that most_boards (λ n. not (nat_eq n own) && has_number held n) board from to
     ∙ ap (λ b. not b && has_number held board) (ne_eqb board own (λ same. other (sym same)))
 
 confirmed_held : (state : SessionState) (cell : Cell) (known : CellState) → (confirmed state cell known).public.held ≡ state.public.held
@@ -65,7 +65,7 @@ confirmed_held state cell (Entered outcome play) = refl
 confirmed_held state cell (Confirmed outcome play costs) = refl
 confirmed_held state cell (Ruled north_south east_west reason) = refl
 
-held_after : (state : SessionState) (entry : Entry) (board : ℕ) → told_board entry.command ≢ Some board → 1 ≤ board → board ≤ 64 →
+held_after : (state : SessionState) (entry : Entry) (board : ℕ) → told_board entry.command ≢ Some board → 1 ≤ board → board ≤ most_boards →
     has_number (apply state entry).public.held board ≡ has_number state.public.held board
 held_after state entry board other from to = by_hindrance (hindrance_of state entry.command)
   where
@@ -101,7 +101,7 @@ about_its_board : (c : Command) (cell : Cell) → told_board c ≢ Some cell.boa
 about_its_board c cell other same = other (ap (λ o. option_or (option_map (λ (cell : Cell). cell.board) o) (subject_board c)) same)
 
 -- what an entry leaves of a board that it isn't about
-pub same_elsewhere : (state : SessionState) (entry : Entry) (board : ℕ) → IsSection state.public.movement → told_board entry.command ≢ Some board → 1 ≤ board → board ≤ 64 →
+pub same_elsewhere : (state : SessionState) (entry : Entry) (board : ℕ) → IsSection state.public.movement → told_board entry.command ≢ Some board → 1 ≤ board → board ≤ most_boards →
     AreLive state.public.live state.cells → AreLive (apply state entry).public.live (apply state entry).cells → IsSameOn state (apply state entry) board
 same_elsewhere state entry board is_section other from to live live_after =
     let part = entry_part state entry in

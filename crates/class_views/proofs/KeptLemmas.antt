@@ -5,7 +5,7 @@ use Rattle.std.specs.List.{range_with_len, sum_by}
 use Rattle.std.proofs.lemmas.Bool.{cases_Bool, cases_eq, le-leb, lt-leb, leb-true, leb-false, eq-eqb}
 use Rattle.std.proofs.lemmas.List.{get_or-set_same, get_or-set_other, length-set}
 use Rattle.std.proofs.lemmas.List.Sums.{sum_by-cons}
-use Rattle.movement.specs.Movement.{IsSection, boards_of}
+use Rattle.movement.specs.Movement.{IsSection, boards_of, most_boards}
 use Rattle.scoring.specs.declared.standing.Standing.{Standing}
 use Rattle.small_sets.specs.Numbers.{has_number}
 use Rattle.small_sets.proofs.NumbersLemmas.{has_number-numbers_that}
@@ -58,7 +58,7 @@ where_few false number most few = omega arith
 
 -- ---- one board's part changes
 
-module _ (own boards : ℕ) (sees sees_now : ℕ → Bool) (earned earned_now : ℕ → List Earning) (from : 1 ≤ own) (to : own ≤ boards) (few : boards ≤ 64)
+module _ (own boards : ℕ) (sees sees_now : ℕ → Bool) (earned earned_now : ℕ → List Earning) (from : 1 ≤ own) (to : own ≤ boards) (few : boards ≤ most_boards)
     (seen : (board : ℕ) → board ≢ own → 1 ≤ board → board ≤ boards → sees_now board ≡ sees board)
     (earns : (board : ℕ) → board ≢ own → 1 ≤ board → board ≤ boards → earned_now board ≡ earned board) where
   total_now : (count : Earning → ℕ) → ((board : ℕ) → 1 ≤ board → board ≤ boards → sum_by count (earned_now board) ≤ most_earned) →
@@ -83,19 +83,19 @@ module _ (own boards : ℕ) (sees sees_now : ℕ → Bool) (earned earned_now : 
 itself : (n : ℕ) → nat_eq n n ≡ true
 itself n = eq-eqb n n refl
 
-board_put : (sees : Bool) (boards : List ℕ) (own : ℕ) → 1 ≤ own → own ≤ 64 → has_number (boards_with sees boards own) own ≡ sees
+board_put : (sees : Bool) (boards : List ℕ) (own : ℕ) → 1 ≤ own → own ≤ most_boards → has_number (boards_with sees boards own) own ≡ sees
 board_put true boards own from to =
-    has_number-numbers_that 64 (λ n. nat_eq n own || has_number boards n) own from to
+    has_number-numbers_that most_boards (λ n. nat_eq n own || has_number boards n) own from to
     ∙ ap (λ b. b || has_number boards own) (itself own)
 board_put false boards own from to =
-    has_number-numbers_that 64 (λ n. not (nat_eq n own) && has_number boards n) own from to
+    has_number-numbers_that most_boards (λ n. not (nat_eq n own) && has_number boards n) own from to
     ∙ ap (λ b. not b && has_number boards own) (itself own)
 
-board_left : (sees : Bool) (boards : List ℕ) (own board : ℕ) → board ≢ own → 1 ≤ board → board ≤ 64 → has_number (boards_with sees boards own) board ≡ has_number boards board
+board_left : (sees : Bool) (boards : List ℕ) (own board : ℕ) → board ≢ own → 1 ≤ board → board ≤ most_boards → has_number (boards_with sees boards own) board ≡ has_number boards board
 board_left true boards own board other from to = held_elsewhere boards own board (λ is. other (sym is)) from to
 board_left false boards own board other from to = released_elsewhere boards own board (λ is. other (sym is)) from to
 
-module _ (own boards : ℕ) (sees sees_now : ℕ → Bool) (earned earned_now : ℕ → List Earning) (from : 1 ≤ own) (to : own ≤ boards) (few : boards ≤ 64)
+module _ (own boards : ℕ) (sees sees_now : ℕ → Bool) (earned earned_now : ℕ → List Earning) (from : 1 ≤ own) (to : own ≤ boards) (few : boards ≤ most_boards)
     (seen : (board : ℕ) → board ≢ own → 1 ≤ board → board ≤ boards → sees_now board ≡ sees board)
     (earns : (board : ℕ) → board ≢ own → 1 ≤ board → board ≤ boards → earned_now board ≡ earned board)
     (small : (board place : ℕ) → 1 ≤ board → board ≤ boards → place < 32 → IsWithinBoard (standing_of (earned_now board) (pair_at place)))
