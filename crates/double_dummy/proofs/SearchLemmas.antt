@@ -1,6 +1,6 @@
 -- What the search keeps from card to card.
 use Rattle.std.proofs.Common.{◌≡◌, ℕ, ◌-◌, ◌<◌, ◌≤◌, Bool, true, false, List, [], ◌∷◌, map, refl, sym, ap, ◌∙◌, subst, inl, inr, arith, zero, suc}
-use Rattle.std.specs.Prelude.{not, ◌&&◌, ◌||◌}
+use Rattle.std.specs.Prelude.{not, ◌&&◌, ◌||◌, ◌⊎◌}
 use Rattle.std.specs.List.{list_any}
 use Rattle.std.specs.Ordering.{eq_by_cmp}
 use mathlib.Core.Bool.{beq}
@@ -16,15 +16,16 @@ use Rattle.cards.specs.Hands.{hand_of}
 use Rattle.std.specs.FinSet as set
 use Rattle.cards.specs.Play.{Position, after, cards_left, legal, legal_of, point, to_play}
 use Rattle.double_dummy.proofs.ClaimLemmas.{card_claims, card_claims_within, claims_like, claims_within, decided, owned_after, refused}
-use Rattle.double_dummy.specs.Search.{CardClaims, AreTriedInVain, IsRunOf}
+use Rattle.double_dummy.specs.Search.{AreSpokenFor, AreTriedInVain, IsRunOf}
 use Rattle.double_dummy_laws.proofs.BestLemmas.{Among}
 use Rattle.double_dummy_laws.proofs.CountLemmas.{has_less, left_after, no_more}
 use Rattle.double_dummy_laws.proofs.EqualCardsLemmas.{IsWithin}
 use Rattle.double_dummy_laws.proofs.HandLemmas.{items_among}
 use Rattle.double_dummy_laws.proofs.OwnershipLemmas.{owned_knowing, owned_tight, tight, tight_tight, tight_within}
+use Rattle.double_dummy_laws.proofs.RefusedLemmas.{unparted_claims}
 use Rattle.double_dummy_laws.proofs.RenamingLemmas.{legal_old, turn_named, worth_in}
 use Rattle.cards.specs.DoubleDummy.{best, tricks}
-use Rattle.double_dummy_laws.specs.Found.{Claims, IsFound, IsOwned, wanted_answer}
+use Rattle.double_dummy_laws.specs.Found.{CardClaims, Claims, IsFound, IsOwned, wanted_answer}
 use Rattle.double_dummy_laws.specs.Known.{IsKnown, IsLike, IsSettled}
 use Rattle.double_dummy_laws.specs.Renaming.{Ownership, knowing, renamed}
 
@@ -77,40 +78,52 @@ found_refused p target untried known answer some may none each ownership owned t
     (λ card may'. each ownership (cards_left (after p some)) owned tight_p left card may'
     (ap (λ s. set.contains s card) none ∙ set.contains-empty card_cmp card)))
 
--- the cards that a run takes off the untried ones refuse as the one that was tried
-pub refused_step : (p : Position) (target : ℕ) (untried rest known more less decisive run : Cards) (card : Card)
-    (answer : Bool) → AreTriedInVain p target untried known answer →
+-- the cards that are taken off the untried ones refuse as the one that was tried: its run, and those for which it speaks
+pub refused_step : (p : Position) (target : ℕ) (untried rest known more less decisive run spoken gone : Cards)
+    (card : Card) (answer : Bool) → AreTriedInVain p target untried known answer →
     set.contains (legal p) card ≡ true → IsFound (after p card) (target - point p card) less answer →
     ((ownership : Ownership) → IsKnown (knowing ownership decisive) p.strain p.table card) → IsRunOf p card run →
-    set.contains run card ≡ true →
+    set.contains run card ≡ true → AreSpokenFor p decisive card spoken →
     ((other : Card) → set.contains less other ≡ true → set.contains decisive other ≡ true) →
     ((other : Card) → set.contains known other ≡ true → set.contains more other ≡ true) →
     ((other : Card) → set.contains decisive other ≡ true → set.contains more other ≡ true) →
     ((one other : Card) → set.contains decisive one ≡ true → set.contains run one ≡ true →
     set.contains run other ≡ true → set.contains more other ≡ true) →
-    ((other : Card) → set.contains rest other ≡ (set.contains untried other && not (set.contains run other))) →
+    ((other : Card) → set.contains gone other ≡ true →
+    (set.contains run other ≡ true) ⊎ (set.contains spoken other ≡ true)) →
+    ((other : Card) → set.contains rest other ≡ (set.contains untried other && not (set.contains gone other))) →
     AreTriedInVain p target rest more answer
-refused_step p target untried rest known more less decisive run card answer old may found known_of is_run in_run
-    less_in known_in decisive_in closed rest_is ownership n owned tight_p left other may' gone =
-    elim (cases_Bool (set.contains run other)) [
-      | inl runs ↦
+refused_step p target untried rest known more less decisive run spoken gone card answer old may found known_of is_run
+    in_run speaks_for less_in known_in decisive_in closed gone_is rest_is ownership n owned tight_p left other may'
+    is_gone =
+    elim (cases_Bool (set.contains gone other)) [
+      | inl off ↦
           let claims = found_card ownership n p target card less decisive answer owned may left
           (known_of ownership) less_in found in
           let within = same_more ownership decisive more decisive_in in
-          elim (is_run ownership other owned tight_p runs).1 [
-            | inl same ↦ subst (λ c. CardClaims (knowing ownership more) n p target c answer) same
-                (card_claims_within (knowing ownership decisive) (knowing ownership more) n p target card answer within
-                (owned_knowing ownership decisive p owned) claims)
-            | inr like ↦ claims_like (knowing ownership decisive)
-                (knowing ownership more) n p target answer card other within
-                (record { first = λ k. closed card other k in_run runs; second = λ k. closed other card k runs in_run })
-                (owned_knowing ownership decisive p owned)
-                (like_knowing ownership decisive card other like) may may' claims
+          elim (gone_is other off) [
+            | inl runs ↦ elim (is_run ownership other owned tight_p runs).1 [
+              | inl same ↦ subst (λ c. CardClaims (knowing ownership more) n p target c answer) same
+                  (card_claims_within (knowing ownership decisive) (knowing ownership more) n p target card answer
+                  within (owned_knowing ownership decisive p owned) claims)
+              | inr like ↦ claims_like (knowing ownership decisive)
+                  (knowing ownership more) n p target answer card other within
+                  (record {
+                    first = λ k. closed card other k in_run runs;
+                    second = λ k. closed other card k runs in_run;
+                  })
+                  (owned_knowing ownership decisive p owned)
+                  (like_knowing ownership decisive card other like) may may' claims
+            ]
+            | inr spoken_for ↦ card_claims_within (knowing ownership decisive) (knowing ownership more) n p target
+                other answer within (owned_knowing ownership decisive p owned)
+                (unparted_claims ownership n p decisive target card other answer owned
+                (speaks_for other spoken_for) claims)
           ]
-      | inr not_runs ↦
+      | inr stays ↦
           card_claims_within (knowing ownership known) (knowing ownership more) n p target other answer
           (same_more ownership known more known_in) (owned_knowing ownership known p owned)
-          (each_old not_runs)
+          (each_old stays)
     ]
   where
     same_more : (ownership : Ownership) (less more : Cards) →
@@ -131,9 +144,9 @@ refused_step p target untried rest known more less decisive run card answer old 
           below = like.below;
         }
 
-    each_old : set.contains run other ≡ false → CardClaims (knowing ownership known) n p target other answer
-    each_old not_runs = old ownership n owned tight_p left other may'
-        (tried_before (set.contains untried other) (set.contains run other) not_runs (sym (rest_is other) ∙ gone))
+    each_old : set.contains gone other ≡ false → CardClaims (knowing ownership known) n p target other answer
+    each_old stays = old ownership n owned tight_p left other may'
+        (tried_before (set.contains untried other) (set.contains gone other) stays (sym (rest_is other) ∙ is_gone))
       where
         tried_before : (a b : Bool) → b ≡ false → (a && not b) ≡ false → a ≡ false
         tried_before true true e h = absurd (true≢false e)
@@ -284,3 +297,9 @@ some_in s some = of_items (set.items s) refl
     of_items [] e = absurd (some (same_cards _ _ (λ card. set.contains-items s card
         ∙ ap (list_any (eq_by_cmp card_cmp card)) e ∙ sym (set.contains-empty card_cmp card))))
     of_items (first ∷ rest) e = (first, items_among s first (subst (Among first) (sym e) (inl refl)))
+
+-- the cards of a run, or those that the refused card speaks for
+pub of_either : (run spoken gone : Cards) → gone ≡ set.union run spoken → (card : Card) →
+    set.contains gone card ≡ true → (set.contains run card ≡ true) ⊎ (set.contains spoken card ≡ true)
+of_either run spoken gone gone_is card held =
+    or_cases _ _ (sym (ap (λ s. set.contains s card) gone_is ∙ set.contains-union card_cmp_total run spoken card) ∙ held)

@@ -1,14 +1,13 @@
 -- For private clauses: what a search keeps from card to card.
-use Rattle.std.specs.Prelude.{◌≡◌, ◌≢◌, ℕ, suc, ◌⊎◌, Bool, true, false, nat_le}
+use Rattle.std.specs.Prelude.{◌≡◌, ◌≢◌, ℕ, suc, ◌⊎◌, Bool, true, false}
 use Rattle.cards.specs.Cards.{Cards}
 use Rattle.cards.specs.declared.card.Card.{Card}
-use Rattle.cards.specs.Hands.{Hands}
 use Rattle.std.specs.FinSet as set
 use Rattle.cards.specs.Play.{Position, cards_left, legal, to_play}
-use Rattle.double_dummy_laws.proofs.RenamingLemmas.{worth_in}
-use Rattle.double_dummy_laws.specs.Found.{IsOwned, IsTight}
+use Rattle.double_dummy_laws.specs.Found.{CardClaims, IsOwned, IsTight}
 use Rattle.double_dummy_laws.specs.Known.{IsLike}
-use Rattle.double_dummy_laws.specs.Renaming.{HasNames, IsRenaming, Ownership, knowing, renamed}
+use Rattle.double_dummy_laws.specs.Neighbours.{AreUnparted}
+use Rattle.double_dummy_laws.specs.Renaming.{Ownership, knowing}
 
 -- a set that has all live cards of the other players
 abbrev pub HasOthers : Position → Cards → Type 0
@@ -24,11 +23,10 @@ IsRunOf position card run =
     set.contains run other ≡ true →
     (set.contains (legal position) other ≡ true) × ((card ≡ other) ⊎ IsLike ownership card other)
 
--- the answer to whether North and South take so many tricks with this card, wherever the cards have other names
-abbrev pub CardClaims : Ownership → ℕ → Position → ℕ → Card → Bool → Type 0
-CardClaims ownership left position target card answer =
-    (name : Card → Card) (hands : Hands) → IsRenaming ownership name → HasNames ownership name position.hands hands →
-    nat_le target (worth_in left (renamed name position hands) (name card)) ≡ answer
+-- legal cards that none of the known cards parts from this one
+abbrev pub AreSpokenFor : Position → Cards → Card → Cards → Type 0
+AreSpokenFor position known card spoken =
+    (other : Card) → set.contains spoken other ≡ true → AreUnparted position known card other
 
 -- each legal card that is not among these was tried, and gives the player the other answer
 abbrev pub AreTriedInVain : Position → ℕ → Cards → Cards → Bool → Type 0

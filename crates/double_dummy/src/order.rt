@@ -5,10 +5,11 @@ ghost use Rattle.cards.specs.declared.card.Card.{Card};
 ghost use Rattle.double_dummy.specs.Search.{HasOthers};
 
 use crate::run::{is_one_run, run_of};
-use crate::weights::Weights;
+use crate::weights::{Weights, top};
 use cards::{Card, Hand, Position};
 
-/// The most promising of the cards that are untried. Which it is decides nothing but the time.
+/// The most promising of the cards that are untried, the highest of its run: if it wins, the fewest cards have to be
+/// known. Which it is decides nothing but the time.
 #[tactic(auto, using(position_patterns::proofs::SetLemmas::still_held))]
 pub fn best(position: &Position, others: Hand, playable: Hand, untried: Hand) -> Option<Card>
     requires others { HasOthers position.now others }
@@ -17,9 +18,10 @@ pub fn best(position: &Position, others: Hand, playable: Hand, untried: Hand) ->
     ensures some { IfSome result (λ card. set.contains untried card ≡ true) }
     ensures none { IfNone result (untried ≡ set.empty) }
 {
-    let Some(mut best) = untried.first() else {
+    let Some(lowest) = untried.first() else {
         return None;
     };
+    let mut best = top(untried, lowest);
     if is_one_run(untried, others) {
         return Some(best);
     }
@@ -28,9 +30,10 @@ pub fn best(position: &Position, others: Hand, playable: Hand, untried: Hand) ->
     let mut rest = untried;
     'runs: while let Some(card) = rest.first() {
         let run = run_of(position, others, playable, card);
-        let weight = weights.weight(card, run);
-        if most < weight {
-            best = card;
+        let high = top(run, card);
+        let weight = weights.weight(high, run);
+        if most < weight && untried.contains(high) {
+            best = high;
             most = weight;
         }
         rest = rest.difference(run);

@@ -1,12 +1,13 @@
-ghost use Rattle.std.specs.Prelude.{◌≡◌, ◌<◌, ◌&&◌, true};
+ghost use Rattle.std.specs.Prelude.{◌≡◌, ◌<◌, ◌≤◌, ◌&&◌, IsTrue, true};
 ghost use Rattle.std.specs.FinSet as set;
-ghost use Rattle.cards.specs.Card.{number_in_pack};
 ghost use Rattle.cards.specs.declared.card.Card.{Card};
 ghost use Rattle.cards.specs.Play.{legal};
-ghost use Rattle.double_dummy.specs.Search.{HasOthers, IsRunOf};
+ghost use Rattle.cards.specs.Card.{number_in_pack};
+ghost use Rattle.double_dummy.specs.Search.{AreSpokenFor, HasOthers, IsRunOf};
+ghost use Rattle.double_dummy_laws.specs.Neighbours.{IsBetween};
 
 use crate::weights::top;
-use cards::{Card, Hand, Position, Rank};
+use cards::{Card, Hand, Position};
 use position_patterns::Holders;
 
 /// The cards that the other players hold, and those on the table.
@@ -18,7 +19,7 @@ pub fn others(position: &Position) -> Hand
     live.difference(position.hand(trick.turn(position.leader())))
 }
 
-/// The card, and the player's cards above it that are worth the same: no other player has one between.
+/// The card, and the player's cards that are worth the same: no other player has one between.
 pub fn run_of(position: &Position, others: Hand, playable: Hand, card: Card) -> Hand
     requires others { HasOthers position.now others }
     requires playable { playable ≡ legal position.now }
@@ -26,9 +27,23 @@ pub fn run_of(position: &Position, others: Hand, playable: Hand, card: Card) -> 
     ensures run { IsRunOf position.now card result }
     ensures itself { set.contains result card ≡ true }
 {
-    let mut run = common(playable.of_suit(card.suit), next_to(others, card));
+    let mut run = unparted(playable, card, others);
     run.insert(card);
     run
+}
+
+/// The cards that a refused card speaks for, where these cards mattered: those of its suit that none of them parts from
+/// it, if it did not matter itself. In this the search differs from DDS, which drops what is lower than all cards that
+/// mattered so far.
+pub fn spoken_for(position: &Position, playable: Hand, card: Card, decisive: Hand) -> Hand
+    requires playable { playable ≡ legal position.now }
+    requires legal { set.contains (legal position.now) card ≡ true }
+    ensures { AreSpokenFor position.now decisive card result }
+{
+    if decisive.contains(card) {
+        return Hand::new();
+    }
+    unparted(playable, card, decisive).difference(decisive)
 }
 
 /// Whether these cards are one run, or none: where a player has no choice, none has to be weighed.
@@ -43,34 +58,64 @@ pub fn is_one_run(playable: Hand, others: Hand) -> bool {
     lowest.suit == highest.suit && others.is_disjoint(Hand::between(lowest, highest))
 }
 
-/// The cards of the suit above a card, up to the first that the others have.
-fn next_to(others: Hand, card: Card) -> Hand
-    ensures above { (higher : Card) → set.contains result higher ≡ true →
-        number_in_pack card < number_in_pack higher }
-    ensures free { (higher between : Card) → set.contains result higher ≡ true → set.contains others between ≡ true →
-        between.suit ≡ card.suit → number_in_pack card < number_in_pack between →
-        number_in_pack between < number_in_pack higher → ⊥ }
+/// Those of these cards that are of the card's suit, and with none of the parting ones between it and them.
+fn unparted(cards: Hand, card: Card, parting: Hand) -> Hand
+    ensures among { (other : Card) → set.contains result other ≡ true → set.contains cards other ≡ true }
+    ensures suit { (other : Card) → set.contains result other ≡ true → card.suit ≡ other.suit }
+    ensures free { (other between : Card) → set.contains result other ≡ true → set.contains parting between ≡ true →
+        ¬ IsBetween card other between }
 {
-    let ace = Card {
-        suit: card.suit,
-        rank: Rank::Ace,
-    };
-    if card.number() >= ace.number() {
+    let suited = cards.of_suit(card.suit);
+    let (low, high) = ends(suited, card, parting.of_suit(card.suit));
+    common(suited, stretch(low, card, high, parting))
+}
+
+/// The cards of the pack from a low one to a high one, if this card is one of them, and no parting card is between.
+fn stretch(low: Card, card: Card, high: Card, parting: Hand) -> Hand
+    ensures { (other between : Card) → card.suit ≡ other.suit → set.contains result other ≡ true →
+        set.contains parting between ≡ true → ¬ IsBetween card other between }
+{
+    if !are_in_order(low, card, high) {
         return Hand::new();
     }
-    let mut higher = Hand::between(card, ace);
-    higher.insert(ace);
-    let Some(first) = common(others, higher).first() else {
-        return higher;
-    };
-    if card.number() >= first.number() {
+    let inner = Hand::between(low, high);
+    if !inner.is_disjoint(parting) {
         return Hand::new();
     }
-    common(higher, Hand::between(card, first))
+    let mut stretch = inner;
+    stretch.insert(low);
+    stretch.insert(high);
+    stretch
+}
+
+/// Whether a card stands in the pack from a lower one to a higher one.
+fn are_in_order(low: Card, card: Card, high: Card) -> bool
+    ensures order { IsTrue result → number_in_pack low < number_in_pack high }
+    ensures from { IsTrue result → number_in_pack low ≤ number_in_pack card }
+    ensures to { IsTrue result → number_in_pack card ≤ number_in_pack high }
+{
+    let number = card.number();
+    low.number() < high.number() && low.number() <= number && number <= high.number()
+}
+
+/// The lowest and the highest of a suit's cards that none of the parting ones parts from this one.
+fn ends(suited: Hand, card: Card, parting: Hand) -> (Card, Card) {
+    let here = 1u64 << card.number();
+    let below = parting.word() & (here - 1);
+    let above = parting.word() & !(here - 1);
+    let from = if below == 0 { 0 } else { below.ilog2() + 1 };
+    let nearest = above & above.wrapping_neg();
+    let open = (suited.word() & nearest.wrapping_sub(1)) >> from << from;
+    if open == 0 {
+        return (card, card);
+    }
+    let low = Card::from_number(open.trailing_zeros().min(51) as u8);
+    let high = Card::from_number(open.ilog2().min(51) as u8);
+    (low, high)
 }
 
 /// The cards that are in both sets.
-fn common(a: Hand, b: Hand) -> Hand
+pub(crate) fn common(a: Hand, b: Hand) -> Hand
     ensures { (card : Card) → set.contains result card ≡ (set.contains a card && set.contains b card) }
 {
     a.difference(a.difference(b))

@@ -121,7 +121,8 @@ fn explore(
         }
         let run = run::run_of(position, others, playable, card);
         known = learnt(known, decisive, run);
-        untried = untried.difference(run);
+        let spoken = run::spoken_for(position, playable, card, decisive);
+        untried = untried.difference(run.union(spoken));
     }
     Ok(Finding {
         holds: !wanted,

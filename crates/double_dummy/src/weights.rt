@@ -1,4 +1,5 @@
-ghost use Rattle.std.specs.Prelude.{◌≤◌};
+ghost use Rattle.std.specs.Prelude.{◌≡◌, ◌≤◌, true};
+ghost use Rattle.std.specs.FinSet as set;
 
 use cards::{Card, Hand, Position, Trick, strength};
 use table_terms::Suit;
@@ -216,10 +217,13 @@ fn length(hand: Hand, suit: Suit) -> u16
 }
 
 /// The last card of a set in the order of the pack, of one suit's cards the highest, or another where it has none.
-pub(crate) fn top(hand: Hand, other: Card) -> Card {
+pub(crate) fn top(hand: Hand, other: Card) -> Card
+    ensures { set.contains hand other ≡ true → set.contains hand result ≡ true }
+{
     let word = hand.word();
     if word == 0 {
         return other;
     }
-    Card::from_number(word.ilog2().min(51) as u8)
+    let last = Card::from_number(word.ilog2().min(51) as u8);
+    if hand.contains(last) { last } else { other }
 }

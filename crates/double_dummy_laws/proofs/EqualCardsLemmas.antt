@@ -181,10 +181,9 @@ same_within ownership = record { owner = λ _. refl; live = λ _ l. l; known = �
 
 -- the hands with the names after a swap of two cards of one of them
 pub names_swapped : (ownership : Ownership) (name : Card → Card) (hands others : Hands) (place : Place) (a b : Card) →
-    IsLike ownership a b →
     set.contains (hand_of hands place) a ≡ true → set.contains (hand_of hands place) b ≡ true →
     HasNames ownership name hands others → HasNames ownership (λ card. name (swap a b card)) hands others
-names_swapped ownership name hands others place a b like held_a held_b named = record {
+names_swapped ownership name hands others place a b held_a held_b named = record {
   into = λ at card held. named.into at (swap a b card) (stays at card held);
   onto = λ at card held.
       let old = named.onto at card held in
@@ -275,7 +274,7 @@ alike_worth n ownership p a b owned all like may_a may_b =
           λ _. all b;
       second = λ _. all a;
     }) (same_name ownership) like in
-    let named = names_swapped ownership (λ card. card) p.hands p.hands (to_play p) a b like held_a held_b
+    let named = names_swapped ownership (λ card. card) p.hands p.hands (to_play p) a b held_a held_b
     (own_names ownership p owned) in
     let table : map (swap a b) p.table ≡ p.table =
     table_swapped (λ card. card) a b p.table off_a off_b ∙ map_same p.table in

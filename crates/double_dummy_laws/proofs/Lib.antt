@@ -9,5 +9,6 @@ pub mod OwnerLemmas
 pub mod OwnershipLemmas
 pub mod PairingLemmas
 pub mod PatternLemmas
+pub mod RefusedLemmas
 pub mod RenamingLemmas
 pub mod WinnerLemmas

@@ -23,7 +23,7 @@ use Rattle.double_dummy_laws.proofs.CountLemmas.{left_after}
 use Rattle.cards.specs.DoubleDummy.{worth}
 
 -- of two numbers, a third one that is neither and not between them is above both or below both
-same_side : (a b x : ℕ) → x ≢ a → x ≢ b → (a < x → x < b → ⊥) → (b < x → x < a → ⊥) →
+pub same_side : (a b x : ℕ) → x ≢ a → x ≢ b → (a < x → x < b → ⊥) → (b < x → x < a → ⊥) →
     ((a < x) ↔ (b < x)) × ((x < a) ↔ (x < b))
 same_side a b x xa xb up down =
     elim (cases_order a x) [

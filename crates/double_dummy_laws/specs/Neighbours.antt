@@ -1,11 +1,13 @@
--- Equal cards: a player's cards between which nobody else has a card.
-use Rattle.std.specs.Prelude.{◌≡◌, ◌<◌, ◌⊎◌, true, List, [], ◌∷◌}
+-- Equal cards: a player's cards between which nobody else has a card. Cards that do the same as far as others go: none
+-- of those is between them.
+use Rattle.std.specs.Prelude.{◌≡◌, ◌<◌, ◌⊎◌, true, false, List, [], ◌∷◌}
 use Rattle.std.specs.List.{list_any}
 use Rattle.std.specs.Ordering.{eq_by_cmp}
 use Rattle.std.specs.FinSet as set
 use Rattle.cards.specs.declared.card.Card.{Card}
 use Rattle.table_terms.specs.declared.place.Place.{Place}
 use Rattle.cards.specs.Card.{card_cmp}
+use Rattle.cards.specs.Cards.{Cards}
 use Rattle.cards.specs.Hands.{hand_of}
 use Rattle.cards.specs.Rank.{height}
 use Rattle.cards.specs.Play.{Position, legal}
@@ -34,3 +36,12 @@ abbrev pub IsRun : Position → List Card → Type 0
 IsRun position [] = Unit {0}
 IsRun position (card ∷ []) = Unit {0}
 IsRun position (a ∷ b ∷ rest) = AreNeighbours position a b × IsRun position (b ∷ rest)
+
+-- two legal cards of one suit, neither of them among these cards, and none of these between them
+pub record AreUnparted (position : Position) (these : Cards) (a b : Card) : Type 0 where
+  pub first : set.contains (legal position) a ≡ true
+  pub second : set.contains (legal position) b ≡ true
+  pub suit : a.suit ≡ b.suit
+  pub first_out : set.contains these a ≡ false
+  pub second_out : set.contains these b ≡ false
+  pub none : (card : Card) → set.contains these card ≡ true → ¬ IsBetween a b card

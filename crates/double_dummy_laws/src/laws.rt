@@ -1,5 +1,5 @@
 //! What follows from the definitions alone: each function here has nothing to do, and its clauses are the theorem.
-ghost use Rattle.std.specs.Prelude.{◌≡◌, ◌<◌, ◌≤◌, ℕ, ◌+◌, Bool, true, [], ◌∷◌, List, All, map};
+ghost use Rattle.std.specs.Prelude.{◌≡◌, ◌<◌, ◌≤◌, ℕ, ◌+◌, Bool, true, [], ◌∷◌, List, All, map, nat_le};
 ghost use Rattle.std.specs.FinSet as set;
 ghost use Rattle.cards.specs.declared.card.Card.{Card};
 ghost use Rattle.table_terms.specs.declared.place.Place.{Place};
@@ -10,8 +10,8 @@ ghost use Rattle.cards.specs.Hands.{Hands, hand_of};
 ghost use Rattle.table_terms.specs.Place.{side_of};
 ghost use Rattle.cards.specs.Play.{Position, IsPosition, IsApart, legal, to_play, cards_left};
 ghost use Rattle.cards.specs.DoubleDummy.{best, tricks, double_dummy, worth};
-ghost use Rattle.double_dummy_laws.specs.Found.{IsFound};
-ghost use Rattle.double_dummy_laws.specs.Neighbours.{AreNeighbours, IsRun};
+ghost use Rattle.double_dummy_laws.specs.Found.{IsCardFound, IsFound};
+ghost use Rattle.double_dummy_laws.specs.Neighbours.{AreNeighbours, AreUnparted, IsRun};
 ghost use Rattle.double_dummy_laws.specs.Pattern.{IsOfPattern, IsTop, holding};
 ghost use Rattle.double_dummy_laws.specs.Renaming.{Ownership, IsRenaming, HasNames, ArePlayed, AllKnown, renamed};
 
@@ -49,6 +49,18 @@ pub fn equal_cards()
         worth position a ≡ worth position b }
     ensures run { (position : Position) (card : Card) (run : List Card) → IsPosition position →
         IsRun position (card ∷ run) → All (λ other. worth position other ≡ worth position card) run }
+{}
+
+/// A refused card speaks for others: what was found out of a card, where neither it nor another legal card of its suit
+/// mattered, nor any card between the two, holds of the other card too. What was found out of a card is true of its
+/// worth.
+pub fn a_refused_card_speaks()
+    ensures speaks { (position : Position) (known : Cards) (target : ℕ) (card other : Card) (answer : Bool) →
+        AreUnparted position known card other → IsCardFound position target known card answer →
+        IsCardFound position target known other answer }
+    ensures worth { (position : Position) (known : Cards) (target : ℕ) (card : Card) (answer : Bool) →
+        IsPosition position → set.contains (legal position) card ≡ true →
+        IsCardFound position target known card answer → nat_le target (worth position card) ≡ answer }
 {}
 
 /// What was found out at the beginning of a trick, where no card mattered below so many top cards of each suit, holds

@@ -19,11 +19,11 @@ pub returns-in_default-clause-none : goal.returns-in_default-clause-none
 returns-in_default-clause-none c = c.in_default.ensures.none
 
 pub returns-then-is_one_run-clause-some : goal.returns-then-is_one_run-clause-some
-returns-then-is_one_run-clause-some c = c.in-Some.ensures.some
+returns-then-is_one_run-clause-some c = c.top-best.ensures c.in-Some.ensures.some
 
 pub runs-init : goal.runs-init
 runs-init c = record {
-  best = c.in-Some.ensures.some;
+  best = c.top-best.ensures c.in-Some.ensures.some;
   rest = λ card held. held;
 }
 

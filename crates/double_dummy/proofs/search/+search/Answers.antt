@@ -5,7 +5,7 @@ use Rattle.position_patterns.proofs.SetLemmas.{in_difference}
 use Rattle.cards.specs.Play.{cards_left, legal}
 use Rattle.double_dummy.proofs.BoundLemmas.{too_many}
 use Rattle.position_patterns.proofs.RemainderLemmas.{left_without}
-use Rattle.double_dummy.proofs.SearchLemmas.{fewer_untried, found_decided, found_next, found_refused, known_more, nothing_left, other_bool, refused_step, same_bool, some_in}
+use Rattle.double_dummy.proofs.SearchLemmas.{fewer_untried, found_decided, found_next, found_refused, known_more, nothing_left, of_either, other_bool, refused_step, same_bool, some_in}
 use Rattle.position_patterns.proofs.SetLemmas.{in_first, in_second}
 use Rattle.position_patterns.specs.Remainder.{IsLeftOf}
 use Rattle.double_dummy_laws.proofs.CountLemmas.{fewer_after}
@@ -43,8 +43,9 @@ explore-returns-then-found-wanted-clause-found t c =
 
 pub explore-loop-card-smaller : goal.explore-loop-card-smaller
 explore-loop-card-smaller t c =
-    fewer_untried c.loop-card.untried c.difference-untried.result c.run_of-run.result c.in-Some.card
-    c.in-Some.ensures.some c.run_of-run.ensures.itself (in_difference _ _ _ c.difference-untried.ensures)
+    fewer_untried c.loop-card.untried c.difference-untried.result c.union.result c.in-Some.card
+    c.in-Some.ensures.some (in_first _ _ _ c.union.ensures c.in-Some.card c.run_of-run.ensures.itself)
+    (in_difference _ _ _ c.difference-untried.ensures)
 
 pub explore-loop-card-preserved : goal.explore-loop-card-preserved
 explore-loop-card-preserved t c = record {
@@ -57,16 +58,16 @@ explore-loop-card-preserved t c = record {
       (other_bool _ _ c.if-found-wanted.false) c.in-Ok-search.ensures.found in
       refused_step p c.args.target c.loop-card.untried c.difference-untried.result c.loop-card.known
       c.learnt-known.result c.in-Ok-search.found.known c.union-decisive.result c.run_of-run.result
-      c.in-Some.card (not c.wants-wanted.result) c.loop-card.invariant.refused
+      c.spoken_for-spoken.result c.union.result c.in-Some.card (not c.wants-wanted.result) c.loop-card.invariant.refused
       (c.loop-card.invariant.untried c.in-Some.card c.in-Some.ensures.some)
       (found_next p c.after-next.result c.args.target _ c.point.result c.in-Some.card _ _ c.after-next.ensures
       c.point.ensures.point refl found)
       (λ ownership. known_more ownership _ _ _ _ _ (in_second _ _ _ c.union-decisive.ensures)
       (c.decisive.ensures ownership))
-      c.run_of-run.ensures.run c.run_of-run.ensures.itself
+      c.run_of-run.ensures.run c.run_of-run.ensures.itself c.spoken_for-spoken.ensures
       (in_first _ _ _ c.union-decisive.ensures)
       c.learnt-known.ensures.known c.learnt-known.ensures.decisive c.learnt-known.ensures.run
-      (in_difference _ _ _ c.difference-untried.ensures);
+      (of_either _ _ _ c.union.ensures) (in_difference _ _ _ c.difference-untried.ensures);
 }
 
 pub explore-returns-clause-found : goal.explore-returns-clause-found
@@ -105,6 +106,12 @@ explore-run_of-run-requires-clause-playable t c = c.legal_cards-playable.ensures
 
 pub explore-run_of-run-requires-clause-legal : goal.explore-run_of-run-requires-clause-legal
 explore-run_of-run-requires-clause-legal t c = c.loop-card.invariant.untried c.in-Some.card c.in-Some.ensures.some
+
+pub explore-spoken_for-spoken-requires-clause-playable : goal.explore-spoken_for-spoken-requires-clause-playable
+explore-spoken_for-spoken-requires-clause-playable t c = c.legal_cards-playable.ensures
+
+pub explore-spoken_for-spoken-requires-clause-legal : goal.explore-spoken_for-spoken-requires-clause-legal
+explore-spoken_for-spoken-requires-clause-legal t c = c.loop-card.invariant.untried c.in-Some.card c.in-Some.ensures.some
 
 pub search-find-requires-clause-same : goal.search-find-requires-clause-same
 search-find-requires-clause-same t c = c.of-holders.ensures.hands
