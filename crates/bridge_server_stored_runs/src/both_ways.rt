@@ -3,7 +3,7 @@
 //! after an empty line come messages with commands. After each accepted command, and before the first, each question is
 //! asked for each name. A reply that isn't the same both ways is told at once, and at the end how many were compared.
 
-use opened_session::open_book;
+use opened_session::{OpenedSession, open_session};
 use published_view::View;
 use published_view::laws::answer_afresh;
 use reply_texts::reply_text;
@@ -52,7 +52,7 @@ struct BothWays {
 impl BothWays {
     // The session of an object, if it opens one.
     fn open(alloc: Global, object: &str) -> Option<BothWays> {
-        let Ok((book, _)) = open_book(alloc, object.as_bytes(), None) else {
+        let Ok(OpenedSession { book, .. }) = open_session(alloc, object.as_bytes(), None) else {
             return None;
         };
         let Ok(view) = View::open(alloc, &book) else {
@@ -135,10 +135,12 @@ impl BothWays {
         question: &str,
         writer: &mut O,
     ) -> bool {
-        let Ok(ScriptRequest {
-            request: UserRequest::Query { query, since },
-            ..
-        }) = read_script_request(alloc, question.as_bytes())
+        let Ok(
+            ScriptRequest {
+                request: UserRequest::Query { query, since },
+                ..
+            },
+        ) = read_script_request(alloc, question.as_bytes())
         else {
             return false;
         };
