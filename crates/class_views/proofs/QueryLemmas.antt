@@ -1,9 +1,9 @@
 -- What is read from what is kept.
-use Rattle.std.proofs.Common.{◌≡◌, ℕ, zero, suc, ◌+◌, ◌<◌, ◌≤◌, false, List, [], ◌∷◌, ◌++◌, get_or, map, refl, sym, ap, ◌∙◌, arith}
+use Rattle.std.proofs.Common.{rules, ◌≡◌, ℕ, zero, suc, ◌+◌, ◌<◌, ◌≤◌, true, false, List, [], ◌∷◌, ◌++◌, get_or, map, refl, sym, ap, ◌∙◌, arith}
 use Rattle.std.specs.Prelude.{Option, Some, None, is_none}
 use Rattle.std.specs.List.{range_with_len, sum_by}
 use Rattle.std.proofs.lemmas.List.Sums.{sum_by-cons}
-use Rattle.movement.specs.Movement.{IsSection, boards_of}
+use Rattle.movement.specs.Movement.{Section, IsSection, boards_of, has_board}
 use Rattle.scoring.specs.declared.standing.Standing.{Standing}
 use Rattle.table_terms.specs.declared.pair.Pair.{Pair}
 use Rattle.small_sets.specs.Numbers.{has_number}
@@ -20,6 +20,13 @@ use Rattle.class_views.specs.Totals.{counted_for, total_for}
 use Rattle.class_views.specs.declared.class_view.ClassView.{ClassView}
 use Rattle.class_views.specs.declared.user_class.UserClass.{UserClass}
 use Rattle.class_views.proofs.ClassLemmas.{same_class_sees}
+
+-- a board of a section is one from 1 to its boards
+pub board_from : (section : Section) (board : ℕ) → has_board section board ≡ true → 1 ≤ board
+board_from section board has = search rules
+
+pub board_to : (section : Section) (board : ℕ) → has_board section board ≡ true → board ≤ boards_of section
+board_to section board has = search rules
 
 module _ (state : SessionState) (classes : List ClassView) (rows : List (List Standing)) (kept : IsKeptOf state classes rows) where
   -- what a class sees
