@@ -65,10 +65,10 @@ pub memory_for : {A : Type 0} {P : Type 0} (answer : Result A RequestFault) → 
 memory_for (Ok x) holds = tt
 memory_for (Err fault) holds = λ same. holds
 
-pub memory_never : {A : Type 0} {P : Type 0} (answer : Result A RequestFault) → IfErr answer (λ fault. fault ≢ OutOfMemory)
+pub memory_never : {A : Type 0} (P : Type 0) (answer : Result A RequestFault) → IfErr answer (λ fault. fault ≢ OutOfMemory)
     → IfErr answer (λ fault. fault ≡ OutOfMemory → P)
-memory_never (Ok x) never = tt
-memory_never (Err fault) never = λ same. absurd (never same)
+memory_never P (Ok x) never = tt
+memory_never P (Err fault) never = λ same. absurd (never same)
 
 pub utf8_number : (line : List ℕ) → IsUtf8 line → utf8_valid_len line ≡ length line
 utf8_number line utf8 = utf8_valid_len-IsUtf8 line utf8

@@ -13,9 +13,9 @@ loop-before-preserved c =
           (λ i. (w.boards-is i).items)
           ∙ w.in_ok-push.ensures.items
           ∙ ap (λ boards. boards ++ (before + 1) ∷ []) c.loop-before.invariant
-          ∙ sym (numbers_with_next held before (sym c.contains.ensures ∙ w.if-contains.true))
+          ∙ sym (numbers_with_next held before (sym c.contains.ensures.has ∙ w.if-contains.true))
       | else-contains w ↦
           (λ i. (w.boards-is i).items)
           ∙ c.loop-before.invariant
-          ∙ sym (numbers_without_next held before (sym c.contains.ensures ∙ w.if-contains.false))
+          ∙ sym (numbers_without_next held before (sym c.contains.ensures.has ∙ w.if-contains.false))
     ]

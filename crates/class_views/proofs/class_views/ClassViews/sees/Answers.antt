@@ -16,12 +16,12 @@ returns-in-Some c =
     let board = c.args.board in
     let classes = c.self.inside.kept.classes.items in
     let has : has_board state.public.movement board ≡ true =
-        ap (λ (state : SessionState). has_board state.public.movement board) c.self.view_is ∙ c.requires in
+    ap (λ (state : SessionState). has_board state.public.movement board) c.self.view_is ∙ c.requires in
     let of_class : class_of c.args.viewer.now ≡ Some c.in-Some.class = search rules in
     c.contains.ensures.has
     ∙ (ap (λ (kept : ClassView). has_number kept.boards board) c.index.ensures
     ∙ (sees_kept state classes c.self.inside.kept.rows.items c.self.invariant.0 c.args.viewer.now c.in-Some.class c.place.result board c.index.result.now c.self.invariant.1.0 of_class c.place.ensures.place c.place.ensures.below
-        (board_from state.public.movement board has) (board_to state.public.movement board has)
+    (board_from state.public.movement board has) (board_to state.public.movement board has)
     ∙ ap (λ (state : SessionState). is_none (first_rule state.public c.args.viewer.now (Hands board))) c.self.view_is))
 
 pub returns-in-None : goal.returns-in-None
