@@ -1,3 +1,4 @@
+pub mod FilterLemmas
 pub mod FloatLemmas
 pub mod RangeLemmas
 pub mod ReplyLemmas
