@@ -1,5 +1,6 @@
 pub mod AuditLemmas
 pub mod AuditTextLemmas
+pub mod GrammarLemmas
 pub mod LineLemmas
 pub mod ListLemmas
 pub mod MemberLemmas

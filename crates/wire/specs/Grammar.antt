@@ -1,12 +1,18 @@
 -- What a message is, said of its members alone: nothing here knows an order of reading.
-use Rattle.std.specs.Prelude.{◌≡◌, ◌≢◌, ◌⊎◌, ℕ, ◌≤◌, List, [], ◌∷◌, length, count_by, All, true, is_some, IsSome, codes, Option, Some, None, option_and_then}
+use Rattle.std.specs.Prelude.{◌≡◌, ◌≢◌, ◌⊎◌, ℕ, ◌<◌, ◌≤◌, List, [], ◌∷◌, length, count_by, All, true, is_some, IsSome, codes, Option, Some, None, option_and_then}
 use Rattle.serde_json.specs.Data.{Data, Items}
 use Rattle.serde_json.specs.Find.{get, as_array}
 use Rattle.session_commands.specs.declared.command.Command.{Command}
 use Rattle.session_queries.specs.declared.query.Query.{Query}
 use Rattle.wire.specs.declared.audit_range.AuditRange.{AuditRange}
+use Rattle.wire.specs.declared.request.Request.{Request}
+use Rattle.wire.specs.declared.request.RequestBody.{RequestBody}
+use Rattle.wire.specs.declared.request.RequestBody.TheVariants as body
+use Rattle.wire.specs.declared.request.UserRequest.TheVariants as wanting
 use Rattle.wire.specs.declared.source.Source.{Source}
 use Rattle.wire.specs.declared.source.Source.TheVariants.{Script, Connection}
+use Rattle.json_fields.specs.declared.request_fault.RequestFault.{RequestFault}
+use Rattle.json_fields.specs.declared.request_fault.RequestFault.TheVariants.{TooLong, Malformed, UnknownRequest, BadField, OutOfMemory}
 use Rattle.json_fields.specs.Form.{has_only, words, HasForm, HasFormOf, AreEach}
 use Rattle.json_fields.specs.Field.{text_at}
 use Rattle.json_fields.specs.Message.{since}
@@ -88,3 +94,37 @@ pub record IsNoRequest (source : Source) (d : Data) : Type 0 where
   pub no_batch : (user : Option (List ℕ)) (commands : List Command) → ¬ IsBatch source d user commands
   pub no_audit : (user : Option (List ℕ)) (range : AuditRange) → ¬ IsAudit source d user range
   pub no_greeting : (user : Option (List ℕ)) (name token : List ℕ) → ¬ IsGreeting source d user name token
+
+-- what its members make of an object, and whose it is
+abbrev pub Makes : Source → Data → Option (List ℕ) → RequestBody → Type 0
+Makes source d user (body.OfUser (wanting.Query query version)) = IsQuery source d user query version
+Makes source d user (body.OfUser (wanting.Batch commands)) = IsBatch source d user commands
+Makes source d user (body.OfUser (wanting.Audit range)) = IsAudit source d user range
+Makes source d user (body.Hello name token) = IsGreeting source d user name token
+
+-- the bytes are a message, and its members make it this request
+pub record Says (source : Source) (bytes : List ℕ) (request : Request) : Type 0 where
+  pub said : Data
+  pub is : IsMessage bytes said
+  pub makes : Makes source said request.user request.body
+
+-- a message that is an unknown request
+pub record SaysUnknown (source : Source) (bytes : List ℕ) : Type 0 where
+  pub said : Data
+  pub is : IsMessage bytes said
+  pub unknown : IsUnknownRequest source said
+
+-- a message that has a bad member, and is no unknown request
+pub record SaysBad (source : Source) (bytes : List ℕ) : Type 0 where
+  pub said : Data
+  pub is : IsMessage bytes said
+  pub known : ¬ IsUnknownRequest source said
+  pub none : IsNoRequest source said
+
+-- why bytes say no request, the first of these in their order; want of memory has no place in it
+abbrev pub SaysNone : RequestFault → Source → List ℕ → Type 0
+SaysNone TooLong source bytes = most_message_bytes < length bytes
+SaysNone Malformed source bytes = (length bytes ≤ most_message_bytes) × ((d : Data) → ¬ IsObject bytes d)
+SaysNone UnknownRequest source bytes = SaysUnknown source bytes
+SaysNone BadField source bytes = SaysBad source bytes
+SaysNone OutOfMemory source bytes = Unit {0}

@@ -2,7 +2,8 @@
 
 ghost use Rattle.std.specs.Prelude.{◌≡◌, ◌↔◌, ◌+◌, ◌<◌, ◌≤◌, ℕ, List, Option, None, Ok, Err, length, take};
 ghost use Rattle.serde_json.specs.Data.{Data};
-ghost use Rattle.json_fields.specs.declared.request_fault.RequestFault.TheVariants.{TooLong, Malformed, UnknownRequest, BadField};
+ghost use Rattle.json_fields.specs.declared.request_fault.RequestFault.{RequestFault};
+ghost use Rattle.json_fields.specs.declared.request_fault.RequestFault.TheVariants.{TooLong, Malformed, UnknownRequest, BadField, OutOfMemory};
 ghost use Rattle.session_queries.specs.declared.query.Query.{Query};
 ghost use Rattle.wire.specs.declared.audit_range.AuditRange.{AuditRange};
 ghost use Rattle.wire.specs.declared.request.Request.{Request};
@@ -12,8 +13,16 @@ ghost use Rattle.wire.specs.declared.source.Source.{Source};
 ghost use Rattle.wire.specs.declared.source.Source.TheVariants.{Script, Connection};
 ghost use Rattle.session_commands.specs.declared.command.Command.{Command};
 ghost use Rattle.json_fields.specs.Object.{IsObject};
-ghost use Rattle.wire.specs.Grammar.{IsMessage, IsUnknownRequest, IsQuery, IsBatch, IsAudit, IsGreeting, IsNoRequest};
+ghost use Rattle.wire.specs.Grammar.{IsMessage, IsUnknownRequest, IsQuery, IsBatch, IsAudit, IsGreeting, IsNoRequest, Says, SaysNone};
 ghost use Rattle.wire.specs.Request.{most_message_bytes, meaning, IsSaid};
+
+/// Bytes say one request at most, and where they say one no fault applies but want of memory.
+pub fn a_message_says_one_thing()
+    ensures one { (source : Source) (bytes : List ℕ) (one other : Request) →
+        Says source bytes one → Says source bytes other → one ≡ other }
+    ensures no_fault { (source : Source) (bytes : List ℕ) (request : Request) (fault : RequestFault) →
+        Says source bytes request → SaysNone fault source bytes → fault ≡ OutOfMemory }
+{}
 
 /// A message is too long exactly where it has more bytes than a message may have, whatever they are.
 pub fn too_long_first()

@@ -6,6 +6,7 @@ ghost use Rattle.serde_json.specs.Find.{as_str, as_array};
 ghost use Rattle.serde_json.specs.View.{view, items_view};
 ghost use Rattle.json_fields.specs.Reading.{wanted, Gives};
 ghost use Rattle.json_fields.specs.declared.request_fault.RequestFault.TheVariants.{OutOfMemory};
+ghost use Rattle.wire.specs.Grammar.{Says, SaysNone};
 ghost use Rattle.wire.specs.Request.{query_of, query_by, batch_of, batch_by, greeting_by, request_of, text_meaning, bytes_meaning, meaning, script_meaning, connection_meaning, said_request, is_message_text, HasFew, HasFewIn};
 
 use crate::audit_reading::audit_of;
@@ -147,9 +148,9 @@ fn read_bytes(alloc: Global, bytes: &[u8], source: Source) -> Result<Request, Re
 }
 
 /// The request that a message's bytes are. Memory is asked for only where they are not too many, and a text.
-#[tactic(auto, unfolding(crate::specs::Request::meaning))]
 pub fn read_request(alloc: Global, bytes: &[u8], source: Source) -> Result<Request, RequestFault>
-    ensures meaning { Gives result (meaning source bytes.now) }
+    ensures request { IfOk result (Says source bytes.now) }
+    ensures none { IfErr result (λ fault. SaysNone fault source bytes.now) }
     ensures memory { IfErr result (λ fault. fault ≡ OutOfMemory → is_message_text bytes.now ≡ true) }
     ensures few { IfOk result (λ request. HasFewIn request.body) }
 {
@@ -160,7 +161,7 @@ pub fn read_request(alloc: Global, bytes: &[u8], source: Source) -> Result<Reque
 }
 
 /// The request that a script's message is, and whose it is. Each names its user.
-#[tactic(auto, unfolding(crate::specs::Request::script_meaning))]
+#[tactic(auto, using(crate::proofs::GrammarLemmas::script_said, crate::proofs::GrammarLemmas::script_none))]
 pub fn read_script_request(alloc: Global, bytes: &[u8]) -> Result<ScriptRequest, RequestFault>
     ensures meaning { Gives result (script_meaning bytes.now) }
     ensures memory { IfErr result (λ fault. fault ≡ OutOfMemory → is_message_text bytes.now ≡ true) }
@@ -173,7 +174,7 @@ pub fn read_script_request(alloc: Global, bytes: &[u8]) -> Result<ScriptRequest,
 }
 
 /// What a message on a connection wants: something for who is signed in there, or a user who signs in.
-#[tactic(auto, unfolding(crate::specs::Request::connection_meaning))]
+#[tactic(auto, using(crate::proofs::GrammarLemmas::connection_said, crate::proofs::GrammarLemmas::connection_none))]
 pub fn read_connection_request(alloc: Global, bytes: &[u8]) -> Result<RequestBody, RequestFault>
     ensures meaning { Gives result (connection_meaning bytes.now) }
     ensures memory { IfErr result (λ fault. fault ≡ OutOfMemory → is_message_text bytes.now ≡ true) }

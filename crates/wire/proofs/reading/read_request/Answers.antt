@@ -1,7 +1,20 @@
 use Rattle.std.proofs.Common.{◌≤◌, length, rules}
 use Rattle.wire.specs.Request.{most_message_bytes}
+use Rattle.wire.proofs.GrammarLemmas.{said, said_none}
 use Rattle.wire.proofs.LineLemmas.{gives_short, few_given, memory_for_text}
 use Rattle.wire.proofs.reading.read_request.Goals as goal
+
+pub returns-clause-request : goal.returns-clause-request
+returns-clause-request c =
+    let short : length c.args.bytes.now ≤ most_message_bytes = search rules in
+    said c.args.source c.args.bytes.now c.read_bytes.result
+    (gives_short c.args.source c.args.bytes.now c.read_bytes.result short c.read_bytes.ensures.meaning)
+
+pub returns-clause-none : goal.returns-clause-none
+returns-clause-none c =
+    let short : length c.args.bytes.now ≤ most_message_bytes = search rules in
+    said_none c.args.source c.args.bytes.now c.read_bytes.result
+    (gives_short c.args.source c.args.bytes.now c.read_bytes.result short c.read_bytes.ensures.meaning)
 
 pub returns-clause-few : goal.returns-clause-few
 returns-clause-few c =
