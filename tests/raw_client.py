@@ -9,6 +9,7 @@ import socket
 import struct
 import subprocess
 import tempfile
+import threading
 import time
 
 from write_stored_runs import BOARDS, RANKS, SUITS, USERS, text_of
@@ -22,12 +23,23 @@ KEY, ACCEPT = "dGhlIHNhbXBsZSBub25jZQ==", "s3pPLMBiTxaQ9kYGzzhZRbK+xOo="
 FIELDS = {"Host": "127.0.0.1", "Upgrade": "websocket", "Connection": "Upgrade", "Sec-WebSocket-Key": KEY,
           "Sec-WebSocket-Version": "13"}
 MASK = bytes.fromhex("37fa213d")
+# the program's status where another listens at its port
+PORT_IS_TAKEN = 3
+
+
+GIVEN, GIVING = set(), threading.Lock()
 
 
 def free_port():
-    with socket.socket() as listener:
-        listener.bind(("127.0.0.1", 0))
-        return listener.getsockname()[1]
+    """A port at which nothing listens, and which no other server of this test was given."""
+    with GIVING:
+        while True:
+            with socket.socket() as listener:
+                listener.bind(("127.0.0.1", 0))
+                port = listener.getsockname()[1]
+            if port not in GIVEN:
+                GIVEN.add(port)
+                return port
 
 
 def listens(port):
@@ -50,16 +62,26 @@ class Server:
         folder = pathlib.Path(self.folder.name)
         (folder / "session.json").write_text(text_of(session or SESSION))
         (folder / "deals.pbn").write_text(deals)
+        self.words = [program, "serve", "--session", str(folder / "session.json"), "--deals", str(folder / "deals.pbn"), *map(str, words)]
+        # a port that was free a moment ago may be taken by another server of the test, or by a client's end: then another one
+        tries = 10
+        while not self.comes_up(env):
+            ended, tries = self.ended(), tries - 1
+            if ended[0] != PORT_IS_TAKEN or not tries:
+                self.folder.cleanup()
+                raise SystemExit(f"the program doesn't listen: {ended}")
+
+    def comes_up(self, env):
+        """Starts the program at a port that is free, and says whether it listens there."""
         self.port = free_port()
-        self.process = subprocess.Popen(
-            [program, "serve", "--session", str(folder / "session.json"), "--deals", str(folder / "deals.pbn"),
-             "--port", str(self.port), *map(str, words)], env=env, preexec_fn=heeds_signals,
-            stdin=subprocess.DEVNULL, stdout=subprocess.PIPE, stderr=subprocess.PIPE)
+        self.process = subprocess.Popen([*self.words, "--port", str(self.port)], env=env, preexec_fn=heeds_signals,
+                                        stdin=subprocess.DEVNULL, stdout=subprocess.PIPE, stderr=subprocess.PIPE)
         deadline = time.monotonic() + 60
         while not listens(self.port):
             if self.process.poll() is not None or time.monotonic() > deadline:
-                raise SystemExit(f"the program doesn't listen: {self.stopped()}")
+                return False
             time.sleep(0.01)
+        return True
 
     def stream(self, seconds=10, room=None):
         """A stream to the program, which takes so many bytes that aren't read yet."""
@@ -76,13 +98,18 @@ class Server:
         lines = pathlib.Path(f"/proc/{self.process.pid}/status").read_text().splitlines()
         return next(int(line.split()[1]) for line in lines if line.startswith("VmRSS"))
 
-    def stopped(self):
+    def ended(self):
         """The status of the program, which is ended if it runs, and what it wrote."""
         if self.process.poll() is None:
             self.process.terminate()
         out, err = self.process.communicate(timeout=30)
-        self.folder.cleanup()
         return self.process.returncode, out, err
+
+    def stopped(self):
+        """The same, and the session's files go away."""
+        ended = self.ended()
+        self.folder.cleanup()
+        return ended
 
     def __enter__(self):
         return self
