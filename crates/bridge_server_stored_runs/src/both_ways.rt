@@ -9,7 +9,7 @@ use published_view::laws::answer_afresh;
 use reply_texts::reply_text;
 use session_book::Book;
 use session_queries::Query;
-use session_state::{Actor, Command};
+use session_commands::{Actor, Command};
 use std::alloc::Global;
 use std::io::Write;
 use user_names::Name;

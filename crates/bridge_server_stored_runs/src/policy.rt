@@ -3,7 +3,8 @@
 
 use crate::solver::number_in;
 use denials::{Denial, check};
-use session_state::{Fact, Rule, State};
+use disclosure_rules::{Fact, Rule};
+use session_state::State;
 use std::alloc::Global;
 use user_names::Name;
 

@@ -11,7 +11,7 @@ use crate::solver::{costs_told, table_told};
 use request_answers::answer_request;
 use session_book::Answer;
 use session_keeper::{CommandKeeper, PlainKeeper};
-use session_state::Refusal;
+use session_commands::Refusal;
 use std::alloc::Global;
 use std::io::Write;
 use wire::read_script_request;

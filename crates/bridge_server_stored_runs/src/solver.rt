@@ -7,7 +7,8 @@ use cards::{Card, Deal};
 use double_dummy::{Budget, play_costs, table};
 use movement::Cell;
 use scoring::{Contract, Doubling, Level};
-use session_state::{DdTable, Play, PlayCosts, State};
+use session_state::State;
+use solver_results::{DdTable, Play, PlayCosts};
 use std::alloc::Global;
 use table_terms::{Place, Strain};
 

@@ -25,16 +25,16 @@ use Rattle.disclosure_rules.specs.Seating.{some_that, plays_board, has_still_to_
 use Rattle.small_sets.proofs.NumbersLemmas.{has_number-numbers_that}
 use Rattle.disclosure_rules.proofs.SeatingTests.{still_decides, complete_decides}
 use Rattle.session_state.specs.Apply.{apply, effect, confirmed}
-use Rattle.session_state.specs.session_commands.declared.cell_state.CellState.{CellState}
-use Rattle.session_state.specs.session_commands.declared.cell_state.CellState.TheVariants.{Empty, Entered, Confirmed, Ruled}
+use Rattle.session_commands.specs.declared.cell_state.CellState.{CellState}
+use Rattle.session_commands.specs.declared.cell_state.CellState.TheVariants.{Empty, Entered, Confirmed, Ruled}
 use Rattle.session_state.specs.Refusal.{hindrance_of}
 use Rattle.session_state.specs.SessionState.{SessionState, cell_at, IsPlaced, AreLive}
-use Rattle.session_state.specs.session_commands.CellState.{has_result}
-use Rattle.session_state.specs.session_commands.Command.{subject_cell, subject_board}
-use Rattle.session_state.specs.session_commands.declared.command.Command.{Command}
-use Rattle.session_state.specs.session_commands.declared.command.Command.TheVariants as command
-use Rattle.session_state.specs.session_commands.declared.entry.Entry.{Entry}
-use Rattle.session_state.specs.session_commands.declared.refusal.Refusal.{Refusal}
+use Rattle.session_commands.specs.CellState.{has_result}
+use Rattle.session_commands.specs.Command.{subject_cell, subject_board}
+use Rattle.session_commands.specs.declared.command.Command.{Command}
+use Rattle.session_commands.specs.declared.command.Command.TheVariants as command
+use Rattle.session_commands.specs.declared.entry.Entry.{Entry}
+use Rattle.session_commands.specs.declared.refusal.Refusal.{Refusal}
 use Rattle.session_state.proofs.PartLemmas.{entry_part, entry_elsewhere}
 use Rattle.standings.specs.declared.earning.Earning.{Earning}
 use Rattle.session_queries.specs.Content.{result_of}

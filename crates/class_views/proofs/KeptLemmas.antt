@@ -11,7 +11,7 @@ use Rattle.small_sets.specs.Numbers.{has_number}
 use Rattle.small_sets.proofs.NumbersLemmas.{has_number-numbers_that}
 use Rattle.session_state.specs.Apply.{apply}
 use Rattle.session_state.specs.SessionState.{SessionState, AreLive}
-use Rattle.session_state.specs.session_commands.declared.entry.Entry.{Entry}
+use Rattle.session_commands.specs.declared.entry.Entry.{Entry}
 use Rattle.session_state.proofs.PartLemmas.{entry_part}
 use Rattle.standings.specs.declared.earning.Earning.{Earning}
 use Rattle.standings.specs.Ranking.{earned_by, top_for, standing_of}

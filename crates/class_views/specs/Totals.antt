@@ -8,8 +8,8 @@ use Rattle.disclosure_rules.specs.declared.marks.Marks.{Marks}
 use Rattle.disclosure_rules.specs.LiveCells.{is_live}
 use Rattle.small_sets.specs.Numbers.{has_number}
 use Rattle.session_state.specs.SessionState.{SessionState, cell_at}
-use Rattle.session_state.specs.session_commands.Command.{subject_cell, subject_board}
-use Rattle.session_state.specs.session_commands.declared.command.Command.{Command}
+use Rattle.session_commands.specs.Command.{subject_cell, subject_board}
+use Rattle.session_commands.specs.declared.command.Command.{Command}
 use Rattle.standings.specs.declared.earning.Earning.{Earning}
 use Rattle.standings.specs.declared.table_result.TableResult.{TableResult}
 use Rattle.standings.specs.Ranking.{earned_by, earnings_of, top_for}

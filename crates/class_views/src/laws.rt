@@ -5,7 +5,7 @@ ghost use Rattle.disclosure_rules.specs.declared.public.Public.{Public};
 ghost use Rattle.disclosure_rules.specs.declared.viewer.Viewer.{Viewer};
 ghost use Rattle.session_state.specs.Apply.{apply};
 ghost use Rattle.session_state.specs.SessionState.{SessionState, AreLive};
-ghost use Rattle.session_state.specs.session_commands.declared.entry.Entry.{Entry};
+ghost use Rattle.session_commands.specs.declared.entry.Entry.{Entry};
 ghost use Rattle.standings.specs.declared.earning.Earning.{Earning};
 ghost use Rattle.disclosure_rules.specs.Fact.{board_of_fact};
 ghost use Rattle.disclosure_rules.specs.Policy.{first_rule};

@@ -11,5 +11,5 @@ mod pair_totals;
 mod user_class;
 
 pub use class_views::ClassViews;
-pub use session_state::{Entry, State};
+
 pub use user_class::UserClass;

@@ -6,7 +6,7 @@ ghost use Rattle.class_views.specs.Places.{pair_places};
 
 use crate::user_class::{PAIRS, pair_at};
 use scoring::Standing;
-use session_state::room::filled;
+use session_commands::room::filled;
 use standings::{Earning, standing_of};
 use std::alloc::{AllocError, Global};
 use std::marker::Model;

@@ -9,7 +9,7 @@ ghost use Rattle.command_object.specs.Play.{card_named, card_of, cards_of_items,
 use cards::Card;
 use json_fields::RequestFault;
 use serde_json::Value;
-use session_commands::Play;
+use solver_results::Play;
 use std::alloc::Global;
 
 fn card_named(text: &str) -> Option<Card>

@@ -1,7 +1,7 @@
 -- What is told of what was found on a connection.
 use Rattle.std.proofs.Common.{◌≡◌, inl, inr, ℕ, List, refl, sym, ap, subst}
 use Rattle.std.specs.Prelude.{Option, Some, None, Result, Ok, Err}
-use Rattle.session_state.specs.session_commands.declared.entry.Entry.{Entry}
+use Rattle.session_commands.specs.declared.entry.Entry.{Entry}
 use Rattle.session_keeper.proofs.KeepingLemmas.{goes_on_itself}
 use Rattle.json_fields.specs.declared.request_fault.RequestFault.{RequestFault}
 use Rattle.wire.specs.declared.connection_fault.ConnectionFault.{ConnectionFault}

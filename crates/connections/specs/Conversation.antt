@@ -1,7 +1,7 @@
 -- A conversation on connections over one keeper, one message after another, whoever sends them.
 use Rattle.std.specs.Prelude.{◌≡◌, ◌⊎◌, ℕ, Option, Some, None, Ok, List, [], ◌∷◌}
 use Rattle.session_state.specs.SessionState.{SessionState}
-use Rattle.session_state.specs.session_commands.declared.entry.Entry.{Entry}
+use Rattle.session_commands.specs.declared.entry.Entry.{Entry}
 use Rattle.wire.specs.ReceiptText.{connection_fault_text}
 use Rattle.wire.specs.Request.{connection_meaning}
 use Rattle.wire.specs.declared.connection_fault.ConnectionFault.TheVariants.{NoEntry}

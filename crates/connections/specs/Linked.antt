@@ -2,8 +2,8 @@
 use Rattle.std.specs.Prelude.{◌≡◌, ℕ, Option, List, refl}
 use Rattle.std.specs.Coded.{Coded, code_by, coded×, coded_list, coded_option, coded_ℕ}
 use Rattle.session_state.specs.SessionState.{SessionState, session_code}
-use Rattle.session_state.specs.session_commands.contracts.entry.Entry as the_entry
-use Rattle.session_state.specs.session_commands.declared.entry.Entry.{Entry}
+use Rattle.session_commands.specs.contracts.entry.Entry as the_entry
+use Rattle.session_commands.specs.declared.entry.Entry.{Entry}
 use Rattle.session_keeper.specs.Keeping.{GoesOn}
 
 pub record Linked : Type 0 where

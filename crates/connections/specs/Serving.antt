@@ -4,7 +4,7 @@ use Rattle.std.specs.Prelude.{◌≡◌, ◌≢◌, ◌⊎◌, ℕ, Option, Some
 use Rattle.serde_json.specs.Data.{Data, object, member, no_members, string}
 use Rattle.serde_json.specs.Written.{compact_text}
 use Rattle.sha2.specs.Sha256.{sha256}
-use Rattle.session_state.specs.session_commands.declared.entry.Entry.{Entry}
+use Rattle.session_commands.specs.declared.entry.Entry.{Entry}
 use Rattle.session_book.specs.Journal.{IsAccepted}
 use Rattle.published_view.specs.View.{digest_after}
 use Rattle.published_view.specs.declared.query_fault.QueryFault.{QueryFault}

@@ -12,7 +12,7 @@ use published_view::QueryFault;
 use request_answers::{answer_query, answer_request};
 use session_keeper::{CommandKeeper, Keeper};
 use session_queries::Query;
-use session_state::Digest as TokenDigest;
+use user_names::Digest as TokenDigest;
 use sha2::{Digest, Sha256};
 use std::alloc::Global;
 use std::marker::Model;

@@ -6,7 +6,8 @@ mod line;
 mod workers;
 
 use cards::{Deal, Position};
-use double_dummy::{Budget, Costs, CostsError, DdTable, costs, solve, table};
+use double_dummy::{Budget, CostsError, costs, solve, table};
+use solver_results::{Costs, DdTable};
 use line::{Line, parse_line};
 use scoring::{Contract, Doubling, Level};
 use solver_pool::Done;

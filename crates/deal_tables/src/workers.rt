@@ -1,6 +1,6 @@
 use cards::Deal;
 use crossbeam_channel::{Receiver, Sender, unbounded};
-use double_dummy::DdTable;
+use solver_results::DdTable;
 use solver_pool::{Done, Found, Job, OpenGate, Work, run_worker};
 use std::alloc::{AllocError, Global};
 use std::sync::Wait;

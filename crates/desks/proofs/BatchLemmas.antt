@@ -1,19 +1,19 @@
 -- What a batch publishes.
 use Rattle.std.proofs.Common.{◌≡◌, ◌⊎◌, ℕ, Bool, false, ◌+◌, ◌<◌, List, [], ◌∷◌, ◌++◌, append-nil, length-append, length, ap, sym, subst, ◌∙◌, arith}
 use Rattle.std.proofs.lemmas.Bool.Decides.{nat_tests}
-use Rattle.session_state.specs.session_commands.declared.entry.Entry.{Entry}
+use Rattle.session_commands.specs.declared.entry.Entry.{Entry}
 use Rattle.std.specs.Prelude.{Some, None, ◌||◌}
 use Rattle.session_state.specs.SessionState.{SessionState}
-use Rattle.session_state.specs.session_commands.declared.actor.Actor.TheVariants.{User}
-use Rattle.session_state.specs.session_commands.declared.command.Command.{Command}
-use Rattle.session_state.specs.session_commands.declared.refusal.Refusal.{Refusal}
-use Rattle.session_state.specs.session_commands.declared.refusal.Refusal.TheVariants.{OutOfMemory}
+use Rattle.session_commands.specs.declared.actor.Actor.TheVariants.{User}
+use Rattle.session_commands.specs.declared.command.Command.{Command}
+use Rattle.session_commands.specs.declared.refusal.Refusal.{Refusal}
+use Rattle.session_commands.specs.declared.refusal.Refusal.TheVariants.{OutOfMemory}
 use Rattle.session_book.specs.declared.answer.Answer.{Answer}
 use Rattle.session_book.specs.declared.answer.Answer.TheVariants.{Accepted, Refused}
 use Rattle.session_book.specs.Journal.{Ledger, refusal_at}
 use Rattle.session_book.specs.Run.{Runs, IsTried, stops, first_number, last_number}
 use Rattle.published_view.specs.World.{book_with}
-use Rattle.session_state.specs.session_commands.declared.actor.Actor.{Actor}
+use Rattle.session_commands.specs.declared.actor.Actor.{Actor}
 use Rattle.session_book.proofs.RunLemmas.{runs_accepted, runs_refused}
 use Rattle.history.specs.Prefixes.{entries_of}
 use Rattle.displays.proofs.PublishingLemmas.{entries_of_more}

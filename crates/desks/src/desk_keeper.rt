@@ -8,11 +8,13 @@ use published_view::{NoEntry, QueryFault};
 use session_book::{Answer, Submission};
 use session_keeper::{AuditReceipt, BatchReceipt, CommandKeeper, Keeper};
 use session_queries::{Query, Reply};
-use session_state::{Cell, Command, DdTable, Digest, PlayCosts};
+use movement::Cell;
+use session_commands::Command;
+use solver_results::{DdTable, PlayCosts};
+use user_names::{Digest, Name};
 use solver_pool::Work;
 use std::alloc::{AllocError, Global};
 use std::sync::Wait;
-use user_names::Name;
 
 /// Keeps a session for a connection beside others: a desk, to which its commands go, and a display, which answers its
 /// queries and learns of each receipt. It stands for what the display has seen.

@@ -4,17 +4,17 @@ ghost use Rattle.std.specs.Prelude.{List, Bool, vec_capacity, IsTrue, ◌↔◌,
 ghost use Rattle.history.specs.Prefixes.{entries_of};
 ghost use Rattle.session_book.specs.declared.answer.Answer.{Answer};
 ghost use Rattle.session_book.specs.Run.{Runs, IsTried, stops, answer_of, first_number, last_number, most_commands};
-ghost use Rattle.session_state.specs.session_commands.declared.actor.Actor.TheVariants.{Solver};
-ghost use Rattle.session_state.specs.session_commands.declared.command.Command.{Command};
-ghost use Rattle.session_state.specs.session_commands.declared.entry.Entry.{Entry};
+ghost use Rattle.session_commands.specs.declared.actor.Actor.TheVariants.{Solver};
+ghost use Rattle.session_commands.specs.declared.command.Command.{Command};
+ghost use Rattle.session_commands.specs.declared.entry.Entry.{Entry};
 ghost use Rattle.displays.specs.Copies.{IsPublished};
 ghost use Rattle.displays.specs.Publishing.{Outgoing, receipted};
 ghost use Rattle.desks.specs.Batch.{with_publication, after_showing};
 
 use displays::{Publisher, Receipt, Server};
 use session_book::{Answer, Book};
-use session_state::room::push_within;
-use session_state::{Actor, Command, Refusal};
+use session_commands::room::push_within;
+use session_commands::{Actor, Command, Refusal};
 use std::alloc::{AllocError, Global};
 use std::sync::Wait;
 use user_names::Name;

@@ -3,7 +3,12 @@
 ghost use Rattle.movement.specs.Movement.{IsSection};
 ghost use Rattle.movement.specs.Row.{IsCellInRange};
 
-use session_state::{Cell, CellState, Deal, Outcome, Play, PlayCosts, State};
+use cards::Deal;
+use movement::Cell;
+use scoring::Outcome;
+use session_commands::CellState;
+use session_state::State;
+use solver_results::{Play, PlayCosts};
 use solver_pool::Work;
 
 /// The costs that are left to find at a table on a board: of a confirmed result with a contract and a play, which aren't

@@ -3,7 +3,7 @@ use Rattle.std.proofs.Common.{◌≡◌, ℕ, true, false, refl, sym, ap, ◌∙
 use Rattle.std.specs.Prelude.{is_some, IfSome, IfNone, Option, Some, None, IsSomeAnd, not, nat_eq}
 use Rattle.std.proofs.lemmas.Bool.{false_from_ne_true, not-true, not_from_false, eqb-true, eq-eqb}
 use Rattle.std.proofs.lemmas.Bool.Decides.{same_from_decides}
-use Rattle.movement.specs.table_terms.declared.pair.Pair.{Pair}
+use Rattle.table_terms.specs.declared.pair.Pair.{Pair}
 use Rattle.movement.specs.declared.cell.Cell.{Cell}
 use Rattle.movement.specs.Movement.{Section, Row, IsSection, rows, HasCell, IsOfSet}
 use Rattle.movement.specs.Row.{Seats, Plays}

@@ -1,4 +1,3 @@
-pub use Rattle.movement.specs as movement
 pub mod Fact
 pub mod LiveCells
 pub mod Phase

@@ -1,4 +1,4 @@
-use movement::{Place, Vulnerability};
+use table_terms::{Place, Vulnerability};
 
 /// What is marked on a board (Law 2).
 #[derive(Clone, Copy)]

@@ -1,4 +1,4 @@
-use movement::{Pair, Place};
+use table_terms::{Pair, Place};
 
 /// Where a user sits: one of the two places of a pair.
 #[derive(Clone, Copy, PartialEq, Eq)]

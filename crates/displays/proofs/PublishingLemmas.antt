@@ -3,7 +3,7 @@ use Rattle.std.proofs.Common.{◌≡◌, ℕ, ◌+◌, ◌≤◌, ◌<◌, List,
 use Rattle.std.specs.Prelude.{Bool, true, false, if◌then◌else◌}
 use Rattle.std.proofs.lemmas.List.Sums.{fold-append}
 use Rattle.logbook.specs.Pages.{Book}
-use Rattle.session_state.specs.session_commands.declared.entry.Entry.{Entry}
+use Rattle.session_commands.specs.declared.entry.Entry.{Entry}
 use Rattle.session_book.specs.Journal.{IsAccepted, MayFollow}
 use Rattle.session_book.proofs.JournalLemmas.{accepted_length, accepted_more}
 use Rattle.history.specs.Prefixes.{prefix_in, entries_of}

@@ -3,7 +3,7 @@ use Rattle.std.proofs.Common.{◌≡◌, ◌∷◌, ◌++◌, List, sym, ap, sub
 use mathlib.Core.List.{IsPrefix}
 use Rattle.disclosure_rules.specs.Seating.{IsSeatedAt}
 use Rattle.session_state.specs.SessionState.{SessionState, viewer_of}
-use Rattle.session_state.specs.session_commands.declared.entry.Entry.{Entry}
+use Rattle.session_commands.specs.declared.entry.Entry.{Entry}
 use Rattle.session_book.specs.Journal.{IsAccepted, replay}
 use Rattle.session_book.proofs.SpoilerLemmas.{none_foreknows}
 use Rattle.history.proofs.PrefixLemmas.{prefix_shorter, prefix_trans}

@@ -3,8 +3,8 @@ use Rattle.std.specs.Prelude.{◌≡◌, ◌<◌, List, [], ◌∷◌, fold, len
 use Rattle.std.specs.Coded.{Coded, code_by, coded×, coded_list}
 use Rattle.logbook.specs.Pages.{Book}
 use Rattle.session_state.specs.SessionState.{SessionState}
-use Rattle.session_state.specs.session_commands.declared.entry.Entry.{Entry}
-use Rattle.session_state.specs.session_commands.contracts.entry.Entry as the_entry
+use Rattle.session_commands.specs.declared.entry.Entry.{Entry}
+use Rattle.session_commands.specs.contracts.entry.Entry as the_entry
 use Rattle.session_book.specs.Journal.{IsAccepted}
 use Rattle.history.specs.Prefixes.{Prefix, entries_of, prefix_code}
 use Rattle.published_view.specs.View.{Seen, StandsFor, seen_after, seen_code}

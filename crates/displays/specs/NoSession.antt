@@ -2,7 +2,7 @@
 -- no copy is ever opened for it.
 use Rattle.std.specs.Prelude.{[]}
 use Rattle.session_state.specs.SessionState.{SessionState}
-use Rattle.session_state.specs.disclosure_rules.declared.phase.Phase.TheVariants.{Running}
+use Rattle.disclosure_rules.specs.declared.phase.Phase.TheVariants.{Running}
 
 abbrev pub no_session : SessionState
 no_session = record {

@@ -1,8 +1,8 @@
 -- What a publisher has published and what is pending, and what it tells of that.
 use Rattle.std.specs.Prelude.{ℕ, List, [], ◌∷◌, ◌++◌, length, nat_lt, if◌then◌else◌, refl}
 use Rattle.std.specs.Coded.{Coded, code_by, coded×, coded_list, coded_ℕ}
-use Rattle.session_state.specs.session_commands.declared.entry.Entry.{Entry}
-use Rattle.session_state.specs.session_commands.contracts.entry.Entry as the_entry
+use Rattle.session_commands.specs.declared.entry.Entry.{Entry}
+use Rattle.session_commands.specs.contracts.entry.Entry as the_entry
 use Rattle.displays.specs.Copies.{publications_code}
 use Rattle.displays.specs.declared.publisher.TheConstants.{MOST_DISPLAYS}
 

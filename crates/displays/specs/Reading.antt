@@ -3,7 +3,7 @@ use Rattle.std.specs.Prelude.{◌≡◌, ℕ, ◌<◌, List, length, None}
 use Rattle.movement.specs.declared.cell.Cell.{Cell}
 use Rattle.disclosure_rules.specs.Seating.{IsSeatedAt}
 use Rattle.session_state.specs.SessionState.{SessionState, viewer_of}
-use Rattle.session_state.specs.session_commands.declared.entry.Entry.{Entry}
+use Rattle.session_commands.specs.declared.entry.Entry.{Entry}
 use Rattle.session_book.specs.Exposure.{SomeAllowed}
 use Rattle.session_book.specs.Journal.{replay}
 use Rattle.session_queries.specs.declared.query.Query.{Query}

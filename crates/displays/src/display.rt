@@ -2,7 +2,7 @@
 
 ghost use Rattle.std.specs.Prelude.{◌≡◌, List, [], length, IfOk, IfErr, OnErr, Err, IfSome, MatchBool};
 ghost use mathlib.Core.List.{IsPrefix};
-ghost use Rattle.session_state.specs.session_commands.declared.entry.Entry.{Entry};
+ghost use Rattle.session_commands.specs.declared.entry.Entry.{Entry};
 ghost use Rattle.history.specs.Prefixes.{Prefix, prefix_in, entries_of};
 ghost use Rattle.published_view.specs.declared.query_fault.QueryFault.TheVariants as fault;
 ghost use Rattle.published_view.specs.View.{reply_after, digest_after};
@@ -15,11 +15,11 @@ use crate::receipt::Receipt;
 use crate::rule::{CopyReader, Looks, Server};
 use core::mem::replace_with;
 use history::HistoryPrefix;
-use published_view::{NoEntry, Query, QueryFault, Reply};
-use session_state::Digest;
+use published_view::{NoEntry, QueryFault};
+use session_queries::{Query, Reply};
+use user_names::{Digest, Name};
 use std::alloc::{AllocError, Global};
 use std::marker::Model;
-use user_names::Name;
 
 /// Answers queries by the copy that is shown. Contracts see it as the publications that it has seen or been told of: no
 /// answer is older.
@@ -31,7 +31,7 @@ pub struct Display<N: Server> {
 
 impl<N: Server> Model for Display<N> {
     ghost use Rattle.std.specs.Prelude.{◌≡◌, List};
-    ghost use Rattle.session_state.specs.session_commands.declared.entry.Entry.{Entry};
+    ghost use Rattle.session_commands.specs.declared.entry.Entry.{Entry};
     ghost use Rattle.displays.specs.Copies.{IsPublished, publications_code};
 
     ghost Value = { List (List Entry) };

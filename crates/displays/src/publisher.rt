@@ -15,7 +15,7 @@ use crate::view_copy::{Publication, ViewCopy};
 use core::mem::replace_with;
 use history::{Head, History, HistoryPrefix};
 use published_view::View;
-use session_state::Entry;
+use session_commands::Entry;
 use std::alloc::{AllocError, Global};
 use std::fmt;
 use std::marker::Model;

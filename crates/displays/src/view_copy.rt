@@ -10,11 +10,12 @@ ghost use Rattle.displays.specs.Copies.{Copied, Addition, copied, with_addition,
 
 use history::HistoryPrefix;
 use left_right::Absorb;
-use published_view::{Query, Reply, View};
-use session_state::{Digest, Entry};
+use published_view::View;
+use session_queries::{Query, Reply};
+use session_commands::Entry;
+use user_names::{Digest, Name};
 use std::alloc::{AllocError, Global};
 use std::marker::Model;
-use user_names::Name;
 
 /// A view, and the publications for which it stands.
 #[derive(Drop)]

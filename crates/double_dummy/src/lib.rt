@@ -23,4 +23,4 @@ pub use dd_table::table;
 pub use error::{CostsError, SolveError};
 pub use played_costs::play_costs;
 pub use solver::solve;
-pub use solver_results::{Costs, DdTable, PlayAnswer, PlayCosts};
+

@@ -1,4 +1,3 @@
-pub use Rattle.table_terms.specs as table_terms
 pub mod Movement
 pub mod Refusal
 pub mod Row

@@ -10,4 +10,4 @@ mod movement_error;
 pub use cell::Cell;
 pub use movement::Movement;
 pub use movement_error::MovementError;
-pub use table_terms::{Pair, Place, Vulnerability};
+

@@ -5,7 +5,7 @@ use Rattle.std.proofs.lemmas.List.{map-append}
 use Rattle.std.specs.Io.KnownBytes.{Consumes, Appends, IsAtEnd}
 use Rattle.script_lines.specs.Lines.{CutText, before_rest, pieces_of, ended_line, ended_lines, last_line, lines_of, first_line_of}
 use Rattle.script_lines.proofs.LineLemmas.{all_ended}
-use Rattle.session_state.specs.session_commands.declared.entry.Entry.{Entry}
+use Rattle.session_commands.specs.declared.entry.Entry.{Entry}
 use Rattle.session_state.specs.SessionState.{SessionState}
 use Rattle.program.specs.FirstLine.{Opens}
 use Rattle.program.specs.Script.{Received, with_ample_memory, responses_to, is_not_empty, messages_among}

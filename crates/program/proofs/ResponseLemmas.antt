@@ -2,7 +2,7 @@
 use Rattle.std.proofs.Common.{◌≡◌, inl, inr, ℕ, true, false, List, [], ◌∷◌, ◌++◌, refl, sym, ap, subst, ◌∙◌}
 use Rattle.std.specs.Prelude.{Result, Ok, Err, IfOk, IfErr, None, ◌&&◌, if◌then◌else◌}
 use Rattle.session_state.specs.SessionState.{SessionState}
-use Rattle.session_state.specs.session_commands.declared.entry.Entry.{Entry}
+use Rattle.session_commands.specs.declared.entry.Entry.{Entry}
 use Rattle.json_fields.specs.Reading.{Fails}
 use Rattle.json_fields.specs.declared.request_fault.RequestFault.{RequestFault}
 use Rattle.json_fields.specs.declared.request_fault.RequestFault.TheVariants.{TooLong, Malformed, UnknownRequest, BadField, OutOfMemory}

@@ -15,7 +15,7 @@ use Rattle.script_lines.specs.Reading.{IsUnbroken, TakesLine, TakesLonger, Fails
 use Rattle.script_lines.specs.Writing.{WritesPart}
 use Rattle.script_lines.proofs.LineLemmas.{piece_more, ended_more, ended_same, all_ended, lines_rest, lines_more}
 use Rattle.script_lines.proofs.ShortLineLemmas.{at_most_one_less}
-use Rattle.session_state.specs.session_commands.declared.entry.Entry.{Entry}
+use Rattle.session_commands.specs.declared.entry.Entry.{Entry}
 use Rattle.session_book.specs.Journal.{Ledger}
 use Rattle.session_object.specs.Reading.{most_bytes}
 use Rattle.session_object.specs.declared.session_fault.SessionFault.TheVariants as session

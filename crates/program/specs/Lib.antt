@@ -1,4 +1,3 @@
-pub use Rattle.wire.specs as wire
 pub mod Script
 pub mod FirstLine
 pub mod Writes

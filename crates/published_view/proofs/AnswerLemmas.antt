@@ -16,8 +16,8 @@ use Rattle.disclosure_rules.specs.declared.public.Public.{Public}
 use Rattle.disclosure_rules.specs.declared.viewer.Viewer.{Viewer}
 use Rattle.disclosure_rules.specs.Policy.{first_rule}
 use Rattle.disclosure_rules.proofs.FirstLemmas.{public_allowed}
-use Rattle.session_book.specs.session_state.Readers.{seats_in_order}
-use Rattle.session_book.specs.session_state.SessionState.{SessionState, cell_at, IsPlaced}
+use Rattle.session_state.specs.Readers.{seats_in_order}
+use Rattle.session_state.specs.SessionState.{SessionState, cell_at, IsPlaced}
 use Rattle.session_book.proofs.session_state_lemmas.ScheduleLemmas.{placed}
 use Rattle.query_filter.specs.declared.trick_table.TrickTable.{TrickTable}
 use Rattle.session_queries.specs.Content.{Content, analysis_of, play_of, costs_of, reason_of}

@@ -21,9 +21,9 @@ use Rattle.denials.specs.declared.denial.Denial.{Denial}
 use Rattle.denials.specs.Evidence.{denial_by, denial_of}
 use Rattle.query_filter.specs.Formula.{Formula}
 use Rattle.query_filter.specs.declared.trick_table.TrickTable.{TrickTable}
-use Rattle.session_book.specs.session_state.OwnNumbers.{KeepsOwn}
-use Rattle.session_book.specs.session_state.SessionState.{SessionState, cell_at, seat_of, viewer_of}
-use Rattle.session_book.specs.session_state.declared.seated.Seated.{Seated}
+use Rattle.session_state.specs.OwnNumbers.{KeepsOwn}
+use Rattle.session_state.specs.SessionState.{SessionState, cell_at, seat_of, viewer_of}
+use Rattle.session_state.specs.declared.seated.Seated.{Seated}
 use Rattle.session_queries.specs.Content.{Content, analysis_of, costs_of}
 use Rattle.session_queries.specs.Facts.{has_place}
 use Rattle.session_queries.specs.Numbers.{IsAnalysisOf, IsCountOf}

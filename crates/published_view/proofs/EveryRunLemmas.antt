@@ -5,9 +5,9 @@ use Rattle.movement.specs.declared.cell.Cell.{Cell}
 use Rattle.movement.specs.Movement.{IsSection}
 use Rattle.disclosure_rules.specs.Seating.{IsSeatedAt}
 use Rattle.denials.specs.declared.denial.Denial.{Denial}
-use Rattle.session_book.specs.session_state.OwnNumbers.{KeepsOwn}
-use Rattle.session_book.specs.session_state.SessionState.{SessionState, viewer_of}
-use Rattle.session_state.specs.session_commands.declared.entry.Entry.{Entry}
+use Rattle.session_state.specs.OwnNumbers.{KeepsOwn}
+use Rattle.session_state.specs.SessionState.{SessionState, viewer_of}
+use Rattle.session_commands.specs.declared.entry.Entry.{Entry}
 use Rattle.session_opening.specs.Opening.{opening_of}
 use Rattle.session_opening.specs.declared.config.Config.{Config}
 use Rattle.session_book.specs.Exposure.{SomeAllowed}

@@ -7,7 +7,7 @@ use Rattle.disclosure_rules.specs.declared.rule.Rule.{Rule}
 use Rattle.disclosure_rules.specs.declared.viewer.Viewer.{Viewer}
 use Rattle.disclosure_rules.specs.Policy.{first_rule}
 use Rattle.disclosure_rules.proofs.FirstLemmas.{none_forbids, no_first}
-use Rattle.session_book.specs.session_state.SessionState.{SessionState, viewer_of}
+use Rattle.session_state.specs.SessionState.{SessionState, viewer_of}
 use Rattle.session_queries.specs.Content.{Content, content}
 use Rattle.session_queries.specs.Facts.{facts, same_fact}
 use Rattle.session_queries.specs.Shown.{Shown, is_allowed, said, shown, content_shown}

@@ -12,8 +12,8 @@ use Rattle.disclosure_rules.specs.Fact.{board_of_fact}
 use Rattle.disclosure_rules.specs.Policy.{first_rule}
 use Rattle.disclosure_rules.proofs.FirstLemmas.{hands_allowed}
 use Rattle.rbac.specs.declared.account.Account.{Account}
-use Rattle.session_book.specs.session_state.SessionState.{SessionState, viewer_of}
-use Rattle.session_book.specs.session_state.declared.seated.Seated.{Seated}
+use Rattle.session_state.specs.SessionState.{SessionState, viewer_of}
+use Rattle.session_state.specs.declared.seated.Seated.{Seated}
 use Rattle.session_queries.specs.declared.query.Query.{Query}
 use Rattle.session_queries.specs.Content.{content, says_public, says_accounts, says_hands, says_analysis, says_result, says_play, says_costs, says_reason, tricks_of_deal, result_of, play_of, costs_of, reason_of}
 use Rattle.session_queries.specs.Facts.{has_place}

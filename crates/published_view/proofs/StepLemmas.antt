@@ -4,11 +4,11 @@ use Rattle.std.specs.Prelude.{Option, Some, None, if◌then◌else◌}
 use Rattle.std.specs.List.{fold}
 use Rattle.std.proofs.lemmas.Bool.{cases_eq}
 use Rattle.std.proofs.lemmas.List.{length-append}
-use Rattle.session_book.specs.session_state.SessionState.{SessionState}
-use Rattle.session_state.specs.session_commands.declared.actor.Actor.TheVariants.{User, Solver}
-use Rattle.session_state.specs.session_commands.declared.command.Command.{Command}
-use Rattle.session_state.specs.session_commands.declared.entry.Entry.{Entry}
-use Rattle.session_state.specs.session_commands.declared.refusal.Refusal.{Refusal}
+use Rattle.session_state.specs.SessionState.{SessionState}
+use Rattle.session_commands.specs.declared.actor.Actor.TheVariants.{User, Solver}
+use Rattle.session_commands.specs.declared.command.Command.{Command}
+use Rattle.session_commands.specs.declared.entry.Entry.{Entry}
+use Rattle.session_commands.specs.declared.refusal.Refusal.{Refusal}
 use Rattle.session_book.specs.declared.answer.Answer.{Answer}
 use Rattle.session_book.specs.declared.answer.Answer.TheVariants.{Accepted, Refused}
 use Rattle.session_book.specs.Journal.{IsAccepted, refusal_after}

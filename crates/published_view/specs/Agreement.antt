@@ -4,7 +4,7 @@ use Rattle.movement.specs.declared.cell.Cell.{Cell}
 use Rattle.movement.specs.Schedule.{is_scheduled}
 use Rattle.disclosure_rules.specs.declared.fact.Fact.{Fact}
 use Rattle.disclosure_rules.specs.declared.fact.Fact.TheVariants as fact
-use Rattle.session_book.specs.session_state.SessionState.{SessionState, cell_at, table_at, viewer_of}
+use Rattle.session_state.specs.SessionState.{SessionState, cell_at, table_at, viewer_of}
 use Rattle.session_queries.specs.Content.{content}
 use Rattle.session_queries.specs.Facts.{has_place}
 use Rattle.movement.specs.Movement.{has_board}

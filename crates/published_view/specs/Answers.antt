@@ -9,7 +9,7 @@ use Rattle.query_filter.specs.Formula.{Formula}
 use Rattle.query_filter.specs.declared.trick_table.TrickTable.{TrickTable}
 use Rattle.rbac.specs.declared.account.Account.{Account}
 use Rattle.rbac.specs.declared.inheritance.Inheritance.{Inheritance}
-use Rattle.session_book.specs.session_state.declared.seated.Seated.{Seated}
+use Rattle.session_state.specs.declared.seated.Seated.{Seated}
 use Rattle.session_queries.specs.Facts.{boards}
 use Rattle.session_queries.specs.Reading.{shown_public, shown_seats, shown_accounts, shown_pairs, shown_hands, shown_marks}
 use Rattle.session_queries.specs.Reading.{shown_analysis, shown_play, shown_costs, shown_reason, shown_results}

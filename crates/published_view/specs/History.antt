@@ -10,8 +10,8 @@ use Rattle.denials.specs.declared.denial.Denial.{Denial}
 use Rattle.denials.specs.Evidence.{board_named, table_named}
 use Rattle.query_filter.specs.Formula.{Formula}
 use Rattle.query_filter.specs.declared.trick_table.TrickTable.{TrickTable}
-use Rattle.session_state.specs.session_commands.declared.entry.Entry.{Entry}
-use Rattle.session_book.specs.session_state.SessionState.{SessionState, seat_of, viewer_of}
+use Rattle.session_commands.specs.declared.entry.Entry.{Entry}
+use Rattle.session_state.specs.SessionState.{SessionState, seat_of, viewer_of}
 use Rattle.session_queries.specs.Content.{content}
 use Rattle.session_queries.specs.Facts.{has_place}
 use Rattle.session_queries.specs.Numbers.{IsAnalysisOf, IsCountOf}

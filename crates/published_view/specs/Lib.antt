@@ -1,5 +1,3 @@
-pub use Rattle.session_book.specs as session_book
-pub use Rattle.session_queries.specs as session_queries
 pub mod Agreement
 pub mod Answers
 pub mod History

@@ -5,7 +5,7 @@ use Rattle.disclosure_rules.specs.declared.public.Public.{Public}
 use Rattle.disclosure_rules.specs.declared.viewer.Viewer.{Viewer}
 use Rattle.disclosure_rules.specs.declared.fact.Fact.{Fact}
 use Rattle.denials.specs.Evidence.{denial_of}
-use Rattle.session_book.specs.session_state.SessionState.{SessionState, viewer_of}
+use Rattle.session_state.specs.SessionState.{SessionState, viewer_of}
 use Rattle.session_queries.specs.Facts.{has_place}
 use Rattle.session_queries.specs.Shown.{shown}
 use Rattle.session_queries.specs.declared.query.Query.{Query}

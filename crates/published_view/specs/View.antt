@@ -1,11 +1,11 @@
 -- What a view stands for.
 use Rattle.std.specs.Prelude.{◌≡◌, ℕ, ◌+◌, Option, List, length, min, refl}
 use Rattle.std.specs.Coded.{Coded, code_by, coded×, coded_ℕ}
-use Rattle.session_book.specs.session_state.SessionState.{SessionState, session_code}
-use Rattle.session_book.specs.session_state.Apply.{apply}
-use Rattle.session_book.specs.session_state.Readers.{digest_of}
+use Rattle.session_state.specs.SessionState.{SessionState, session_code}
+use Rattle.session_state.specs.Apply.{apply}
+use Rattle.session_state.specs.Readers.{digest_of}
 use Rattle.user_names.specs.declared.digest.Digest.{Digest}
-use Rattle.session_state.specs.session_commands.declared.entry.Entry.{Entry}
+use Rattle.session_commands.specs.declared.entry.Entry.{Entry}
 use Rattle.session_book.specs.Replay.{replay}
 use Rattle.session_queries.specs.declared.query.Query.{Query}
 use Rattle.session_queries.specs.declared.reply.Reply.{Reply}

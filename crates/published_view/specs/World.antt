@@ -3,10 +3,10 @@
 -- own: the steps are this project's. Each is one change of what is published, or one look at it.
 use Rattle.std.specs.Prelude.{◌≡◌, ◌≤◌, ℕ, Bool, max, nat_eq, nat_lt, if◌then◌else◌, Option, Some, IfSome}
 use Rattle.std.specs.Prelude.{List, [], ◌∷◌, length, take, Contains}
-use Rattle.session_state.specs.session_commands.declared.actor.Actor.TheVariants.{Solver}
-use Rattle.session_state.specs.session_commands.declared.command.Command.{Command}
-use Rattle.session_state.specs.session_commands.declared.entry.Entry.{Entry}
-use Rattle.session_book.specs.session_state.SessionState.{SessionState}
+use Rattle.session_commands.specs.declared.actor.Actor.TheVariants.{Solver}
+use Rattle.session_commands.specs.declared.command.Command.{Command}
+use Rattle.session_commands.specs.declared.entry.Entry.{Entry}
+use Rattle.session_state.specs.SessionState.{SessionState}
 use Rattle.session_book.specs.declared.answer.Answer.{Answer}
 use Rattle.session_book.specs.Journal.{Ledger}
 use Rattle.session_book.specs.Run.{Progress, Runs, IsTried}

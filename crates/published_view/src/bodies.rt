@@ -3,8 +3,8 @@ ghost use Rattle.std.specs.Prelude.{◌≡◌, ◌≤◌, ◌+◌, ◌-◌, ◌+
 ghost use Rattle.disclosure_rules.specs.Policy.{first_rule};
 ghost use Rattle.movement.specs.Movement.{IsSection, has_board, most_tables};
 ghost use Rattle.movement.specs.Schedule.{is_scheduled};
-ghost use Rattle.session_book.specs.session_state.SessionState.{cell_at};
-ghost use Rattle.session_book.specs.session_state.Readers.{seats_in_order};
+ghost use Rattle.session_state.specs.SessionState.{cell_at};
+ghost use Rattle.session_state.specs.Readers.{seats_in_order};
 ghost use Rattle.disclosure_rules.specs.declared.fact.Fact.TheVariants as fact;
 ghost use Rattle.standings.specs.Ranking.{most_results};
 ghost use Rattle.session_queries.specs.declared.body.Body.TheVariants as body;
@@ -20,12 +20,11 @@ use disclosure_rules::{Fact, Viewer, decide};
 use movement::Cell;
 use query_filter::Filter;
 use rbac::{Account, Inheritance};
-use session_book::{Seated, State};
-use session_queries::{
-    Body, Items, Query, analysis_of, costs_of, play_of, push_found, reason_of, shown_results,
-};
-use session_state::CellState;
-use session_state::room::with_room;
+use session_state::{Seated, State};
+use session_queries::{Body, Query, analysis_of, costs_of, play_of, push_found, reason_of, shown_results};
+use table_terms::Items;
+use session_commands::CellState;
+use session_commands::room::with_room;
 use standings::{Earning, add_earnings, ranking_of, traveller_rows};
 use std::alloc::{AllocError, Global};
 

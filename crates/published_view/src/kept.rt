@@ -14,7 +14,8 @@ use crate::listing::{passes, push_where};
 use class_views::ClassViews;
 use disclosure_rules::Viewer;
 use query_filter::Filter;
-use session_queries::{Body, Items, Query};
+use session_queries::{Body, Query};
+use table_terms::Items;
 use standings::ranked;
 use std::alloc::{AllocError, Global};
 

@@ -11,5 +11,5 @@ mod query_fault;
 mod view;
 
 pub use query_fault::{NoEntry, QueryFault};
-pub use session_queries::{Query, Reply};
+
 pub use view::View;

@@ -15,7 +15,7 @@ use Rattle.scoring.specs.declared.outcome.Outcome.TheVariants as outcome
 use Rattle.session_queries.specs.declared.body.Body.{Body}
 use Rattle.session_queries.specs.declared.body.Body.TheVariants as body
 use Rattle.session_queries.specs.declared.reply.Reply.{Reply}
-use Rattle.session_queries.specs.session_state.declared.seated.Seated.{Seated}
+use Rattle.session_state.specs.declared.seated.Seated.{Seated}
 use Rattle.session_queries.specs.declared.card_costs.CardCosts.{CardCosts}
 use Rattle.session_queries.specs.declared.card_costs.CardCosts.TheVariants.{Pending, NoCards, Each, NotAPlay}
 use Rattle.standings.specs.declared.row_result.RowResult.{RowResult}

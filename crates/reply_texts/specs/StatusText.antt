@@ -13,7 +13,7 @@ use Rattle.disclosure_rules.specs.declared.phase.Phase.TheVariants.{Running, Clo
 use Rattle.disclosure_rules.specs.declared.public.Public.{Public}
 use Rattle.disclosure_rules.specs.LiveCells.{is_live}
 use Rattle.small_sets.specs.Numbers.{has_number, numbers_that}
-use Rattle.session_queries.specs.session_state.declared.seated.Seated.{Seated}
+use Rattle.session_state.specs.declared.seated.Seated.{Seated}
 use Rattle.reply_texts.specs.DataOf.{number_data, list_data}
 
 abbrev pub phase_name : Phase → List ℕ

@@ -11,7 +11,7 @@ use disclosure_rules::{Marks, Phase, Public};
 use json_fields::{ArrayWriter, ObjectWriter, array_value, string_value};
 use movement::Cell;
 use serde_json::{Value, push};
-use session_queries::Seated;
+use session_state::Seated;
 use std::alloc::{AllocError, Global};
 
 pub(crate) fn status_value(

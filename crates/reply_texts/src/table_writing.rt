@@ -10,7 +10,7 @@ use cards::Card;
 use json_fields::ObjectWriter;
 use movement::Cell;
 use serde_json::Value;
-use session_queries::Play;
+use solver_results::Play;
 use std::alloc::{AllocError, Global};
 
 pub(crate) fn play_value(

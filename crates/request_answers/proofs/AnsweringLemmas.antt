@@ -6,9 +6,9 @@ use Rattle.rbac.specs.Authorization.{HasPermission, has_permission}
 use Rattle.rbac.proofs.LawLemmas.{permission_exact}
 use Rattle.session_roles.specs.declared.operation.Operation.TheVariants as operation
 use Rattle.session_state.specs.SessionState.{SessionState}
-use Rattle.session_state.specs.session_commands.declared.command.Command.{Command}
-use Rattle.session_state.specs.session_commands.declared.entry.Entry.{Entry}
-use Rattle.session_state.specs.session_commands.declared.refusal.Refusal.TheVariants as refusal
+use Rattle.session_commands.specs.declared.command.Command.{Command}
+use Rattle.session_commands.specs.declared.entry.Entry.{Entry}
+use Rattle.session_commands.specs.declared.refusal.Refusal.TheVariants as refusal
 use Rattle.session_book.specs.Audit.{audit_rows}
 use Rattle.session_book.specs.declared.answer.Answer.TheVariants.{Refused}
 use Rattle.session_book.specs.declared.audit.AuditError.{AuditError}

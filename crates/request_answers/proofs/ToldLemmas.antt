@@ -1,7 +1,7 @@
 -- What tells a turn, in the whole of a history.
 use Rattle.std.proofs.Common.{◌≡◌, inl, inr, ◌⊎◌, ℕ, List, [], ◌∷◌, ◌++◌, sym, ap, subst, ◌∙◌, append_assoc, append-nil}
 use Rattle.session_state.specs.SessionState.{SessionState}
-use Rattle.session_state.specs.session_commands.declared.entry.Entry.{Entry}
+use Rattle.session_commands.specs.declared.entry.Entry.{Entry}
 use Rattle.session_book.specs.Run.{Runs}
 use Rattle.published_view.specs.declared.query_fault.QueryFault.{QueryFault}
 use Rattle.published_view.specs.declared.query_fault.QueryFault.TheVariants.{NoEntry, OutOfMemory}

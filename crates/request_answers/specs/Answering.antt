@@ -3,7 +3,7 @@
 use Rattle.std.specs.Prelude.{◌≡◌, ◌⊎◌, ℕ, Option, List, Result, Ok, Err}
 use mathlib.Core.List.{IsPrefix}
 use Rattle.session_state.specs.SessionState.{SessionState}
-use Rattle.session_state.specs.session_commands.declared.entry.Entry.{Entry}
+use Rattle.session_commands.specs.declared.entry.Entry.{Entry}
 use Rattle.session_book.specs.declared.audit.AuditError.{AuditError}
 use Rattle.session_book.specs.declared.audit.AuditError.TheVariants as error
 use Rattle.session_book.specs.declared.audit.AuditRow.{AuditRow}

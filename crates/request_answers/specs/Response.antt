@@ -4,10 +4,10 @@ use Rattle.std.specs.Prelude.{ℕ, is_some, if◌then◌else◌, Option, Some, N
 use Rattle.rbac.specs.Authorization.{has_permission}
 use Rattle.session_roles.specs.declared.operation.Operation.TheVariants as operation
 use Rattle.session_state.specs.SessionState.{SessionState}
-use Rattle.session_state.specs.session_commands.declared.actor.Actor.TheVariants.{User}
-use Rattle.session_state.specs.session_commands.declared.command.Command.{Command}
-use Rattle.session_state.specs.session_commands.declared.entry.Entry.{Entry}
-use Rattle.session_state.specs.session_commands.declared.refusal.Refusal.TheVariants.{OutOfMemory, NotTried}
+use Rattle.session_commands.specs.declared.actor.Actor.TheVariants.{User}
+use Rattle.session_commands.specs.declared.command.Command.{Command}
+use Rattle.session_commands.specs.declared.entry.Entry.{Entry}
+use Rattle.session_commands.specs.declared.refusal.Refusal.TheVariants.{OutOfMemory, NotTried}
 use Rattle.session_book.specs.Audit.{audit_rows}
 use Rattle.session_book.specs.declared.answer.Answer.TheVariants.{Refused}
 use Rattle.session_book.specs.Journal.{replay, refusal_after}

@@ -3,7 +3,7 @@
 ghost use Rattle.std.specs.Prelude.{◌≡◌, ◌⊎◌, ℕ, List, [], ◌∷◌, ◌++◌};
 ghost use mathlib.Core.List.{IsPrefix};
 ghost use Rattle.session_state.specs.SessionState.{SessionState};
-ghost use Rattle.session_state.specs.session_commands.declared.entry.Entry.{Entry};
+ghost use Rattle.session_commands.specs.declared.entry.Entry.{Entry};
 ghost use Rattle.published_view.specs.World.{Moment, IsHistory};
 ghost use Rattle.published_view.specs.declared.query_fault.QueryFault.{QueryFault};
 ghost use Rattle.wire.specs.declared.request.UserRequest.{UserRequest};

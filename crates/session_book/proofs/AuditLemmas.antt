@@ -4,7 +4,7 @@ use Rattle.std.proofs.lemmas.Bool.{cases_lt}
 use Rattle.std.proofs.lemmas.List.{take_more}
 use Rattle.session_book.specs.Audit.{audit_row, numbered_from, audit_rows}
 use Rattle.session_book.specs.declared.audit.AuditRow.{AuditRow}
-use Rattle.session_state.specs.session_commands.declared.entry.Entry.{Entry}
+use Rattle.session_commands.specs.declared.entry.Entry.{Entry}
 
 count_numbered : (number : ℕ) (entries : List Entry) → length (numbered_from number entries) ≡ length entries
 count_numbered number [] = refl

@@ -8,7 +8,7 @@ use Rattle.std.proofs.lemmas.List.{map-append}
 use Rattle.std.proofs.lemmas.List.Folds.{list_any-append}
 use Rattle.disclosure_rules.proofs.FirstLemmas.{hands_allowed}
 use Rattle.disclosure_rules.specs.declared.fact.Fact.TheVariants.{Hands}
-use Rattle.session_state.specs.session_commands.declared.entry.Entry.{Entry}
+use Rattle.session_commands.specs.declared.entry.Entry.{Entry}
 use Rattle.session_state.specs.SessionState.{SessionState, viewer_of}
 use Rattle.session_book.specs.Replay.{replay}
 use Rattle.session_book.specs.Exposure.{SomeAllowed, Exposed, sees_hands, first_parts, is_exposed}

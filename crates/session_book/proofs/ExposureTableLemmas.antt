@@ -21,7 +21,7 @@ use Rattle.rbac.specs.declared.account.Account.{Account}
 use Rattle.small_sets.specs.Numbers.{has_number, with_number}
 use Rattle.small_sets.proofs.NumbersLemmas.{has_with_number}
 use Rattle.session_state.specs.SessionState.{SessionState, viewer_of}
-use Rattle.session_state.specs.session_commands.declared.entry.Entry.{Entry}
+use Rattle.session_commands.specs.declared.entry.Entry.{Entry}
 use Rattle.session_book.specs.Exposure.{sees_hands, is_exposed, users_of, spoils, spoiler_at}
 use Rattle.session_book.specs.ExposureTable.{is_noted, user_at, IsAsked, one_board, first_boards, first_users, IsNoted}
 use Rattle.session_book.specs.Replay.{replay}

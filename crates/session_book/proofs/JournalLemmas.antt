@@ -2,14 +2,14 @@
 use Rattle.std.proofs.Common.{◌≡◌, ℕ, ◌≤◌, ◌<◌, List, [], ◌∷◌, ◌++◌, length, refl, sym, ap, subst, append_assoc, length-append, arith}
 use Rattle.std.specs.Prelude.{None}
 use Rattle.std.proofs.lemmas.List.Sums.{fold-append}
-use Rattle.session_state.specs.session_commands.declared.entry.Entry.{Entry}
+use Rattle.session_commands.specs.declared.entry.Entry.{Entry}
 use Rattle.session_state.specs.Apply.{apply}
 use Rattle.session_book.specs.Exposure.{spoiler_of}
 use Rattle.session_book.specs.Journal.{replay, MayFollow, Follow, IsAccepted, refusal_after}
 use Rattle.session_state.specs.Refusal.{most_entries}
 use Rattle.session_state.specs.SessionState.{SessionState}
-use Rattle.session_state.specs.session_commands.declared.actor.Actor.{Actor}
-use Rattle.session_state.specs.session_commands.declared.command.Command.{Command}
+use Rattle.session_commands.specs.declared.actor.Actor.{Actor}
+use Rattle.session_commands.specs.declared.command.Command.{Command}
 use Rattle.session_state.proofs.RefusalLemmas.{room_left}
 
 -- one entry more does to the state what the entry does

@@ -11,14 +11,14 @@ use Rattle.rbac.proofs.AccountLemmas.{name_kept}
 use Rattle.session_state.specs.Apply.{apply, effect, confirmed}
 use Rattle.session_state.specs.Refusal.{hindrance_of}
 use Rattle.session_state.specs.SessionState.{SessionState, cell_at}
-use Rattle.session_state.specs.session_commands.declared.cell_state.CellState.{CellState}
-use Rattle.session_state.specs.session_commands.declared.cell_state.CellState.TheVariants.{Empty, Entered, Confirmed, Ruled}
-use Rattle.session_state.specs.session_commands.declared.command.Command.{Command}
-use Rattle.session_state.specs.session_commands.declared.command.Command.TheVariants.{Enter, Confirm, Correct, Rule, Void, Hold, Release}
-use Rattle.session_state.specs.session_commands.declared.command.Command.TheVariants.{Seat, Unseat, NextRound, Close, Finalise}
-use Rattle.session_state.specs.session_commands.declared.command.Command.TheVariants.{AddUser, Assign, Deassign, AddInheritance}
-use Rattle.session_state.specs.session_commands.declared.command.Command.TheVariants.{DeleteInheritance, Solved, Analysed}
-use Rattle.session_state.specs.session_commands.declared.entry.Entry.{Entry}
+use Rattle.session_commands.specs.declared.cell_state.CellState.{CellState}
+use Rattle.session_commands.specs.declared.cell_state.CellState.TheVariants.{Empty, Entered, Confirmed, Ruled}
+use Rattle.session_commands.specs.declared.command.Command.{Command}
+use Rattle.session_commands.specs.declared.command.Command.TheVariants.{Enter, Confirm, Correct, Rule, Void, Hold, Release}
+use Rattle.session_commands.specs.declared.command.Command.TheVariants.{Seat, Unseat, NextRound, Close, Finalise}
+use Rattle.session_commands.specs.declared.command.Command.TheVariants.{AddUser, Assign, Deassign, AddInheritance}
+use Rattle.session_commands.specs.declared.command.Command.TheVariants.{DeleteInheritance, Solved, Analysed}
+use Rattle.session_commands.specs.declared.entry.Entry.{Entry}
 use Rattle.session_book.specs.Exposure.{users_of}
 use Rattle.session_book.specs.Replay.{replay}
 

@@ -8,11 +8,11 @@ use Rattle.session_state.specs.Apply.{apply}
 use Rattle.session_state.specs.OwnNumbers.{TellsOwn, KeepsOwn}
 use Rattle.session_state.specs.Refusal.{first_cause, is_permitted, hindrance_of, refusal_of}
 use Rattle.session_state.specs.SessionState.{SessionState}
-use Rattle.session_state.specs.session_commands.declared.actor.Actor.{Actor}
-use Rattle.session_state.specs.session_commands.declared.command.Command.{Command}
-use Rattle.session_state.specs.session_commands.declared.entry.Entry.{Entry}
-use Rattle.session_state.specs.session_commands.declared.refusal.Refusal.{Refusal}
-use Rattle.session_state.specs.session_commands.declared.refusal.Refusal.TheVariants.{NotPermitted}
+use Rattle.session_commands.specs.declared.actor.Actor.{Actor}
+use Rattle.session_commands.specs.declared.command.Command.{Command}
+use Rattle.session_commands.specs.declared.entry.Entry.{Entry}
+use Rattle.session_commands.specs.declared.refusal.Refusal.{Refusal}
+use Rattle.session_commands.specs.declared.refusal.Refusal.TheVariants.{NotPermitted}
 use Rattle.session_state.proofs.OwnNumberLemmas.{told_own, entry_keeps}
 use Rattle.session_state.proofs.PartLemmas.{entry_part}
 use Rattle.session_state.proofs.RefusalLemmas.{refused_actor, refused_else, last_causes}

@@ -1,11 +1,11 @@
 -- A seat has at most one user, and is one of the movement's, after any journal.
 use Rattle.std.proofs.Common.{List, [], ◌∷◌, subst}
 use Rattle.std.specs.List.{fold}
-use Rattle.session_state.specs.movement.Movement.{Section}
+use Rattle.movement.specs.Movement.{Section}
 use Rattle.session_state.specs.Apply.{apply}
 use Rattle.session_state.specs.Seats.{AreSeatsOf}
 use Rattle.session_state.specs.SessionState.{SessionState}
-use Rattle.session_state.specs.session_commands.declared.entry.Entry.{Entry}
+use Rattle.session_commands.specs.declared.entry.Entry.{Entry}
 use Rattle.session_state.proofs.EntryPlacedLemmas.{entry_placed}
 use Rattle.session_state.proofs.PartLemmas.{entry_part}
 use Rattle.session_book.specs.Replay.{replay}

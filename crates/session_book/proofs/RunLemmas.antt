@@ -4,15 +4,15 @@ use Rattle.std.specs.Prelude.{Option, Some, None, ◌||◌}
 use Rattle.std.proofs.lemmas.List.Sums.{fold-append}
 use Rattle.session_book.specs.declared.answer.Answer.{Answer}
 use Rattle.session_book.specs.declared.answer.Answer.TheVariants.{Accepted, Refused}
-use Rattle.session_state.specs.session_commands.declared.actor.Actor.{Actor}
-use Rattle.session_state.specs.session_commands.declared.actor.Actor.TheVariants.{User}
-use Rattle.session_state.specs.session_commands.declared.command.Command.{Command}
-use Rattle.session_state.specs.session_commands.declared.entry.Entry.{Entry}
-use Rattle.session_state.specs.session_commands.declared.refusal.Refusal.{Refusal}
-use Rattle.session_state.specs.session_commands.declared.refusal.Refusal.TheVariants.{OutOfMemory, NotTried}
+use Rattle.session_commands.specs.declared.actor.Actor.{Actor}
+use Rattle.session_commands.specs.declared.actor.Actor.TheVariants.{User}
+use Rattle.session_commands.specs.declared.command.Command.{Command}
+use Rattle.session_commands.specs.declared.entry.Entry.{Entry}
+use Rattle.session_commands.specs.declared.refusal.Refusal.{Refusal}
+use Rattle.session_commands.specs.declared.refusal.Refusal.TheVariants.{OutOfMemory, NotTried}
 use Rattle.session_book.specs.Exposure.{spoiler_of}
 use Rattle.session_book.specs.Journal.{replay, refusal_after}
-use Rattle.session_state.specs.session_commands.Refusal.{is_out_of_memory}
+use Rattle.session_commands.specs.Refusal.{is_out_of_memory}
 use Rattle.session_state.proofs.RefusalLemmas.{never_memory}
 use Rattle.session_book.specs.Run.{Progress, stops, answered, after_command, run, Runs}
 use Rattle.session_state.specs.SessionState.{SessionState}

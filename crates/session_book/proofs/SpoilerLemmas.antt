@@ -15,12 +15,12 @@ use Rattle.disclosure_rules.specs.Policy.{first_rule, forbids, rules}
 use Rattle.disclosure_rules.specs.Seating.{IsSeatedAt}
 use Rattle.disclosure_rules.proofs.SeatingTests.{seated_decides}
 use Rattle.session_state.specs.Apply.{apply}
-use Rattle.session_state.specs.session_commands.Refusal.{spoiled}
+use Rattle.session_commands.specs.Refusal.{spoiled}
 use Rattle.session_state.proofs.RefusalLemmas.{free_at_last}
-use Rattle.session_state.specs.session_commands.declared.command.Command.{Command}
-use Rattle.session_state.specs.session_commands.Command.{subject_cell, is_told_by_table}
-use Rattle.session_state.specs.session_commands.declared.entry.Entry.{Entry}
-use Rattle.session_state.specs.session_commands.declared.refusal.Refusal.TheVariants.{Spoiled}
+use Rattle.session_commands.specs.declared.command.Command.{Command}
+use Rattle.session_commands.specs.Command.{subject_cell, is_told_by_table}
+use Rattle.session_commands.specs.declared.entry.Entry.{Entry}
+use Rattle.session_commands.specs.declared.refusal.Refusal.TheVariants.{Spoiled}
 use Rattle.session_state.specs.SessionState.{SessionState, viewer_of}
 use Rattle.session_book.specs.Exposure.{SomeAllowed, is_exposed, users_of, result_cell, spoils, spoiler_at, spoiler_of}
 use Rattle.session_book.specs.Journal.{Follow, IsAccepted, MayFollow, refusal_after}

@@ -7,7 +7,7 @@ use Rattle.rbac.specs.Account.{same_name}
 use Rattle.rbac.specs.Authorization.{IsValid}
 use Rattle.session_state.specs.Apply.{apply}
 use Rattle.session_state.specs.SessionState.{SessionState}
-use Rattle.session_state.specs.session_commands.declared.entry.Entry.{Entry}
+use Rattle.session_commands.specs.declared.entry.Entry.{Entry}
 use Rattle.session_book.specs.declared.touched.Touched.{Touched}
 use Rattle.session_book.specs.declared.touched.Touched.TheVariants.{Nothing, Board, User, Everything}
 use Rattle.session_book.specs.Exposure.{sees_hands, is_exposed, users_of}

@@ -3,8 +3,8 @@
 -- own: a row tells who gave which command and what it is about, and no result, card, percentage or reason.
 use Rattle.std.specs.Prelude.{ℕ, ◌+◌, ◌-◌, List, [], ◌∷◌, take, drop}
 use Rattle.session_book.specs.declared.audit.AuditRow.{AuditRow}
-use Rattle.session_state.specs.session_commands.declared.entry.Entry.{Entry}
-use Rattle.session_state.specs.session_commands.Told.{word_of, target_of}
+use Rattle.session_commands.specs.declared.entry.Entry.{Entry}
+use Rattle.session_commands.specs.Told.{word_of, target_of}
 
 -- what is told of an entry with its number
 abbrev pub audit_row : ℕ → Entry → AuditRow

@@ -2,7 +2,7 @@
 use Rattle.std.specs.Prelude.{◌≡◌, ℕ, ◌<◌, ◌≤◌, Bool, false, ◌||◌, ◌&&◌, nat_eq, nat_le, nat_lt, List, [], length, slice_index_or}
 use Rattle.movement.specs.Movement.{boards_of, most_boards}
 use Rattle.small_sets.specs.Numbers.{has_number}
-use Rattle.session_state.specs.session_commands.declared.entry.Entry.{Entry}
+use Rattle.session_commands.specs.declared.entry.Entry.{Entry}
 use Rattle.session_state.specs.SessionState.{SessionState}
 use Rattle.session_book.specs.Exposure.{sees_hands, is_exposed, users_of}
 

@@ -1,11 +1,11 @@
 -- A journal, and when it is accepted.
 use Rattle.std.specs.Prelude.{◌≡◌, ℕ, zero, suc, Option, None, slice_get, List, [], ◌∷◌, ◌++◌, length, refl}
 use Rattle.std.specs.Coded.{Coded, code_by, coded×, coded_list, coded_ℕ}
-use Rattle.session_state.specs.session_commands.declared.actor.Actor.{Actor}
-use Rattle.session_state.specs.session_commands.declared.command.Command.{Command}
-use Rattle.session_state.specs.session_commands.declared.entry.Entry.{Entry}
-use Rattle.session_state.specs.session_commands.contracts.entry.Entry as the_entry
-use Rattle.session_state.specs.session_commands.declared.refusal.Refusal.{Refusal}
+use Rattle.session_commands.specs.declared.actor.Actor.{Actor}
+use Rattle.session_commands.specs.declared.command.Command.{Command}
+use Rattle.session_commands.specs.declared.entry.Entry.{Entry}
+use Rattle.session_commands.specs.contracts.entry.Entry as the_entry
+use Rattle.session_commands.specs.declared.refusal.Refusal.{Refusal}
 use Rattle.session_state.specs.Refusal.{refusal_of}
 use Rattle.session_state.specs.SessionState.{SessionState, session_code}
 use Rattle.session_book.specs.Exposure.{spoiler_of}

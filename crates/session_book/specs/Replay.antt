@@ -1,7 +1,7 @@
 -- The state to which a journal leads.
 use Rattle.std.specs.Prelude.{List}
 use Rattle.std.specs.List.{fold}
-use Rattle.session_state.specs.session_commands.declared.entry.Entry.{Entry}
+use Rattle.session_commands.specs.declared.entry.Entry.{Entry}
 use Rattle.session_state.specs.Apply.{apply}
 use Rattle.session_state.specs.SessionState.{SessionState}
 

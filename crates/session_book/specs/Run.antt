@@ -3,13 +3,13 @@ use Rattle.std.specs.Prelude.{◌≡◌, ℕ, ◌+◌, ◌⊎◌, nat_lt, if◌t
 use Rattle.std.specs.List.{fold}
 use Rattle.session_book.specs.declared.answer.Answer.{Answer}
 use Rattle.session_book.specs.declared.answer.Answer.TheVariants.{Accepted, Refused}
-use Rattle.session_state.specs.session_commands.declared.actor.Actor.{Actor}
-use Rattle.session_state.specs.session_commands.declared.actor.Actor.TheVariants.{User}
-use Rattle.session_state.specs.session_commands.declared.command.Command.{Command}
-use Rattle.session_state.specs.session_commands.declared.entry.Entry.{Entry}
-use Rattle.session_state.specs.session_commands.declared.refusal.Refusal.{Refusal}
-use Rattle.session_state.specs.session_commands.declared.refusal.Refusal.TheVariants.{OutOfMemory, NotTried}
-use Rattle.session_state.specs.session_commands.Refusal.{is_out_of_memory}
+use Rattle.session_commands.specs.declared.actor.Actor.{Actor}
+use Rattle.session_commands.specs.declared.actor.Actor.TheVariants.{User}
+use Rattle.session_commands.specs.declared.command.Command.{Command}
+use Rattle.session_commands.specs.declared.entry.Entry.{Entry}
+use Rattle.session_commands.specs.declared.refusal.Refusal.{Refusal}
+use Rattle.session_commands.specs.declared.refusal.Refusal.TheVariants.{OutOfMemory, NotTried}
+use Rattle.session_commands.specs.Refusal.{is_out_of_memory}
 use Rattle.session_book.specs.declared.book.TheConstants.Book.{MOST_COMMANDS}
 use Rattle.session_book.specs.Journal.{Ledger, refusal_after, refusal_at}
 use Rattle.session_state.specs.SessionState.{SessionState}

@@ -1,4 +1,4 @@
-use session_state::Refusal;
+use session_commands::Refusal;
 
 /// What became of a command.
 #[derive(Clone, Copy)]

@@ -2,8 +2,8 @@
 ghost use Rattle.std.specs.Prelude.{◌≡◌, IfOk};
 ghost use Rattle.session_book.specs.Audit.{audit_rows};
 
-use session_state::room::push_within;
-use session_state::{Actor, CommandWord, Entry, Target};
+use session_commands::room::push_within;
+use session_commands::{Actor, CommandWord, Entry, Target};
 use std::alloc::{AllocError, Global};
 use std::fmt;
 use std::marker::Model;

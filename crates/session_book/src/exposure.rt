@@ -12,7 +12,7 @@ use crate::touched::Touched;
 use disclosure_rules::{Boards, Fact, Viewer, decide};
 use rbac::Roles;
 use session_state::State;
-use session_state::room::filled;
+use session_commands::room::filled;
 use std::alloc::{AllocError, Global};
 use std::marker::Model;
 use user_names::Name;

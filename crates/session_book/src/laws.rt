@@ -6,7 +6,7 @@ ghost use Rattle.disclosure_rules.specs.Seating.{IsSeatedAt};
 ghost use Rattle.session_state.specs.SessionState.{SessionState, viewer_of};
 ghost use Rattle.session_state.specs.OwnNumbers.{TellsOwn, KeepsOwn};
 ghost use Rattle.session_state.specs.Seats.{AreSeatsOf};
-ghost use Rattle.session_state.specs.session_commands.declared.entry.Entry.{Entry};
+ghost use Rattle.session_commands.specs.declared.entry.Entry.{Entry};
 ghost use Rattle.session_book.specs.Exposure.{SomeAllowed, is_exposed, result_cell};
 ghost use Rattle.session_book.specs.Journal.{replay, IsAccepted};
 ghost use Rattle.session_book.specs.Touched.{touched_by, is_touched};

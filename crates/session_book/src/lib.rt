@@ -12,5 +12,5 @@ mod touched;
 pub use answer::Answer;
 pub use audit::{AuditError, AuditRow, AuditRows};
 pub use book::Book;
-pub use session_state::{Seated, State};
+
 pub use submission::Submission;

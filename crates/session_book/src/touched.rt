@@ -1,7 +1,7 @@
 ghost use Rattle.std.specs.Prelude.{◌≡◌};
 ghost use Rattle.session_book.specs.Touched.{touched_by};
 
-use session_state::Command;
+use session_commands::Command;
 use user_names::Name;
 
 /// Whom a command may let see the hands of a board, who didn't see them before.

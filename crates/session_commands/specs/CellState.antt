@@ -1,14 +1,14 @@
 -- What is known of a cell, asked by commands.
 use Rattle.std.specs.Prelude.{Bool, true, false, not, ◌&&◌, ◌||◌, Some, is_some, List}
 use Rattle.std.specs.Cmp.Lexicographic.{pointwise}
-use Rattle.solver_results.specs.cards.declared.card.Card.{Card}
+use Rattle.cards.specs.declared.card.Card.{Card}
 use Rattle.solver_results.specs.Play.{has_card, same_card}
-use Rattle.solver_results.specs.scoring.declared.contract.Contract.{Contract}
-use Rattle.solver_results.specs.scoring.declared.outcome.Outcome.{Outcome}
+use Rattle.scoring.specs.declared.contract.Contract.{Contract}
+use Rattle.scoring.specs.declared.outcome.Outcome.{Outcome}
 use Rattle.session_commands.specs.declared.cell_state.CellState.{CellState}
 use Rattle.session_commands.specs.declared.cell_state.CellState.TheVariants.{Empty, Entered, Confirmed, Ruled}
-use Rattle.solver_results.specs.scoring.declared.outcome.Outcome.TheVariants.{PassedOut, Played}
-use Rattle.solver_results.specs.scoring.Outcome.{same_outcome}
+use Rattle.scoring.specs.declared.outcome.Outcome.TheVariants.{PassedOut, Played}
+use Rattle.scoring.specs.Outcome.{same_outcome}
 use Rattle.solver_results.specs.PlayAnswer.{PlayedDeal}
 
 -- whether there is a result: one that is confirmed, or a ruling

@@ -4,7 +4,7 @@
 -- own: the commands and what they need are this project's.
 use Rattle.std.specs.Prelude.{ℕ, Bool, true, false, Option, Some, None, is_none, List, [], ◌∷◌}
 use Rattle.std.specs.List.{list_any}
-use Rattle.disclosure_rules.specs.movement.declared.cell.Cell.{Cell}
+use Rattle.movement.specs.declared.cell.Cell.{Cell}
 use Rattle.session_roles.specs.declared.operation.Operation.{Operation}
 use Rattle.session_roles.specs.declared.operation.Operation.TheVariants as operation
 use Rattle.disclosure_rules.specs.declared.phase.Phase.{Phase}

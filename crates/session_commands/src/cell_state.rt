@@ -1,7 +1,9 @@
 ghost use Rattle.std.specs.Prelude.{◌≡◌};
 ghost use Rattle.session_commands.specs.CellState.{is_contract_of, same_play};
 
-use solver_results::{Card, Contract, Outcome, Play, PlayCosts};
+use cards::Card;
+use scoring::{Contract, Outcome};
+use solver_results::{Play, PlayCosts};
 
 /// What is known of a board at a table.
 #[derive(Clone, Copy)]

@@ -1,9 +1,11 @@
 use crate::command_word::CommandWord;
 use crate::refusal::Refusal;
 use crate::target::Target;
-use disclosure_rules::{Cell, Phase};
+use disclosure_rules::Phase;
+use movement::Cell;
 use session_roles::{Operation, Role};
-use solver_results::{DdTable, Outcome, Play, PlayCosts};
+use scoring::Outcome;
+use solver_results::{DdTable, Play, PlayCosts};
 use table_terms::{Pair, Place};
 use user_names::{Digest, Name};
 

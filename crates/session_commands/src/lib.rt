@@ -17,5 +17,5 @@ pub use command::Command;
 pub use command_word::CommandWord;
 pub use entry::Entry;
 pub use refusal::Refusal;
-pub use solver_results::{Costs, DdTable, Deal, Outcome, Play, PlayAnswer, PlayCosts};
+
 pub use target::Target;

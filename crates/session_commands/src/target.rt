@@ -1,4 +1,4 @@
-use disclosure_rules::Cell;
+use movement::Cell;
 use session_roles::Role;
 use user_names::Name;
 

@@ -5,16 +5,16 @@ use Rattle.std.specs.List.{fold}
 use Rattle.std.proofs.Math.Seq.{take-append_seam, take-suc}
 use Rattle.std.proofs.lemmas.List.{length-append}
 use Rattle.std.proofs.lemmas.Option.{slice_get_within, get_or_from_slice_get}
-use Rattle.session_state.specs.session_commands.declared.actor.Actor.TheVariants.{User}
-use Rattle.session_state.specs.session_commands.declared.command.Command.{Command}
-use Rattle.session_state.specs.session_commands.declared.entry.Entry.{Entry}
-use Rattle.session_state.specs.session_commands.declared.refusal.Refusal.{Refusal}
+use Rattle.session_commands.specs.declared.actor.Actor.TheVariants.{User}
+use Rattle.session_commands.specs.declared.command.Command.{Command}
+use Rattle.session_commands.specs.declared.entry.Entry.{Entry}
+use Rattle.session_commands.specs.declared.refusal.Refusal.{Refusal}
 use Rattle.session_state.specs.SessionState.{SessionState}
 use Rattle.session_book.specs.Journal.{Ledger, entry_of, refusal_after, IsAccepted}
 use Rattle.session_book.specs.Run.{Progress, answered, after_command, run, Runs, IsTried}
 use Rattle.session_book.specs.declared.answer.Answer.{Answer}
 use Rattle.session_book.specs.declared.answer.Answer.TheVariants.{Accepted, Refused}
-use Rattle.session_state.specs.session_commands.declared.actor.Actor.{Actor}
+use Rattle.session_commands.specs.declared.actor.Actor.{Actor}
 use Rattle.session_book.specs.Replay.{replay}
 use Rattle.session_book.proofs.JournalLemmas.{replayed_more, accepted_length}
 use Rattle.session_state.specs.Apply.{apply}

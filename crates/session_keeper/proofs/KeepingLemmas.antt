@@ -2,11 +2,11 @@
 use Rattle.std.proofs.Common.{◌≡◌, ◌↔◌, ℕ, Bool, length, List, [], ◌∷◌, ◌++◌, refl, sym, ap, ◌∙◌, append_assoc}
 use Rattle.std.specs.Prelude.{IfOk, IfErr, OnOk}
 use mathlib.Core.List.{IsPrefix}
-use Rattle.session_state.specs.session_commands.declared.actor.Actor.{Actor}
+use Rattle.session_commands.specs.declared.actor.Actor.{Actor}
 use Rattle.session_book.specs.declared.answer.Answer.{Answer}
 use Rattle.session_state.specs.SessionState.{SessionState}
-use Rattle.session_state.specs.session_commands.declared.command.Command.{Command}
-use Rattle.session_state.specs.session_commands.declared.entry.Entry.{Entry}
+use Rattle.session_commands.specs.declared.command.Command.{Command}
+use Rattle.session_commands.specs.declared.entry.Entry.{Entry}
 use Rattle.rbac.specs.Authorization.{HasPermission, IsValid}
 use Rattle.session_roles.specs.declared.operation.Operation.TheVariants.{Audit}
 use Rattle.session_book.specs.Audit.{audit_rows}

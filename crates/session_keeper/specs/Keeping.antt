@@ -5,9 +5,9 @@ use mathlib.Core.List.{IsPrefix}
 use Rattle.rbac.specs.Authorization.{HasPermission, IsValid}
 use Rattle.session_roles.specs.declared.operation.Operation.TheVariants.{Audit}
 use Rattle.session_state.specs.SessionState.{SessionState}
-use Rattle.session_state.specs.session_commands.declared.actor.Actor.TheVariants.{Solver}
-use Rattle.session_state.specs.session_commands.declared.command.Command.{Command}
-use Rattle.session_state.specs.session_commands.declared.entry.Entry.{Entry}
+use Rattle.session_commands.specs.declared.actor.Actor.TheVariants.{Solver}
+use Rattle.session_commands.specs.declared.command.Command.{Command}
+use Rattle.session_commands.specs.declared.entry.Entry.{Entry}
 use Rattle.session_book.specs.Audit.{audit_rows}
 use Rattle.session_book.specs.declared.answer.Answer.{Answer}
 use Rattle.session_book.specs.declared.audit.AuditError.TheVariants.{NotPermitted}

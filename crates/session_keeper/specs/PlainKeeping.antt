@@ -1,6 +1,6 @@
 -- A view beside a book.
 use Rattle.std.specs.Prelude.{◌≡◌, ◌≤◌, List, take, length}
-use Rattle.session_state.specs.session_commands.declared.entry.Entry.{Entry}
+use Rattle.session_commands.specs.declared.entry.Entry.{Entry}
 use Rattle.session_state.specs.SessionState.{SessionState}
 use Rattle.session_book.specs.Journal.{IsAccepted}
 use Rattle.session_book.specs.Replay.{replay}

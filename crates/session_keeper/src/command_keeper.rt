@@ -1,7 +1,7 @@
 //! Who keeps a session, as commands see it.
 
 ghost use Rattle.std.specs.Prelude.{◌≡◌, ◌≤◌, length, IfOk, OnErr};
-ghost use Rattle.session_state.specs.session_commands.declared.command.Command.TheVariants.{Solved, Analysed};
+ghost use Rattle.session_commands.specs.declared.command.Command.TheVariants.{Solved, Analysed};
 ghost use Rattle.session_book.specs.Journal.{IsAccepted};
 ghost use Rattle.session_book.specs.Run.{most_commands};
 ghost use Rattle.session_keeper.specs.Keeping.{GoesOn, RanOnce, TriedOnce, IsAuditOf};
@@ -9,7 +9,9 @@ ghost use Rattle.session_keeper.specs.Keeping.{GoesOn, RanOnce, TriedOnce, IsAud
 use crate::keeper::Keeper;
 use crate::receipt::{AuditReceipt, BatchReceipt};
 use session_book::Answer;
-use session_state::{Cell, Command, DdTable, PlayCosts};
+use movement::Cell;
+use session_commands::Command;
+use solver_results::{DdTable, PlayCosts};
 use std::alloc::AllocError;
 use user_names::Name;
 

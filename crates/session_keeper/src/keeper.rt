@@ -8,7 +8,7 @@ ghost use Rattle.session_keeper.specs.Keeping.{GoesOn};
 
 use published_view::{NoEntry, QueryFault};
 use session_queries::{Query, Reply};
-use session_state::Digest;
+use user_names::Digest;
 use std::alloc::Global;
 use user_names::Name;
 
@@ -17,7 +17,7 @@ use user_names::Name;
 pub trait Keeper: Drop {
     ghost use Rattle.std.specs.Prelude.{List};
     ghost use Rattle.session_state.specs.SessionState.{SessionState};
-    ghost use Rattle.session_state.specs.session_commands.declared.entry.Entry.{Entry};
+    ghost use Rattle.session_commands.specs.declared.entry.Entry.{Entry};
 
     ghost opening: { Self → SessionState };
 

@@ -10,7 +10,8 @@ use crate::session_fault::SessionFault;
 use crate::user::users_of;
 use json_fields::{has_only, limited_at, small_number_at, text_at};
 use serde_json::Value;
-use session_opening::{Items, NewUser};
+use session_opening::NewUser;
+use table_terms::Items;
 use std::alloc::Global;
 
 /// The most visits of a solver's call.

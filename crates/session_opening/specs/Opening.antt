@@ -10,7 +10,7 @@ use Rattle.rbac.specs.RoleData.{RoleData}
 use Rattle.disclosure_rules.specs.declared.marks.Marks.{Marks}
 use Rattle.disclosure_rules.specs.declared.phase.Phase.TheVariants.{Running}
 use Rattle.disclosure_rules.specs.declared.public.Public.{Public}
-use Rattle.session_state.specs.session_commands.declared.cell_state.CellState.TheVariants.{Empty}
+use Rattle.session_commands.specs.declared.cell_state.CellState.TheVariants.{Empty}
 use Rattle.session_opening.specs.declared.config.Config.{Config}
 use Rattle.session_opening.specs.declared.new_user.NewUser.{NewUser}
 use Rattle.session_state.specs.declared.seated.Seated.{Seated}

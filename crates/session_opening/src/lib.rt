@@ -11,4 +11,4 @@ mod opening_refusal;
 pub use config::Config;
 pub use new_user::NewUser;
 pub use opening_refusal::OpeningRefusal;
-pub use table_terms::Items;
+

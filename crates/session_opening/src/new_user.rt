@@ -1,6 +1,6 @@
 use disclosure_rules::Seat;
 use session_roles::Role;
-use session_state::Digest;
+use user_names::Digest;
 use table_terms::Items;
 use user_names::Name;
 

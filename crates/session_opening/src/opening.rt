@@ -18,8 +18,9 @@ use disclosure_rules::{Boards, LiveCells, Marks, Phase, Public};
 use movement::Movement;
 use rbac::Roles;
 use session_roles::Role;
-use session_state::room::push_within;
-use session_state::{Digest, Seated, State};
+use session_commands::room::push_within;
+use session_state::{Seated, State};
+use user_names::Digest;
 use std::alloc::{AllocError, Global};
 use table_terms::{Place, Vulnerability};
 

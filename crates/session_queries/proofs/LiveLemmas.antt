@@ -25,9 +25,9 @@ use Rattle.disclosure_rules.specs.Seating.{some_that}
 use Rattle.disclosure_rules.proofs.FirstLemmas.{first_forbids, none_forbids}
 use Rattle.session_state.specs.SessionState.{SessionState, cell_at, cell_index, IsPlaced, AreLive}
 use Rattle.session_state.proofs.ScheduleLemmas.{placed}
-use Rattle.session_state.specs.session_commands.CellState.{has_result}
-use Rattle.session_state.specs.session_commands.declared.cell_state.CellState.{CellState}
-use Rattle.session_state.specs.session_commands.declared.cell_state.CellState.TheVariants.{Empty, Entered, Confirmed, Ruled}
+use Rattle.session_commands.specs.CellState.{has_result}
+use Rattle.session_commands.specs.declared.cell_state.CellState.{CellState}
+use Rattle.session_commands.specs.declared.cell_state.CellState.TheVariants.{Empty, Entered, Confirmed, Ruled}
 use Rattle.standings.specs.declared.earning.Earning.{Earning}
 use Rattle.standings.specs.declared.table_result.TableResult.{TableResult}
 use Rattle.standings.specs.Ranking.{earnings_of}

@@ -4,13 +4,13 @@ use Rattle.std.specs.Prelude.{Option, Some, None, option_map, if◌then◌else�
 use Rattle.cards.specs.Hands.{Hands}
 use Rattle.cards.specs.declared.card.Card.{Card}
 use Rattle.movement.specs.declared.cell.Cell.{Cell}
-use Rattle.session_state.specs.solver_results.Play.{has_card}
+use Rattle.solver_results.specs.Play.{has_card}
 use Rattle.query_filter.specs.declared.trick_table.TrickTable.{TrickTable}
 use Rattle.session_state.specs.OwnNumbers.{KeepsOwn}
 use Rattle.session_state.specs.SessionState.{SessionState, cell_at, table_at, IsPlaced}
-use Rattle.session_state.specs.session_commands.declared.cell_state.CellState.{CellState}
-use Rattle.session_state.specs.session_commands.declared.cell_state.CellState.TheVariants.{Empty, Entered, Confirmed, Ruled}
-use Rattle.session_state.specs.solver_results.PlayAnswer.{answer_for_play}
+use Rattle.session_commands.specs.declared.cell_state.CellState.{CellState}
+use Rattle.session_commands.specs.declared.cell_state.CellState.TheVariants.{Empty, Entered, Confirmed, Ruled}
+use Rattle.solver_results.specs.PlayAnswer.{answer_for_play}
 use Rattle.standings.specs.declared.cell_result.CellResult.TheVariants as cell_result
 use Rattle.session_queries.specs.Content.{analysis_of, costs_of, found_of, play_of, result_of, tricks_of_deal}
 use Rattle.session_queries.specs.Numbers.{IsAnalysisOf, IsCountOf}

@@ -5,7 +5,7 @@ use Rattle.cards.specs.declared.card.Card.{Card}
 use Rattle.table_terms.specs.declared.place.Place.TheVariants.{North, East, South, West}
 use Rattle.table_terms.specs.declared.strain.Strain.{Strain}
 use Rattle.table_terms.specs.declared.strain.Strain.TheVariants.{Spades, Hearts, Diamonds, Clubs, NoTrump}
-use Rattle.session_state.specs.cards.DoubleDummy.{declarer_tricks}
+use Rattle.cards.specs.DoubleDummy.{declarer_tricks}
 use Rattle.movement.specs.declared.cell.Cell.{Cell}
 use Rattle.rbac.specs.declared.account.Account.{Account}
 use Rattle.rbac.specs.declared.inheritance.Inheritance.{Inheritance}
@@ -14,13 +14,13 @@ use Rattle.disclosure_rules.specs.declared.fact.Fact.TheVariants as fact
 use Rattle.disclosure_rules.specs.declared.public.Public.{Public}
 use Rattle.query_filter.specs.declared.trick_table.StrainTricks.{StrainTricks}
 use Rattle.query_filter.specs.declared.trick_table.TrickTable.{TrickTable}
-use Rattle.session_state.specs.solver_results.PlayAnswer.{PlayedDeal, answer_for_play}
-use Rattle.session_state.specs.solver_results.declared.play_answer.PlayAnswer.{PlayAnswer}
-use Rattle.session_state.specs.solver_results.declared.play_answer.PlayAnswer.TheVariants as answer
-use Rattle.session_state.specs.session_commands.declared.cell_state.CellState.{CellState}
-use Rattle.session_state.specs.session_commands.declared.cell_state.CellState.TheVariants.{Empty, Entered, Confirmed, Ruled}
+use Rattle.solver_results.specs.PlayAnswer.{PlayedDeal, answer_for_play}
+use Rattle.solver_results.specs.declared.play_answer.PlayAnswer.{PlayAnswer}
+use Rattle.solver_results.specs.declared.play_answer.PlayAnswer.TheVariants as answer
+use Rattle.session_commands.specs.declared.cell_state.CellState.{CellState}
+use Rattle.session_commands.specs.declared.cell_state.CellState.TheVariants.{Empty, Entered, Confirmed, Ruled}
 use Rattle.session_state.specs.declared.seated.Seated.{Seated}
-use Rattle.session_state.specs.solver_results.Play.{has_card}
+use Rattle.solver_results.specs.Play.{has_card}
 use Rattle.session_state.specs.Readers.{seats_in_order}
 use Rattle.session_state.specs.SessionState.{SessionState, cell_at, table_at}
 use Rattle.session_queries.specs.declared.card_costs.CardCosts.{CardCosts}

@@ -1,4 +1,3 @@
-pub use Rattle.session_state.specs as session_state
 pub mod Content
 pub mod Facts
 pub mod Shown

@@ -9,7 +9,7 @@ use Rattle.scoring.specs.declared.contract.Contract.{Contract}
 use Rattle.scoring.specs.declared.outcome.Outcome.TheVariants.{Played}
 use Rattle.session_state.specs.OwnNumbers.{IsHandsOf}
 use Rattle.session_state.specs.SessionState.{SessionState, cell_at}
-use Rattle.session_state.specs.solver_results.PlayAnswer.{answer_for_play}
+use Rattle.solver_results.specs.PlayAnswer.{answer_for_play}
 use Rattle.session_queries.specs.Content.{found_of, play_of, result_of, tricks_of_deal}
 use Rattle.session_queries.specs.declared.card_costs.CardCosts.{CardCosts}
 use Rattle.standings.specs.declared.cell_result.CellResult.TheVariants.{Confirmed}

@@ -6,7 +6,8 @@ use movement::Cell;
 use query_filter::TrickTable;
 use rbac::{Account, Inheritance};
 use scoring::Standing;
-use session_state::{Play, Seated};
+use session_state::Seated;
+use solver_results::Play;
 use standings::TravellerRow;
 use table_terms::Items;
 

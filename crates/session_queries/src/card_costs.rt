@@ -1,4 +1,4 @@
-use session_state::Costs;
+use solver_results::Costs;
 
 /// What each card of a play cost its side.
 #[derive(Clone, Copy)]

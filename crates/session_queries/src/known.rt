@@ -4,7 +4,9 @@ ghost use Rattle.session_queries.specs.Content.{analysis_of, costs_of, costs_of_
 
 use crate::card_costs::CardCosts;
 use query_filter::{StrainTricks, TrickTable};
-use session_state::{CellState, DdTable, Play, PlayAnswer, PlayCosts, State};
+use session_commands::CellState;
+use session_state::State;
+use solver_results::{DdTable, Play, PlayAnswer, PlayCosts};
 use standings::CellResult;
 use table_terms::{Place, Strain};
 

@@ -18,5 +18,4 @@ pub use push::push_found;
 pub use query::Query;
 pub use reply::Reply;
 pub use results::{put_results, shown_results};
-pub use session_state::{Play, Seated};
-pub use table_terms::Items;
+

@@ -13,7 +13,7 @@ use crate::push::push_found;
 use disclosure_rules::{Fact, Viewer, decide};
 use movement::Cell;
 use session_state::State;
-use session_state::room::push_within;
+use session_commands::room::push_within;
 use standings::TableResult;
 use std::alloc::{AllocError, Global};
 

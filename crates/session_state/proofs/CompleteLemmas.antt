@@ -3,13 +3,13 @@ use Rattle.std.proofs.Common.{◌≡◌, ℕ, zero, suc, ◌+◌, ◌-◌, ◌<�
 use Rattle.std.specs.Prelude.{◌&&◌, ◌↔◌}
 use Rattle.std.specs.List.{list_all, range_with_len}
 use Rattle.std.proofs.lemmas.Bool.{cases_eq, cases_Bool, false≢true}
-use Rattle.session_state.specs.movement.declared.cell.Cell.{Cell}
-use Rattle.session_state.specs.movement.Movement.{boards_of, IsCell}
+use Rattle.movement.specs.declared.cell.Cell.{Cell}
+use Rattle.movement.specs.Movement.{boards_of, IsCell}
 use Rattle.session_state.proofs.movement_lemmas.CellLemmas.{cell_in_range}
-use Rattle.session_state.specs.disclosure_rules.LiveCells.{is_live}
+use Rattle.disclosure_rules.specs.LiveCells.{is_live}
 use Rattle.session_state.proofs.disclosure_rules_lemmas.SeatingTests.{complete_decides}
-use Rattle.session_state.specs.disclosure_rules.Seating.{is_complete}
-use Rattle.session_state.specs.disclosure_rules.declared.public.Public.{Public}
+use Rattle.disclosure_rules.specs.Seating.{is_complete}
+use Rattle.disclosure_rules.specs.declared.public.Public.{Public}
 use Rattle.session_state.specs.Refusal.{are_all_live}
 
 pub all_of_range : (p : ℕ → Bool) (first n : ℕ) → ((k : ℕ) → first ≤ k → k < first + n → p k ≡ true) → list_all p (range_with_len first n) ≡ true

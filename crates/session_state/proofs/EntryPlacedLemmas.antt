@@ -1,7 +1,7 @@
 -- Each entry leaves a seat with at most one user, at a pair of the movement's.
 use Rattle.std.proofs.Common.{◌≡◌, refl}
 use Rattle.std.specs.Prelude.{Option, Some, None, is_some, if◌then◌else◌}
-use Rattle.session_state.specs.movement.declared.cell.Cell.{Cell}
+use Rattle.movement.specs.declared.cell.Cell.{Cell}
 use Rattle.session_commands.specs.declared.cell_state.CellState.{CellState}
 use Rattle.session_commands.specs.declared.cell_state.CellState.TheVariants.{Empty, Entered, Confirmed, Ruled}
 use Rattle.session_commands.specs.declared.command.Command.{Command}

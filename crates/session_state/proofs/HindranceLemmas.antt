@@ -4,10 +4,10 @@ use Rattle.std.specs.Prelude.{Option, Some, None, not, nat_le}
 use Rattle.std.specs.Bool.{then_some}
 use Rattle.std.specs.Option.{option_or}
 use Rattle.std.proofs.lemmas.Bool.{false≢true, cases_lt, le-leb}
-use Rattle.session_state.specs.cards.declared.card.Card.{Card}
-use Rattle.session_state.specs.movement.Schedule.{is_scheduled}
-use Rattle.session_state.specs.scoring.declared.outcome.Outcome.{Outcome}
-use Rattle.session_state.specs.disclosure_rules.Seating.{some_that}
+use Rattle.cards.specs.declared.card.Card.{Card}
+use Rattle.movement.specs.Schedule.{is_scheduled}
+use Rattle.scoring.specs.declared.outcome.Outcome.{Outcome}
+use Rattle.disclosure_rules.specs.Seating.{some_that}
 use Rattle.session_commands.specs.declared.command.Command.{Command}
 use Rattle.session_commands.specs.declared.command.Command.TheVariants.{Enter, NextRound}
 use Rattle.session_commands.specs.declared.refusal.Refusal.{Refusal}
@@ -15,7 +15,7 @@ use Rattle.session_commands.specs.declared.refusal.Refusal.TheVariants.{NoSuchUs
 use Rattle.session_state.specs.Accounts.{has_account}
 use Rattle.session_commands.specs.CellState.{has_result}
 use Rattle.session_commands.specs.Command.{phases_of, subject_user, subject_cell, subject_board, is_among}
-use Rattle.session_state.specs.movement.Movement.{has_board}
+use Rattle.movement.specs.Movement.{has_board}
 use Rattle.session_state.specs.Refusal.{first_cause, is_bad_result, is_early, own_causes, hindrance_of}
 use Rattle.session_state.specs.SessionState.{SessionState, cell_at}
 

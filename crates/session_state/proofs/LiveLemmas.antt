@@ -3,14 +3,14 @@ use Rattle.std.proofs.Common.{◌≡◌, ◌≢◌, ℕ, ◌+◌, ◌-◌, ◌*�
 use Rattle.std.specs.Prelude.{nat_eq, slice_index_or, slice_set, ◌||◌, ◌&&◌, not}
 use Rattle.std.proofs.lemmas.Bool.{cases_eq, eq-eqb, ne_eqb, or_left}
 use Rattle.std.proofs.lemmas.List.{get_or-set_same, get_or-set_other}
-use Rattle.session_state.specs.movement.declared.cell.Cell.{Cell}
-use Rattle.session_state.specs.movement.Movement.{most_tables, most_boards}
-use Rattle.session_state.specs.disclosure_rules.LiveCells.{tables_at, is_live, with_live, without_live}
+use Rattle.movement.specs.declared.cell.Cell.{Cell}
+use Rattle.movement.specs.Movement.{most_tables, most_boards}
+use Rattle.disclosure_rules.specs.LiveCells.{tables_at, is_live, with_live, without_live}
 use Rattle.small_sets.specs.Numbers.{has_number, numbers_that}
 use Rattle.small_sets.proofs.NumbersLemmas.{has_number-numbers_that}
 use Rattle.session_commands.specs.declared.cell_state.CellState.{CellState}
 use Rattle.session_commands.specs.declared.cell_state.CellState.TheVariants.{Empty, Entered, Confirmed, Ruled}
-use Rattle.session_state.specs.solver_results.PlayAnswer.{PlayedDeal}
+use Rattle.solver_results.specs.PlayAnswer.{PlayedDeal}
 use Rattle.session_commands.specs.CellState.{has_result, with_costs}
 use Rattle.session_state.specs.SessionState.{most_cells, cell_index, IsPlaced, AreLive}
 

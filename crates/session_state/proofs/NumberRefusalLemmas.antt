@@ -14,7 +14,7 @@ use Rattle.session_commands.specs.declared.command.Command.TheVariants.{Enter, C
 use Rattle.session_commands.specs.declared.refusal.Refusal.{Refusal}
 use Rattle.session_commands.specs.declared.refusal.Refusal.TheVariants.{NotPermitted, NoSuchUser, NoSuchCell, NoSuchBoard, WrongPhase, RoundNotStarted, Spoiled, NotLive, StrangeDeal, StrangePlay, AlreadySolved, JournalFull}
 use Rattle.session_commands.specs.Command.{operation_of, is_solvers, is_told_by_table, subject_user}
-use Rattle.session_state.specs.disclosure_rules.Seating.{some_that}
+use Rattle.disclosure_rules.specs.Seating.{some_that}
 use Rattle.session_state.specs.Accounts.{has_account}
 use Rattle.session_state.specs.Refusal.{is_permitted, first_cause, own_causes, hindrances, causes, refusal_of}
 use Rattle.session_state.specs.SessionState.{SessionState}

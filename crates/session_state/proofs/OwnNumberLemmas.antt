@@ -4,22 +4,22 @@ use Rattle.std.specs.Prelude.{◌⊎◌, Option, Some, None, is_some, not, ◌&&
 use Rattle.std.specs.Bool.{then_some, Decides}
 use Rattle.std.specs.Cmp.Lexicographic.{pointwise_decides}
 use Rattle.std.proofs.lemmas.Bool.{false≢true, eqb-true, eq-eqb}
-use Rattle.session_state.specs.cards.Card.{number_in_pack}
-use Rattle.session_state.specs.cards.CardBits.{same_number}
-use Rattle.session_state.specs.cards.Hands.{Hands}
-use Rattle.session_state.specs.cards.declared.card.Card.{Card}
+use Rattle.cards.specs.Card.{number_in_pack}
+use Rattle.cards.specs.CardBits.{same_number}
+use Rattle.cards.specs.Hands.{Hands}
+use Rattle.cards.specs.declared.card.Card.{Card}
 use Rattle.session_state.proofs.cards_lemmas.CardBitsLemmas.{are_same_decides}
-use Rattle.session_state.specs.disclosure_rules.Seating.{some_that}
-use Rattle.session_state.specs.disclosure_rules.declared.public.Public.{Public}
-use Rattle.session_state.specs.movement.declared.cell.Cell.{Cell}
-use Rattle.session_state.specs.movement.Movement.{IsSection}
-use Rattle.session_state.specs.solver_results.Play.{same_card}
+use Rattle.disclosure_rules.specs.Seating.{some_that}
+use Rattle.disclosure_rules.specs.declared.public.Public.{Public}
+use Rattle.movement.specs.declared.cell.Cell.{Cell}
+use Rattle.movement.specs.Movement.{IsSection}
+use Rattle.solver_results.specs.Play.{same_card}
 use Rattle.rbac.specs.RoleData.{RoleData}
-use Rattle.session_state.specs.scoring.declared.contract.Contract.{Contract}
-use Rattle.session_state.specs.scoring.declared.outcome.Outcome.{Outcome}
-use Rattle.session_state.specs.scoring.declared.outcome.Outcome.TheVariants.{PassedOut, Played}
+use Rattle.scoring.specs.declared.contract.Contract.{Contract}
+use Rattle.scoring.specs.declared.outcome.Outcome.{Outcome}
+use Rattle.scoring.specs.declared.outcome.Outcome.TheVariants.{PassedOut, Played}
 use Rattle.session_state.proofs.scoring_lemmas.OutcomeLemmas.{same_outcome_decides}
-use Rattle.session_state.specs.solver_results.PlayAnswer.{PlayedDeal}
+use Rattle.solver_results.specs.PlayAnswer.{PlayedDeal}
 use Rattle.session_state.specs.Apply.{apply, effect, confirmed}
 use Rattle.session_commands.specs.CellState.{has_result, is_contract_of, same_play, is_played_as, is_counted, with_costs}
 use Rattle.session_state.specs.OwnNumbers.{IsHandsOf, IsCostsOf, IsCounting, TellsOwn, KeepsOwn}

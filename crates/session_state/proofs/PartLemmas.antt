@@ -2,16 +2,16 @@
 use Rattle.std.proofs.Common.{◌≡◌, ◌≢◌, ℕ, Bool, true, false, List, refl, sym, ap}
 use Rattle.std.specs.Prelude.{Option, Some, None, is_some, not, if◌then◌else◌}
 use Rattle.std.proofs.lemmas.Bool.{false≢true}
-use Rattle.session_state.specs.cards.Hands.{Hands}
-use Rattle.session_state.specs.movement.declared.cell.Cell.{Cell}
-use Rattle.session_state.specs.movement.Movement.{IsSection}
-use Rattle.session_state.specs.movement.Schedule.{is_scheduled}
+use Rattle.cards.specs.Hands.{Hands}
+use Rattle.movement.specs.declared.cell.Cell.{Cell}
+use Rattle.movement.specs.Movement.{IsSection}
+use Rattle.movement.specs.Schedule.{is_scheduled}
 use Rattle.session_state.proofs.movement_lemmas.CellLemmas.{cell_in_range}
 use Rattle.session_state.proofs.movement_lemmas.ScheduleTests.{scheduled-cell}
 use Rattle.rbac.specs.declared.account.Account.{Account}
 use Rattle.rbac.specs.declared.inheritance.Inheritance.{Inheritance}
-use Rattle.session_state.specs.disclosure_rules.Seating.{some_that}
-use Rattle.session_state.specs.disclosure_rules.declared.phase.Phase.{Phase}
+use Rattle.disclosure_rules.specs.Seating.{some_that}
+use Rattle.disclosure_rules.specs.declared.phase.Phase.{Phase}
 use Rattle.session_commands.specs.declared.cell_state.CellState.{CellState}
 use Rattle.session_commands.specs.declared.cell_state.CellState.TheVariants.{Empty, Entered, Confirmed, Ruled}
 use Rattle.session_commands.specs.declared.command.Command.{Command}

@@ -6,12 +6,12 @@ use Rattle.std.specs.Cmp.{IsEquivalence, and_equiv, decided, on_equiv, nat_eq_eq
 use Rattle.std.proofs.lemmas.List.Elements.{All-filter, All-nil, All-push}
 use Rattle.std.proofs.lemmas.Map.Keys.{IsDistinct-push}
 use Rattle.table_terms.specs.Place.{place_number}
-use Rattle.session_state.specs.movement.Movement.{Section}
-use Rattle.session_state.specs.movement.Schedule.{same_pair}
+use Rattle.movement.specs.Movement.{Section}
+use Rattle.movement.specs.Schedule.{same_pair}
 use Rattle.session_state.proofs.movement_lemmas.ScheduleTests.{pair_decides}
 use Rattle.rbac.specs.Account.{same_name}
 use Rattle.rbac.proofs.ListLemmas.{distinct_filter, distinct_none}
-use Rattle.session_state.specs.disclosure_rules.declared.seat.Seat.{Seat}
+use Rattle.disclosure_rules.specs.declared.seat.Seat.{Seat}
 use Rattle.session_state.specs.declared.seated.Seated.{Seated}
 use Rattle.session_state.specs.Seats.{same_seat, share_seat, is_taken, without_seat, IsSeatOf, AreSeatsOf}
 

@@ -2,10 +2,10 @@
 use Rattle.std.proofs.Common.{◌≡◌, ℕ, sym, subst, arith}
 use Rattle.std.specs.Prelude.{Option, Some, None, is_some, IfSome, IfNone}
 use Rattle.std.proofs.lemmas.Bool.{false_from_ne_true}
-use Rattle.session_state.specs.movement.declared.cell.Cell.{Cell}
-use Rattle.session_state.specs.movement.Movement.{Section, IsSection, IsCell}
-use Rattle.session_state.specs.movement.Row.{IsCellInRange}
-use Rattle.session_state.specs.movement.Schedule.{is_scheduled}
+use Rattle.movement.specs.declared.cell.Cell.{Cell}
+use Rattle.movement.specs.Movement.{Section, IsSection, IsCell}
+use Rattle.movement.specs.Row.{IsCellInRange}
+use Rattle.movement.specs.Schedule.{is_scheduled}
 use Rattle.session_state.proofs.movement_lemmas.ScheduleTests.{scheduled-cell, cell-scheduled}
 pub use Rattle.session_state.proofs.movement_lemmas.ScheduleTests.{later_than}
 use Rattle.session_state.specs.SessionState.{IsPlaced}

@@ -5,7 +5,7 @@ use Rattle.rbac.specs.Authorization.{authorized_roles}
 use Rattle.rbac.specs.RoleData.{RoleData}
 use Rattle.session_roles.specs.declared.role.Role.{Role}
 use Rattle.session_roles.specs.declared.role.Role.TheVariants.{Contestant, Administrator}
-use Rattle.session_state.specs.disclosure_rules.Policy.{is_authorized}
+use Rattle.disclosure_rules.specs.Policy.{is_authorized}
 use Rattle.session_state.specs.declared.seated.Seated.{Seated}
 -- whether there is a user of a name, a role is assigned, a separation set is broken, an inheritance pair is there
 pub use Rattle.rbac.specs.Review.{has_account, is_assigned, has_user_for, is_broken, first_broken, has_pair}

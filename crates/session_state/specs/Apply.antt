@@ -1,11 +1,11 @@
 -- What an entry makes of a state.
 use Rattle.std.specs.Prelude.{◌+◌, ◌-◌, ◌++◌, [], ◌∷◌, Some, None, is_some, slice_set, if◌then◌else◌}
-use Rattle.session_state.specs.movement.declared.cell.Cell.{Cell}
-use Rattle.session_state.specs.movement.Movement.{most_boards}
+use Rattle.movement.specs.declared.cell.Cell.{Cell}
+use Rattle.movement.specs.Movement.{most_boards}
 use Rattle.rbac.specs.RoleData.{RoleData, add_user, assign_user, deassign_user, add_inheritance, delete_inheritance}
-use Rattle.session_state.specs.disclosure_rules.declared.phase.Phase.TheVariants.{Closed, Final}
-use Rattle.session_state.specs.disclosure_rules.declared.public.Public.{Public}
-use Rattle.session_state.specs.disclosure_rules.LiveCells.{with_live, without_live}
+use Rattle.disclosure_rules.specs.declared.phase.Phase.TheVariants.{Closed, Final}
+use Rattle.disclosure_rules.specs.declared.public.Public.{Public}
+use Rattle.disclosure_rules.specs.LiveCells.{with_live, without_live}
 use Rattle.small_sets.specs.Numbers.{with_number, without_number}
 use Rattle.session_commands.specs.declared.command.Command.{Command}
 use Rattle.session_commands.specs.declared.command.Command.TheVariants.{Enter, Confirm, Correct, Rule, Void, Hold, Release}

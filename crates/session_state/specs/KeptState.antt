@@ -1,6 +1,6 @@
 -- What is kept of every state.
 use Rattle.std.specs.Prelude.{◌≡◌, ◌≤◌, length, vec_len, vec_capacity}
-use Rattle.session_state.specs.movement.Movement.{boards_of, most_boards}
+use Rattle.movement.specs.Movement.{boards_of, most_boards}
 use Rattle.rbac.specs.Account.{most_users}
 use Rattle.session_state.specs.Seats.{AreSeated, AreSeatsOf}
 use Rattle.session_state.specs.SessionState.{most_cells, AreLive}

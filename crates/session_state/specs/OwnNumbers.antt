@@ -1,12 +1,12 @@
 -- Whose numbers the solver's are: a table is of its board's own hands, and costs are of their cell's own hands,
 -- contract and play. What the numbers are follows, since the types of a table and of costs keep them.
 use Rattle.std.specs.Prelude.{◌≡◌, ℕ, ◌-◌, Some, None, List, slice_get}
-use Rattle.session_state.specs.cards.declared.card.Card.{Card}
-use Rattle.session_state.specs.cards.Hands.{Hands}
-use Rattle.session_state.specs.movement.declared.cell.Cell.{Cell}
-use Rattle.session_state.specs.scoring.declared.outcome.Outcome.{Outcome}
-use Rattle.session_state.specs.scoring.declared.outcome.Outcome.TheVariants.{Played}
-use Rattle.session_state.specs.solver_results.PlayAnswer.{PlayedDeal}
+use Rattle.cards.specs.declared.card.Card.{Card}
+use Rattle.cards.specs.Hands.{Hands}
+use Rattle.movement.specs.declared.cell.Cell.{Cell}
+use Rattle.scoring.specs.declared.outcome.Outcome.{Outcome}
+use Rattle.scoring.specs.declared.outcome.Outcome.TheVariants.{Played}
+use Rattle.solver_results.specs.PlayAnswer.{PlayedDeal}
 use Rattle.session_commands.specs.declared.cell_state.CellState.TheVariants.{Confirmed}
 use Rattle.session_commands.specs.declared.command.Command.{Command}
 use Rattle.session_commands.specs.declared.command.Command.TheVariants.{Solved, Analysed}

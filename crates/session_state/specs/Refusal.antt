@@ -8,19 +8,19 @@ use Rattle.std.specs.Prelude.{Option, None, IfSome, is_some, option_map, List, [
 use Rattle.std.specs.Bool.{then_some}
 use Rattle.std.specs.List.{list_all, range_with_len}
 use Rattle.std.specs.Option.{option_map_or, option_or}
-use Rattle.session_state.specs.cards.declared.card.Card.{Card}
-use Rattle.session_state.specs.movement.Movement.{boards_of, has_board}
-use Rattle.session_state.specs.movement.Schedule.{is_scheduled, is_later}
+use Rattle.cards.specs.declared.card.Card.{Card}
+use Rattle.movement.specs.Movement.{boards_of, has_board}
+use Rattle.movement.specs.Schedule.{is_scheduled, is_later}
 use Rattle.rbac.specs.Account.{most_users, is_user_name}
 use Rattle.rbac.specs.Authorization.{HasPermission, has_permission}
 use Rattle.rbac.specs.Inheritance.{reaches}
 use Rattle.rbac.specs.RoleData.{RoleData, assign_user, deassign_user, add_inheritance, delete_inheritance}
 use Rattle.session_roles.specs.declared.role.Role.TheVariants.{Contestant}
-use Rattle.session_state.specs.scoring.declared.outcome.Outcome.{Outcome}
-use Rattle.session_state.specs.scoring.declared.outcome.Outcome.TheVariants.{PassedOut, Played}
+use Rattle.scoring.specs.declared.outcome.Outcome.{Outcome}
+use Rattle.scoring.specs.declared.outcome.Outcome.TheVariants.{PassedOut, Played}
 use Rattle.small_sets.specs.Numbers.{has_number}
-use Rattle.session_state.specs.disclosure_rules.Seating.{some_that, is_complete}
-use Rattle.session_state.specs.disclosure_rules.declared.public.Public.{Public}
+use Rattle.disclosure_rules.specs.Seating.{some_that, is_complete}
+use Rattle.disclosure_rules.specs.declared.public.Public.{Public}
 use Rattle.session_commands.specs.declared.command.Command.{Command}
 use Rattle.session_commands.specs.declared.command.Command.TheVariants.{Enter, Confirm, Correct, Rule, Void, Hold, Release}
 use Rattle.session_commands.specs.declared.command.Command.TheVariants.{Seat, Unseat, NextRound, Close, Finalise}
@@ -46,7 +46,7 @@ use Rattle.session_commands.specs.Command.{is_among}
 use Rattle.session_commands.specs.Refusal.{spoiled}
 use Rattle.session_commands.specs.declared.actor.Actor.{Actor}
 use Rattle.session_commands.specs.declared.actor.Actor.TheVariants.{User, Solver}
-use Rattle.session_state.specs.solver_results.Play.{has_card, has_repeat}
+use Rattle.solver_results.specs.Play.{has_card, has_repeat}
 use Rattle.session_state.specs.Seats.{is_pair, is_of_side, has_seat, is_taken}
 use Rattle.session_state.specs.SessionState.{SessionState, cell_at, table_at, is_dealt}
 

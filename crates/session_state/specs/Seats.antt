@@ -4,11 +4,11 @@ use Rattle.std.specs.List.{list_any, IsDistinct}
 use Rattle.table_terms.specs.declared.pair.Pair.{Pair}
 use Rattle.table_terms.specs.declared.place.Place.{Place}
 use Rattle.table_terms.specs.Place.{side_of, place_number}
-use Rattle.session_state.specs.movement.Movement.{Section}
-use Rattle.session_state.specs.movement.Schedule.{same_side, same_pair}
+use Rattle.movement.specs.Movement.{Section}
+use Rattle.movement.specs.Schedule.{same_side, same_pair}
 use Rattle.rbac.specs.Account.{same_name}
 use Rattle.rbac.specs.RoleData.{RoleData}
-use Rattle.session_state.specs.disclosure_rules.declared.seat.Seat.{Seat}
+use Rattle.disclosure_rules.specs.declared.seat.Seat.{Seat}
 use Rattle.session_state.specs.declared.seated.Seated.{Seated}
 use Rattle.session_state.specs.Accounts.{has_account}
 

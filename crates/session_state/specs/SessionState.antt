@@ -4,20 +4,20 @@ use Rattle.std.specs.List.{find}
 use Rattle.std.specs.Option.{option_map}
 use Rattle.std.specs.Cmp.Lexicographic.{pointwise}
 use Rattle.std.specs.Coded.{Coded, code_by, coded×, coded_list, coded_option}
-use Rattle.session_state.specs.cards.Cards.{are_same}
-use Rattle.session_state.specs.cards.Hands.{Hands, hands_code}
+use Rattle.cards.specs.Cards.{are_same}
+use Rattle.cards.specs.Hands.{Hands, hands_code}
 use Rattle.session_roles.specs.declared.role.Role.{Role}
 use Rattle.rbac.specs.Authorization.{authorized_roles}
 use Rattle.rbac.specs.RoleData.{RoleData}
 use Rattle.rbac.specs.contracts.roles.Roles as the_roles
-use Rattle.session_state.specs.movement.declared.cell.Cell.{Cell}
-use Rattle.session_state.specs.movement.Movement.{most_tables, most_boards}
-use Rattle.session_state.specs.disclosure_rules.declared.public.Public.{Public}
-use Rattle.session_state.specs.disclosure_rules.contracts.public.Public as the_public
-use Rattle.session_state.specs.disclosure_rules.LiveCells.{is_live}
-use Rattle.session_state.specs.disclosure_rules.Seating.{some_that}
-use Rattle.session_state.specs.disclosure_rules.declared.seat.Seat.{Seat}
-use Rattle.session_state.specs.disclosure_rules.declared.viewer.Viewer.{Viewer}
+use Rattle.movement.specs.declared.cell.Cell.{Cell}
+use Rattle.movement.specs.Movement.{most_tables, most_boards}
+use Rattle.disclosure_rules.specs.declared.public.Public.{Public}
+use Rattle.disclosure_rules.specs.contracts.public.Public as the_public
+use Rattle.disclosure_rules.specs.LiveCells.{is_live}
+use Rattle.disclosure_rules.specs.Seating.{some_that}
+use Rattle.disclosure_rules.specs.declared.seat.Seat.{Seat}
+use Rattle.disclosure_rules.specs.declared.viewer.Viewer.{Viewer}
 use Rattle.user_names.specs.declared.digest.Digest.{Digest}
 use Rattle.user_names.specs.contracts.digest.Digest as the_digest
 use Rattle.session_state.specs.declared.seated.Seated.{Seated}

@@ -1,7 +1,7 @@
 //! When a command is refused.
 ghost use Rattle.std.specs.Prelude.{◌≡◌, not, true, IfSome, IfNone};
 ghost use Rattle.std.specs.Option.{option_map_or};
-ghost use Rattle.session_state.specs.disclosure_rules.Seating.{some_that};
+ghost use Rattle.disclosure_rules.specs.Seating.{some_that};
 ghost use Rattle.session_state.specs.Accounts.{has_account};
 ghost use Rattle.session_commands.specs.Command.{subject_cell, subject_board};
 ghost use Rattle.rbac.specs.Authorization.{has_permission};
@@ -11,7 +11,8 @@ ghost use Rattle.session_state.specs.SessionState.{IsPlaced, IsKeptBoard};
 use crate::causes::{accounts, first_cause, progress, results, seats, solved};
 use crate::schedule::{awaits_round, misses_board, misses_cell};
 use crate::state::State;
-use disclosure_rules::{Cell, Seat};
+use disclosure_rules::Seat;
+use movement::Cell;
 use session_commands::{Actor, Command, Refusal};
 use session_roles::Operation;
 use user_names::Name;

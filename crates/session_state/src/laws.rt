@@ -1,10 +1,10 @@
 //! Laws of the state: functions with nothing to do, whose clauses are the laws.
 ghost use Rattle.std.specs.Prelude.{◌≡◌, ◌≢◌, ◌↔◌, ℕ, true, List, Option, Some, None};
-ghost use Rattle.session_state.specs.movement.declared.cell.Cell.{Cell};
-ghost use Rattle.session_state.specs.movement.Movement.{IsCell, IsSection};
+ghost use Rattle.movement.specs.declared.cell.Cell.{Cell};
+ghost use Rattle.movement.specs.Movement.{IsCell, IsSection};
 ghost use Rattle.rbac.specs.Authorization.{IsValid};
-ghost use Rattle.session_state.specs.disclosure_rules.declared.public.Public.{Public};
-ghost use Rattle.session_state.specs.disclosure_rules.LiveCells.{is_live};
+ghost use Rattle.disclosure_rules.specs.declared.public.Public.{Public};
+ghost use Rattle.disclosure_rules.specs.LiveCells.{is_live};
 ghost use Rattle.session_state.specs.Apply.{apply};
 ghost use Rattle.session_commands.specs.Command.{is_solvers, subject_cell};
 ghost use Rattle.session_state.specs.OwnNumbers.{TellsOwn, KeepsOwn};

@@ -10,12 +10,9 @@ mod state;
 
 pub use causes::first_cause;
 pub use causes::seats::{is_of_side, is_pair};
-pub use disclosure_rules::{Cell, Fact, Marks, Movement, Phase, Public, Rule, Seat, Viewer};
+
 pub use schedule::has_cell;
 pub use seated::Seated;
-pub use session_commands::{
-    Actor, CellState, Command, CommandWord, Costs, DdTable, Deal, Entry, Outcome, Play, PlayAnswer,
-    PlayCosts, Refusal, Target, room,
-};
+
 pub use state::State;
-pub use user_names::Digest;
+

@@ -1,10 +1,10 @@
 ghost use Rattle.std.specs.Prelude.{◌≡◌, true, false, not, IfSome};
-ghost use Rattle.session_state.specs.disclosure_rules.Seating.{some_that};
-ghost use Rattle.session_state.specs.movement.Movement.{IsCell, has_board};
-ghost use Rattle.session_state.specs.movement.Schedule.{is_scheduled, is_later};
+ghost use Rattle.disclosure_rules.specs.Seating.{some_that};
+ghost use Rattle.movement.specs.Movement.{IsCell, has_board};
+ghost use Rattle.movement.specs.Schedule.{is_scheduled, is_later};
 ghost use Rattle.session_state.specs.SessionState.{IsPlaced, IsKeptBoard};
 
-use disclosure_rules::{Cell, Movement};
+use movement::{Cell, Movement};
 
 /// Whether the cell's table is scheduled to play its board.
 #[tactic(auto, using(crate::proofs::ScheduleLemmas::found_scheduled))]

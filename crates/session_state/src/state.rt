@@ -1,9 +1,9 @@
 ghost use Rattle.std.specs.Prelude.{◌≡◌, ◌-◌, ◌<◌, ◌≤◌, ◌↔◌, [], length, slice_get, vec_capacity, Some, None, IfOk, IfSome, IsTrue, replicate};
-ghost use Rattle.session_state.specs.movement.Movement.{boards_of, most_tables, most_boards};
+ghost use Rattle.movement.specs.Movement.{boards_of, most_tables, most_boards};
 ghost use Rattle.rbac.specs.Account.{most_users};
 ghost use Rattle.rbac.specs.Authorization.{HasPermission, IsValid, has_permission};
-ghost use Rattle.session_state.specs.disclosure_rules.LiveCells.{is_live};
-ghost use Rattle.session_state.specs.disclosure_rules.Policy.{first_rule};
+ghost use Rattle.disclosure_rules.specs.LiveCells.{is_live};
+ghost use Rattle.disclosure_rules.specs.Policy.{first_rule};
 ghost use Rattle.session_state.specs.Accounts.{has_account};
 ghost use Rattle.session_state.specs.Seats.{is_taken, AreSeated, AreSeatsOf};
 ghost use Rattle.session_state.specs.Apply.{apply, effect};
@@ -22,12 +22,14 @@ mod solved;
 
 use crate::acceptance::{hindrance, refusal};
 use crate::seated::Seated;
-use disclosure_rules::{Cell, Fact, Marks, Movement, Public, Rule, Seat, Viewer, decide};
+use disclosure_rules::{Fact, Marks, Public, Rule, Seat, Viewer, decide};
+use movement::{Cell, Movement};
 use rbac::{Account, Roles};
 use session_commands::room::{filled, with_room};
-use session_commands::{
-    Actor, CellState, Command, DdTable, Deal, Entry, Outcome, Play, PlayCosts, Refusal,
-};
+use cards::Deal;
+use scoring::Outcome;
+use session_commands::{Actor, CellState, Command, Entry, Refusal};
+use solver_results::{DdTable, Play, PlayCosts};
 use session_roles::{Operation, RoleSet};
 use std::alloc::{AllocError, Global};
 use std::marker::Model;

@@ -7,7 +7,7 @@ use crossbeam_channel::{Receiver, Sender};
 use desks::{Desk, DeskKeeper};
 use displays::{Display, Server};
 use service_threads::Task;
-use session_state::{DdTable, PlayCosts};
+use solver_results::{DdTable, PlayCosts};
 use solver_pool::{Done, Found, Job, OpenGate, Pool, Work, run_worker};
 use std::alloc::Global;
 use std::io::{Read, Write};

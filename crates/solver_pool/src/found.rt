@@ -1,4 +1,4 @@
-use double_dummy::{DdTable, PlayCosts};
+use solver_results::{DdTable, PlayCosts};
 
 /// What a worker found, or why it found nothing.
 #[derive(Drop)]

@@ -3,7 +3,7 @@ use Rattle.std.specs.Prelude.{◌≡◌, ℕ}
 use Rattle.table_terms.specs.declared.place.Place.{Place}
 use Rattle.table_terms.specs.declared.place.Place.TheVariants.{North, East, South, West}
 use Rattle.table_terms.specs.declared.strain.Strain.{Strain}
-use Rattle.solver_results.specs.cards.Hands.{Hands}
+use Rattle.cards.specs.Hands.{Hands}
 use Rattle.solver_results.specs.declared.dd_table.DeclarerTricks.{DeclarerTricks}
 use Rattle.cards.specs.DoubleDummy.{declarer_tricks}
 

@@ -2,7 +2,7 @@
 use Rattle.std.specs.Prelude.{◌≡◌}
 use Rattle.std.proofs.Common.{sym}
 use Rattle.table_terms.specs.declared.strain.Strain.TheVariants.{Spades, Hearts, Diamonds, Clubs, NoTrump}
-use Rattle.solver_results.specs.cards.Hands.{Hands}
+use Rattle.cards.specs.Hands.{Hands}
 use Rattle.solver_results.specs.DdTable.{tricks_in}
 use Rattle.solver_results.specs.declared.dd_table.DdTable.TheInside.{Inside}
 

@@ -1,5 +1,3 @@
-pub use Rattle.cards.specs as cards
-pub use Rattle.scoring.specs as scoring
 pub mod CostPlaces
 pub mod DdTable
 pub mod DdTableInside

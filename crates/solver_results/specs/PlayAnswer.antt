@@ -1,11 +1,11 @@
 -- What is found of a play: what each card costs, or which is the first that is not legal.
 use Rattle.std.specs.Prelude.{ℕ, List, Option, Some, None, refl}
 use Rattle.std.specs.Coded.{Coded, code_by, coded×, coded_list}
-use Rattle.solver_results.specs.cards.contracts.card.Card as the_card
+use Rattle.cards.specs.contracts.card.Card as the_card
 use Rattle.scoring.specs.contracts.contract.Contract as the_contract
-use Rattle.solver_results.specs.cards.declared.card.Card.{Card}
-use Rattle.solver_results.specs.cards.Hands.{Hands, hands_code}
-use Rattle.solver_results.specs.cards.Play.{start}
+use Rattle.cards.specs.declared.card.Card.{Card}
+use Rattle.cards.specs.Hands.{Hands, hands_code}
+use Rattle.cards.specs.Play.{start}
 use Rattle.solver_results.specs.declared.play_answer.PlayAnswer.{PlayAnswer}
 use Rattle.solver_results.specs.declared.play_answer.PlayAnswer.TheVariants.{Costs, NotAPlay}
 use Rattle.cards.specs.DoubleDummy.{cost_list, first_illegal}

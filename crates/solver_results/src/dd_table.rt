@@ -29,7 +29,7 @@ pub struct DdTable {
 }
 
 impl Model for DdTable {
-    ghost use Rattle.solver_results.specs.cards.Hands.{Hands, hands_code};
+    ghost use Rattle.cards.specs.Hands.{Hands, hands_code};
 
     ghost Value = { Hands };
 

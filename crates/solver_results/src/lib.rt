@@ -8,10 +8,9 @@ mod play;
 mod play_answer;
 mod play_costs;
 
-pub use cards::{Card, Deal};
 pub use costs::Costs;
 pub use dd_table::{DdTable, DeclarerTricks};
 pub use play::Play;
 pub use play_answer::PlayAnswer;
 pub use play_costs::PlayCosts;
-pub use scoring::{Contract, Outcome};
+

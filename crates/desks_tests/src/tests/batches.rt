@@ -12,7 +12,7 @@ use displays::{Display, Server};
 use double_dummy::{Budget, table};
 use movement::Cell;
 use session_book::Answer;
-use session_state::Refusal;
+use session_commands::Refusal;
 use std::alloc::Global;
 use std::sync::Wait;
 

@@ -8,7 +8,7 @@ use desks::Desk;
 use displays::{Display, Receipt, Server};
 use reply_texts::reply_text;
 use session_book::Submission;
-use session_state::Command;
+use session_commands::Command;
 use std::alloc::Global;
 use std::sync::Wait;
 use user_names::Name;

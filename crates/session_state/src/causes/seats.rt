@@ -6,7 +6,8 @@ ghost use Rattle.session_commands.specs.declared.command.Command.TheVariants as 
 
 use crate::causes::first_cause;
 use crate::state::State;
-use disclosure_rules::{Movement, Seat};
+use disclosure_rules::Seat;
+use movement::Movement;
 use session_commands::Refusal;
 use session_roles::Role;
 use table_terms::{Pair, Place, Side};

@@ -6,8 +6,9 @@ ghost use Rattle.session_commands.specs.declared.command.Command.TheVariants.{So
 
 use crate::causes::first_cause;
 use crate::state::State;
-use disclosure_rules::Cell;
-use session_commands::{DdTable, PlayCosts, Refusal};
+use movement::Cell;
+use session_commands::Refusal;
+use solver_results::{DdTable, PlayCosts};
 
 pub fn solved_cause(state: &State, board: u8, table: &DdTable) -> Option<Refusal>
     requires { IsKeptBoard board }

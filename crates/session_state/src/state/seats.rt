@@ -2,7 +2,7 @@
 ghost use Rattle.std.specs.Prelude.{◌≡◌, None};
 ghost use Rattle.rbac.specs.RoleData.{after_change};
 ghost use Rattle.session_roles.specs.declared.role.Role.TheVariants.{Contestant};
-ghost use Rattle.session_state.specs.disclosure_rules.Policy.{is_authorized};
+ghost use Rattle.disclosure_rules.specs.Policy.{is_authorized};
 ghost use Rattle.session_state.specs.Accounts.{is_authorized_for, seats_a_stranger};
 ghost use Rattle.session_state.specs.Apply.{effect};
 ghost use Rattle.session_state.specs.Refusal.{hindrance_of};

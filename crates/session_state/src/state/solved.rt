@@ -6,8 +6,8 @@ ghost use Rattle.session_state.specs.SessionState.{IsPlaced, IsKeptBoard};
 ghost use Rattle.session_commands.specs.declared.command.Command.TheVariants.{Solved, Analysed};
 
 use crate::state::{State, cell_index};
-use disclosure_rules::Cell;
-use session_commands::{DdTable, PlayCosts};
+use movement::Cell;
+use solver_results::{DdTable, PlayCosts};
 
 impl State {
     // Keeps a board's table.

@@ -1,5 +1,5 @@
 use Rattle.std.proofs.Common.{◌≡◌, List, length, sym, ap, ◌∙◌}
-use Rattle.session_state.specs.session_commands.declared.entry.Entry.{Entry}
+use Rattle.session_commands.specs.declared.entry.Entry.{Entry}
 use Rattle.history.specs.Prefixes.{entries_of}
 use Rattle.displays.specs.Publishing.{Outgoing}
 use Rattle.desks.proofs.BatchLemmas.{entries_of_with_publication}

@@ -1,7 +1,7 @@
 use Rattle.std.proofs.Common.{rules, refl, ◌+◌, ◌++◌, ◌∷◌, [], List, take, sym, ap, ◌∙◌, arith, append-nil}
 use Rattle.std.proofs.lemmas.List.{take_more}
 use Rattle.history.specs.Prefixes.{entries_of}
-use Rattle.session_state.specs.session_commands.declared.entry.Entry.{Entry}
+use Rattle.session_commands.specs.declared.entry.Entry.{Entry}
 use Rattle.session_book.proofs.RunLemmas.{runs_none, runs_so}
 use Rattle.desks.proofs.laws.run.Goals as goal
 

@@ -1,6 +1,6 @@
 use Rattle.std.proofs.Common.{rules, ◌≡◌, ◌+◌, ◌<◌, ◌++◌, [], length, take, sym, ap, ◌∙◌}
 use Rattle.std.specs.List.{cons_option, filter_map}
-use Rattle.session_book.specs.session_state.Readers.{seated_of}
+use Rattle.session_state.specs.Readers.{seated_of}
 use Rattle.published_view.proofs.ListLemmas.{filter_map_more}
 use Rattle.published_view.proofs.bodies.seats_of.Goals as goal
 

@@ -1,6 +1,6 @@
 use Rattle.std.proofs.Common.{◌≡◌, take}
 use Rattle.std.specs.List.{filter_map}
-use Rattle.session_book.specs.session_state.Readers.{seated_of}
+use Rattle.session_state.specs.Readers.{seated_of}
 use Rattle.published_view.proofs.bodies.seats_of.Given as goal
 
 abbrev pub invariant-loop-account : goal.invariant-loop-account

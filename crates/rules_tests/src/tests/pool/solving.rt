@@ -3,11 +3,11 @@
 use super::{SUITS, results_of, table_work};
 use cards::{Card, Deal, Position, Rank};
 use crossbeam_channel::Receiver;
-use double_dummy::{Budget, PlayAnswer, SolveError, solve};
+use double_dummy::{Budget, SolveError, solve};
+use solver_results::{Play, PlayAnswer};
 use movement::Cell;
 use scoring::{Contract, Doubling, Level};
 use solver_pool::{Done, Found, Work};
-use solver_results::Play;
 use std::alloc::Global;
 use std::sync::Wait;
 use table_terms::{Place, Strain, Suit};

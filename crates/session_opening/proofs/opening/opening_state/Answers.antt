@@ -11,7 +11,7 @@ use Rattle.session_opening.specs.Joining.{JoinInTurn}
 use Rattle.session_opening.specs.Opening.{opening_roles, opening_seats, opening_of}
 use Rattle.session_state.specs.Seats.{AreSeated, AreSeatsOf}
 use Rattle.session_state.specs.SessionState.{SessionState, most_cells}
-use Rattle.session_state.specs.session_commands.declared.cell_state.CellState.TheVariants.{Empty}
+use Rattle.session_commands.specs.declared.cell_state.CellState.TheVariants.{Empty}
 use Rattle.session_opening.proofs.OpeningPlacedLemmas.{opening_placed}
 use Rattle.session_opening.proofs.OpeningRefusalLemmas.{users_join, users_are_few}
 use Rattle.session_opening.proofs.OpeningSeatLemmas.{users_seated}

@@ -1,6 +1,6 @@
 use Rattle.std.proofs.Common.{List, subst}
 use mathlib.Core.List.{IsPrefix}
-use Rattle.session_state.specs.session_commands.declared.entry.Entry.{Entry}
+use Rattle.session_commands.specs.declared.entry.Entry.{Entry}
 use Rattle.history.proofs.PrefixLemmas.{entries_of_prefix, prefix_trans}
 use Rattle.displays.proofs.ReadingLemmas.{foreknown}
 use Rattle.displays.proofs.display.Display.learn.Goals as goal

@@ -1,6 +1,6 @@
 use Rattle.std.proofs.Common.{◌+◌, ◌∙◌, ap}
 use Rattle.std.specs.Prelude.{min}
-use Rattle.session_book.specs.session_state.Apply.{apply}
+use Rattle.session_state.specs.Apply.{apply}
 use Rattle.published_view.specs.View.{Seen, most_versions}
 use Rattle.published_view.proofs.StandingLemmas.{stands_after}
 use Rattle.published_view.proofs.view.View.absorb.Goals as goal

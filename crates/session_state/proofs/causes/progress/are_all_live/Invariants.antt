@@ -1,5 +1,5 @@
 use Rattle.std.proofs.Common.{◌≡◌, ℕ, ◌+◌, ◌<◌, true}
-use Rattle.session_state.specs.disclosure_rules.Seating.{is_complete}
+use Rattle.disclosure_rules.specs.Seating.{is_complete}
 use Rattle.session_state.proofs.causes.progress.are_all_live.Given as goal
 
 abbrev pub invariant-loop-board : goal.invariant-loop-board

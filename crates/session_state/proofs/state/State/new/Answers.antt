@@ -1,6 +1,6 @@
 use Rattle.std.proofs.Common.{ℕ, List, [], ap, ◌∙◌, arith, length}
 use Rattle.std.proofs.lemmas.List.{length-replicate}
-use Rattle.session_state.specs.movement.Movement.{most_boards}
+use Rattle.movement.specs.Movement.{most_boards}
 use Rattle.session_state.proofs.LiveLemmas.{none_live}
 use Rattle.session_state.proofs.state.State.new.Goals as goal
 

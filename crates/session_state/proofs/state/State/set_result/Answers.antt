@@ -1,6 +1,6 @@
 use Rattle.std.proofs.Common.{◌<◌, ◌-◌, length, sym, ap, ◌∙◌, subst, arith, length-set}
 use Rattle.std.specs.Prelude.{slice_set}
-use Rattle.session_state.specs.disclosure_rules.LiveCells.{with_live}
+use Rattle.disclosure_rules.specs.LiveCells.{with_live}
 use Rattle.session_state.specs.Apply.{with_result}
 use Rattle.session_state.specs.contracts.state.State.{the_view}
 use Rattle.session_state.specs.SessionState.{cell_index, AreLive}

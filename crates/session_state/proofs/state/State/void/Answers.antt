@@ -1,6 +1,6 @@
 use Rattle.std.proofs.Common.{◌<◌, ◌-◌, length, refl, sym, ap, ◌∙◌, subst, arith, length-set}
 use Rattle.std.specs.Prelude.{slice_set}
-use Rattle.session_state.specs.disclosure_rules.LiveCells.{without_live}
+use Rattle.disclosure_rules.specs.LiveCells.{without_live}
 use Rattle.session_state.specs.Apply.{without_result}
 use Rattle.session_state.specs.contracts.state.State.{the_view}
 use Rattle.session_commands.specs.declared.cell_state.CellState.TheVariants.{Empty}
