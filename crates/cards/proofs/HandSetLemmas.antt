@@ -1,10 +1,44 @@
 -- What is cut out of a hand, by the bits that stand for its cards.
-use Rattle.std.proofs.Common.{◌≡◌, ℕ, ◌+◌, ◌-◌, ◌*◌, ◌^◌, ◌<◌, ◌≤◌, ◌%◌, Bool, true, false, bit_and, refl, sym, ap, ◌∙◌, inl, inr, arith, zero, suc, min, lit<}
+use Rattle.std.proofs.Common.{
+  ◌≡◌,
+  ℕ,
+  ◌+◌,
+  ◌-◌,
+  ◌*◌,
+  ◌^◌,
+  ◌<◌,
+  ◌≤◌,
+  ◌%◌,
+  Bool,
+  true,
+  false,
+  bit_and,
+  refl,
+  sym,
+  ap,
+  ◌∙◌,
+  inl,
+  inr,
+  arith,
+  zero,
+  suc,
+  min,
+  lit<,
+}
 use Rattle.std.specs.Prelude.{nat_eq, nat_lt, not, ◌&&◌}
 use Rattle.std.specs.FinSet as set
 use Rattle.std.specs.Int.{bit_at, bit_not, w64, trailing_zeros}
 use Rattle.std.proofs.lemmas.Bool.{cases_lt, cases_eq, eq-eqb, ne_eqb, lt-ltb, le-ltb, and_from, and_left, and_right}
-use Rattle.std.proofs.lemmas.Nat.Bits.{bit_at-lt, bit_at_and, bit_at_not, bit_at_above, bit_at_mask_inside, bit_at_mask_below, bit_at_mask_above, bit_at-trailing_zeros}
+use Rattle.std.proofs.lemmas.Nat.Bits.{
+  bit_at-lt,
+  bit_at_and,
+  bit_at_not,
+  bit_at_above,
+  bit_at_mask_inside,
+  bit_at_mask_below,
+  bit_at_mask_above,
+  bit_at-trailing_zeros,
+}
 use Rattle.std.proofs.lemmas.Nat.{pow_below, and_le_l}
 use Rattle.std.proofs.Math.Nat.{mod-eq_of_lt, pow-suc, mul_comm, pow-le-pow_right}
 use Rattle.cards.specs.declared.card.Card.{Card}
@@ -35,12 +69,14 @@ pub and_below : (a b n : ℕ) → a < n → bit_and a b < n
 and_below a b n small = omega (arith, and_le_l a b)
 
 -- a card's bit in a word that is cut by another
-pub has_card_bit-and : (a b : ℕ) (card : Card) → has_card_bit (bit_and a b) card ≡ (has_card_bit a card && has_card_bit b card)
+pub has_card_bit-and : (a b : ℕ) (card : Card) → has_card_bit (bit_and a b) card ≡
+    (has_card_bit a card && has_card_bit b card)
 has_card_bit-and a b card =
     ap (λ x. nat_eq x 1) (bit_at_and a b (number_in_pack card))
     ∙ both_bits _ _ (bit_at-lt a (number_in_pack card)) (bit_at-lt b (number_in_pack card))
 
-pub has_card_bit-not : (b : ℕ) (card : Card) → b < 2 ^ 52 → has_card_bit (bit_not w64 b) card ≡ not (has_card_bit b card)
+pub has_card_bit-not : (b : ℕ) (card : Card) → b < 2 ^ 52 → has_card_bit (bit_not w64 b) card ≡ not
+    (has_card_bit b card)
 has_card_bit-not b card small =
     let large : 2 ^ 52 < 2 ^ 64 = lit< tt in
     ap (λ x. nat_eq x 1) (bit_at_not w64 b (number_in_pack card) (omega arith) (omega (arith, number_below card)))
@@ -54,7 +90,8 @@ without_others a b card small =
 
 -- the bits from one place up to another
 pub has_card_bit-mask : (low high : ℕ) (card : Card) →
-    has_card_bit (2 ^ high - 2 ^ low) card ≡ (nat_lt (number_in_pack card) high && not (nat_lt (number_in_pack card) low))
+    has_card_bit (2 ^ high - 2 ^ low) card ≡ (nat_lt (number_in_pack card) high && not
+    (nat_lt (number_in_pack card) low))
 has_card_bit-mask low high card =
     elim (cases_lt (number_in_pack card) low) [
       | inl below ↦
@@ -97,7 +134,8 @@ and_swap false true = refl
 and_swap false false = refl
 
 pub bits_between : (low high : ℕ) (card : Card) → low < high → high < 52 →
-    has_card_bit (1 * 2 ^ high % 2 ^ 64 - 2 * 2 ^ low % 2 ^ 64) card ≡ (nat_lt low (number_in_pack card) && nat_lt (number_in_pack card) high)
+    has_card_bit (1 * 2 ^ high % 2 ^ 64 - 2 * 2 ^ low % 2 ^ 64) card ≡ (nat_lt low (number_in_pack card) && nat_lt
+    (number_in_pack card) high)
 bits_between low high card less small =
     (λ i. has_card_bit (power_small high (omega arith) i - double_power low (omega arith) i) card)
     ∙ has_card_bit-mask (suc low) high card
@@ -119,18 +157,21 @@ between_order low high less small =
 
 -- a card's place within its suit
 suit_place : (suit : Suit) (card : Card) →
-    (nat_lt (number_in_pack card) (13 * suit_number suit + 13) && not (nat_lt (number_in_pack card) (13 * suit_number suit))) ≡ is_of suit card
+    (nat_lt (number_in_pack card) (13 * suit_number suit + 13) && not
+    (nat_lt (number_in_pack card) (13 * suit_number suit))) ≡ is_of suit card
 suit_place suit card =
     elim (cases_eq (suit_number suit) (suit_number card.suit)) [
       | inl same ↦
-          and_from _ _ (lt-ltb _ _ (omega (arith, height_below card.rank))) (ap not (le-ltb (number_in_pack card) (13 * suit_number suit) (omega arith)))
+          and_from _ _ (lt-ltb _ _ (omega (arith, height_below card.rank)))
+          (ap not (le-ltb (number_in_pack card) (13 * suit_number suit) (omega arith)))
           ∙ sym (eq-eqb _ _ same)
       | inr other ↦ elim (cases_lt (suit_number suit) (suit_number card.suit)) [
         | inl less ↦
             and_left _ (not (nat_lt (number_in_pack card) (13 * suit_number suit))) (le-ltb _ _ (omega arith))
             ∙ sym (ne_eqb _ _ other)
         | inr more ↦
-            and_right (nat_lt (number_in_pack card) (13 * suit_number suit + 13)) _ (ap not (lt-ltb (number_in_pack card) (13 * suit_number suit) (omega (arith, height_below card.rank))))
+            and_right (nat_lt (number_in_pack card) (13 * suit_number suit + 13)) _
+            (ap not (lt-ltb (number_in_pack card) (13 * suit_number suit) (omega (arith, height_below card.rank))))
             ∙ sym (ne_eqb _ _ other)
       ]
     ]
@@ -141,12 +182,15 @@ pub suit_bits : (word mask : ℕ) (suit : Suit) → mask ≡ 2 ^ (13 * suit_numb
 suit_bits word mask suit e = same_cards _ _ (λ card.
     contains-cards_of_bits (bit_and word mask) card
     ∙ has_card_bit-and word mask card
-    ∙ (λ i. sym (contains-cards_of_bits word card) i && (ap (λ m. has_card_bit m card) e ∙ has_card_bit-mask (13 * suit_number suit) (13 * suit_number suit + 13) card ∙ suit_place suit card) i)
-    ∙ sym (set.contains-retain (cards_of_bits word) (is_of suit) card (λ x e. ap (is_of suit) (sym (card_cmp-IsAntisymmetric card x e)))))
+    ∙ (λ i. sym (contains-cards_of_bits word card) i && (ap (λ m. has_card_bit m card) e ∙ has_card_bit-mask
+    (13 * suit_number suit) (13 * suit_number suit + 13) card ∙ suit_place suit card) i)
+    ∙ sym (set.contains-retain (cards_of_bits word) (is_of suit) card
+    (λ x e. ap (is_of suit) (sym (card_cmp-IsAntisymmetric card x e)))))
 
 -- the lowest bit of a word
 pub lowest_bit : (word : ℕ) → word < 2 ^ 52 → (word ≡ 0 → ⊥) →
-    (trailing_zeros w64 word < 52) × (bit_at word (trailing_zeros w64 word) ≡ 1) × ((k : ℕ) → bit_at word k ≡ 1 → trailing_zeros w64 word ≤ k)
+    (trailing_zeros w64 word < 52) × (bit_at word (trailing_zeros w64 word) ≡ 1) ×
+    ((k : ℕ) → bit_at word k ≡ 1 → trailing_zeros w64 word ≤ k)
 lowest_bit word small some =
     let large : 2 ^ 52 < 2 ^ 64 = lit< tt in
     let low = bit_at-trailing_zeros w64 word (omega arith) (omega arith) in

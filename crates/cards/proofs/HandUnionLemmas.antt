@@ -24,6 +24,7 @@ pub cards_of_bits-or : (a b : ℕ) → cards_of_bits (bit_or a b) ≡ set.union 
 cards_of_bits-or a b = same_cards _ _ (λ card.
     contains-cards_of_bits _ card
     ∙ ap (λ digit. nat_eq digit 1) (bit_at_or a b (number_in_pack card))
-    ∙ greater_digit (bit_at a (number_in_pack card)) (bit_at b (number_in_pack card)) (bit_at-lt a (number_in_pack card)) (bit_at-lt b (number_in_pack card))
+    ∙ greater_digit (bit_at a (number_in_pack card)) (bit_at b (number_in_pack card))
+    (bit_at-lt a (number_in_pack card)) (bit_at-lt b (number_in_pack card))
     ∙ (λ i. sym (contains-cards_of_bits a card) i || sym (contains-cards_of_bits b card) i)
     ∙ sym (set.contains-union card_cmp_total (cards_of_bits a) (cards_of_bits b) card))

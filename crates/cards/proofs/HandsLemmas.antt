@@ -12,7 +12,8 @@ use Rattle.cards.specs.FourHands.{NoTwoShare}
 disjoint_back : (a b : Cards) → AreDisjoint a b → AreDisjoint b a
 disjoint_back a b apart card in_b = false_from_ne_true _ (λ in_a. true≢false (sym in_b ∙ apart card in_a))
 
-pub apart_of : (hands : Hands) → NoTwoShare hands → (place other : Place) → place ≢ other → AreDisjoint (hand_of hands place) (hand_of hands other)
+pub apart_of : (hands : Hands) → NoTwoShare hands → (place other : Place) → place ≢ other →
+    AreDisjoint (hand_of hands place) (hand_of hands other)
 apart_of hands s North North ne = absurd (ne refl)
 apart_of hands s North East ne = s.north_east
 apart_of hands s North South ne = s.north_south
@@ -32,7 +33,8 @@ apart_of hands s West West ne = absurd (ne refl)
 
 -- each hand has thirteen cards
 abbrev pub HaveThirteen : Hands → Type 0
-HaveThirteen hands = (set.len hands.north ≡ 13) × (set.len hands.east ≡ 13) × (set.len hands.south ≡ 13) × (set.len hands.west ≡ 13)
+HaveThirteen hands = (set.len hands.north ≡ 13) × (set.len hands.east ≡ 13) × (set.len hands.south ≡ 13) ×
+    (set.len hands.west ≡ 13)
 
 thirteen_of : (hands : Hands) → HaveThirteen hands → (place : Place) → set.len (hand_of hands place) ≡ 13
 thirteen_of hands h North = h.0

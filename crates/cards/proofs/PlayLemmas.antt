@@ -1,11 +1,46 @@
 -- Legal cards, and what a legal card does to a position.
-use Rattle.std.proofs.Common.{◌≡◌, ◌≢◌, ℕ, ◌+◌, ◌-◌, ◌*◌, ◌<◌, true, false, cond, List, [], ◌∷◌, length, refl, sym, ap, ◌∙◌, arith, inl, inr}
+use Rattle.std.proofs.Common.{
+  ◌≡◌,
+  ◌≢◌,
+  ℕ,
+  ◌+◌,
+  ◌-◌,
+  ◌*◌,
+  ◌<◌,
+  true,
+  false,
+  cond,
+  List,
+  [],
+  ◌∷◌,
+  length,
+  refl,
+  sym,
+  ap,
+  ◌∙◌,
+  arith,
+  inl,
+  inr,
+}
 use Rattle.std.specs.Prelude.{nat_eq, not, ◌&&◌}
 use Rattle.std.specs.FinSet as set
 use Rattle.std.specs.List.{list_any}
 use Rattle.std.specs.Ordering.{eq_by_cmp, is_eq}
 use Rattle.std.specs.Cmp.{tied_itself}
-use Rattle.std.proofs.lemmas.Bool.{cases_eq, cond-true, cond-false, eq-eqb, ne_eqb, and_left, and_parts, and_right, or_left, false_from_ne_true, not-true, true≢false}
+use Rattle.std.proofs.lemmas.Bool.{
+  cases_eq,
+  cond-true,
+  cond-false,
+  eq-eqb,
+  ne_eqb,
+  and_left,
+  and_parts,
+  and_right,
+  or_left,
+  false_from_ne_true,
+  not-true,
+  true≢false,
+}
 use Rattle.cards.specs.declared.card.Card.{Card}
 use Rattle.table_terms.specs.declared.suit.Suit.{Suit}
 use Rattle.table_terms.specs.declared.place.Place.{Place}
@@ -17,7 +52,27 @@ use Rattle.cards.proofs.CardBitsLemmas.{same_cards, card_cmp-IsAntisymmetric}
 use Rattle.cards.specs.Cards.{Cards}
 use Rattle.cards.specs.Hands.{Hands, hand_of}
 use Rattle.table_terms.specs.Place.{left_of, place_number}
-use Rattle.cards.specs.Play.{Position, to_play, turn, is_of, following, legal_of, legal, without, table_after, leader_after, after, cards_left, IsApart, IsOut, IsUnderWay, one_for, played_by, count_of, IsPosition}
+use Rattle.cards.specs.Play.{
+  Position,
+  to_play,
+  turn,
+  is_of,
+  following,
+  legal_of,
+  legal,
+  without,
+  table_after,
+  leader_after,
+  after,
+  cards_left,
+  IsApart,
+  IsOut,
+  IsUnderWay,
+  one_for,
+  played_by,
+  count_of,
+  IsPosition,
+}
 
 -- a hand that holds none of the suit led may play any card
 pub following-none : (hand held : Cards) → held ≡ set.empty → following hand held ≡ hand
@@ -56,9 +111,11 @@ hand_without hands card South = refl
 hand_without hands card West = refl
 
 pub left_without : (hands : Hands) (gone card : Card) (place : Place) →
-    set.contains (hand_of (without hands gone) place) card ≡ (not (eq_by_cmp card_cmp card gone) && set.contains (hand_of hands place) card)
+    set.contains (hand_of (without hands gone) place) card ≡ (not (eq_by_cmp card_cmp card gone) && set.contains
+    (hand_of hands place) card)
 left_without hands gone card place =
-    ap (λ hand. set.contains hand card) (hand_without hands gone place) ∙ set.contains-remove card_cmp_total (hand_of hands place) gone card
+    ap (λ hand. set.contains hand card) (hand_without hands gone place) ∙ set.contains-remove card_cmp_total
+    (hand_of hands place) gone card
 
 -- what is left was there before
 pub without_had : (hands : Hands) (gone card : Card) (place : Place) →
@@ -142,7 +199,8 @@ pub has_some : (cards : Cards) (card : Card) → set.contains cards card ≡ tru
 has_some cards card held =
     elim (cases_eq (set.len cards) 0) [
       | inl none ↦
-          absurd (true≢false (sym held ∙ ap (λ s. set.contains s card) (set.empty_of_len cards none) ∙ set.contains-empty card_cmp card))
+          absurd (true≢false (sym held ∙ ap (λ s. set.contains s card) (set.empty_of_len cards none)
+          ∙ set.contains-empty card_cmp card))
       | inr some ↦ omega arith
     ]
 
@@ -154,17 +212,20 @@ fewer hands card player place apart held =
     elim (cases_eq (place_number player) (place_number place)) [
       | inl same ↦
           let here = same_place player place same in
-          let had : set.contains (hand_of hands place) card ≡ true = ap (λ x. set.contains (hand_of hands x) card) (sym here) ∙ held in
+          let had : set.contains (hand_of hands place) card ≡ true = ap (λ x. set.contains (hand_of hands x) card)
+          (sym here) ∙ held in
           let some : 0 < set.len (hand_of hands place) = has_some (hand_of hands place) card had in
           let left : set.len (hand_of (without hands card) place) ≡ set.len (hand_of hands place) - 1 =
-          ap set.len (hand_without hands card place) ∙ set.len-remove card_cmp_total (hand_of hands place) card ∙ cond-true _ _ _ had in
+          ap set.len (hand_without hands card place) ∙ set.len-remove card_cmp_total (hand_of hands place) card
+          ∙ cond-true _ _ _ had in
           let one : one_for player place ≡ 1 = cond-true _ _ _ (eq-eqb _ _ same) in
           omega arith
       | inr other ↦
           let had_not : set.contains (hand_of hands place) card ≡ false =
           false_from_ne_true _ (λ had. other (ap place_number (apart player place card held had))) in
           let left : set.len (hand_of (without hands card) place) ≡ set.len (hand_of hands place) =
-          ap set.len (hand_without hands card place) ∙ set.len-remove card_cmp_total (hand_of hands place) card ∙ cond-false _ _ _ had_not in
+          ap set.len (hand_without hands card place) ∙ set.len-remove card_cmp_total (hand_of hands place) card
+          ∙ cond-false _ _ _ had_not in
           let none : one_for player place ≡ 0 = cond-false _ _ _ (ne_eqb _ _ other) in
           omega arith
     ]
@@ -178,7 +239,8 @@ completed (a ∷ b ∷ c ∷ _) = 1
 
 played_after : (strain : Strain) (leader : Place) (hands : Hands) (table : List Card) (card : Card) (place : Place) →
     IsUnderWay hands table →
-    played_by (leader_after strain leader table card) (table_after table card) place + completed table ≡ played_by leader table place + one_for (turn leader table) place
+    played_by (leader_after strain leader table card) (table_after table card) place + completed table ≡ played_by
+    leader table place + one_for (turn leader table) place
 unfolding completed
 played_after strain leader hands [] d place trick = omega arith
 played_after strain leader hands (a ∷ []) d place trick = omega arith
@@ -190,7 +252,12 @@ count_after : (p : Position) (card : Card) (place : Place) → IsPosition p →
     set.contains (hand_of p.hands (to_play p)) card ≡ true →
     count_of (after p card) place + completed p.table ≡ count_of p place
 count_after p card place valid held =
-    omega (arith, played_after p.strain p.leader p.hands p.table card place valid.trick, fewer p.hands card (to_play p) place valid.apart held)
+    omega (
+      arith,
+      played_after p.strain p.leader p.hands p.table card place valid.trick,
+      fewer p.hands card (to_play p)
+          place valid.apart held,
+    )
 
 -- a legal card leads from a position to a position
 pub position_after : (p : Position) (card : Card) → IsPosition p → set.contains (legal p) card ≡ true →
@@ -201,7 +268,12 @@ position_after p card valid may =
       apart = apart_without p.hands card valid.apart;
       trick = under_way_after p.hands p.table card (to_play p) valid.trick held;
       equal =
-          λ place other. omega (arith, count_after p card place valid held, count_after p card other valid held, valid.equal place other);
+          λ place other. omega (
+            arith,
+            count_after p card place valid held,
+            count_after p card other valid held,
+            valid.equal place other,
+          );
     }
 
 -- a player is one of the four
@@ -213,7 +285,8 @@ one_of_all West = refl
 
 -- the cards on the table are counted to the four players
 all_played : (leader : Place) (table : List Card) →
-    played_by leader table North + played_by leader table East + played_by leader table South + played_by leader table West ≡ length table
+    played_by leader table North + played_by leader table East + played_by leader table South + played_by leader table
+    West ≡ length table
 all_played leader [] = refl
 all_played leader (a ∷ table) = omega (arith, all_played (left_of leader) table, one_of_all leader)
 
@@ -242,7 +315,8 @@ yet_to_play leader hands (a ∷ b ∷ c ∷ d ∷ _) none = absurd none
 
 none_from_items : (cards : Cards) → set.items cards ≡ [] → cards ≡ set.empty
 none_from_items cards none = same_cards cards set.empty (λ card.
-    set.contains-items cards card ∙ ap (list_any (eq_by_cmp card_cmp card)) none ∙ sym (set.contains-empty card_cmp card))
+    set.contains-items cards card ∙ ap (list_any (eq_by_cmp card_cmp card)) none
+    ∙ sym (set.contains-empty card_cmp card))
 
 -- a set that isn't empty has a card
 some_card : (cards : Cards) → (set.len cards ≡ 0 → ⊥) → (card : Card) × (set.contains cards card ≡ true)
@@ -250,8 +324,11 @@ some_card cards some = first_of (set.items cards) refl
   where
     first_of : (items : List Card) → set.items cards ≡ items → (card : Card) × (set.contains cards card ≡ true)
     first_of [] none = absurd (some (ap set.len (none_from_items cards none) ∙ set.len-empty card_cmp))
-    first_of (card ∷ rest) is =
-        (card, set.contains-items cards card ∙ ap (list_any (eq_by_cmp card_cmp card)) is ∙ or_left _ _ (tied card card refl))
+    first_of (card ∷ rest) is = (
+      card,
+      set.contains-items cards card ∙ ap (list_any (eq_by_cmp card_cmp card)) is ∙ or_left _ _
+          (tied card card refl),
+    )
 
 -- some of a hand that isn't empty may be played
 legal_some : (hand : Cards) (table : List Card) → (set.len hand ≡ 0 → ⊥) → set.len (legal_of hand table) ≡ 0 → ⊥
@@ -269,7 +346,13 @@ can_play p valid some = some_card (legal p) (legal_some (hand_of p.hands (to_pla
   where
     held : set.len (hand_of p.hands (to_play p)) ≡ 0 → ⊥
     held none =
-        some (omega (arith, none, yet_to_play p.leader p.hands p.table valid.trick, valid.equal (to_play p) North, four_times p valid))
+        some (omega (
+          arith,
+          none,
+          yet_to_play p.leader p.hands p.table valid.trick,
+          valid.equal (to_play p) North,
+          four_times p valid,
+        ))
 
 -- a legal card leaves one card fewer in the hands
 pub one_fewer : (p : Position) (card : Card) → IsPosition p → set.contains (legal p) card ≡ true →

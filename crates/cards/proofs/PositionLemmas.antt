@@ -1,10 +1,39 @@
 -- A position, by the tests of its parts.
-use Rattle.std.proofs.Common.{◌≡◌, ◌≢◌, ◌+◌, ◌≤◌, true, false, List, [], ◌∷◌, length, refl, sym, ap, ◌∙◌, arith, inl, inr, subst}
+use Rattle.std.proofs.Common.{
+  ◌≡◌,
+  ◌≢◌,
+  ◌+◌,
+  ◌≤◌,
+  true,
+  false,
+  List,
+  [],
+  ◌∷◌,
+  length,
+  refl,
+  sym,
+  ap,
+  ◌∙◌,
+  arith,
+  inl,
+  inr,
+  subst,
+}
 use Rattle.std.specs.Prelude.{◌||◌}
 use Rattle.std.specs.FinSet as set
 use Rattle.std.specs.List.{list_any}
 use Rattle.std.specs.Ordering.{eq_by_cmp}
-use Rattle.std.proofs.lemmas.Bool.{cases_Bool, cases_eq, cond-true, cond-false, or_cases, or_left, or_right, false_from_ne_true, true≢false}
+use Rattle.std.proofs.lemmas.Bool.{
+  cases_Bool,
+  cases_eq,
+  cond-true,
+  cond-false,
+  or_cases,
+  or_left,
+  or_right,
+  false_from_ne_true,
+  true≢false,
+}
 use Rattle.cards.specs.declared.card.Card.{Card}
 use Rattle.table_terms.specs.declared.place.Place.{Place}
 use Rattle.table_terms.specs.declared.place.Place.TheVariants.{North, East, South, West}
@@ -99,12 +128,14 @@ set_of cards = set.from_list cards
 len_more : (card : Card) (cards : List Card) → IsAbsent card cards →
     set.len (set_of (card ∷ cards)) ≡ set.len (set_of cards) + 1
 len_more card cards absent =
-    set.len-insert card_cmp_total (set_of cards) card ∙ cond-false _ _ _ (set.contains-from_list card_cmp_total cards card ∙ absent)
+    set.len-insert card_cmp_total (set_of cards) card ∙ cond-false _ _ _ (set.contains-from_list card_cmp_total cards
+    card ∙ absent)
 
 len_same : (card : Card) (cards : List Card) → list_any (eq_by_cmp card_cmp card) cards ≡ true →
     set.len (set_of (card ∷ cards)) ≡ set.len (set_of cards)
 len_same card cards again =
-    set.len-insert card_cmp_total (set_of cards) card ∙ cond-true _ _ _ (set.contains-from_list card_cmp_total cards card ∙ again)
+    set.len-insert card_cmp_total (set_of cards) card ∙ cond-true _ _ _ (set.contains-from_list card_cmp_total cards
+    card ∙ again)
 
 len_within : (cards : List Card) → set.len (set_of cards) ≤ length cards
 len_within [] = omega (arith, set.len-empty card_cmp)
@@ -143,9 +174,11 @@ out_from_disjoint : (hands : Hands) (cards : List Card) → AreDisjoint (set_of 
 unfolding AreOut
 out_from_disjoint hands [] apart = tt
 out_from_disjoint hands (card ∷ cards) apart = (
-  out_of_all hands card (apart card (set.contains-from_list card_cmp_total (card ∷ cards) card ∙ or_left _ _ (tied card card refl))),
+  out_of_all hands card (apart card (set.contains-from_list card_cmp_total (card ∷ cards) card ∙ or_left _ _
+      (tied card card refl))),
   out_from_disjoint hands cards (λ other among. apart other (
-      set.contains-from_list card_cmp_total (card ∷ cards) other ∙ or_right _ _ (sym (set.contains-from_list card_cmp_total cards other) ∙ among))),
+      set.contains-from_list card_cmp_total (card ∷ cards) other ∙ or_right _ _
+      (sym (set.contains-from_list card_cmp_total cards other) ∙ among))),
 )
 
 disjoint_of_out : (hands : Hands) (cards : List Card) → AreOut hands cards → AreDisjoint (set_of cards) (all_of hands)
@@ -169,13 +202,20 @@ under_way_by_cases hands (One a) once out = out.0
 under_way_by_cases hands (Two a b) once out = (out.0, (out.1.0, absent_first a b [] once.0))
 under_way_by_cases hands (Three a b c) once out = (
   (out.0, (out.1.0, out.1.1.0)),
-  (absent_first a b (c ∷ []) once.0, (absent_first a c [] (absent_rest a b (c ∷ []) once.0), absent_first b c [] once.1.0)),
+  (
+    absent_first a b (c ∷ []) once.0,
+    (
+      absent_first a c [] (absent_rest a b (c ∷ []) once.0),
+      absent_first b c [] once.1.0,
+    ),
+  ),
 )
 
 pub under_way_from_tests : (hands : Hands) (trick : Trick) (held : Cards) → all_of hands ≡ held →
     IsElsewhere held (cards_in trick) → IsUnderWay hands (cards_in trick)
 under_way_from_tests hands trick held all tests =
-    under_way_by_cases hands trick (once_from_len _ tests.0) (out_from_disjoint hands _ (subst (AreDisjoint (set_of (cards_in trick))) (sym all) tests.1))
+    under_way_by_cases hands trick (once_from_len _ tests.0)
+    (out_from_disjoint hands _ (subst (AreDisjoint (set_of (cards_in trick))) (sym all) tests.1))
 
 once_by_cases : (hands : Hands) (trick : Trick) → IsUnderWay hands (cards_in trick) →
     IsOnce (cards_in trick) × AreOut hands (cards_in trick)

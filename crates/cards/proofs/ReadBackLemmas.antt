@@ -14,7 +14,8 @@ pub hand_back : (hand : Cards) (read : Result Cards NotAHand) → ReadsHand (han
 hand_back hand (Ok other) h = ap Ok (one_hand other hand (hand_text hand) h.0 (hand_reads hand))
 hand_back hand (Err e) h = absurd (h.1 hand (hand_reads hand))
 
-pub deal_back : (deal : Hands) (read : Result Hands DealTextError) → IsDeal deal → ReadsDeal (deal_text deal) read → read ≡ Ok deal
+pub deal_back : (deal : Hands) (read : Result Hands DealTextError) → IsDeal deal → ReadsDeal (deal_text deal) read →
+    read ≡ Ok deal
 deal_back deal (Ok other) is h = ap Ok (one_deal other deal (deal_text deal) h.0 (deal_reads deal))
 deal_back deal (Err NotADealText) is h = absurd (h.2 deal (deal_reads deal))
 deal_back deal (Err NotADeal) is h =

@@ -1,6 +1,22 @@
 -- How a hand and a deal are read: the tag Deal of PBN 2.1, with the cards of a suit in any order, each letter in either
 -- case, and any player's hand first.
-use Rattle.std.specs.Prelude.{◌≡◌, ℕ, Bool, nat_eq, List, ◌∷◌, ◌++◌, All, count_by, codes, if◌then◌else◌, Result, IfOk, IfErr, OnErr}
+use Rattle.std.specs.Prelude.{
+  ◌≡◌,
+  ℕ,
+  Bool,
+  nat_eq,
+  List,
+  ◌∷◌,
+  ◌++◌,
+  All,
+  count_by,
+  codes,
+  if◌then◌else◌,
+  Result,
+  IfOk,
+  IfErr,
+  OnErr,
+}
 use Rattle.std.specs.Char.{to_ascii_uppercase}
 use Rattle.std.specs.FinSet as set
 use Rattle.table_terms.specs.declared.suit.Suit.{Suit}

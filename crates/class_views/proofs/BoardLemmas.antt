@@ -1,6 +1,43 @@
 -- An entry changes what is shown and counted of its own board alone.
-use Rattle.std.proofs.Common.{◌≡◌, ◌≢◌, ℕ, ◌+◌, ◌-◌, ◌<◌, ◌≤◌, Bool, true, false, zero, suc, List, nat_eq, refl, sym, ap, ◌∙◌, subst, inl, inr, arith, Contains, Any}
-use Rattle.std.specs.Prelude.{Option, Some, None, IsSomeAnd, is_none, is_some, not, ◌&&◌, ◌||◌, if◌then◌else◌, slice_get}
+use Rattle.std.proofs.Common.{
+  ◌≡◌,
+  ◌≢◌,
+  ℕ,
+  ◌+◌,
+  ◌-◌,
+  ◌<◌,
+  ◌≤◌,
+  Bool,
+  true,
+  false,
+  zero,
+  suc,
+  List,
+  nat_eq,
+  refl,
+  sym,
+  ap,
+  ◌∙◌,
+  subst,
+  inl,
+  inr,
+  arith,
+  Contains,
+  Any,
+}
+use Rattle.std.specs.Prelude.{
+  Option,
+  Some,
+  None,
+  IsSomeAnd,
+  is_none,
+  is_some,
+  not,
+  ◌&&◌,
+  ◌||◌,
+  if◌then◌else◌,
+  slice_get,
+}
 use Rattle.std.specs.List.{filter_map, range_with_len, sum_by, list_any, cons_option}
 use Rattle.std.specs.Option.{option_map, option_or}
 use Rattle.std.proofs.lemmas.Bool.{cases_eq, ne_eqb}
@@ -15,13 +52,34 @@ use Rattle.movement.proofs.CellLemmas.{cell_in_range}
 use Rattle.movement.proofs.RowLemmas.{in_range}
 use Rattle.disclosure_rules.specs.declared.fact.Fact.TheVariants.{Hands}
 use Rattle.disclosure_rules.specs.declared.rule.Rule.{Rule}
-use Rattle.disclosure_rules.specs.declared.rule.Rule.TheVariants.{NoAccount, NotAMember, AccountsAreClosed, BoardIsHeld, StillToPlay, OthersStillPlay, NeitherContestantNorSpectator, BoardIsIncomplete, AnalysisWaits, PlayWaits, ReasonIsForThePairs, NoResult}
+use Rattle.disclosure_rules.specs.declared.rule.Rule.TheVariants.{
+  NoAccount,
+  NotAMember,
+  AccountsAreClosed,
+  BoardIsHeld,
+  StillToPlay,
+  OthersStillPlay,
+  NeitherContestantNorSpectator,
+  BoardIsIncomplete,
+  AnalysisWaits,
+  PlayWaits,
+  ReasonIsForThePairs,
+  NoResult,
+}
 use Rattle.disclosure_rules.specs.declared.seat.Seat.{Seat}
 use Rattle.disclosure_rules.specs.declared.viewer.Viewer.{Viewer}
 use Rattle.disclosure_rules.specs.LiveCells.{is_live}
 use Rattle.small_sets.specs.Numbers.{has_number, with_number, without_number}
 use Rattle.disclosure_rules.specs.Policy.{is_authorized, guarded, forbids, first_rule, rules}
-use Rattle.disclosure_rules.specs.Seating.{some_that, plays_board, has_still_to_play, is_complete, cell_in, HasStillToPlay, IsComplete}
+use Rattle.disclosure_rules.specs.Seating.{
+  some_that,
+  plays_board,
+  has_still_to_play,
+  is_complete,
+  cell_in,
+  HasStillToPlay,
+  IsComplete,
+}
 use Rattle.small_sets.proofs.NumbersLemmas.{has_number-numbers_that}
 use Rattle.disclosure_rules.proofs.SeatingTests.{still_decides, complete_decides}
 use Rattle.session_state.specs.Apply.{apply, effect, confirmed}
@@ -49,29 +107,36 @@ use Rattle.class_views.proofs.ClassLemmas.{same_find}
 -- ---- what an entry leaves as it is
 
 -- whether another board is held stays
-pub held_elsewhere : (held : List ℕ) (own board : ℕ) → own ≢ board → 1 ≤ board → board ≤ most_boards → has_number (with_number most_boards held own) board ≡ has_number held board
+pub held_elsewhere : (held : List ℕ) (own board : ℕ) → own ≢ board → 1 ≤ board → board ≤ most_boards →
+    has_number (with_number most_boards held own) board ≡ has_number held board
 held_elsewhere held own board other from to =
     has_number-numbers_that most_boards (λ n. nat_eq n own || has_number held n) board from to
     ∙ ap (λ b. b || has_number held board) (ne_eqb board own (λ same. other (sym same)))
 
-pub released_elsewhere : (held : List ℕ) (own board : ℕ) → own ≢ board → 1 ≤ board → board ≤ most_boards → has_number (without_number most_boards held own) board ≡ has_number held board
+pub released_elsewhere : (held : List ℕ) (own board : ℕ) → own ≢ board → 1 ≤ board → board ≤ most_boards →
+    has_number (without_number most_boards held own) board ≡ has_number held board
 released_elsewhere held own board other from to =
     has_number-numbers_that most_boards (λ n. not (nat_eq n own) && has_number held n) board from to
     ∙ ap (λ b. not b && has_number held board) (ne_eqb board own (λ same. other (sym same)))
 
-confirmed_held : (state : SessionState) (cell : Cell) (known : CellState) → (confirmed state cell known).public.held ≡ state.public.held
+confirmed_held : (state : SessionState) (cell : Cell) (known : CellState) → (confirmed state cell known).public.held ≡
+    state.public.held
 confirmed_held state cell Empty = refl
 confirmed_held state cell (Entered outcome play) = refl
 confirmed_held state cell (Confirmed outcome play costs) = refl
 confirmed_held state cell (Ruled north_south east_west reason) = refl
 
-held_after : (state : SessionState) (entry : Entry) (board : ℕ) → told_board entry.command ≢ Some board → 1 ≤ board → board ≤ most_boards →
+held_after : (state : SessionState) (entry : Entry) (board : ℕ) → told_board entry.command ≢ Some board → 1 ≤ board →
+    board ≤ most_boards →
     has_number (apply state entry).public.held board ≡ has_number state.public.held board
 held_after state entry board other from to = by_hindrance (hindrance_of state entry.command)
   where
-    by_command : (c : Command) → told_board c ≢ Some board → has_number (effect state c).public.held board ≡ has_number state.public.held board
-    by_command (command.Hold own) not_it = held_elsewhere state.public.held own board (λ same. not_it (ap Some same)) from to
-    by_command (command.Release own) not_it = released_elsewhere state.public.held own board (λ same. not_it (ap Some same)) from to
+    by_command : (c : Command) → told_board c ≢ Some board → has_number (effect state c).public.held board ≡ has_number
+        state.public.held board
+    by_command (command.Hold own) not_it = held_elsewhere state.public.held own board (λ same. not_it (ap Some same))
+        from to
+    by_command (command.Release own) not_it = released_elsewhere state.public.held own board
+        (λ same. not_it (ap Some same)) from to
     by_command (command.Confirm table own outcome) not_it =
         let cell : Cell = record { table = table; board = own } in
         ap (λ held. has_number held board) (confirmed_held state cell (cell_at state cell))
@@ -92,17 +157,21 @@ held_after state entry board other from to = by_hindrance (hindrance_of state en
     by_command (command.Solved own table) not_it = refl
     by_command (command.Analysed table own costs) not_it = refl
 
-    by_hindrance : (found : Option Refusal) → has_number (if is_some found then state else effect state entry.command).public.held board ≡ has_number state.public.held board
+    by_hindrance : (found : Option Refusal) → has_number (if is_some found then state else effect state
+        entry.command).public.held board ≡ has_number state.public.held board
     by_hindrance (Some cause) = refl
     by_hindrance None = by_command entry.command other
 
 -- a command about a cell is about its board
 about_its_board : (c : Command) (cell : Cell) → told_board c ≢ Some cell.board → subject_cell c ≢ Some cell
-about_its_board c cell other same = other (ap (λ o. option_or (option_map (λ (cell : Cell). cell.board) o) (subject_board c)) same)
+about_its_board c cell other same =
+    other (ap (λ o. option_or (option_map (λ (cell : Cell). cell.board) o) (subject_board c)) same)
 
 -- what an entry leaves of a board that it isn't about
-pub same_elsewhere : (state : SessionState) (entry : Entry) (board : ℕ) → IsSection state.public.movement → told_board entry.command ≢ Some board → 1 ≤ board → board ≤ most_boards →
-    AreLive state.public.live state.cells → AreLive (apply state entry).public.live (apply state entry).cells → IsSameOn state (apply state entry) board
+pub same_elsewhere : (state : SessionState) (entry : Entry) (board : ℕ) → IsSection state.public.movement →
+    told_board entry.command ≢ Some board → 1 ≤ board → board ≤ most_boards →
+    AreLive state.public.live state.cells → AreLive (apply state entry).public.live (apply state entry).cells →
+    IsSameOn state (apply state entry) board
 same_elsewhere state entry board is_section other from to live live_after =
     let part = entry_part state entry in
     record {
@@ -118,60 +187,79 @@ same_elsewhere state entry board is_section other from to live live_after =
     there : (table : ℕ) → 1 ≤ table → table ≤ 16 → IsPlaced (cell_on board table)
     there table low high = record { from_table = low; to_table = high; from_board = from; to_board = to }
 
-    known : (table : ℕ) → 1 ≤ table → table ≤ 16 → cell_at (apply state entry) (cell_on board table) ≡ cell_at state (cell_on board table)
-    known table low high = entry_elsewhere state entry (cell_on board table) is_section (there table low high) (about_its_board entry.command (cell_on board table) other)
+    known : (table : ℕ) → 1 ≤ table → table ≤ 16 → cell_at (apply state entry) (cell_on board table) ≡ cell_at state
+        (cell_on board table)
+    known table low high = entry_elsewhere state entry (cell_on board table) is_section (there table low high)
+        (about_its_board entry.command (cell_on board table) other)
 
 -- ---- what is the same on such a board
 
-module _ (before after : SessionState) (board : ℕ) (same : IsSameOn before after board) (is_section : IsSection before.public.movement) where
+module _ (before after : SessionState) (board : ℕ) (same : IsSameOn before after board)
+    (is_section : IsSection before.public.movement) where
   -- the tables of a row are among those that there are
-  row_live : (row : Row) → Contains (rows before.public.movement) row → is_live after.public.live (cell_in row board) ≡ is_live before.public.live (cell_in row board)
+  row_live : (row : Row) → Contains (rows before.public.movement) row → is_live after.public.live (cell_in row board) ≡
+      is_live before.public.live (cell_in row board)
   row_live row listed =
       let there = in_range before.public.movement row listed in
       same.live row.table there.from_table (omega (arith, there.to_table, is_section.not_too_many_tables))
 
   same_plays : (viewer : Viewer) → plays_board after.public viewer board ≡ plays_board before.public viewer board
   unfolding plays_board
-  same_plays viewer = ap (λ (section : Section). some_that viewer.seat (λ seat. list_any (plays section seat.pair board) (rows section))) same.movement
+  same_plays viewer = ap (λ (section : Section). some_that viewer.seat (λ seat. list_any (plays section seat.pair board)
+      (rows section))) same.movement
 
-  same_still : (viewer : Viewer) → has_still_to_play after.public viewer board ≡ has_still_to_play before.public viewer board
+  same_still : (viewer : Viewer) → has_still_to_play after.public viewer board ≡ has_still_to_play before.public viewer
+      board
   same_still viewer =
-      same_from_decides {P = HasStillToPlay before.public viewer board} _ _
-      (λ test. forth viewer.seat ((still_decides after.public viewer board).0 test), λ still. (still_decides after.public viewer board).1 (back viewer.seat still))
+      same_from_decides {P = HasStillToPlay before.public viewer board} _ _ (
+        λ test. forth viewer.seat ((still_decides after.public viewer board).0 test),
+        λ still. (still_decides after.public viewer board).1 (back viewer.seat still),
+      )
       (still_decides before.public viewer board)
     where
       Still : Section → List (List ℕ) → Option Seat → Type 0
-      Still section live s = IsSomeAnd s (λ seat. Any (λ row. Plays section row seat.pair board × (is_live live (cell_in row board) ≡ false)) (rows section))
+      Still section live s =
+          IsSomeAnd s (λ seat. Any (λ row. Plays section row seat.pair board ×
+          (is_live live (cell_in row board) ≡ false)) (rows section))
 
-      forth : (s : Option Seat) → Still after.public.movement after.public.live s → Still before.public.movement before.public.live s
+      forth : (s : Option Seat) → Still after.public.movement after.public.live s → Still before.public.movement
+          before.public.live s
       forth s still = with_live s (subst (λ section. Still section after.public.live s) same.movement still)
         where
-          with_live : (s : Option Seat) → Still before.public.movement after.public.live s → Still before.public.movement before.public.live s
+          with_live : (s : Option Seat) → Still before.public.movement after.public.live s →
+              Still before.public.movement before.public.live s
           with_live None none = none
-          with_live (Some seat) (k, row, below, here, both) = (k, row, below, here, (both.0, sym (row_live row (k, below, here)) ∙ both.1))
+          with_live (Some seat) (k, row, below, here, both) =
+              (k, row, below, here, (both.0, sym (row_live row (k, below, here)) ∙ both.1))
 
-      back : (s : Option Seat) → Still before.public.movement before.public.live s → Still after.public.movement after.public.live s
+      back : (s : Option Seat) → Still before.public.movement before.public.live s → Still after.public.movement
+          after.public.live s
       back s still = subst (λ section. Still section after.public.live s) (sym same.movement) (with_live s still)
         where
-          with_live : (s : Option Seat) → Still before.public.movement before.public.live s → Still before.public.movement after.public.live s
+          with_live : (s : Option Seat) → Still before.public.movement before.public.live s →
+              Still before.public.movement after.public.live s
           with_live None none = none
-          with_live (Some seat) (k, row, below, here, both) = (k, row, below, here, (both.0, row_live row (k, below, here) ∙ both.1))
+          with_live (Some seat) (k, row, below, here, both) =
+              (k, row, below, here, (both.0, row_live row (k, below, here) ∙ both.1))
 
   same_complete : is_complete after.public board ≡ is_complete before.public board
   same_complete =
       same_from_decides {P = IsComplete before.public board} _ _ (
         λ test cell is_cell own.
-            sym (cell_live cell is_cell own) ∙ (complete_decides after.public board).0 test cell (subst (λ (section : Section). IsCell section cell) (sym same.movement) is_cell) own,
+            sym (cell_live cell is_cell own) ∙ (complete_decides after.public board).0 test cell
+            (subst (λ (section : Section). IsCell section cell) (sym same.movement) is_cell) own,
         λ complete. (complete_decides after.public board).1 (λ cell is_cell own.
             let is_cell_before = subst (λ (section : Section). IsCell section cell) same.movement is_cell in
             cell_live cell is_cell_before own ∙ complete cell is_cell_before own),
       )
       (complete_decides before.public board)
     where
-      cell_live : (cell : Cell) → IsCell before.public.movement cell → cell.board ≡ board → is_live after.public.live cell ≡ is_live before.public.live cell
+      cell_live : (cell : Cell) → IsCell before.public.movement cell → cell.board ≡ board → is_live after.public.live
+          cell ≡ is_live before.public.live cell
       cell_live cell is_cell own =
           let there = cell_in_range before.public.movement cell is_cell in
-          subst (λ b. is_live after.public.live (record { table = cell.table; board = b }) ≡ is_live before.public.live (record { table = cell.table; board = b })) (sym own)
+          subst (λ b. is_live after.public.live (record { table = cell.table; board = b }) ≡ is_live before.public.live
+          (record { table = cell.table; board = b })) (sym own)
           (same.live cell.table there.from_table (omega (arith, there.to_table, is_section.not_too_many_tables)))
 
   -- the policy says the same of its hands
@@ -179,30 +267,36 @@ module _ (before after : SessionState) (board : ℕ) (same : IsSameOn before aft
   unfolding first_rule
   same_sees viewer = ap is_none (same_find _ _ rules each)
     where
-      both : (test other : ℕ → Bool) → test board ≡ other board → some_that (guarded viewer (Some board)) test ≡ some_that (guarded viewer (Some board)) other
+      both : (test other : ℕ → Bool) → test board ≡ other board → some_that (guarded viewer (Some board)) test ≡
+          some_that (guarded viewer (Some board)) other
       both test other agree = by (is_authorized viewer.roles Director)
         where
-          by : (b : Bool) → some_that (if b then None else Some board) test ≡ some_that (if b then None else Some board) other
+          by : (b : Bool) → some_that (if b then None else Some board) test ≡ some_that (if b then None else Some board)
+              other
           by true = refl
           by false = agree
 
-      no_cell : (test other : Cell → Bool) → some_that (guarded {A = Cell} viewer None) test ≡ some_that (guarded {A = Cell} viewer None) other
+      no_cell : (test other : Cell → Bool) → some_that (guarded {A = Cell} viewer None) test ≡ some_that
+          (guarded {A = Cell} viewer None) other
       no_cell test other = by (is_authorized viewer.roles Director)
         where
           the_none : Option Cell
           the_none = None
 
-          by : (b : Bool) → some_that (if b then the_none else the_none) test ≡ some_that (if b then the_none else the_none) other
+          by : (b : Bool) → some_that (if b then the_none else the_none) test ≡ some_that
+              (if b then the_none else the_none) other
           by true = refl
           by false = refl
 
-      each : (rule : Rule) → forbids rule after.public viewer (Hands board) ≡ forbids rule before.public viewer (Hands board)
+      each : (rule : Rule) → forbids rule after.public viewer (Hands board) ≡ forbids rule before.public viewer
+          (Hands board)
       each NoAccount = refl
       each NotAMember = refl
       each AccountsAreClosed = refl
       each BoardIsHeld = both _ _ same.held
       each StillToPlay = both _ _ (ap (λ b. is_authorized viewer.roles Contestant && b) (same_still viewer))
-      each OthersStillPlay = both _ _ (λ i. is_authorized viewer.roles Contestant && (not (same_plays viewer i) && not (same_complete i)))
+      each OthersStillPlay = both _ _ (λ i. is_authorized viewer.roles Contestant &&
+          (not (same_plays viewer i) && not (same_complete i)))
       each NeitherContestantNorSpectator = both _ _ refl
       each BoardIsIncomplete = both _ _ (ap (λ b. not (is_authorized viewer.roles Contestant) && not b) same_complete)
       each AnalysisWaits = both _ _ refl
@@ -213,88 +307,123 @@ module _ (before after : SessionState) (board : ℕ) (same : IsSameOn before aft
   -- and its results count the same
   same_result : (table : ℕ) → 1 ≤ table → table ≤ 16 → live_result after board table ≡ live_result before board table
   same_result table from to =
-      λ i. if is_scheduled (same.movement i) (cell_on board table) then option_map (result_at (cell_on board table)) (result_of (same.cells table from to i)) else None
+      λ i. if is_scheduled (same.movement i) (cell_on board table) then option_map (result_at (cell_on board table))
+      (result_of (same.cells table from to i)) else None
 
-  same_results : (first n : ℕ) → 1 ≤ first → first + n ≤ 17 → filter_map (live_result after board) (range_with_len first n) ≡ filter_map (live_result before board) (range_with_len first n)
+  same_results : (first n : ℕ) → 1 ≤ first → first + n ≤ 17 → filter_map (live_result after board)
+      (range_with_len first n) ≡ filter_map (live_result before board) (range_with_len first n)
   same_results first zero from to = refl
   same_results first (suc n) from to =
-      λ i. cons_option (same_result first from (omega (arith, to)) i) (same_results (first + 1) n (omega (arith, from)) (omega (arith, to)) i)
+      λ i. cons_option (same_result first from (omega (arith, to)) i) (same_results (first + 1) n (omega (arith, from))
+      (omega (arith, to)) i)
 
   pub same_earnings : earnings_on after board ≡ earnings_on before board
   unfolding earnings_on live_results
   same_earnings =
       let tables = is_section.not_too_many_tables in
-      (λ i. earnings_with (same.movement i) (slice_get (same.marks i) (board - 1)) (filter_map (live_result after board) (range_with_len 1 (same.movement i).tables)))
+      (λ i. earnings_with (same.movement i) (slice_get (same.marks i) (board - 1)) (filter_map (live_result after board)
+      (range_with_len 1 (same.movement i).tables)))
       ∙ ap (earnings_with before.public.movement (slice_get before.public.marks (board - 1)))
       (same_results 1 before.public.movement.tables (omega arith) (omega (arith, tables)))
 
-  pub same_counted : (count : Earning → ℕ) (class : Option UserClass) → counted_on count after class board ≡ counted_on count before class board
+  pub same_counted : (count : Earning → ℕ) (class : Option UserClass) → counted_on count after class board ≡ counted_on
+      count before class board
   same_counted count None = refl
   same_counted count (Some class) = λ i. if same_sees (member_of class) i then sum_by count (same_earnings i) else 0
 
 -- ---- what all boards count
 
 -- where two ways to count are the same on each board, so are their sums
-pub sum_same : (f g : ℕ → ℕ) (first n : ℕ) → ((m : ℕ) → first ≤ m → m < first + n → g m ≡ f m) → sum_by g (range_with_len first n) ≡ sum_by f (range_with_len first n)
+pub sum_same : (f g : ℕ → ℕ) (first n : ℕ) → ((m : ℕ) → first ≤ m → m < first + n → g m ≡ f m) →
+    sum_by g (range_with_len first n) ≡ sum_by f (range_with_len first n)
 sum_same f g first zero each = refl
 sum_same f g first (suc n) each =
     sum_by-cons g first (range_with_len (first + 1) n)
-    ∙ ((λ i. each first (omega arith) (omega arith) i + sum_same f g (first + 1) n (λ m low high. each m (omega (arith, low)) (omega (arith, high))) i)
+    ∙ ((λ i. each first (omega arith) (omega arith) i + sum_same f g (first + 1) n
+    (λ m low high. each m (omega (arith, low)) (omega (arith, high))) i)
     ∙ sym (sum_by-cons f first (range_with_len (first + 1) n)))
 
 -- where two ways to count differ on one board alone, so do their sums
-pub sum_changed : (f g : ℕ → ℕ) (first n board : ℕ) → first ≤ board → board < first + n → ((m : ℕ) → m ≢ board → first ≤ m → m < first + n → g m ≡ f m) →
+pub sum_changed : (f g : ℕ → ℕ) (first n board : ℕ) → first ≤ board → board < first + n →
+    ((m : ℕ) → m ≢ board → first ≤ m → m < first + n → g m ≡ f m) →
     sum_by g (range_with_len first n) + f board ≡ sum_by f (range_with_len first n) + g board
 sum_changed f g first zero board from to same = absurd (omega (arith, from, to))
 sum_changed f g first (suc n) board from to same =
     elim (cases_eq first board) [
       | inl here ↦
           let rest : sum_by g (range_with_len (first + 1) n) ≡ sum_by f (range_with_len (first + 1) n) =
-          sum_same f g (first + 1) n (λ m low high. same m (λ is. absurd (omega (arith, is, here, low))) (omega (arith, low)) (omega (arith, high))) in
+          sum_same f g (first + 1) n (λ m low high. same m (λ is. absurd (omega (arith, is, here, low)))
+          (omega (arith, low)) (omega (arith, high))) in
           let own : f first ≡ f board = ap f here in
           let own_after : g first ≡ g board = ap g here in
-          omega (arith, rest, own, own_after, sum_by-cons g first (range_with_len (first + 1) n), sum_by-cons f first (range_with_len (first + 1) n))
+          omega (
+            arith,
+            rest,
+            own,
+            own_after,
+            sum_by-cons g first (range_with_len (first + 1) n),
+            sum_by-cons f first
+                (range_with_len (first + 1) n),
+          )
       | inr later ↦
-          let rest = sum_changed f g (first + 1) n board (omega (arith, from, later)) (omega (arith, to)) (λ m other low high. same m other (omega (arith, low)) (omega (arith, high))) in
+          let rest = sum_changed f g (first + 1) n board (omega (arith, from, later)) (omega (arith, to))
+          (λ m other low high. same m other (omega (arith, low)) (omega (arith, high))) in
           let own : g first ≡ f first = same first later (omega arith) (omega arith) in
-          omega (arith, rest, own, sum_by-cons g first (range_with_len (first + 1) n), sum_by-cons f first (range_with_len (first + 1) n))
+          omega (
+            arith,
+            rest,
+            own,
+            sum_by-cons g first (range_with_len (first + 1) n),
+            sum_by-cons f first
+                (range_with_len (first + 1) n),
+          )
     ]
 
 -- an entry changes what all boards count by what its own board counts
-pub counted_after : (count : Earning → ℕ) (state : SessionState) (entry : Entry) (class : Option UserClass) (board : ℕ) → IsSection state.public.movement →
+pub counted_after : (count : Earning → ℕ) (state : SessionState) (entry : Entry) (class : Option UserClass)
+    (board : ℕ) → IsSection state.public.movement →
     AreLive state.public.live state.cells → AreLive (apply state entry).public.live (apply state entry).cells →
     1 ≤ board → board ≤ boards_of state.public.movement → told_board entry.command ≡ Some board →
-    counted_for count (apply state entry) class + counted_on count state class board ≡ counted_for count state class + counted_on count (apply state entry) class board
+    counted_for count (apply state entry) class + counted_on count state class board ≡ counted_for count state class +
+    counted_on count (apply state entry) class board
 unfolding counted_for
 counted_after count state entry class board is_section live live_after from to about =
     let boards_same = entry_part state entry in
-    ap (λ (section : Section). sum_by (counted_on count (apply state entry) class) (boards section) + counted_on count state class board) boards_same.movement
-    ∙ sum_changed (counted_on count state class) (counted_on count (apply state entry) class) 1 (boards_of state.public.movement) board from (omega (arith, to))
+    ap (λ (section : Section). sum_by (counted_on count (apply state entry) class) (boards section) + counted_on count
+    state class board) boards_same.movement
+    ∙ sum_changed (counted_on count state class) (counted_on count (apply state entry) class) 1
+    (boards_of state.public.movement) board from (omega (arith, to))
     (λ m other low high.
     same_counted state (apply state entry) m
-    (same_elsewhere state entry m is_section (λ it. other (some_injective (sym it ∙ about))) low (omega (arith, high, is_section.not_too_many_boards)) live live_after) is_section count class)
+    (same_elsewhere state entry m is_section (λ it. other (some_injective (sym it ∙ about))) low
+    (omega (arith, high, is_section.not_too_many_boards)) live live_after) is_section count class)
   where
     some_injective : {m n : ℕ} → Some m ≡ Some n → m ≡ n
     some_injective same = cc
 
 -- an entry about no board changes nothing of it
-pub counted_kept : (count : Earning → ℕ) (state : SessionState) (entry : Entry) (class : Option UserClass) → IsSection state.public.movement →
-    AreLive state.public.live state.cells → AreLive (apply state entry).public.live (apply state entry).cells → told_board entry.command ≡ None →
+pub counted_kept : (count : Earning → ℕ) (state : SessionState) (entry : Entry) (class : Option UserClass) →
+    IsSection state.public.movement →
+    AreLive state.public.live state.cells → AreLive (apply state entry).public.live (apply state entry).cells →
+    told_board entry.command ≡ None →
     counted_for count (apply state entry) class ≡ counted_for count state class
 unfolding counted_for
 counted_kept count state entry class is_section live live_after none =
     let boards_same = entry_part state entry in
-    ap (λ (section : Section). sum_by (counted_on count (apply state entry) class) (boards section)) boards_same.movement
+    ap (λ (section : Section). sum_by (counted_on count (apply state entry) class) (boards section))
+    boards_same.movement
     ∙ each 1 (boards_of state.public.movement) (omega arith) (omega arith)
   where
     each : (first n : ℕ) → 1 ≤ first → first + n ≤ boards_of state.public.movement + 1 →
-        sum_by (counted_on count (apply state entry) class) (range_with_len first n) ≡ sum_by (counted_on count state class) (range_with_len first n)
+        sum_by (counted_on count (apply state entry) class) (range_with_len first n) ≡ sum_by
+        (counted_on count state class) (range_with_len first n)
     each first zero from to = refl
     each first (suc n) from to =
         sum_by-cons (counted_on count (apply state entry) class) first (range_with_len (first + 1) n)
         ∙ ((λ i.
         same_counted state (apply state entry) first
-        (same_elsewhere state entry first is_section (λ it. absurd (nothing (sym it ∙ none))) from (omega (arith, to, is_section.not_too_many_boards)) live live_after) is_section count class i
+        (same_elsewhere state entry first is_section (λ it. absurd (nothing (sym it ∙ none))) from
+        (omega (arith, to, is_section.not_too_many_boards)) live live_after) is_section count class i
         + each (first + 1) n (omega (arith, from)) (omega (arith, to)) i)
         ∙ sym (sum_by-cons (counted_on count state class) first (range_with_len (first + 1) n)))
       where

@@ -1,5 +1,33 @@
 -- What is kept stays as it would be worked out afresh.
-use Rattle.std.proofs.Common.{◌≡◌, ◌≢◌, ℕ, zero, suc, ◌+◌, ◌-◌, ◌*◌, ◌<◌, ◌≤◌, Bool, true, false, cond, List, [], length, get_or, set, refl, sym, ap, ◌∙◌, subst, inl, inr, arith}
+use Rattle.std.proofs.Common.{
+  ◌≡◌,
+  ◌≢◌,
+  ℕ,
+  zero,
+  suc,
+  ◌+◌,
+  ◌-◌,
+  ◌*◌,
+  ◌<◌,
+  ◌≤◌,
+  Bool,
+  true,
+  false,
+  cond,
+  List,
+  [],
+  length,
+  get_or,
+  set,
+  refl,
+  sym,
+  ap,
+  ◌∙◌,
+  subst,
+  inl,
+  inr,
+  arith,
+}
 use Rattle.std.specs.Prelude.{Some, ◌&&◌, ◌||◌, not, min, nat_eq, nat_le}
 use Rattle.std.specs.List.{range_with_len, sum_by}
 use Rattle.std.proofs.lemmas.Bool.{cases_Bool, cases_eq, le-leb, lt-leb, leb-true, leb-false, eq-eqb}
@@ -17,16 +45,45 @@ use Rattle.standings.specs.declared.earning.Earning.{Earning}
 use Rattle.standings.specs.Ranking.{earned_by, top_for, standing_of}
 use Rattle.class_views.specs.Classes.{class_sees, member_of}
 use Rattle.class_views.specs.Totals.{IsSameOn, earnings_on, told_board}
-use Rattle.class_views.specs.Kept.{AreWithinBoard, AreStandings, IsBoardOf, IsClassKept, IsClassWith, IsKept, IsKeptOf, IsNothing, IsWithinBoard, boards_with, counted_to, earned_to, most_earned, most_total, seen_in, seen_to, total_to, total_with, where_seen}
+use Rattle.class_views.specs.Kept.{
+  AreWithinBoard,
+  AreStandings,
+  IsBoardOf,
+  IsClassKept,
+  IsClassWith,
+  IsKept,
+  IsKeptOf,
+  IsNothing,
+  IsWithinBoard,
+  boards_with,
+  counted_to,
+  earned_to,
+  most_earned,
+  most_total,
+  seen_in,
+  seen_to,
+  total_to,
+  total_with,
+  where_seen,
+}
 use Rattle.class_views.specs.Places.{class_at, pair_at}
 use Rattle.class_views.specs.declared.class_view.ClassView.{ClassView}
 use Rattle.class_views.specs.declared.user_class.UserClass.{UserClass}
-use Rattle.class_views.proofs.BoardLemmas.{held_elsewhere, released_elsewhere, same_earnings, same_elsewhere, same_sees, sum_changed, sum_same}
+use Rattle.class_views.proofs.BoardLemmas.{
+  held_elsewhere,
+  released_elsewhere,
+  same_earnings,
+  same_elsewhere,
+  same_sees,
+  sum_changed,
+  sum_same,
+}
 
 -- ---- sums
 
 -- a board's part is in the sum
-sum_has : (f : ℕ → ℕ) (first n board : ℕ) → first ≤ board → board < first + n → f board ≤ sum_by f (range_with_len first n)
+sum_has : (f : ℕ → ℕ) (first n board : ℕ) → first ≤ board → board < first + n → f board ≤ sum_by f
+    (range_with_len first n)
 sum_has f first zero board from to = absurd (omega (arith, from, to))
 sum_has f first (suc n) board from to =
     elim (cases_eq first board) [
@@ -39,14 +96,16 @@ sum_has f first (suc n) board from to =
     ]
 
 -- a sum is small where each part is
-sum_few : (f : ℕ → ℕ) (most first n : ℕ) → ((m : ℕ) → first ≤ m → m < first + n → f m ≤ most) → sum_by f (range_with_len first n) ≤ n * most
+sum_few : (f : ℕ → ℕ) (most first n : ℕ) → ((m : ℕ) → first ≤ m → m < first + n → f m ≤ most) →
+    sum_by f (range_with_len first n) ≤ n * most
 sum_few f most first zero each = omega arith
 sum_few f most first (suc n) each =
     let own = each first (omega arith) (omega arith) in
     let rest = sum_few f most (first + 1) n (λ m low high. each m (omega (arith, low)) (omega (arith, high))) in
     omega (arith, own, rest, sum_by-cons f first (range_with_len (first + 1) n))
 
-no_sum : (first n : ℕ) → sum_by (λ (board : ℕ). where_seen false (sum_by (λ (earning : Earning). 0) [])) (range_with_len first n) ≡ 0
+no_sum : (first n : ℕ) → sum_by (λ (board : ℕ). where_seen false (sum_by (λ (earning : Earning). 0) []))
+    (range_with_len first n) ≡ 0
 no_sum first zero = refl
 no_sum first (suc n) =
     let rest : sum_by (λ (board : ℕ). 0) (range_with_len (first + 1) n) ≡ 0 = no_sum (first + 1) n in
@@ -58,21 +117,26 @@ where_few false number most few = omega arith
 
 -- ---- one board's part changes
 
-module _ (own boards : ℕ) (sees sees_now : ℕ → Bool) (earned earned_now : ℕ → List Earning) (from : 1 ≤ own) (to : own ≤ boards) (few : boards ≤ most_boards)
+module _ (own boards : ℕ) (sees sees_now : ℕ → Bool) (earned earned_now : ℕ → List Earning) (from : 1 ≤ own)
+    (to : own ≤ boards) (few : boards ≤ most_boards)
     (seen : (board : ℕ) → board ≢ own → 1 ≤ board → board ≤ boards → sees_now board ≡ sees board)
     (earns : (board : ℕ) → board ≢ own → 1 ≤ board → board ≤ boards → earned_now board ≡ earned board) where
-  total_now : (count : Earning → ℕ) → ((board : ℕ) → 1 ≤ board → board ≤ boards → sum_by count (earned_now board) ≤ most_earned) →
-      min (counted_to count sees earned boards - where_seen (sees own) (sum_by count (earned own)) + where_seen (sees_now own) (sum_by count (earned_now own))) most_total
+  total_now : (count : Earning → ℕ) → ((board : ℕ) → 1 ≤ board → board ≤ boards → sum_by count (earned_now board) ≤
+      most_earned) →
+      min (counted_to count sees earned boards - where_seen (sees own) (sum_by count (earned own)) + where_seen
+      (sees_now own) (sum_by count (earned_now own))) most_total
       ≡ counted_to count sees_now earned_now boards
   unfolding counted_to
   total_now count small =
       let f : ℕ → ℕ = λ board. where_seen (sees board) (sum_by count (earned board)) in
       let g : ℕ → ℕ = λ board. where_seen (sees_now board) (sum_by count (earned_now board)) in
       let elsewhere : (m : ℕ) → m ≢ own → 1 ≤ m → m < 1 + boards → g m ≡ f m =
-      λ m other low high i. where_seen (seen m other low (omega (arith, high)) i) (sum_by count (earns m other low (omega (arith, high)) i)) in
+      λ m other low high i. where_seen (seen m other low (omega (arith, high)) i)
+      (sum_by count (earns m other low (omega (arith, high)) i)) in
       let changed = sum_changed f g 1 boards own from (omega (arith, to)) elsewhere in
       let has = sum_has f 1 boards own from (omega (arith, to)) in
-      let most = sum_few g most_earned 1 boards (λ m low high. where_few (sees_now m) _ most_earned (small m low (omega (arith, high)))) in
+      let most = sum_few g most_earned 1 boards (λ m low high. where_few (sees_now m) _ most_earned
+      (small m low (omega (arith, high)))) in
       cut _ (f own) (g own) _ (boards * most_earned) changed has most (omega (arith, few))
     where
       cut : (s f g n top : ℕ) → n + f ≡ s + g → f ≤ s → n ≤ top → top ≤ most_total → min (s - f + g) most_total ≡ n
@@ -83,7 +147,8 @@ module _ (own boards : ℕ) (sees sees_now : ℕ → Bool) (earned earned_now : 
 itself : (n : ℕ) → nat_eq n n ≡ true
 itself n = eq-eqb n n refl
 
-board_put : (sees : Bool) (boards : List ℕ) (own : ℕ) → 1 ≤ own → own ≤ most_boards → has_number (boards_with sees boards own) own ≡ sees
+board_put : (sees : Bool) (boards : List ℕ) (own : ℕ) → 1 ≤ own → own ≤ most_boards →
+    has_number (boards_with sees boards own) own ≡ sees
 board_put true boards own from to =
     has_number-numbers_that most_boards (λ n. nat_eq n own || has_number boards n) own from to
     ∙ ap (λ b. b || has_number boards own) (itself own)
@@ -91,23 +156,29 @@ board_put false boards own from to =
     has_number-numbers_that most_boards (λ n. not (nat_eq n own) && has_number boards n) own from to
     ∙ ap (λ b. not b && has_number boards own) (itself own)
 
-board_left : (sees : Bool) (boards : List ℕ) (own board : ℕ) → board ≢ own → 1 ≤ board → board ≤ most_boards → has_number (boards_with sees boards own) board ≡ has_number boards board
+board_left : (sees : Bool) (boards : List ℕ) (own board : ℕ) → board ≢ own → 1 ≤ board → board ≤ most_boards →
+    has_number (boards_with sees boards own) board ≡ has_number boards board
 board_left true boards own board other from to = held_elsewhere boards own board (λ is. other (sym is)) from to
 board_left false boards own board other from to = released_elsewhere boards own board (λ is. other (sym is)) from to
 
-module _ (own boards : ℕ) (sees sees_now : ℕ → Bool) (earned earned_now : ℕ → List Earning) (from : 1 ≤ own) (to : own ≤ boards) (few : boards ≤ most_boards)
+module _ (own boards : ℕ) (sees sees_now : ℕ → Bool) (earned earned_now : ℕ → List Earning) (from : 1 ≤ own)
+    (to : own ≤ boards) (few : boards ≤ most_boards)
     (seen : (board : ℕ) → board ≢ own → 1 ≤ board → board ≤ boards → sees_now board ≡ sees board)
     (earns : (board : ℕ) → board ≢ own → 1 ≤ board → board ≤ boards → earned_now board ≡ earned board)
-    (small : (board place : ℕ) → 1 ≤ board → board ≤ boards → place < 32 → IsWithinBoard (standing_of (earned_now board) (pair_at place)))
-    (old new : List Standing) (were : AreStandings (earned own) old) (are : AreStandings (earned_now own) new) (before after : ClassView) where
-  class_kept : IsClassKept boards sees earned before → IsClassWith own (sees_now own) old new before after → IsClassKept boards sees_now earned_now after
+    (small : (board place : ℕ) → 1 ≤ board → board ≤ boards → place < 32 → IsWithinBoard
+    (standing_of (earned_now board) (pair_at place)))
+    (old new : List Standing) (were : AreStandings (earned own) old) (are : AreStandings (earned_now own) new)
+    (before after : ClassView) where
+  class_kept : IsClassKept boards sees earned before → IsClassWith own (sees_now own) old new before after →
+      IsClassKept boards sees_now earned_now after
   unfolding total_with standing_of
   class_kept kept step = record {
     seen = λ board low high.
         elim (cases_eq board own) [
           | inl here ↦
               subst (λ n. has_number after.boards n ≡ sees_now n) (sym here)
-              (ap (λ set. has_number set own) step.boards ∙ board_put (sees_now own) before.boards own from (omega (arith, to, few)))
+              (ap (λ set. has_number set own) step.boards ∙ board_put (sees_now own) before.boards own from
+              (omega (arith, to, few)))
           | inr other ↦
               ap (λ set. has_number set board) step.boards
               ∙ (board_left (sees_now own) before.boards own board other low (omega (arith, high, few))
@@ -115,37 +186,48 @@ module _ (own boards : ℕ) (sees sees_now : ℕ → Bool) (earned earned_now : 
         ];
     totals = λ place d below.
         step.totals place d below
-        ∙ ((λ i. total_with (kept.seen own from to i) (were place d below i) (sees_now own) (are place d below i) (kept.totals place d below i))
+        ∙ ((λ i. total_with (kept.seen own from to i) (were place d below i) (sees_now own) (are place d below i)
+        (kept.totals place d below i))
         ∙ summed place below);
   }
     where
       summed : (place : ℕ) → place < 32 →
-          total_with (sees own) (standing_of (earned own) (pair_at place)) (sees_now own) (standing_of (earned_now own) (pair_at place)) (total_to sees earned boards (pair_at place))
+          total_with (sees own) (standing_of (earned own) (pair_at place)) (sees_now own)
+          (standing_of (earned_now own) (pair_at place)) (total_to sees earned boards (pair_at place))
           ≡ total_to sees_now earned_now boards (pair_at place)
       summed place below =
-          let earned_same = total_now own boards sees sees_now earned earned_now from to few seen earns (earned_by (pair_at place)) (λ board low high. (small board place low high below).earned) in
-          let tops_same = total_now own boards sees sees_now earned earned_now from to few seen earns (top_for (pair_at place)) (λ board low high. (small board place low high below).tops) in
+          let earned_same = total_now own boards sees sees_now earned earned_now from to few seen earns
+          (earned_by (pair_at place)) (λ board low high. (small board place low high below).earned) in
+          let tops_same = total_now own boards sees sees_now earned earned_now from to few seen earns
+          (top_for (pair_at place)) (λ board low high. (small board place low high below).tops) in
           λ i. record { pair = pair_at place; earned = earned_same i; tops = tops_same i }
 
 -- ---- all that is kept
 
-module _ (state : SessionState) (own : ℕ) (from : 1 ≤ own) (to : own ≤ boards_of state.public.movement) (is_section : IsSection state.public.movement)
-    (sees sees_now : UserClass → ℕ → Bool) (earned earned_now : ℕ → List Earning) (classes classes_now : List ClassView) (rows : List (List Standing))
+module _ (state : SessionState) (own : ℕ) (from : 1 ≤ own) (to : own ≤ boards_of state.public.movement)
+    (is_section : IsSection state.public.movement)
+    (sees sees_now : UserClass → ℕ → Bool) (earned earned_now : ℕ → List Earning) (classes classes_now : List ClassView)
+    (rows : List (List Standing))
     (old new row : List Standing) where
   -- a board is taken in
   pub kept_changed : IsKept (boards_of state.public.movement) sees earned classes rows →
       IsBoardOf state own (boards_of state.public.movement) sees sees_now earned earned_now → length classes_now ≡ 35 →
-      ((place : ℕ) (d : ClassView) → place < 35 → IsClassWith own (class_sees state.public (Some (class_at place)) own) old new (get_or classes place d) (get_or classes_now place d)) →
-      ((d : List Standing) → old ≡ get_or rows (own - 1) d) → AreStandings (earnings_on state own) new → AreStandings (earnings_on state own) row → AreWithinBoard row →
+      ((place : ℕ) (d : ClassView) → place < 35 → IsClassWith own (class_sees state.public (Some (class_at place)) own)
+      old new (get_or classes place d) (get_or classes_now place d)) →
+      ((d : List Standing) → old ≡ get_or rows (own - 1) d) → AreStandings (earnings_on state own) new → AreStandings
+      (earnings_on state own) row → AreWithinBoard row →
       IsKept (boards_of state.public.movement) sees_now earned_now classes_now (set rows (own - 1) row)
   kept_changed kept now each_class each is_old is_new is_row row_small = record {
     each_class = each_class;
     each_board = set_length;
     classes_kept = λ place d below.
-        class_kept own boards (sees (class_at place)) (sees_now (class_at place)) earned earned_now from to is_section.not_too_many_boards
-        (now.seen_elsewhere (class_at place)) now.earned_elsewhere all_small old new were are (get_or classes place d) (get_or classes_now place d)
+        class_kept own boards (sees (class_at place)) (sees_now (class_at place)) earned earned_now from to
+        is_section.not_too_many_boards
+        (now.seen_elsewhere (class_at place)) now.earned_elsewhere all_small old new were are (get_or classes place d)
+        (get_or classes_now place d)
         (kept.classes_kept place d below)
-        (subst (λ seen. IsClassWith own seen old new (get_or classes place d) (get_or classes_now place d)) (sym (now.seen (class_at place))) (each place d below));
+        (subst (λ seen. IsClassWith own seen old new (get_or classes place d) (get_or classes_now place d))
+        (sym (now.seen (class_at place))) (each place d below));
     rows_kept = rows_are;
     rows_small = rows_few;
   }
@@ -162,29 +244,36 @@ module _ (state : SessionState) (own : ℕ) (from : 1 ≤ own) (to : own ≤ boa
       were : AreStandings (earned own) old
       were place d below =
           ap (λ standings. get_or standings place d) (is_old [])
-          ∙ (kept.rows_kept (own - 1) [] (omega (arith, from, to)) place d below ∙ ap (λ n. standing_of (earned n) (pair_at place)) again)
+          ∙ (kept.rows_kept (own - 1) [] (omega (arith, from, to)) place d below
+          ∙ ap (λ n. standing_of (earned n) (pair_at place)) again)
         where
           again : own - 1 + 1 ≡ own
           again = omega (arith, from)
 
       are : AreStandings (earned_now own) new
-      are place d below = is_new place d below ∙ ap (λ earnings. standing_of earnings (pair_at place)) (sym now.earned_here)
+      are place d below = is_new place d below ∙ ap (λ earnings. standing_of earnings (pair_at place))
+          (sym now.earned_here)
 
-      rows_are : (place : ℕ) (d : List Standing) → place < boards → AreStandings (earned_now (place + 1)) (get_or (set rows (own - 1) row) place d)
+      rows_are : (place : ℕ) (d : List Standing) → place < boards → AreStandings (earned_now (place + 1))
+          (get_or (set rows (own - 1) row) place d)
       rows_are place d below k e within =
           elim (cases_eq place (own - 1)) [
             | inl here ↦
                 let same : place + 1 ≡ own = omega (arith, here, from) in
                 ap (λ n. get_or (get_or (set rows (own - 1) row) n d) k e) here
                 ∙ (ap (λ standings. get_or standings k e) (get_or-set_same rows (own - 1) row d below_rows)
-                ∙ (is_row k e within ∙ (ap (λ earnings. standing_of earnings (pair_at k)) (sym now.earned_here) ∙ ap (λ n. standing_of (earned_now n) (pair_at k)) (sym same))))
+                ∙ (is_row k e within ∙ (ap (λ earnings. standing_of earnings (pair_at k)) (sym now.earned_here)
+                ∙ ap (λ n. standing_of (earned_now n) (pair_at k)) (sym same))))
             | inr other ↦
                 ap (λ standings. get_or standings k e) (get_or-set_other rows (own - 1) place row d other)
                 ∙ (kept.rows_kept place d below k e within
-                ∙ ap (λ earnings. standing_of earnings (pair_at k)) (sym (now.earned_elsewhere (place + 1) (λ is. other (omega (arith, is))) (omega arith) (omega (arith, below)))))
+                ∙ ap (λ earnings. standing_of earnings (pair_at k))
+                (sym (now.earned_elsewhere (place + 1) (λ is. other (omega (arith, is))) (omega arith)
+                (omega (arith, below)))))
           ]
 
-      rows_few : (place : ℕ) (d : List Standing) → place < boards → AreWithinBoard (get_or (set rows (own - 1) row) place d)
+      rows_few : (place : ℕ) (d : List Standing) → place < boards → AreWithinBoard
+          (get_or (set rows (own - 1) row) place d)
       rows_few place d below k e within =
           elim (cases_eq place (own - 1)) [
             | inl here ↦
@@ -193,23 +282,27 @@ module _ (state : SessionState) (own : ℕ) (from : 1 ≤ own) (to : own ≤ boa
                 ∙ ap (λ standings. get_or standings k e) (get_or-set_same rows (own - 1) row d below_rows)))
                 (row_small k e within)
             | inr other ↦
-                subst IsWithinBoard (sym (ap (λ standings. get_or standings k e) (get_or-set_other rows (own - 1) place row d other)))
+                subst IsWithinBoard
+                (sym (ap (λ standings. get_or standings k e) (get_or-set_other rows (own - 1) place row d other)))
                 (kept.rows_small place d below k e within)
           ]
 
       nobody : Standing
       nobody = standing_of [] (pair_at 0)
 
-      all_small : (board place : ℕ) → 1 ≤ board → board ≤ boards → place < 32 → IsWithinBoard (standing_of (earned_now board) (pair_at place))
+      all_small : (board place : ℕ) → 1 ≤ board → board ≤ boards → place < 32 → IsWithinBoard
+          (standing_of (earned_now board) (pair_at place))
       all_small board place low high below =
-          subst IsWithinBoard (rows_are (board - 1) [] (omega (arith, low, high)) place nobody below ∙ ap (λ n. standing_of (earned_now n) (pair_at place)) again)
+          subst IsWithinBoard (rows_are (board - 1) [] (omega (arith, low, high)) place nobody below
+          ∙ ap (λ n. standing_of (earned_now n) (pair_at place)) again)
           (rows_few (board - 1) [] (omega (arith, low, high)) place nobody below)
         where
           again : board - 1 + 1 ≡ board
           again = omega (arith, low)
 
 -- what is kept says the same of boards of which the same is seen and earned
-pub kept_same : (boards : ℕ) (sees sees_now : UserClass → ℕ → Bool) (earned earned_now : ℕ → List Earning) (classes : List ClassView) (rows : List (List Standing)) →
+pub kept_same : (boards : ℕ) (sees sees_now : UserClass → ℕ → Bool) (earned earned_now : ℕ → List Earning)
+    (classes : List ClassView) (rows : List (List Standing)) →
     ((class : UserClass) (board : ℕ) → 1 ≤ board → board ≤ boards → sees_now class board ≡ sees class board) →
     ((board : ℕ) → 1 ≤ board → board ≤ boards → earned_now board ≡ earned board) →
     IsKept boards sees earned classes rows → IsKept boards sees_now earned_now classes rows
@@ -219,21 +312,31 @@ kept_same boards sees sees_now earned earned_now classes rows seen earns kept = 
   each_board = kept.each_board;
   classes_kept = λ place d below.
       record {
-        seen = λ board low high. (kept.classes_kept place d below).seen board low high ∙ sym (seen (class_at place) board low high);
+        seen = λ board low high. (kept.classes_kept place d below).seen board low high
+            ∙ sym (seen (class_at place) board low high);
         totals = λ k e within.
             (kept.classes_kept place d below).totals k e within
-            ∙ (λ i. record { pair = pair_at k; earned = sym (same (class_at place) (earned_by (pair_at k))) i; tops = sym (same (class_at place) (top_for (pair_at k))) i });
+            ∙ (λ i. record {
+              pair = pair_at k;
+              earned = sym (same (class_at place) (earned_by (pair_at k))) i;
+              tops =
+                  sym (same (class_at place) (top_for (pair_at k))) i;
+            });
       };
   rows_kept = λ place d below k e within.
       kept.rows_kept place d below k e within
-      ∙ ap (λ earnings. standing_of earnings (pair_at k)) (sym (earns (place + 1) (omega arith) (omega (arith, below))));
+      ∙ ap (λ earnings. standing_of earnings (pair_at k))
+      (sym (earns (place + 1) (omega arith) (omega (arith, below))));
   rows_small = kept.rows_small;
 }
   where
-    same : (class : UserClass) (count : Earning → ℕ) → counted_to count (sees_now class) earned_now boards ≡ counted_to count (sees class) earned boards
+    same : (class : UserClass) (count : Earning → ℕ) → counted_to count (sees_now class) earned_now boards ≡ counted_to
+        count (sees class) earned boards
     same class count =
-        sum_same (λ board. where_seen (sees class board) (sum_by count (earned board))) (λ board. where_seen (sees_now class board) (sum_by count (earned_now board))) 1 boards
-        (λ m low high i. where_seen (seen class m low (omega (arith, high)) i) (sum_by count (earns m low (omega (arith, high)) i)))
+        sum_same (λ board. where_seen (sees class board) (sum_by count (earned board)))
+        (λ board. where_seen (sees_now class board) (sum_by count (earned_now board))) 1 boards
+        (λ m low high i. where_seen (seen class m low (omega (arith, high)) i)
+        (sum_by count (earns m low (omega (arith, high)) i)))
 
 -- ---- from nothing, board by board
 
@@ -241,7 +344,8 @@ nothing_counted : (count : Earning → ℕ) (n : ℕ) → counted_to count (λ b
 unfolding counted_to
 nothing_counted count n = no_sum 1 n
 
-pub nothing_kept : (boards : ℕ) (classes : List ClassView) (rows : List (List Standing)) → length classes ≡ 35 → length rows ≡ boards →
+pub nothing_kept : (boards : ℕ) (classes : List ClassView) (rows : List (List Standing)) → length classes ≡ 35 →
+    length rows ≡ boards →
     ((place : ℕ) (d : ClassView) → place < 35 → IsNothing (get_or classes place d)) →
     ((place : ℕ) (d : List Standing) → place < boards → AreStandings [] (get_or rows place d)) →
     ((place : ℕ) (d : List Standing) → place < boards → AreWithinBoard (get_or rows place d)) →
@@ -273,13 +377,15 @@ pub kept_first : (state : SessionState) (classes : List ClassView) (rows : List 
     IsKept (boards_of state.public.movement) (λ class board. false) (λ board. []) classes rows →
     IsKept (boards_of state.public.movement) (seen_to state 0) (earned_to state 0) classes rows
 kept_first state classes rows =
-    kept_same (boards_of state.public.movement) (λ class board. false) (seen_to state 0) (λ board. []) (earned_to state 0) classes rows
+    kept_same (boards_of state.public.movement) (λ class board. false) (seen_to state 0) (λ board. [])
+    (earned_to state 0) classes rows
     (λ class board low high. ap (λ b. b && seen_in state class board) (none_to board low))
     (λ board low high. ap (λ b. cond b (earnings_on state board) []) (none_to board low))
 
 -- of all boards
 pub kept_all : (state : SessionState) (classes : List ClassView) (rows : List (List Standing)) →
-    IsKept (boards_of state.public.movement) (seen_to state (boards_of state.public.movement)) (earned_to state (boards_of state.public.movement)) classes rows →
+    IsKept (boards_of state.public.movement) (seen_to state (boards_of state.public.movement))
+    (earned_to state (boards_of state.public.movement)) classes rows →
     IsKeptOf state classes rows
 kept_all state classes rows =
     let all : ℕ = boards_of state.public.movement in
@@ -289,7 +395,8 @@ kept_all state classes rows =
 
 -- one board more
 pub one_more : (state : SessionState) (before boards : ℕ) →
-    IsBoardOf state (before + 1) boards (seen_to state before) (seen_to state (before + 1)) (earned_to state before) (earned_to state (before + 1))
+    IsBoardOf state (before + 1) boards (seen_to state before) (seen_to state (before + 1)) (earned_to state before)
+    (earned_to state (before + 1))
 one_more state before boards = record {
   seen = λ class. ap (λ b. b && seen_in state class (before + 1)) (le-leb (before + 1) (before + 1) (omega arith));
   seen_elsewhere = λ class board other low high. ap (λ b. b && seen_in state class board) (same_test board other);
@@ -306,24 +413,30 @@ one_more state before boards = record {
 
 -- ---- after an entry
 
-module _ (state : SessionState) (entry : Entry) (is_section : IsSection state.public.movement) (live : AreLive state.public.live state.cells)
+module _ (state : SessionState) (entry : Entry) (is_section : IsSection state.public.movement)
+    (live : AreLive state.public.live state.cells)
     (live_after : AreLive (apply state entry).public.live (apply state entry).cells) where
-  same_on : (board : ℕ) → told_board entry.command ≢ Some board → 1 ≤ board → board ≤ boards_of state.public.movement → IsSameOn state (apply state entry) board
-  same_on board other low high = same_elsewhere state entry board is_section other low (omega (arith, high, is_section.not_too_many_boards)) live live_after
+  same_on : (board : ℕ) → told_board entry.command ≢ Some board → 1 ≤ board → board ≤ boards_of state.public.movement →
+      IsSameOn state (apply state entry) board
+  same_on board other low high = same_elsewhere state entry board is_section other low
+      (omega (arith, high, is_section.not_too_many_boards)) live live_after
 
   pub same_boards : boards_of (apply state entry).public.movement ≡ boards_of state.public.movement
   same_boards = ap boards_of (entry_part state entry).movement
 
   -- its board is now as it is, and the others are as they were
   pub board_after : (own : ℕ) → told_board entry.command ≡ Some own →
-      IsBoardOf (apply state entry) own (boards_of state.public.movement) (seen_in state) (seen_in (apply state entry)) (earnings_on state) (earnings_on (apply state entry))
+      IsBoardOf (apply state entry) own (boards_of state.public.movement) (seen_in state) (seen_in (apply state entry))
+      (earnings_on state) (earnings_on (apply state entry))
   board_after own about = record {
     seen = λ class. refl;
     seen_elsewhere = λ class board other low high.
-        same_sees state (apply state entry) board (same_on board (λ it. other (some_injective (sym it ∙ about))) low high) is_section (member_of class);
+        same_sees state (apply state entry) board (same_on board (λ it. other (some_injective (sym it ∙ about))) low
+        high) is_section (member_of class);
     earned_here = refl;
     earned_elsewhere = λ board other low high.
-        same_earnings state (apply state entry) board (same_on board (λ it. other (some_injective (sym it ∙ about))) low high) is_section;
+        same_earnings state (apply state entry) board (same_on board (λ it. other (some_injective (sym it ∙ about))) low
+        high) is_section;
   }
     where
       some_injective : {m n : ℕ} → Some m ≡ Some n → m ≡ n
@@ -334,18 +447,25 @@ module _ (state : SessionState) (entry : Entry) (is_section : IsSection state.pu
       ((board : ℕ) → 1 ≤ board → board ≤ boards_of state.public.movement → told_board entry.command ≢ Some board) →
       IsKeptOf state classes rows → IsKeptOf (apply state entry) classes rows
   kept_still classes rows other kept =
-      subst (λ n. IsKept n (seen_in (apply state entry)) (earnings_on (apply state entry)) classes rows) (sym same_boards)
+      subst (λ n. IsKept n (seen_in (apply state entry)) (earnings_on (apply state entry)) classes rows)
+      (sym same_boards)
       (kept_same (boards_of state.public.movement) _ _ _ _ classes rows
-      (λ class board low high. same_sees state (apply state entry) board (same_on board (other board low high) low high) is_section (member_of class))
-      (λ board low high. same_earnings state (apply state entry) board (same_on board (other board low high) low high) is_section) kept)
+      (λ class board low high. same_sees state (apply state entry) board (same_on board (other board low high) low high)
+      is_section (member_of class))
+      (λ board low high. same_earnings state (apply state entry) board (same_on board (other board low high) low high)
+      is_section) kept)
 
-  -- after an entry about a board of the session: what is kept was kept of the state before, and the board is now as it is
+  -- after an entry about a board of the session: what is kept was kept of the state before, and the board is now as it
+  -- is
   pub kept_before : (classes : List ClassView) (rows : List (List Standing)) → IsKeptOf state classes rows →
       IsKept (boards_of (apply state entry).public.movement) (seen_in state) (earnings_on state) classes rows
-  kept_before classes rows kept = subst (λ n. IsKept n (seen_in state) (earnings_on state) classes rows) (sym same_boards) kept
+  kept_before classes rows kept = subst (λ n. IsKept n (seen_in state) (earnings_on state) classes rows)
+      (sym same_boards) kept
 
   pub board_now : (own : ℕ) → told_board entry.command ≡ Some own →
-      IsBoardOf (apply state entry) own (boards_of (apply state entry).public.movement) (seen_in state) (seen_in (apply state entry)) (earnings_on state) (earnings_on (apply state entry))
+      IsBoardOf (apply state entry) own (boards_of (apply state entry).public.movement) (seen_in state)
+      (seen_in (apply state entry)) (earnings_on state) (earnings_on (apply state entry))
   board_now own about =
-      subst (λ n. IsBoardOf (apply state entry) own n (seen_in state) (seen_in (apply state entry)) (earnings_on state) (earnings_on (apply state entry))) (sym same_boards)
+      subst (λ n. IsBoardOf (apply state entry) own n (seen_in state) (seen_in (apply state entry)) (earnings_on state)
+      (earnings_on (apply state entry))) (sym same_boards)
       (board_after own about)

@@ -11,7 +11,8 @@ use Rattle.class_views.specs.declared.user_class.UserClass.TheVariants.{OfPair, 
 pub north_south_place : (number : ℕ) → 1 ≤ number → number ≤ 16 → pair_at (number - 1) ≡ pair_on NorthSouth number
 unfolding pair_at
 north_south_place number from to =
-    ap (λ b. cond b (pair_on NorthSouth (number - 1 + 1)) (pair_on EastWest (number - 1 - 16 + 1))) (lt-ltb (number - 1) 16 (omega (arith, from, to)))
+    ap (λ b. cond b (pair_on NorthSouth (number - 1 + 1)) (pair_on EastWest (number - 1 - 16 + 1)))
+    (lt-ltb (number - 1) 16 (omega (arith, from, to)))
     ∙ ap (pair_on NorthSouth) same
   where
     same : number - 1 + 1 ≡ number
@@ -20,7 +21,8 @@ north_south_place number from to =
 pub east_west_place : (number : ℕ) → 1 ≤ number → number ≤ 16 → pair_at (16 + number - 1) ≡ pair_on EastWest number
 unfolding pair_at
 east_west_place number from to =
-    ap (λ b. cond b (pair_on NorthSouth (16 + number - 1 + 1)) (pair_on EastWest (16 + number - 1 - 16 + 1))) (le-ltb (16 + number - 1) 16 (omega (arith, from)))
+    ap (λ b. cond b (pair_on NorthSouth (16 + number - 1 + 1)) (pair_on EastWest (16 + number - 1 - 16 + 1)))
+    (le-ltb (16 + number - 1) 16 (omega (arith, from)))
     ∙ ap (pair_on EastWest) same
   where
     same : 16 + number - 1 - 16 + 1 ≡ number
@@ -50,5 +52,6 @@ pub directors_class : (place : ℕ) → 34 ≤ place → Directors ≡ class_at 
 unfolding later_class
 directors_class place from =
     sym (after_pairs place (omega (arith, from))
-    ∙ ((λ i. cond (ne_eqb place 32 (λ is. absurd (omega (arith, is, from))) i) Unseated (if nat_eq place 33 then Spectators else Directors))
+    ∙ ((λ i. cond (ne_eqb place 32 (λ is. absurd (omega (arith, is, from))) i) Unseated
+    (if nat_eq place 33 then Spectators else Directors))
     ∙ (λ i. cond (ne_eqb place 33 (λ is. absurd (omega (arith, is, from))) i) Spectators Directors)))

@@ -1,5 +1,27 @@
 -- What is read from what is kept.
-use Rattle.std.proofs.Common.{rules, ◌≡◌, ℕ, zero, suc, ◌+◌, ◌<◌, ◌≤◌, true, false, List, [], ◌∷◌, ◌++◌, get_or, map, refl, sym, ap, ◌∙◌, arith}
+use Rattle.std.proofs.Common.{
+  rules,
+  ◌≡◌,
+  ℕ,
+  zero,
+  suc,
+  ◌+◌,
+  ◌<◌,
+  ◌≤◌,
+  true,
+  false,
+  List,
+  [],
+  ◌∷◌,
+  ◌++◌,
+  get_or,
+  map,
+  refl,
+  sym,
+  ap,
+  ◌∙◌,
+  arith,
+}
 use Rattle.std.specs.Prelude.{Option, Some, None, is_none}
 use Rattle.std.specs.List.{range_with_len, sum_by}
 use Rattle.std.proofs.lemmas.List.Sums.{sum_by-cons}
@@ -28,10 +50,13 @@ board_from section board has = search rules
 pub board_to : (section : Section) (board : ℕ) → has_board section board ≡ true → board ≤ boards_of section
 board_to section board has = search rules
 
-module _ (state : SessionState) (classes : List ClassView) (rows : List (List Standing)) (kept : IsKeptOf state classes rows) where
+module _ (state : SessionState) (classes : List ClassView) (rows : List (List Standing))
+    (kept : IsKeptOf state classes rows) where
   -- what a class sees
-  pub sees_kept : (viewer : Viewer) (class : UserClass) (place board : ℕ) (d : ClassView) → IsSection state.public.movement → class_of viewer ≡ Some class → class_at place ≡ class → place < 35 →
-      1 ≤ board → board ≤ boards_of state.public.movement → has_number (get_or classes place d).boards board ≡ is_none (first_rule state.public viewer (Hands board))
+  pub sees_kept : (viewer : Viewer) (class : UserClass) (place board : ℕ) (d : ClassView) →
+      IsSection state.public.movement → class_of viewer ≡ Some class → class_at place ≡ class → place < 35 →
+      1 ≤ board → board ≤ boards_of state.public.movement → has_number (get_or classes place d).boards board ≡ is_none
+      (first_rule state.public viewer (Hands board))
   sees_kept viewer class place board d is_section of_class at below from to =
       (kept.classes_kept place d below).seen board from to
       ∙ (ap (λ (class : UserClass). class_sees state.public (Some class) board) at
@@ -39,7 +64,8 @@ module _ (state : SessionState) (classes : List ClassView) (rows : List (List St
       ∙ sym (same_class_sees state.public viewer board is_section)))
 
   -- how a pair stands for a class
-  pub total_kept : (class : UserClass) (pair : Pair) (place at : ℕ) (d : ClassView) (e : Standing) → class_at place ≡ class → place < 35 → pair_at at ≡ pair → at < 32 →
+  pub total_kept : (class : UserClass) (pair : Pair) (place at : ℕ) (d : ClassView) (e : Standing) →
+      class_at place ≡ class → place < 35 → pair_at at ≡ pair → at < 32 →
       get_or (get_or classes place d).totals at e ≡ total_for state (Some class) pair
   unfolding counted_for counted_to
   total_kept class pair place at d e is_class below is_pair within =
@@ -51,15 +77,22 @@ module _ (state : SessionState) (classes : List ClassView) (rows : List (List St
       })
 
 -- who is in no class is shown no hands
-pub sees_none : (state : SessionState) (viewer : Viewer) (board : ℕ) → IsSection state.public.movement → class_of viewer ≡ None →
+pub sees_none : (state : SessionState) (viewer : Viewer) (board : ℕ) → IsSection state.public.movement →
+    class_of viewer ≡ None →
     false ≡ is_none (first_rule state.public viewer (Hands board))
 sees_none state viewer board is_section none =
-    ap (λ (class : Option UserClass). class_sees state.public class board) (sym none) ∙ sym (same_class_sees state.public viewer board is_section)
+    ap (λ (class : Option UserClass). class_sees state.public class board) (sym none)
+    ∙ sym (same_class_sees state.public viewer board is_section)
 
 -- and for who is in none no pair stands anywhere
 nothing_from : (first n : ℕ) → sum_by (λ (board : ℕ). 0) (range_with_len first n) ≡ 0
 nothing_from first zero = refl
-nothing_from first (suc n) = omega (arith, nothing_from (first + 1) n, sum_by-cons (λ (board : ℕ). 0) first (range_with_len (first + 1) n))
+nothing_from first (suc n) = omega (
+  arith,
+  nothing_from (first + 1) n,
+  sum_by-cons (λ (board : ℕ). 0) first
+      (range_with_len (first + 1) n),
+)
 
 pub nothing_for : (count : Earning → ℕ) (state : SessionState) → 0 ≡ counted_for count state None
 unfolding counted_for
@@ -77,12 +110,14 @@ range_more first n = ap (range_with_len first) one_more ∙ more first n
       where
         none_more : first ≡ first + 0
         none_more = omega arith
-    more first (suc n) = ap (λ rest. first ∷ rest) (more (first + 1) n ∙ (λ i. range_with_len (first + 1) n ++ next i ∷ []))
+    more first (suc n) = ap (λ rest. first ∷ rest)
+        (more (first + 1) n ∙ (λ i. range_with_len (first + 1) n ++ next i ∷ []))
       where
         next : first + 1 + n ≡ first + suc n
         next = omega arith
 
-pub each_more : {X Y : Type 0} (f : X → Y) (g : ℕ → X) (n : ℕ) → map f (map g (range_with_len 1 (n + 1))) ≡ map f (map g (range_with_len 1 n)) ++ f (g (n + 1)) ∷ []
+pub each_more : {X Y : Type 0} (f : X → Y) (g : ℕ → X) (n : ℕ) → map f (map g (range_with_len 1 (n + 1))) ≡ map f
+    (map g (range_with_len 1 n)) ++ f (g (n + 1)) ∷ []
 each_more f g n =
     ap (λ numbers. map f (map g numbers)) (range_more 1 n)
     ∙ (both (range_with_len 1 n) ∙ ap (λ m. map f (map g (range_with_len 1 n)) ++ f (g m) ∷ []) same)

@@ -2,7 +2,23 @@
 -- hands of the same boards.
 --
 -- own: the classes are this project's, and follow from its policy.
-use Rattle.std.specs.Prelude.{◌≡◌, ℕ, Bool, true, false, not, ◌&&◌, nat_le, is_none, if◌then◌else◌, Option, Some, None, [], ◌∷◌}
+use Rattle.std.specs.Prelude.{
+  ◌≡◌,
+  ℕ,
+  Bool,
+  true,
+  false,
+  not,
+  ◌&&◌,
+  nat_le,
+  is_none,
+  if◌then◌else◌,
+  Option,
+  Some,
+  None,
+  [],
+  ◌∷◌,
+}
 use Rattle.table_terms.specs.declared.pair.Pair.{Pair}
 use Rattle.table_terms.specs.declared.place.Place.TheVariants.{North}
 use Rattle.session_roles.specs.declared.role.Role.TheVariants.{Member, Spectator, Contestant, Director}

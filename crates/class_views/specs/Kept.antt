@@ -1,5 +1,23 @@
 -- What is kept beside a state, as it would be worked out afresh.
-use Rattle.std.specs.Prelude.{◌≡◌, ◌≢◌, ◌≤◌, ◌<◌, ℕ, ◌+◌, ◌-◌, Bool, ◌&&◌, min, nat_le, if◌then◌else◌, Some, List, [], length, get_or}
+use Rattle.std.specs.Prelude.{
+  ◌≡◌,
+  ◌≢◌,
+  ◌≤◌,
+  ◌<◌,
+  ℕ,
+  ◌+◌,
+  ◌-◌,
+  Bool,
+  ◌&&◌,
+  min,
+  nat_le,
+  if◌then◌else◌,
+  Some,
+  List,
+  [],
+  length,
+  get_or,
+}
 use Rattle.std.specs.List.{range_with_len, sum_by}
 use Rattle.table_terms.specs.declared.pair.Pair.{Pair}
 use Rattle.movement.specs.Movement.{most_boards, boards_of}

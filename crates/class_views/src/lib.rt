@@ -11,5 +11,4 @@ mod pair_totals;
 mod user_class;
 
 pub use class_views::ClassViews;
-
 pub use user_class::UserClass;

@@ -1,5 +1,29 @@
 -- What is read of a member is what it is, and the other way round.
-use Rattle.std.proofs.Common.{◌≡◌, ℕ, ◌≤◌, List, [], ◌∷◌, length, nat_le, cond, ◌&&◌, codes, Option, Some, None, option_and_then, refl, sym, ap, subst, ◌∙◌, inl, inr, arith}
+use Rattle.std.proofs.Common.{
+  ◌≡◌,
+  ℕ,
+  ◌≤◌,
+  List,
+  [],
+  ◌∷◌,
+  length,
+  nat_le,
+  cond,
+  ◌&&◌,
+  codes,
+  Option,
+  Some,
+  None,
+  option_and_then,
+  refl,
+  sym,
+  ap,
+  subst,
+  ◌∙◌,
+  inl,
+  inr,
+  arith,
+}
 use Rattle.std.specs.Str.{bytes_eq}
 use Rattle.std.proofs.lemmas.Slice.Eq.{bytes_eq-Decides}
 use Rattle.serde_json.specs.Data.{Data, Items}
@@ -18,9 +42,53 @@ use Rattle.scoring.specs.Doubling.{times_doubled}
 use Rattle.json_fields.specs.Form.{item_count, AreEach}
 use Rattle.json_fields.specs.Doubling.{doubling_numbered}
 use Rattle.json_fields.specs.Message.{declarer, strain}
-use Rattle.command_object.specs.Result.{doubled, level_numbered, level, tricks_numbered, tricks_won, played_contract, text_or_played, outcome_by, IsOutcome, outcome}
-use Rattle.command_object.specs.Play.{suit_named, rank_named, card_by, card_named, card_of, cards_of_items, cards_by, play_by, IsCard, IsPlay, play}
-use Rattle.json_fields.proofs.FormLemmas.{Agrees, AgreesForm, form_agrees, with_agrees, kept, both_true, formed_read, formed_reads, is_most, most_is, means_read, means_reads, named_read, named_agrees, doubling_is, doubling_small, doubling_back, each_read, each_reads, each_count}
+use Rattle.command_object.specs.Result.{
+  doubled,
+  level_numbered,
+  level,
+  tricks_numbered,
+  tricks_won,
+  played_contract,
+  text_or_played,
+  outcome_by,
+  IsOutcome,
+  outcome,
+}
+use Rattle.command_object.specs.Play.{
+  suit_named,
+  rank_named,
+  card_by,
+  card_named,
+  card_of,
+  cards_of_items,
+  cards_by,
+  play_by,
+  IsCard,
+  IsPlay,
+  play,
+}
+use Rattle.json_fields.proofs.FormLemmas.{
+  Agrees,
+  AgreesForm,
+  form_agrees,
+  with_agrees,
+  kept,
+  both_true,
+  formed_read,
+  formed_reads,
+  is_most,
+  most_is,
+  means_read,
+  means_reads,
+  named_read,
+  named_agrees,
+  doubling_is,
+  doubling_small,
+  doubling_back,
+  each_read,
+  each_reads,
+  each_count,
+}
 use Rattle.json_fields.proofs.LetterLemmas.{place_found, strain_found, place_reads, strain_reads}
 use Rattle.command_object.proofs.LetterLemmas.{suit_reads, rank_reads}
 
@@ -52,7 +120,8 @@ level_agrees = record {
       let found = means_read level_numbered o n h in
       let range = level_is found.0 n found.2 in
       record { is = found.1 ∙ ap Some range.0; least = range.1; most = range.2 };
-  reads = λ o n is. means_reads level_numbered o n n is.is (let most = is.most in omega arith) (level_back n is.least is.most);
+  reads = λ o n is. means_reads level_numbered o n n is.is (let most = is.most in omega arith)
+      (level_back n is.least is.most);
 }
 
 tricks_is : (m n : ℕ) → tricks_numbered m ≡ Some n → (m ≡ n) × (n ≤ 13)
@@ -68,13 +137,16 @@ tricks_agree = record {
       let found = means_read tricks_numbered o n h in
       let range = tricks_is found.0 n found.2 in
       record { is = found.1 ∙ ap Some range.0; most = range.1 };
-  reads = λ o n is. means_reads tricks_numbered o n n is.is (let most = is.most in omega arith) (ap (λ b. cond b (Some n) None) (most_is n 13 is.most));
+  reads = λ o n is. means_reads tricks_numbered o n n is.is (let most = is.most in omega arith)
+      (ap (λ b. cond b (Some n) None) (most_is n 13 is.most));
 }
 
 played_agrees : AgreesForm played_contract
 played_agrees =
-    with_agrees _ tricks_won (with_agrees _ strain (with_agrees _ level (with_agrees _ doubled (with_agrees _ declarer (form_agrees [] _)
-    (named_agrees _ _ _ place_reads place_found)) doubled_agrees) level_agrees) (named_agrees _ _ _ strain_reads strain_found)) tricks_agree
+    with_agrees _ tricks_won
+    (with_agrees _ strain (with_agrees _ level (with_agrees _ doubled (with_agrees _ declarer (form_agrees [] _)
+    (named_agrees _ _ _ place_reads place_found)) doubled_agrees) level_agrees)
+    (named_agrees _ _ _ strain_reads strain_found)) tricks_agree
 
 text_read : (d : Data) (o : Option (List ℕ)) (ended : Outcome) → as_str d ≡ o → text_or_played o d ≡ Some ended
     → IsOutcome (Some d) ended
@@ -165,7 +237,8 @@ list_back : (o : Option Items) (ds : Items) (cards : List Card) → o ≡ Some d
     → length cards ≤ 52 → cards_by o ≡ Some cards
 list_back o ds cards is all few =
     ap cards_by is
-    ∙ ap (λ b. cond b (cards_of_items ds) None) (most_is (item_count ds) 52 (subst (λ n. n ≤ 52) (sym (each_count IsCard ds cards all)) few))
+    ∙ ap (λ b. cond b (cards_of_items ds) None)
+    (most_is (item_count ds) 52 (subst (λ n. n ≤ 52) (sym (each_count IsCard ds cards all)) few))
     ∙ each_reads card_of IsCard card_back ds cards all
 
 play_read : (o : Option Data) (cards : List Card) → play_by o ≡ Some cards → IsPlay o cards

@@ -1,12 +1,44 @@
 -- What is read by each form of the table of commands is what it is.
-use Rattle.std.proofs.Common.{◌≡◌, ℕ, List, [], ◌∷◌, false, not, ◌||◌, codes, Option, Some, None, option_and_then, refl, ap, ◌∙◌}
+use Rattle.std.proofs.Common.{
+  ◌≡◌,
+  ℕ,
+  List,
+  [],
+  ◌∷◌,
+  false,
+  not,
+  ◌||◌,
+  codes,
+  Option,
+  Some,
+  None,
+  option_and_then,
+  refl,
+  ap,
+  ◌∙◌,
+}
 use Rattle.serde_json.specs.Data.{Data, Items, no_items, item}
 use Rattle.session_commands.specs.declared.command.Command.{Command}
 use Rattle.json_fields.specs.Form.{HasFormOf, AreEach}
 use Rattle.json_fields.specs.Field.{text, text_at}
 use Rattle.json_fields.specs.Message.{table, board}
 use Rattle.json_fields.specs.User.{user_name, pair, place, digest, role_named}
-use Rattle.command_object.specs.Command.{commands, north_south, east_west, reason, role_called, role, senior, junior, command_called, command_of, is_other_word, is_unknown, has_unknown, IsCommand}
+use Rattle.command_object.specs.Command.{
+  commands,
+  north_south,
+  east_west,
+  reason,
+  role_called,
+  role,
+  senior,
+  junior,
+  command_called,
+  command_of,
+  is_other_word,
+  is_unknown,
+  has_unknown,
+  IsCommand,
+}
 use Rattle.command_object.specs.Result.{outcome}
 use Rattle.command_object.specs.Play.{play}
 use Rattle.json_fields.proofs.FormLemmas.{Agrees, form_agrees, with_agrees, numbered_agrees, called_agrees}
@@ -24,13 +56,21 @@ role_called_agrees name = record {
 
 pub commands_agree : AllAgree commands
 commands_agree = (
-  (with_agrees _ play (with_agrees _ outcome (with_agrees _ board (with_agrees _ table (form_agrees _ _) (numbered_agrees _)) (numbered_agrees _)) outcome_agrees) play_agrees),
+  (with_agrees _ play
+      (with_agrees _ outcome (with_agrees _ board (with_agrees _ table (form_agrees _ _) (numbered_agrees _))
+      (numbered_agrees _)) outcome_agrees) play_agrees),
   (
-    (with_agrees _ outcome (with_agrees _ board (with_agrees _ table (form_agrees _ _) (numbered_agrees _)) (numbered_agrees _)) outcome_agrees),
+    (with_agrees _ outcome (with_agrees _ board (with_agrees _ table (form_agrees _ _) (numbered_agrees _))
+        (numbered_agrees _)) outcome_agrees),
     (
-      (with_agrees _ play (with_agrees _ outcome (with_agrees _ board (with_agrees _ table (form_agrees _ _) (numbered_agrees _)) (numbered_agrees _)) outcome_agrees) play_agrees),
+      (with_agrees _ play
+          (with_agrees _ outcome (with_agrees _ board (with_agrees _ table (form_agrees _ _) (numbered_agrees _))
+          (numbered_agrees _)) outcome_agrees) play_agrees),
       (
-        (with_agrees _ reason (with_agrees _ east_west (with_agrees _ north_south (with_agrees _ board (with_agrees _ table (form_agrees _ _) (numbered_agrees _)) (numbered_agrees _)) (numbered_agrees _)) (numbered_agrees _)) (numbered_agrees _)),
+        (with_agrees _ reason
+            (with_agrees _ east_west
+            (with_agrees _ north_south (with_agrees _ board (with_agrees _ table (form_agrees _ _) (numbered_agrees _))
+            (numbered_agrees _)) (numbered_agrees _)) (numbered_agrees _)) (numbered_agrees _)),
         (
           (with_agrees _ board (with_agrees _ table (form_agrees _ _) (numbered_agrees _)) (numbered_agrees _)),
           (
@@ -38,7 +78,8 @@ commands_agree = (
             (
               (with_agrees _ board (form_agrees _ _) (numbered_agrees _)),
               (
-                (with_agrees _ place (with_agrees _ pair (with_agrees _ user_name (form_agrees _ _) (called_agrees _)) pair_agrees) place_agrees),
+                (with_agrees _ place (with_agrees _ pair (with_agrees _ user_name (form_agrees _ _) (called_agrees _))
+                    pair_agrees) place_agrees),
                 (
                   (with_agrees _ user_name (form_agrees _ _) (called_agrees _)),
                   (
@@ -48,15 +89,20 @@ commands_agree = (
                       (
                         (form_agrees _ _),
                         (
-                          (with_agrees _ digest (with_agrees _ user_name (form_agrees _ _) (called_agrees _)) digest_agrees),
+                          (with_agrees _ digest (with_agrees _ user_name (form_agrees _ _) (called_agrees _))
+                              digest_agrees),
                           (
-                            (with_agrees _ role (with_agrees _ user_name (form_agrees _ _) (called_agrees _)) (role_called_agrees _)),
+                            (with_agrees _ role (with_agrees _ user_name (form_agrees _ _) (called_agrees _))
+                                (role_called_agrees _)),
                             (
-                              (with_agrees _ role (with_agrees _ user_name (form_agrees _ _) (called_agrees _)) (role_called_agrees _)),
+                              (with_agrees _ role (with_agrees _ user_name (form_agrees _ _) (called_agrees _))
+                                  (role_called_agrees _)),
                               (
-                                (with_agrees _ junior (with_agrees _ senior (form_agrees _ _) (role_called_agrees _)) (role_called_agrees _)),
+                                (with_agrees _ junior (with_agrees _ senior (form_agrees _ _) (role_called_agrees _))
+                                    (role_called_agrees _)),
                                 (
-                                  (with_agrees _ junior (with_agrees _ senior (form_agrees _ _) (role_called_agrees _)) (role_called_agrees _)),
+                                  (with_agrees _ junior (with_agrees _ senior (form_agrees _ _) (role_called_agrees _))
+                                      (role_called_agrees _)),
                                   tt,
                                 ),
                               ),

@@ -1,5 +1,21 @@
 -- The cards of a board as a message has them: a list of texts such as `SA`.
-use Rattle.std.specs.Prelude.{◌≡◌, ℕ, ◌≤◌, List, [], ◌∷◌, length, ◌==◌, nat_le, if◌then◌else◌, codes, Option, Some, None, option_and_then}
+use Rattle.std.specs.Prelude.{
+  ◌≡◌,
+  ℕ,
+  ◌≤◌,
+  List,
+  [],
+  ◌∷◌,
+  length,
+  ◌==◌,
+  nat_le,
+  if◌then◌else◌,
+  codes,
+  Option,
+  Some,
+  None,
+  option_and_then,
+}
 use Rattle.std.specs.List.{find}
 use Rattle.serde_json.specs.Data.{Data, Items}
 use Rattle.serde_json.specs.Find.{as_str, as_array}

@@ -12,7 +12,16 @@ use Rattle.wire.specs.declared.request.RequestBody.{RequestBody}
 use Rattle.wire.specs.declared.request.RequestBody.TheVariants.{OfUser, Hello}
 use Rattle.wire.specs.declared.request.UserRequest.{UserRequest}
 use Rattle.request_answers.specs.Answering.{IsAnsweredOnce}
-use Rattle.request_answers.specs.Conversing.{Turn, Answered, TakenIn, Passed, TakesTurn, Stop, IsConversation, journal_now}
+use Rattle.request_answers.specs.Conversing.{
+  Turn,
+  Answered,
+  TakenIn,
+  Passed,
+  TakesTurn,
+  Stop,
+  IsConversation,
+  journal_now,
+}
 use Rattle.connections.specs.Conversation.{Exchange, AreExchanged, AreStopsOf, IsExchanged, journal_then}
 use Rattle.connections.specs.Linked.{Linked}
 use Rattle.connections.specs.Serving.{ForUser, HasNoAnswer, Leaves, LeavesRequest, Serves, ServesRead}
@@ -23,7 +32,8 @@ record IsTurnFor (Others : List Entry → List Entry → Type 0) (no_entry : Typ
   turn : Turn
   takes : TakesTurn Others before.opening before.journal turn after.journal
   accepted : IsAccepted before.opening after.journal
-  answered : (user : List ℕ) (request : UserRequest) (text : List ℕ) → connection_meaning message ≡ Ok (OfUser request) →
+  answered : (user : List ℕ) (request : UserRequest) (text : List ℕ) → connection_meaning message ≡ Ok
+      (OfUser request) →
       before.user ≡ Some user → answer ≡ Some text →
       (turn ≡ Answered user request text) ⊎ (no_entry × (text ≡ connection_fault_text NoEntry))
 
@@ -35,7 +45,8 @@ module _ (Others : List Entry → List Entry → Type 0) (no_entry : Type 0) (be
 
   -- a text for what was read
   module _ (text : List ℕ) where
-    at_user : (request : UserRequest) → connection_meaning message ≡ Ok (OfUser request) → (signed_in : Option (List ℕ)) →
+    at_user : (request : UserRequest) → connection_meaning message ≡ Ok (OfUser request) →
+        (signed_in : Option (List ℕ)) →
         before.user ≡ signed_in → ForUser Others no_entry before after request text signed_in →
         IsTurnFor Others no_entry before message (Some text) after
     at_user request means None nobody (told, same) = record {
@@ -46,7 +57,8 @@ module _ (Others : List Entry → List Entry → Type 0) (no_entry : Type 0) (be
     }
     at_user request means (Some name) is_name (inl once, stays, now_accepted) = record {
       turn = Answered name request text;
-      takes = subst (λ opening. IsAnsweredOnce Others opening before.journal name request text after.journal) stays.later.same once;
+      takes = subst (λ opening. IsAnsweredOnce Others opening before.journal name request text after.journal)
+          stays.later.same once;
       accepted = subst (λ opening. IsAccepted opening after.journal) stays.later.same now_accepted;
       answered = λ user asked said also is_user is_text. inl (cc);
     }
@@ -83,7 +95,8 @@ module _ (Others : List Entry → List Entry → Type 0) (no_entry : Type 0) (be
   }
 
   module _ (same_opening : after.opening ≡ before.opening) where
-    left_by : (request : UserRequest) → (signed_in : Option (List ℕ)) → LeavesRequest Others before after request signed_in →
+    left_by : (request : UserRequest) → (signed_in : Option (List ℕ)) → LeavesRequest Others before after request
+        signed_in →
         IsTurnFor Others no_entry before message None after
     left_by request None same = passes same
     left_by request (Some name) (inl same) = passes same
@@ -95,7 +108,11 @@ module _ (Others : List Entry → List Entry → Type 0) (no_entry : Type 0) (be
     }
     left_by request (Some name) (inr (inr (text, once), now_accepted)) = record {
       turn = TakenIn name request;
-      takes = (text, subst (λ opening. IsAnsweredOnce Others opening before.journal name request text after.journal) same_opening once);
+      takes = (
+        text,
+        subst (λ opening. IsAnsweredOnce Others opening before.journal name request text after.journal)
+            same_opening once,
+      );
       accepted = subst (λ opening. IsAccepted opening after.journal) same_opening now_accepted;
       answered = λ user asked said also is_user is_text. absurd (cc);
     }
@@ -139,8 +156,10 @@ conversed Others no_entry opening exchanges exchanged =
     each_of (exchange ∷ earlier) (same, at, exchanged, before) =
         let so_far = each_of earlier before in
         let accepted : IsAccepted exchange.before.opening exchange.before.journal =
-        subst (λ o. IsAccepted o exchange.before.journal) (sym same) (subst (IsAccepted opening) (sym at) so_far.accepted) in
-        let found = turn_for Others no_entry exchange.before exchange.after exchange.message accepted exchange.answer exchanged in
+        subst (λ o. IsAccepted o exchange.before.journal) (sym same)
+        (subst (IsAccepted opening) (sym at) so_far.accepted) in
+        let found = turn_for Others no_entry exchange.before exchange.after exchange.message accepted exchange.answer
+        exchanged in
         record {
           stops = record { turn = found.turn; journal = exchange.after.journal } ∷ so_far.stops;
           each = (record { journal = refl; answered = found.answered }, so_far.each);
@@ -148,7 +167,8 @@ conversed Others no_entry opening exchanges exchanged =
           accepted = subst (λ o. IsAccepted o exchange.after.journal) same found.accepted;
           conversation = (
             subst (λ o. TakesTurn Others o (journal_now so_far.stops) found.turn exchange.after.journal) same
-                (subst (λ j. TakesTurn Others exchange.before.opening j found.turn exchange.after.journal) (at ∙ sym so_far.journal) found.takes),
+                (subst (λ j. TakesTurn Others exchange.before.opening j found.turn exchange.after.journal)
+                (at ∙ sym so_far.journal) found.takes),
             subst (λ o. IsAccepted o exchange.after.journal) same found.accepted,
             so_far.conversation,
           );

@@ -5,7 +5,12 @@ use Rattle.session_commands.specs.declared.entry.Entry.{Entry}
 use Rattle.session_keeper.proofs.KeepingLemmas.{goes_on_itself}
 use Rattle.json_fields.specs.declared.request_fault.RequestFault.{RequestFault}
 use Rattle.wire.specs.declared.connection_fault.ConnectionFault.{ConnectionFault}
-use Rattle.wire.specs.declared.connection_fault.ConnectionFault.TheVariants.{NotSignedIn, NotKnown, NoEntry, OutOfMemory}
+use Rattle.wire.specs.declared.connection_fault.ConnectionFault.TheVariants.{
+  NotSignedIn,
+  NotKnown,
+  NoEntry,
+  OutOfMemory,
+}
 use Rattle.wire.specs.declared.request.RequestBody.{RequestBody}
 use Rattle.wire.specs.declared.request.RequestBody.TheVariants.{OfUser, Hello}
 use Rattle.wire.specs.declared.request.UserRequest.{UserRequest}
@@ -30,13 +35,18 @@ told_request Others no_entry bytes before after request (Err NotSignedIn) None t
 told_request Others no_entry bytes before after request (Err NotKnown) None text found told = absurd (cc (found.0))
 told_request Others no_entry bytes before after request (Err NoEntry) None text found told = absurd (cc (found.0))
 told_request Others no_entry bytes before after request (Err OutOfMemory) None text found told = absurd (told.1 refl)
-told_request Others no_entry bytes before after request (Ok written) (Some user) text found told =
-    (inl (subst (λ t. IsAnsweredOnce Others after.opening before.journal user request t after.journal) (sym told) found.0), found.2, found.3)
+told_request Others no_entry bytes before after request (Ok written) (Some user) text found told = (
+  inl (subst (λ t. IsAnsweredOnce Others after.opening before.journal user request t after.journal) (sym told)
+      found.0),
+  found.2,
+  found.3,
+)
 told_request Others no_entry bytes before after request (Err NotSignedIn) (Some user) text found told = absurd found.1
 told_request Others no_entry bytes before after request (Err NotKnown) (Some user) text found told = absurd found.1
 told_request Others no_entry bytes before after request (Err NoEntry) (Some user) text found told =
     (inr (found.1, told.0), found.2, found.3)
-told_request Others no_entry bytes before after request (Err OutOfMemory) (Some user) text found told = absurd (told.1 refl)
+told_request Others no_entry bytes before after request (Err OutOfMemory) (Some user) text found told =
+    absurd (told.1 refl)
 
 -- whatever was found, the connection stays on
 pub stays_served : (Others : List Entry → List Entry → Type 0) (no_entry : Type 0) {S : Type 0} (bytes : S → List ℕ)
@@ -59,7 +69,8 @@ leaves_served Others no_entry bytes before after request (Err OutOfMemory) (Some
     inr (found.1, found.3)
 
 -- nothing came of what was read
-leaves_request : (Others : List Entry → List Entry → Type 0) (at : Linked) (request : UserRequest) (user : Option (List ℕ)) →
+leaves_request : (Others : List Entry → List Entry → Type 0) (at : Linked) (request : UserRequest)
+    (user : Option (List ℕ)) →
     LeavesRequest Others at at request user
 leaves_request Others at request None = refl
 leaves_request Others at request (Some user) = inl refl

@@ -19,7 +19,8 @@ pub record Exchange : Type 0 where
   pub after : Linked
 
 -- what `serve_message` promises of a message
-abbrev pub IsExchanged : (List Entry → List Entry → Type 0) → Type 0 → Linked → List ℕ → Option (List ℕ) → Linked → Type 0
+abbrev pub IsExchanged : (List Entry → List Entry → Type 0) → Type 0 → Linked → List ℕ → Option (List ℕ) → Linked →
+    Type 0
 IsExchanged Others no_entry before message (Some text) after = Serves Others no_entry before after message text
 IsExchanged Others no_entry before message None after = HasNoAnswer Others before after message
 

@@ -12,11 +12,10 @@ use published_view::QueryFault;
 use request_answers::{answer_query, answer_request};
 use session_keeper::{CommandKeeper, Keeper};
 use session_queries::Query;
-use user_names::Digest as TokenDigest;
 use sha2::{Digest, Sha256};
 use std::alloc::Global;
 use std::marker::Model;
-use user_names::Name;
+use user_names::{Digest as TokenDigest, Name};
 use wire::{ConnectionFault, UserRequest};
 
 /// A connection: messages are answered for the user who has signed in on it.

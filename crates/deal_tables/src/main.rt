@@ -7,10 +7,10 @@ mod workers;
 
 use cards::{Deal, Position};
 use double_dummy::{Budget, CostsError, costs, solve, table};
-use solver_results::{Costs, DdTable};
 use line::{Line, parse_line};
 use scoring::{Contract, Doubling, Level};
 use solver_pool::Done;
+use solver_results::{Costs, DdTable};
 use std::alloc::Global;
 use std::io::{BufRead, BufReader, Read};
 use std::{env, io};

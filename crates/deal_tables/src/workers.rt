@@ -1,7 +1,7 @@
 use cards::Deal;
 use crossbeam_channel::{Receiver, Sender, unbounded};
-use solver_results::DdTable;
 use solver_pool::{Done, Found, Job, OpenGate, Work, run_worker};
+use solver_results::DdTable;
 use std::alloc::{AllocError, Global};
 use std::sync::Wait;
 use std::thread::{self, Threads};

@@ -14,7 +14,20 @@ use Rattle.session_roles.specs.declared.role.Role.TheVariants.{Director}
 use Rattle.disclosure_rules.specs.declared.fact.Fact.{Fact}
 use Rattle.disclosure_rules.specs.declared.public.Public.{Public}
 use Rattle.disclosure_rules.specs.declared.rule.Rule.{Rule}
-use Rattle.disclosure_rules.specs.declared.rule.Rule.TheVariants.{NoAccount, NotAMember, AccountsAreClosed, BoardIsHeld, StillToPlay, OthersStillPlay, NeitherContestantNorSpectator, BoardIsIncomplete, AnalysisWaits, PlayWaits, ReasonIsForThePairs, NoResult}
+use Rattle.disclosure_rules.specs.declared.rule.Rule.TheVariants.{
+  NoAccount,
+  NotAMember,
+  AccountsAreClosed,
+  BoardIsHeld,
+  StillToPlay,
+  OthersStillPlay,
+  NeitherContestantNorSpectator,
+  BoardIsIncomplete,
+  AnalysisWaits,
+  PlayWaits,
+  ReasonIsForThePairs,
+  NoResult,
+}
 use Rattle.disclosure_rules.specs.declared.seat.Seat.{Seat}
 use Rattle.disclosure_rules.specs.declared.viewer.Viewer.{Viewer}
 use Rattle.disclosure_rules.specs.Fact.{board_of_fact}
@@ -24,7 +37,18 @@ use Rattle.disclosure_rules.specs.Seating.{some_that, cell_in, is_complete, IsCo
 use Rattle.disclosure_rules.proofs.FirstLemmas.{IsFound, found_at, none_found, first_forbids}
 use Rattle.disclosure_rules.proofs.SeatingTests.{complete_decides, still_decides}
 use Rattle.denials.specs.declared.denial.Denial.{Denial}
-use Rattle.denials.specs.Evidence.{own_table, table_of_pair, is_awaited, awaited_table, denied_board, board_named, table_named, waits_for_results, denial_by, denial_of}
+use Rattle.denials.specs.Evidence.{
+  own_table,
+  table_of_pair,
+  is_awaited,
+  awaited_table,
+  denied_board,
+  board_named,
+  table_named,
+  waits_for_results,
+  denial_by,
+  denial_of,
+}
 use Rattle.denials.proofs.TableLemmas.{table_of_own_cell}
 
 -- a guarded fact belongs to a board that passes the test
@@ -36,7 +60,8 @@ record Guarded (fact : Fact) (test : ℕ → Bool) : Type 0 where
 guarded_by : (viewer : Viewer) (fact : Fact) (test : ℕ → Bool) → guarding viewer fact test ≡ true → Guarded fact test
 guarded_by viewer fact test forbidden = at (is_authorized viewer.roles Director) (board_of_fact fact) refl forbidden
   where
-    at : (director : Bool) (o : Option ℕ) → board_of_fact fact ≡ o → some_that (if director then None else o) test ≡ true → Guarded fact test
+    at : (director : Bool) (o : Option ℕ) → board_of_fact fact ≡ o → some_that (if director then None else o) test ≡
+        true → Guarded fact test
     at true o is none = absurd (false≢true none)
     at false None is none = absurd (false≢true none)
     at false (Some board) is passes = record { board = board; is = is; passes = passes }
@@ -61,12 +86,20 @@ awaited_there public board incomplete = at (find test tables) refl
     complete none cell is_cell at_board =
         let range = cell_in_range public.movement cell is_cell in
         let k : ℕ = cell.table - 1 in
-        let place : get_or tables k 0 ≡ cell.table = get_or-range_with_len 1 public.movement.tables k 0 (omega (arith, range.from_table, range.to_table)) ∙ omega (arith, range.from_table) in
-        let fails : test cell.table ≡ false = ap test (sym place) ∙ none_found test tables 0 none k (omega (arith, range.from_table, range.to_table, length-range_with_len 1 public.movement.tables)) in
-        let same : cell ≡ record { table = cell.table; board = board } = λ i. record { table = cell.table; board = at_board i } in
-        let scheduled : is_scheduled public.movement (record { table = cell.table; board = board }) ≡ true = ap (is_scheduled public.movement) (sym same) ∙ cell-scheduled public.movement cell is_cell in
+        let place : get_or tables k 0 ≡ cell.table = get_or-range_with_len 1 public.movement.tables k 0
+        (omega (arith, range.from_table, range.to_table)) ∙ omega (arith, range.from_table) in
+        let fails : test cell.table ≡ false = ap test (sym place) ∙ none_found test tables 0 none k
+        (omega (arith, range.from_table, range.to_table, length-range_with_len 1 public.movement.tables)) in
+        let same : cell ≡ record { table = cell.table; board = board } = λ i. record {
+          table = cell.table;
+          board =
+              at_board i;
+        } in
+        let scheduled : is_scheduled public.movement (record { table = cell.table; board = board }) ≡ true =
+        ap (is_scheduled public.movement) (sym same) ∙ cell-scheduled public.movement cell is_cell in
         ap (is_live public.live) same
-        ∙ not_false _ (sym (ap (λ b. b && not (is_live public.live (record { table = cell.table; board = board }))) scheduled) ∙ fails)
+        ∙ not_false _ (sym (ap (λ b. b && not (is_live public.live (record { table = cell.table; board = board })))
+        scheduled) ∙ fails)
 
     at : (o : Option ℕ) → find test tables ≡ o → test (unwrap_or o 0) ≡ true
     at None none = absurd (both_ways _ incomplete ((complete_decides public board).1 (complete none)))
@@ -77,34 +110,45 @@ record IsOwn (public : Public) (viewer : Viewer) (board table : ℕ) : Type 0 wh
   awaited : is_awaited public.movement public.live board table ≡ true
   seated : IsSeatedAt public viewer (record { table = table; board = board })
 
-own_there : (public : Public) (viewer : Viewer) (board : ℕ) → IsSection public.movement → has_still_to_play public viewer board ≡ true →
+own_there : (public : Public) (viewer : Viewer) (board : ℕ) → IsSection public.movement → has_still_to_play public
+    viewer board ≡ true →
     IsOwn public viewer board (own_table public.movement viewer.seat board)
 own_there public viewer board is_section still =
     let both = at viewer.seat ((still_decides public viewer board).0 still) in
     record { awaited = both.0; seated = both.1 }
   where
-    at : (seat : Option Seat) → IsSomeAnd seat (λ s. Any (λ row. Plays public.movement row s.pair board × (is_live public.live (cell_in row board) ≡ false)) (rows public.movement)) →
+    at : (seat : Option Seat) → IsSomeAnd seat
+        (λ s. Any (λ row. Plays public.movement row s.pair board × (is_live public.live (cell_in row board) ≡ false))
+        (rows public.movement)) →
         (is_awaited public.movement public.live board (own_table public.movement seat board) ≡ true)
-        × IsSomeAnd seat (λ s. Any (λ row. Seats row s.pair × HasCell public.movement row (record { table = own_table public.movement seat board; board = board })) (rows public.movement))
+        × IsSomeAnd seat
+        (λ s. Any (λ row. Seats row s.pair × HasCell public.movement row
+        (record { table = own_table public.movement seat board; board = board })) (rows public.movement))
     at None none = absurd none
     at (Some s) (k, row, below, here, (plays, no_result)) =
         let has : HasCell public.movement row (cell_in row board) = record { table = refl; board = plays.board } in
         let table : row.table ≡ table_of_pair public.movement s.pair board =
-        table_of_own_cell public.movement s.pair board (cell_in row board) is_section refl (k, row, below, here, (plays.seated, has)) in (
+        table_of_own_cell public.movement s.pair board (cell_in row board) is_section refl
+        (k, row, below, here, (plays.seated, has)) in (
           subst (λ t. is_awaited public.movement public.live board t ≡ true) table
-              (and_from _ _ (cell-scheduled public.movement (cell_in row board) (k, row, below, here, has)) (not_from_false _ no_result)),
-          subst (λ t. Any (λ r. Seats r s.pair × HasCell public.movement r (record { table = t; board = board })) (rows public.movement)) table
+              (and_from _ _ (cell-scheduled public.movement (cell_in row board) (k, row, below, here, has))
+              (not_from_false _ no_result)),
+          subst (λ t. Any (λ r. Seats r s.pair × HasCell public.movement r (record { table = t; board = board }))
+              (rows public.movement)) table
               (k, row, below, here, (plays.seated, has)),
         )
 
 module _ (public : Public) (viewer : Viewer) (fact : Fact) where
   -- what is incomplete is awaited, at the board that is named
-  at_board : (test : ℕ → Bool) → ((b : ℕ) → test b ≡ true → is_complete public b ≡ false) → guarding viewer fact test ≡ true →
-      is_awaited public.movement public.live (denied_board fact) (awaited_table public.movement public.live (denied_board fact)) ≡ true
+  at_board : (test : ℕ → Bool) → ((b : ℕ) → test b ≡ true → is_complete public b ≡ false) → guarding viewer fact test ≡
+      true →
+      is_awaited public.movement public.live (denied_board fact) (awaited_table public.movement public.live
+      (denied_board fact)) ≡ true
   at_board test gives forbidden =
       let secret : Guarded fact test = guarded_by viewer fact test forbidden in
       let number : secret.board ≡ denied_board fact = sym (ap (λ o. unwrap_or o 0) secret.is) in
-      awaited_there public (denied_board fact) (subst (λ b. is_complete public b ≡ false) number (gives secret.board secret.passes))
+      awaited_there public (denied_board fact) (subst (λ b. is_complete public b ≡ false) number
+      (gives secret.board secret.passes))
 
   -- what is still to play is awaited from the own table
   at_own : IsSection public.movement → forbids StillToPlay public viewer fact ≡ true →
@@ -113,10 +157,12 @@ module _ (public : Public) (viewer : Viewer) (fact : Fact) where
       let secret = guarded_by viewer fact _ forbidden in
       let number : secret.board ≡ denied_board fact = sym (ap (λ o. unwrap_or o 0) secret.is) in
       let still = (and_parts _ _ secret.passes).1 in
-      own_there public viewer (denied_board fact) is_section (subst (λ b. has_still_to_play public viewer b ≡ true) number still)
+      own_there public viewer (denied_board fact) is_section (subst (λ b. has_still_to_play public viewer b ≡ true)
+      number still)
 
   -- the table that a rule names is awaited, where the rule waits for results
-  named : IsSection public.movement → (rule : Rule) → forbids rule public viewer fact ≡ true → waits_for_results rule ≡ true →
+  named : IsSection public.movement → (rule : Rule) → forbids rule public viewer fact ≡ true → waits_for_results rule ≡
+      true →
       is_awaited public.movement public.live (board_named rule fact) (table_named rule public viewer.seat fact) ≡ true
   named is_section NoAccount forbidden waits = absurd (false≢true waits)
   named is_section NotAMember forbidden waits = absurd (false≢true waits)
@@ -126,7 +172,8 @@ module _ (public : Public) (viewer : Viewer) (fact : Fact) where
   named is_section OthersStillPlay forbidden waits =
       at_board _ (λ b test. not-true _ (and_parts _ _ (and_parts _ _ test).1).1) forbidden
   named is_section NeitherContestantNorSpectator forbidden waits = absurd (false≢true waits)
-  named is_section BoardIsIncomplete forbidden waits = at_board _ (λ b test. not-true _ (and_parts _ _ test).1) forbidden
+  named is_section BoardIsIncomplete forbidden waits = at_board _ (λ b test. not-true _ (and_parts _ _ test).1)
+      forbidden
   named is_section AnalysisWaits forbidden waits = at_board _ (λ b test. not-true _ (and_parts _ _ test).1) forbidden
   named is_section PlayWaits forbidden waits = absurd (false≢true waits)
   named is_section ReasonIsForThePairs forbidden waits = absurd (false≢true waits)
@@ -142,7 +189,8 @@ module _ (public : Public) (viewer : Viewer) (fact : Fact) where
   unfolding denial_of
   by_rule denial denied = at (first_rule public viewer fact) refl denied
     where
-      at : (o : Option Rule) → first_rule public viewer fact ≡ o → option_map (denial_by public viewer.seat fact) o ≡ Some denial → IsBy denial
+      at : (o : Option Rule) → first_rule public viewer fact ≡ o → option_map (denial_by public viewer.seat fact) o ≡
+          Some denial → IsBy denial
       at None first none = absurd (cc)
       at (Some rule) first same = record { rule = rule; first = first; is = ap (λ o. unwrap_or o denial) same }
 
@@ -151,14 +199,16 @@ module _ (public : Public) (viewer : Viewer) (fact : Fact) where
   denial_awaited denial is_section denied waits =
       let by : IsBy denial = by_rule denial denied in
       subst (λ (d : Denial). is_awaited public.movement public.live d.board d.table ≡ true) by.is
-      (named is_section by.rule (first_forbids public viewer fact by.rule by.first) (ap (λ (d : Denial). waits_for_results d.rule) by.is ∙ waits))
+      (named is_section by.rule (first_forbids public viewer fact by.rule by.first)
+      (ap (λ (d : Denial). waits_for_results d.rule) by.is ∙ waits))
 
   pub denial_own : (denial : Denial) → IsSection public.movement → denial_of public viewer fact ≡ Some denial →
       denial.rule ≡ StillToPlay → IsSeatedAt public viewer (record { table = denial.table; board = denial.board })
   denial_own denial is_section denied still =
       let by : IsBy denial = by_rule denial denied in
       let rule : by.rule ≡ StillToPlay = ap (λ (d : Denial). d.rule) by.is ∙ still in
-      let forbidden : forbids StillToPlay public viewer fact ≡ true = subst (λ r. forbids r public viewer fact ≡ true) rule (first_forbids public viewer fact by.rule by.first) in
+      let forbidden : forbids StillToPlay public viewer fact ≡ true = subst (λ r. forbids r public viewer fact ≡ true)
+      rule (first_forbids public viewer fact by.rule by.first) in
       let own = at_own is_section forbidden in
       subst (λ (d : Denial). IsSeatedAt public viewer (record { table = d.table; board = d.board }))
       (ap (denial_by public viewer.seat fact) (sym rule) ∙ by.is) own.seated

@@ -1,5 +1,28 @@
 -- The tables that a denial names.
-use Rattle.std.proofs.Common.{◌≡◌, ℕ, suc, ◌+◌, ◌<◌, Bool, true, false, List, [], ◌∷◌, All, Any, Contains, get_or, refl, sym, ap, ◌∙◌, arith, inl, inr}
+use Rattle.std.proofs.Common.{
+  ◌≡◌,
+  ℕ,
+  suc,
+  ◌+◌,
+  ◌<◌,
+  Bool,
+  true,
+  false,
+  List,
+  [],
+  ◌∷◌,
+  All,
+  Any,
+  Contains,
+  get_or,
+  refl,
+  sym,
+  ap,
+  ◌∙◌,
+  arith,
+  inl,
+  inr,
+}
 use Rattle.std.specs.Prelude.{Some, None, cond, ◌||◌}
 use Rattle.std.specs.List.{find, list_any, range_with_len}
 use Rattle.std.specs.Option.{option_map, unwrap_or}
@@ -28,7 +51,13 @@ found : {X : Type 0} (p : X → Bool) (xs : List X) → list_any p xs ≡ true �
 found p [] some = absurd (false≢true some)
 found p (x ∷ xs) some =
     elim (cases_Bool (p x)) [
-      | inl passes ↦ record { it = x; is = ap (λ b. cond b (Some x) (find p xs)) passes; listed = (0, omega arith, refl); passes = passes }
+      | inl passes ↦ record {
+        it = x;
+        is = ap (λ b. cond b (Some x) (find p xs)) passes;
+        listed =
+            (0, omega arith, refl);
+        passes = passes;
+      }
       | inr fails ↦ later fails (found p xs (sym (ap (λ b. b || list_any p xs) fails) ∙ some))
     ]
   where
@@ -41,41 +70,61 @@ found p (x ∷ xs) some =
     }
 
 -- a pair plays a board at the table of its cell
-pub table_of_own_cell : (section : Section) (pair : Pair) (board : ℕ) (cell : Cell) → IsSection section → cell.board ≡ board →
-    Any (λ row. Seats row pair × HasCell section row cell) (rows section) → cell.table ≡ table_of_pair section pair board
+pub table_of_own_cell : (section : Section) (pair : Pair) (board : ℕ) (cell : Cell) → IsSection section →
+    cell.board ≡ board →
+    Any (λ row. Seats row pair × HasCell section row cell) (rows section) → cell.table ≡ table_of_pair section pair
+    board
 table_of_own_cell section pair board cell is_section at_board seated =
-    let played = list_any-from_Any (plays section pair board) (rows section) (any_as _ _ (rows section) (λ row stands. (plays_decides section pair board row).1 (plays_of section row pair cell board at_board stands)) seated) in
+    let played = list_any-from_Any (plays section pair board) (rows section)
+    (any_as _ _ (rows section) (λ row stands. (plays_decides section pair board row).1
+    (plays_of section row pair cell board at_board stands)) seated) in
     let own = found (plays section pair board) (rows section) played in
-    sym (one_table section pair cell board is_section at_board seated own.it own.listed ((plays_decides section pair board own.it).0 own.passes))
+    sym (one_table section pair cell board is_section at_board seated own.it own.listed
+    ((plays_decides section pair board own.it).0 own.passes))
     ∙ sym (ap (λ row. unwrap_or (option_map (λ (r : Row). r.table) row) 0) own.is)
 
 -- and at none where no row has it
-pub no_table : (section : Section) (pair : Pair) (board : ℕ) → All (λ row. ¬ Plays section row pair board) (rows section) → 0 ≡ table_of_pair section pair board
-no_table section pair board none = sym (ap (λ row. unwrap_or (option_map (λ (r : Row). r.table) row) 0) (nowhere (rows section) none))
+pub no_table : (section : Section) (pair : Pair) (board : ℕ) → All (λ row. ¬ Plays section row pair board)
+    (rows section) → 0 ≡ table_of_pair section pair board
+no_table section pair board none = sym (ap (λ row. unwrap_or (option_map (λ (r : Row). r.table) row) 0)
+    (nowhere (rows section) none))
   where
-    nowhere : (xs : List Row) → All (λ row. ¬ Plays section row pair board) xs → find (plays section pair board) xs ≡ None
+    nowhere : (xs : List Row) → All (λ row. ¬ Plays section row pair board) xs → find (plays section pair board) xs ≡
+        None
     nowhere [] none' = refl
     nowhere (x ∷ xs) none' =
-        find_none (plays section pair board) (x ∷ xs) x (λ j below. false_from_ne_true _ (λ test. none' j x below ((plays_decides section pair board _).0 test)))
+        find_none (plays section pair board) (x ∷ xs) x
+        (λ j below. false_from_ne_true _ (λ test. none' j x below ((plays_decides section pair board _).0 test)))
 
 -- from a table that isn't scheduled nothing is awaited
-pub not_awaited : (section : Section) (live : List (List ℕ)) (board table : ℕ) → ¬ IsCell section (record { table = table; board = board }) → false ≡ is_awaited section live board table
-not_awaited section live board table none = sym (and_left _ _ (false_from_ne_true _ (λ test. none (scheduled-cell section _ test))))
+pub not_awaited : (section : Section) (live : List (List ℕ)) (board table : ℕ) → ¬ IsCell section
+    (record { table = table; board = board }) → false ≡ is_awaited section live board table
+not_awaited section live board table none =
+    sym (and_left _ _ (false_from_ne_true _ (λ test. none (scheduled-cell section _ test))))
 
 -- the first awaited table is the least
-pub first_awaited : (section : Section) (live : List (List ℕ)) (board k : ℕ) → k < section.tables → true ≡ is_awaited section live board (k + 1) →
+pub first_awaited : (section : Section) (live : List (List ℕ)) (board k : ℕ) → k < section.tables →
+    true ≡ is_awaited section live board (k + 1) →
     ((j : ℕ) → j < k → is_awaited section live board (j + 1) ≡ false) → k + 1 ≡ awaited_table section live board
 unfolding awaited_table
 first_awaited section live board k below opens least =
     let n : ℕ = section.tables in
-    let place : (j : ℕ) → j < n → get_or (range_with_len 1 n) j 0 ≡ j + 1 = λ j within. get_or-range_with_len 1 n j 0 within ∙ omega arith in
-    let is_first = find_place (is_awaited section live board) (range_with_len 1 n) k 0 (omega (arith, length-range_with_len 1 n)) (ap (is_awaited section live board) (place k below) ∙ sym opens) (λ j before. ap (is_awaited section live board) (place j (omega arith)) ∙ least j before) in
+    let place : (j : ℕ) → j < n → get_or (range_with_len 1 n) j 0 ≡ j + 1 = λ j within. get_or-range_with_len 1 n j 0
+    within ∙ omega arith in
+    let is_first = find_place (is_awaited section live board) (range_with_len 1 n) k 0
+    (omega (arith, length-range_with_len 1 n)) (ap (is_awaited section live board) (place k below) ∙ sym opens)
+    (λ j before. ap (is_awaited section live board) (place j (omega arith)) ∙ least j before) in
     sym (place k below) ∙ sym (ap (λ o. unwrap_or o 0) is_first)
 
 -- and where no table is awaited, there is none
-pub none_awaited : (section : Section) (live : List (List ℕ)) (board : ℕ) → ((j : ℕ) → j < section.tables → is_awaited section live board (j + 1) ≡ false) → 0 ≡ awaited_table section live board
+pub none_awaited : (section : Section) (live : List (List ℕ)) (board : ℕ) →
+    ((j : ℕ) → j < section.tables → is_awaited section live board (j + 1) ≡ false) → 0 ≡ awaited_table section live
+    board
 unfolding awaited_table
 none_awaited section live board none =
     let n : ℕ = section.tables in
-    let place : (j : ℕ) → j < n → get_or (range_with_len 1 n) j 0 ≡ j + 1 = λ j within. get_or-range_with_len 1 n j 0 within ∙ omega arith in
-    sym (ap (λ o. unwrap_or o 0) (find_none (is_awaited section live board) (range_with_len 1 n) 0 (λ j below. ap (is_awaited section live board) (place j (omega (arith, length-range_with_len 1 n))) ∙ none j (omega (arith, length-range_with_len 1 n)))))
+    let place : (j : ℕ) → j < n → get_or (range_with_len 1 n) j 0 ≡ j + 1 = λ j within. get_or-range_with_len 1 n j 0
+    within ∙ omega arith in
+    sym (ap (λ o. unwrap_or o 0) (find_none (is_awaited section live board) (range_with_len 1 n) 0
+    (λ j below. ap (is_awaited section live board) (place j (omega (arith, length-range_with_len 1 n))) ∙ none j
+    (omega (arith, length-range_with_len 1 n)))))

@@ -1,5 +1,25 @@
 -- What a batch publishes.
-use Rattle.std.proofs.Common.{◌≡◌, ◌⊎◌, ℕ, Bool, false, ◌+◌, ◌<◌, List, [], ◌∷◌, ◌++◌, append-nil, length-append, length, ap, sym, subst, ◌∙◌, arith}
+use Rattle.std.proofs.Common.{
+  ◌≡◌,
+  ◌⊎◌,
+  ℕ,
+  Bool,
+  false,
+  ◌+◌,
+  ◌<◌,
+  List,
+  [],
+  ◌∷◌,
+  ◌++◌,
+  append-nil,
+  length-append,
+  length,
+  ap,
+  sym,
+  subst,
+  ◌∙◌,
+  arith,
+}
 use Rattle.std.proofs.lemmas.Bool.Decides.{nat_tests}
 use Rattle.session_commands.specs.declared.entry.Entry.{Entry}
 use Rattle.std.specs.Prelude.{Some, None, ◌||◌}
@@ -19,7 +39,8 @@ use Rattle.history.specs.Prefixes.{entries_of}
 use Rattle.displays.proofs.PublishingLemmas.{entries_of_more}
 use Rattle.desks.specs.Batch.{with_publication}
 
-pub entries_of_with_publication : (bs : List (List Entry)) (more : List Entry) → entries_of (with_publication bs more) ≡ entries_of bs ++ more
+pub entries_of_with_publication : (bs : List (List Entry)) (more : List Entry) → entries_of (with_publication bs more) ≡
+    entries_of bs ++ more
 entries_of_with_publication bs [] = sym (append-nil (entries_of bs))
 entries_of_with_publication bs (e ∷ es) = entries_of_more bs (e ∷ es)
 
@@ -30,31 +51,56 @@ first_grown m n less = grind (arith, nat_tests)
 pub last_grown : (m n : ℕ) → m < n → last_number m n ≡ n
 last_grown m n less = grind (arith, nat_tests)
 
-pub entries_of_grows : (bs : List (List Entry)) (more : List Entry) → 0 < length more → length (entries_of bs) < length (entries_of (bs ++ more ∷ []))
-entries_of_grows bs more some = omega (arith, ap (λ (l : List Entry). length l) (entries_of_more bs more), length-append (entries_of bs) more, some)
+pub entries_of_grows : (bs : List (List Entry)) (more : List Entry) → 0 < length more → length (entries_of bs) < length
+    (entries_of (bs ++ more ∷ []))
+entries_of_grows bs more some = omega (
+  arith,
+  ap (λ (l : List Entry). length l) (entries_of_more bs more),
+  length-append
+      (entries_of bs) more,
+  some,
+)
 
 -- what the book's answer to one command makes of a batch, in a session that opened so
-module _ (opening : SessionState) (book : Ledger) (before : List Entry) (actor : List ℕ) (tried : List Command) (command : Command) (answers : List Answer) (stopped : Bool) where
-  pub accepted_here : (after : List Entry) → book.opening ≡ opening → stopped ≡ false → refusal_at book (User actor) command ≡ None →
+module _ (opening : SessionState) (book : Ledger) (before : List Entry) (actor : List ℕ) (tried : List Command)
+    (command : Command) (answers : List Answer) (stopped : Bool) where
+  pub accepted_here : (after : List Entry) → book.opening ≡ opening → stopped ≡ false → refusal_at book (User actor)
+      command ≡ None →
       after ≡ book.journal ++ record { actor = User actor; command = command } ∷ [] →
       Runs stopped opening before actor tried (record { journal = book.journal; answers = answers }) →
-      Runs (stopped || stops None) opening before actor (tried ++ command ∷ []) (record { journal = after; answers = answers ++ Accepted ∷ [] })
+      Runs (stopped || stops None) opening before actor (tried ++ command ∷ [])
+      (record { journal = after; answers = answers ++ Accepted ∷ [] })
   accepted_here after opened goes_on accepted more ran =
       runs_accepted opening before actor tried command book.journal answers stopped after goes_on
-      (subst (λ (o : SessionState). refusal_at (record { opening = o; journal = book.journal; spare = book.spare }) (User actor) command ≡ None) opened accepted) more ran
+      (subst (λ (o : SessionState). refusal_at (record { opening = o; journal = book.journal; spare = book.spare })
+      (User actor) command ≡ None) opened accepted) more ran
 
-  pub refused_here : (after : List Entry) (cause : Refusal) → book.opening ≡ opening → stopped ≡ false → after ≡ book.journal →
-      (refusal_at book (User actor) command ≡ Some cause) ⊎ ((cause ≡ OutOfMemory) × (refusal_at book (User actor) command ≡ None)) →
+  pub refused_here : (after : List Entry) (cause : Refusal) → book.opening ≡ opening → stopped ≡ false →
+      after ≡ book.journal →
+      (refusal_at book (User actor) command ≡ Some cause) ⊎
+      ((cause ≡ OutOfMemory) × (refusal_at book (User actor) command ≡ None)) →
       Runs stopped opening before actor tried (record { journal = book.journal; answers = answers }) →
-      Runs (stopped || stops (Some cause)) opening before actor (tried ++ command ∷ []) (record { journal = after; answers = answers ++ Refused cause ∷ [] })
+      Runs (stopped || stops (Some cause)) opening before actor (tried ++ command ∷ [])
+      (record { journal = after; answers = answers ++ Refused cause ∷ [] })
   refused_here after cause opened goes_on same err ran =
       runs_refused opening before actor tried command book.journal answers stopped after cause goes_on same
-      (subst (λ (o : SessionState). (refusal_at (record { opening = o; journal = book.journal; spare = book.spare }) (User actor) command ≡ Some cause) ⊎ ((cause ≡ OutOfMemory) × (refusal_at (record { opening = o; journal = book.journal; spare = book.spare }) (User actor) command ≡ None))) opened err) ran
+      (subst (λ (o : SessionState). (refusal_at (record { opening = o; journal = book.journal; spare = book.spare })
+      (User actor) command ≡ Some cause) ⊎
+      ((cause ≡ OutOfMemory) × (refusal_at (record { opening = o; journal = book.journal; spare = book.spare })
+      (User actor) command ≡ None))) opened err) ran
 
 -- what a book is told, by its opening and its journal alone
-pub tried_so : (before after : Ledger) (actor : Actor) (command : Command) (answer : Answer) (opening : SessionState) (journal : List Entry) → before.opening ≡ opening → after.journal ≡ journal →
-    IsTried before actor command answer after → IsTried (book_with opening before.journal) actor command answer (book_with opening journal)
-tried_so before after actor command Accepted opening journal opened same tried =
-    (subst (λ (o : SessionState). refusal_at (book_with o before.journal) actor command ≡ None) opened tried.0, sym same ∙ tried.1)
-tried_so before after actor command (Refused cause) opening journal opened same tried =
-    (subst (λ (o : SessionState). (refusal_at (book_with o before.journal) actor command ≡ Some cause) ⊎ ((cause ≡ OutOfMemory) × (refusal_at (book_with o before.journal) actor command ≡ None))) opened tried.0, sym same ∙ tried.1)
+pub tried_so : (before after : Ledger) (actor : Actor) (command : Command) (answer : Answer) (opening : SessionState)
+    (journal : List Entry) → before.opening ≡ opening → after.journal ≡ journal →
+    IsTried before actor command answer after → IsTried (book_with opening before.journal) actor command answer
+    (book_with opening journal)
+tried_so before after actor command Accepted opening journal opened same tried = (
+  subst (λ (o : SessionState). refusal_at (book_with o before.journal) actor command ≡ None) opened tried.0,
+  sym same
+      ∙ tried.1,
+)
+tried_so before after actor command (Refused cause) opening journal opened same tried = (
+  subst (λ (o : SessionState). (refusal_at (book_with o before.journal) actor command ≡ Some cause) ⊎
+      ((cause ≡ OutOfMemory) × (refusal_at (book_with o before.journal) actor command ≡ None))) opened tried.0,
+  sym same ∙ tried.1,
+)

@@ -4,17 +4,17 @@ ghost use Rattle.std.specs.Prelude.{◌≡◌};
 
 use crate::desk::Desk;
 use displays::{Display, Server};
+use movement::Cell;
 use published_view::{NoEntry, QueryFault};
 use session_book::{Answer, Submission};
+use session_commands::Command;
 use session_keeper::{AuditReceipt, BatchReceipt, CommandKeeper, Keeper};
 use session_queries::{Query, Reply};
-use movement::Cell;
-use session_commands::Command;
-use solver_results::{DdTable, PlayCosts};
-use user_names::{Digest, Name};
 use solver_pool::Work;
+use solver_results::{DdTable, PlayCosts};
 use std::alloc::{AllocError, Global};
 use std::sync::Wait;
+use user_names::{Digest, Name};
 
 /// Keeps a session for a connection beside others: a desk, to which its commands go, and a display, which answers its
 /// queries and learns of each receipt. It stands for what the display has seen.

@@ -8,8 +8,8 @@ use movement::Cell;
 use scoring::Outcome;
 use session_commands::CellState;
 use session_state::State;
-use solver_results::{Play, PlayCosts};
 use solver_pool::Work;
+use solver_results::{Play, PlayCosts};
 
 /// The costs that are left to find at a table on a board: of a confirmed result with a contract and a play, which aren't
 /// there yet.

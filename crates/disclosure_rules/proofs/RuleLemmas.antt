@@ -2,7 +2,20 @@
 use Rattle.std.proofs.Common.{◌≡◌, ℕ, ◌+◌, ◌-◌, ◌<◌, true, get_or, nat_eq, refl, arith}
 use Rattle.std.proofs.lemmas.Bool.{agree_below_at, eqb-true}
 use Rattle.disclosure_rules.specs.declared.rule.Rule.{Rule}
-use Rattle.disclosure_rules.specs.declared.rule.Rule.TheVariants.{NoAccount, NotAMember, AccountsAreClosed, BoardIsHeld, StillToPlay, OthersStillPlay, NeitherContestantNorSpectator, BoardIsIncomplete, AnalysisWaits, PlayWaits, ReasonIsForThePairs, NoResult}
+use Rattle.disclosure_rules.specs.declared.rule.Rule.TheVariants.{
+  NoAccount,
+  NotAMember,
+  AccountsAreClosed,
+  BoardIsHeld,
+  StillToPlay,
+  OthersStillPlay,
+  NeitherContestantNorSpectator,
+  BoardIsIncomplete,
+  AnalysisWaits,
+  PlayWaits,
+  ReasonIsForThePairs,
+  NoResult,
+}
 use Rattle.disclosure_rules.specs.Policy.{rules, rule_number}
 
 -- a rule stands at its number
@@ -36,4 +49,5 @@ number_within NoResult = (omega arith, omega arith)
 
 -- the rule that stands at a place has the next number
 pub number_at : (k : ℕ) (d : Rule) → k < 12 → rule_number (get_or rules k d) ≡ k + 1
-number_at k d below = eqb-true _ _ (agree_below_at (λ n. nat_eq (rule_number (get_or rules n d)) (n + 1)) (λ _. true) 12 k refl below)
+number_at k d below = eqb-true _ _ (agree_below_at (λ n. nat_eq (rule_number (get_or rules n d)) (n + 1)) (λ _. true) 12
+    k refl below)

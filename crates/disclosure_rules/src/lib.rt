@@ -18,7 +18,6 @@ pub use boards::Boards;
 pub use fact::Fact;
 pub use live_cells::LiveCells;
 pub use marks::Marks;
-
 pub use phase::Phase;
 pub use policy::decide;
 pub use public::Public;

@@ -19,7 +19,9 @@ foreknown opening seen told now begins tells accepted user board before cell sho
     prefix_shorter seen before now begins (prefix_trans before told now first tells) (omega (arith, after.number)) in
     let parts : told ≡ seen ++ part.0 ++ after.entry ∷ after.after =
     after.split ∙ ap (λ (entries : List Entry). entries ++ after.entry ∷ after.after) (sym part.1) in
-    subst (λ (entries : List Entry). ¬ IsSeatedAt (replay opening entries).public (viewer_of (replay opening entries) user) cell)
+    subst (λ (entries : List Entry). ¬ IsSeatedAt (replay opening entries).public
+    (viewer_of (replay opening entries) user) cell)
     part.1
-    (none_foreknows opening seen part.0 after.after after.entry user board cell (subst (IsAccepted opening) parts accepted)
+    (none_foreknows opening seen part.0 after.after after.entry user board cell
+    (subst (IsAccepted opening) parts accepted)
     shown after.result of_board)

@@ -17,9 +17,9 @@ use core::mem::replace_with;
 use history::HistoryPrefix;
 use published_view::{NoEntry, QueryFault};
 use session_queries::{Query, Reply};
-use user_names::{Digest, Name};
 use std::alloc::{AllocError, Global};
 use std::marker::Model;
+use user_names::{Digest, Name};
 
 /// Answers queries by the copy that is shown. Contracts see it as the publications that it has seen or been told of: no
 /// answer is older.

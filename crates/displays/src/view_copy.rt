@@ -11,11 +11,11 @@ ghost use Rattle.displays.specs.Copies.{Copied, Addition, copied, with_addition,
 use history::HistoryPrefix;
 use left_right::Absorb;
 use published_view::View;
-use session_queries::{Query, Reply};
 use session_commands::Entry;
-use user_names::{Digest, Name};
+use session_queries::{Query, Reply};
 use std::alloc::{AllocError, Global};
 use std::marker::Model;
+use user_names::{Digest, Name};
 
 /// A view, and the publications for which it stands.
 #[derive(Drop)]

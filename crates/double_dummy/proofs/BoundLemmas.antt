@@ -1,5 +1,24 @@
 -- The tricks of a position are bounded by its cards.
-use Rattle.std.proofs.Common.{ap, ◌≡◌, ℕ, ◌+◌, ◌*◌, ◌<◌, ◌≤◌, false, List, [], ◌∷◌, map, length, refl, ◌∙◌, arith, zero, suc}
+use Rattle.std.proofs.Common.{
+  ap,
+  ◌≡◌,
+  ℕ,
+  ◌+◌,
+  ◌*◌,
+  ◌<◌,
+  ◌≤◌,
+  false,
+  List,
+  [],
+  ◌∷◌,
+  map,
+  length,
+  refl,
+  ◌∙◌,
+  arith,
+  zero,
+  suc,
+}
 use Rattle.std.proofs.lemmas.Bool.{lt-leb}
 use Rattle.cards.specs.declared.card.Card.{Card}
 use Rattle.table_terms.specs.declared.place.Place.{Place}
@@ -11,7 +30,20 @@ use Rattle.table_terms.specs.Place.{side_of}
 use Rattle.cards.specs.Cards.{Cards}
 use Rattle.cards.specs.Hands.{Hands, IsDeal}
 use Rattle.std.specs.FinSet as set
-use Rattle.cards.specs.Play.{Position, after, cards_left, legal, point_of, table_after, to_play, trick_for, winner, IsUnderWay, IsPosition, start}
+use Rattle.cards.specs.Play.{
+  Position,
+  after,
+  cards_left,
+  legal,
+  point_of,
+  table_after,
+  to_play,
+  trick_for,
+  winner,
+  IsUnderWay,
+  IsPosition,
+  start,
+}
 use Rattle.double_dummy_laws.proofs.BestLemmas.{attained}
 use Rattle.double_dummy_laws.proofs.RenamingLemmas.{worth_in}
 use Rattle.cards.specs.DoubleDummy.{double_dummy, best, tricks}

@@ -8,9 +8,27 @@ use Rattle.cards.specs.Hands.{Hands, hand_of}
 use Rattle.std.specs.FinSet as set
 use Rattle.cards.specs.Play.{Position, after, legal, legal_of, point, to_play, without}
 use Rattle.double_dummy_laws.proofs.BestLemmas.{all_answer, one_answers}
-use Rattle.double_dummy_laws.proofs.EqualCardsLemmas.{IsClosed, IsWithin, names_swapped, off_table, renaming_swapped, renaming_within, swap, swap_first, table_swapped}
+use Rattle.double_dummy_laws.proofs.EqualCardsLemmas.{
+  IsClosed,
+  IsWithin,
+  names_swapped,
+  off_table,
+  renaming_swapped,
+  renaming_within,
+  swap,
+  swap_first,
+  table_swapped,
+}
 use Rattle.double_dummy_laws.proofs.HandLemmas.{among_items, items_among, legal_follows, without_had}
-use Rattle.double_dummy_laws.proofs.RenamingLemmas.{legal_named, legal_old, names_without, played_after, turn_named, worth_in, worth_renamed}
+use Rattle.double_dummy_laws.proofs.RenamingLemmas.{
+  legal_named,
+  legal_old,
+  names_without,
+  played_after,
+  turn_named,
+  worth_in,
+  worth_renamed,
+}
 use Rattle.cards.specs.DoubleDummy.{best, tricks}
 use Rattle.double_dummy_laws.specs.Found.{CardClaims, Claims, IsOwned, wanted_answer}
 use Rattle.double_dummy_laws.specs.Known.{IsKnown, IsLike}

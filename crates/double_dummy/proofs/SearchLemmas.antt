@@ -1,5 +1,28 @@
 -- What the search keeps from card to card.
-use Rattle.std.proofs.Common.{◌≡◌, ℕ, ◌-◌, ◌<◌, ◌≤◌, Bool, true, false, List, [], ◌∷◌, map, refl, sym, ap, ◌∙◌, subst, inl, inr, arith, zero, suc}
+use Rattle.std.proofs.Common.{
+  ◌≡◌,
+  ℕ,
+  ◌-◌,
+  ◌<◌,
+  ◌≤◌,
+  Bool,
+  true,
+  false,
+  List,
+  [],
+  ◌∷◌,
+  map,
+  refl,
+  sym,
+  ap,
+  ◌∙◌,
+  subst,
+  inl,
+  inr,
+  arith,
+  zero,
+  suc,
+}
 use Rattle.std.specs.Prelude.{not, ◌&&◌, ◌||◌, ◌⊎◌}
 use Rattle.std.specs.List.{list_any}
 use Rattle.std.specs.Ordering.{eq_by_cmp}
@@ -15,7 +38,15 @@ use Rattle.table_terms.specs.Place.{side_of}
 use Rattle.cards.specs.Hands.{hand_of}
 use Rattle.std.specs.FinSet as set
 use Rattle.cards.specs.Play.{Position, after, cards_left, legal, legal_of, point, to_play}
-use Rattle.double_dummy.proofs.ClaimLemmas.{card_claims, card_claims_within, claims_like, claims_within, decided, owned_after, refused}
+use Rattle.double_dummy.proofs.ClaimLemmas.{
+  card_claims,
+  card_claims_within,
+  claims_like,
+  claims_within,
+  decided,
+  owned_after,
+  refused,
+}
 use Rattle.double_dummy.specs.Search.{AreSpokenFor, AreTriedInVain, IsRunOf}
 use Rattle.double_dummy_laws.proofs.BestLemmas.{Among}
 use Rattle.double_dummy_laws.proofs.CountLemmas.{has_less, left_after, no_more}
@@ -78,7 +109,8 @@ found_refused p target untried known answer some may none each ownership owned t
     (λ card may'. each ownership (cards_left (after p some)) owned tight_p left card may'
     (ap (λ s. set.contains s card) none ∙ set.contains-empty card_cmp card)))
 
--- the cards that are taken off the untried ones refuse as the one that was tried: its run, and those for which it speaks
+-- the cards that are taken off the untried ones refuse as the one that was tried: its run, and those for which it
+-- speaks
 pub refused_step : (p : Position) (target : ℕ) (untried rest known more less decisive run spoken gone : Cards)
     (card : Card) (answer : Bool) → AreTriedInVain p target untried known answer →
     set.contains (legal p) card ≡ true → IsFound (after p card) (target - point p card) less answer →
@@ -302,4 +334,5 @@ some_in s some = of_items (set.items s) refl
 pub of_either : (run spoken gone : Cards) → gone ≡ set.union run spoken → (card : Card) →
     set.contains gone card ≡ true → (set.contains run card ≡ true) ⊎ (set.contains spoken card ≡ true)
 of_either run spoken gone gone_is card held =
-    or_cases _ _ (sym (ap (λ s. set.contains s card) gone_is ∙ set.contains-union card_cmp_total run spoken card) ∙ held)
+    or_cases _ _ (sym (ap (λ s. set.contains s card) gone_is ∙ set.contains-union card_cmp_total run spoken card)
+    ∙ held)

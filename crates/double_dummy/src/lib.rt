@@ -23,4 +23,3 @@ pub use dd_table::table;
 pub use error::{CostsError, SolveError};
 pub use played_costs::play_costs;
 pub use solver::solve;
-

@@ -4,7 +4,22 @@ use Rattle.std.specs.Prelude.{nat_eq, not, ◌&&◌, ⊤}
 use Rattle.std.specs.List.{list_any}
 use Rattle.std.specs.Ordering.{eq_by_cmp, is_eq}
 use Rattle.std.specs.Cmp.{tied_itself}
-use Rattle.std.proofs.lemmas.Bool.{cases_Bool, or_cases, and_parts, and_from, not-true, not_from_false, true≢false, eqb-true, eq-eqb, false_from_ne_true, or_left, or_right, and_left, and_right}
+use Rattle.std.proofs.lemmas.Bool.{
+  cases_Bool,
+  or_cases,
+  and_parts,
+  and_from,
+  not-true,
+  not_from_false,
+  true≢false,
+  eqb-true,
+  eq-eqb,
+  false_from_ne_true,
+  or_left,
+  or_right,
+  and_left,
+  and_right,
+}
 use Rattle.cards.specs.declared.card.Card.{Card}
 use Rattle.table_terms.specs.declared.suit.Suit.{Suit}
 use Rattle.table_terms.specs.declared.place.Place.{Place}

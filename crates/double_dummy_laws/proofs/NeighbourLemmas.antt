@@ -1,5 +1,26 @@
 -- Neighbours are worth the same.
-use Rattle.std.proofs.Common.{List, [], ◌∷◌, suc, ◌≡◌, ◌≢◌, ℕ, ◌<◌, true, refl, sym, ap, ◌∙◌, inl, inr, arith, List, [], ◌∷◌, suc}
+use Rattle.std.proofs.Common.{
+  List,
+  [],
+  ◌∷◌,
+  suc,
+  ◌≡◌,
+  ◌≢◌,
+  ℕ,
+  ◌<◌,
+  true,
+  refl,
+  sym,
+  ap,
+  ◌∙◌,
+  inl,
+  inr,
+  arith,
+  List,
+  [],
+  ◌∷◌,
+  suc,
+}
 use Rattle.std.specs.Prelude.{◌↔◌, All}
 use Rattle.std.proofs.lemmas.Bool.{cases_order}
 use Rattle.cards.specs.declared.card.Card.{Card}

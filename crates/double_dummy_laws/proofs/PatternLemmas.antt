@@ -1,5 +1,27 @@
 -- Positions of one pattern are alike.
-use Rattle.std.proofs.Common.{◌≡◌, ℕ, ◌<◌, Bool, true, ◌⊎◌, List, [], ◌∷◌, refl, sym, ap, ◌∙◌, subst, inl, inr, arith, length, Option, Some, None}
+use Rattle.std.proofs.Common.{
+  ◌≡◌,
+  ℕ,
+  ◌<◌,
+  Bool,
+  true,
+  ◌⊎◌,
+  List,
+  [],
+  ◌∷◌,
+  refl,
+  sym,
+  ap,
+  ◌∙◌,
+  subst,
+  inl,
+  inr,
+  arith,
+  length,
+  Option,
+  Some,
+  None,
+}
 use Rattle.std.specs.Prelude.{nat_lt, ◌&&◌}
 use Rattle.std.proofs.lemmas.Bool.{cases_Bool, and_parts, ltb-true, or_cases, cond-true, cond-false, false_from_ne_true}
 use Rattle.cards.specs.declared.card.Card.{Card}
@@ -14,7 +36,20 @@ use Rattle.cards.specs.Rank.{height, ranks_down}
 use Rattle.std.specs.FinSet as set
 use Rattle.cards.specs.Play.{IsApart, Position, cards_left}
 use Rattle.double_dummy_laws.proofs.AlikeLemmas.{found_alike, IsAlike}
-use Rattle.double_dummy_laws.proofs.PairingLemmas.{AreDistinct, In, IsDown, IsOrdered, Pairing, like_apart, like_in, like_into, like_onto, like_order, like_top, pair_up}
+use Rattle.double_dummy_laws.proofs.PairingLemmas.{
+  AreDistinct,
+  In,
+  IsDown,
+  IsOrdered,
+  Pairing,
+  like_apart,
+  like_in,
+  like_into,
+  like_onto,
+  like_order,
+  like_top,
+  pair_up,
+}
 use Rattle.double_dummy_laws.specs.Found.{IsFound}
 use Rattle.double_dummy_laws.specs.Pattern.{Held, IsOfPattern, IsTop, held_before, held_of, holder_of, holding}
 
@@ -288,7 +323,8 @@ module _ (tops : Suit → ℕ) (p q : Position) (apart : IsApart p.hands) (apart
       subst (λ s. IsTop (tops s) (holding q.hands s) (like_of card)) (sym (like_suit place card held))
       (like_top (tops card.suit) _ _ (paired card.suit).0 (paired card.suit).1 (distinct card.suit) card is_top)
 
--- the law of a partition: what was found out of a position, where no card below the tops mattered, holds of every position with these lengths and tops
+-- the law of a partition: what was found out of a position, where no card below the tops mattered, holds of every
+-- position with these lengths and tops
 pub partition : (tops : Suit → ℕ) (p q : Position) (known more : Cards) (target : ℕ) (answer : Bool) →
     IsApart p.hands → IsApart q.hands → IsOfPattern tops p.hands q.hands →
     q.strain ≡ p.strain → q.leader ≡ p.leader → p.table ≡ [] → q.table ≡ [] → cards_left p ≡ cards_left q →

@@ -11,7 +11,22 @@ use Rattle.table_terms.specs.Suit.{suit_number}
 use Rattle.std.specs.FinSet as set
 use Rattle.cards.specs.Play.{IsPosition, Position, after, cards_left, legal, to_play}
 use Rattle.cards.specs.DoubleDummy.{worth}
-use Rattle.double_dummy_laws.proofs.EqualCardsLemmas.{Swapped, first, map_same, names_swapped, neither, off_table, own_names, same_name, second, swap, swap_first, swap_twice, swapped, table_swapped}
+use Rattle.double_dummy_laws.proofs.EqualCardsLemmas.{
+  Swapped,
+  first,
+  map_same,
+  names_swapped,
+  neither,
+  off_table,
+  own_names,
+  same_name,
+  second,
+  swap,
+  swap_first,
+  swap_twice,
+  swapped,
+  table_swapped,
+}
 use Rattle.double_dummy_laws.proofs.HandLemmas.{legal_follows}
 use Rattle.double_dummy_laws.proofs.NeighbourLemmas.{one_less_after, same_side}
 use Rattle.double_dummy_laws.proofs.OwnerLemmas.{owned_position, owners_of}
@@ -202,7 +217,8 @@ unparted_claims ownership n p known target card other answer owned near =
 pub speaks : (p : Position) (known : Cards) (target : ℕ) (card other : Card) (answer : Bool) →
     AreUnparted p known card other → IsCardFound p target known card answer → IsCardFound p target known other answer
 speaks p known target card other answer near found ownership left owned tight_p count =
-    unparted_claims ownership left p known target card other answer owned near (found ownership left owned tight_p count)
+    unparted_claims ownership left p known target card other answer owned near
+    (found ownership left owned tight_p count)
 
 -- what was found out of a card is true of its worth
 pub card_found_worth : (p : Position) (known : Cards) (target : ℕ) (card : Card) (answer : Bool) → IsPosition p →

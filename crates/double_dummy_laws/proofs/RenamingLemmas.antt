@@ -8,12 +8,41 @@ use Rattle.table_terms.specs.Suit.{suit_number}
 use Rattle.table_terms.specs.Place.{left_of, side_of}
 use Rattle.cards.specs.Hands.{Hands, hand_of}
 use Rattle.std.specs.FinSet as set
-use Rattle.cards.specs.Play.{Position, after, is_of, leader_after, legal, legal_of, point, point_of, table_after, to_play, trick_for, turn, without}
+use Rattle.cards.specs.Play.{
+  Position,
+  after,
+  is_of,
+  leader_after,
+  legal,
+  legal_of,
+  point,
+  point_of,
+  table_after,
+  to_play,
+  trick_for,
+  turn,
+  without,
+}
 use Rattle.double_dummy_laws.proofs.BestLemmas.{same_best}
-use Rattle.double_dummy_laws.proofs.HandLemmas.{among_items, follows_legal, has_without, items_among, legal_follows, without_had}
+use Rattle.double_dummy_laws.proofs.HandLemmas.{
+  among_items,
+  follows_legal,
+  has_without,
+  items_among,
+  legal_follows,
+  without_had,
+}
 use Rattle.double_dummy_laws.proofs.WinnerLemmas.{winner_stays}
 use Rattle.cards.specs.DoubleDummy.{best, tricks}
-use Rattle.double_dummy_laws.specs.Renaming.{AllKnown, ArePlayed, HasNames, IsLiveCardOf, IsRenaming, Ownership, renamed}
+use Rattle.double_dummy_laws.specs.Renaming.{
+  AllKnown,
+  ArePlayed,
+  HasNames,
+  IsLiveCardOf,
+  IsRenaming,
+  Ownership,
+  renamed,
+}
 use Rattle.double_dummy_laws.specs.Known.{IsKnown, IsSettled}
 
 -- the tricks of North and South with a card, with so many cards left in the hands after it

@@ -1,7 +1,20 @@
 -- Who wins a trick, and that it stays so when the cards get other names.
 use Rattle.std.proofs.Common.{◌≡◌, ◌≢◌, ℕ, ◌+◌, ◌<◌, Bool, true, false, ◌⊎◌, refl, sym, ap, ◌∙◌, subst, inl, inr, arith}
 use Rattle.std.specs.Prelude.{nat_eq, nat_le, ◌&&◌, ◌||◌, Option, Some, None}
-use Rattle.std.proofs.lemmas.Bool.{cases_lt, cases_order, eq-eqb, and_from, and_left, and_right, le-leb, lt-leb, eqb-true, true≢false, cond-true, cond-false}
+use Rattle.std.proofs.lemmas.Bool.{
+  cases_lt,
+  cases_order,
+  eq-eqb,
+  and_from,
+  and_left,
+  and_right,
+  le-leb,
+  lt-leb,
+  eqb-true,
+  true≢false,
+  cond-true,
+  cond-false,
+}
 use Rattle.cards.specs.declared.card.Card.{Card}
 use Rattle.table_terms.specs.declared.suit.Suit.{Suit}
 use Rattle.table_terms.specs.declared.suit.Suit.TheVariants.{Spades, Hearts, Diamonds, Clubs}
@@ -224,7 +237,8 @@ pub record IsTrick (ownership : Ownership) (leader : Place) (a b c d : Card) : T
   pub third : IsLiveCardOf ownership (left_of (left_of leader)) c
   pub fourth : IsLiveCardOf ownership (left_of (left_of (left_of leader))) d
 
-others : (ownership : Ownership) (x y : Place) (a b : Card) → IsLiveCardOf ownership x a → IsLiveCardOf ownership y b → x ≢ y →
+others : (ownership : Ownership) (x y : Place) (a b : Card) → IsLiveCardOf ownership x a → IsLiveCardOf ownership y b →
+    x ≢ y →
     ownership.owner a ≢ ownership.owner b
 others ownership x y a b (_, of_a) (_, of_b) ne e = ne (sym of_a ∙ e ∙ of_b)
 

@@ -1,5 +1,25 @@
 -- Beginnings of one list.
-use Rattle.std.proofs.Common.{◌≡◌, ℕ, zero, suc, ◌≤◌, List, [], ◌∷◌, ◌++◌, length, Some, slice_get, refl, ap, sym, ◌∙◌, arith, append_assoc, length-append}
+use Rattle.std.proofs.Common.{
+  ◌≡◌,
+  ℕ,
+  zero,
+  suc,
+  ◌≤◌,
+  List,
+  [],
+  ◌∷◌,
+  ◌++◌,
+  length,
+  Some,
+  slice_get,
+  refl,
+  ap,
+  sym,
+  ◌∙◌,
+  arith,
+  append_assoc,
+  length-append,
+}
 use mathlib.Core.List.{IsPrefix}
 use Rattle.session_commands.specs.declared.entry.Entry.{Entry}
 use Rattle.history.specs.Prefixes.{entries_of}
@@ -13,7 +33,8 @@ pub prefix_trans : {A : Type 0} (xs ys zs : List A) → IsPrefix xs ys → IsPre
 prefix_trans xs ys zs p q = (p.0 ++ q.0, sym (append_assoc xs p.0 q.0) ∙ (ap (λ w. w ++ q.0) p.1 ∙ q.1))
 
 -- of two beginnings of one list the shorter begins the longer
-pub prefix_shorter : {A : Type 0} (xs ys zs : List A) → IsPrefix xs zs → IsPrefix ys zs → length xs ≤ length ys → IsPrefix xs ys
+pub prefix_shorter : {A : Type 0} (xs ys zs : List A) → IsPrefix xs zs → IsPrefix ys zs → length xs ≤ length ys →
+    IsPrefix xs ys
 prefix_shorter [] ys zs p q le = (ys, refl)
 prefix_shorter (x ∷ xs) [] zs p q le = absurd (omega arith)
 prefix_shorter (x ∷ xs) (y ∷ ys) [] p q le = absurd (cc (p.1))
@@ -34,7 +55,8 @@ pub prefix_length : {A : Type 0} (xs ys : List A) → IsPrefix xs ys → length 
 prefix_length xs ys p = omega (arith, sym (ap length p.1) ∙ length-append xs p.0)
 
 -- what stands in a beginning stands in the whole, at the same place
-pub prefix_get : {A : Type 0} (xs ys : List A) (k : ℕ) (x : A) → IsPrefix xs ys → slice_get xs k ≡ Some x → slice_get ys k ≡ Some x
+pub prefix_get : {A : Type 0} (xs ys : List A) (k : ℕ) (x : A) → IsPrefix xs ys → slice_get xs k ≡ Some x →
+    slice_get ys k ≡ Some x
 prefix_get [] ys k x p h = absurd cc
 prefix_get (y ∷ xs) [] k x p h = absurd (cc (p.1))
 prefix_get (y ∷ xs) (z ∷ ys) zero x p h = cc (p.1, h)
@@ -46,5 +68,8 @@ entries_of_prefix [] cs p = (entries_of cs, refl)
 entries_of_prefix (b ∷ bs) [] p = absurd (cc (p.1))
 entries_of_prefix (b ∷ bs) (c ∷ cs) p =
     let heads : b ≡ c = cc (p.1) in
-    let rest = entries_of_prefix bs cs (p.0, cc (p.1)) in
-    (rest.0, append_assoc b (entries_of bs) rest.0 ∙ (ap (λ (l : List Entry). b ++ l) rest.1 ∙ ap (λ (l : List Entry). l ++ entries_of cs) heads))
+    let rest = entries_of_prefix bs cs (p.0, cc (p.1)) in (
+      rest.0,
+      append_assoc b (entries_of bs) rest.0 ∙ (ap (λ (l : List Entry). b ++ l) rest.1
+          ∙ ap (λ (l : List Entry). l ++ entries_of cs) heads),
+    )

@@ -1,13 +1,67 @@
 -- What is read of a member, of a form and of a list is what it is, and the other way round.
-use Rattle.std.proofs.Common.{◌≡◌, ℕ, zero, suc, ◌<◌, ◌≤◌, List, [], ◌∷◌, length, nat_lt, nat_le, Bool, true, false, cond, ◌&&◌, Option, Some, None, option_and_then, refl, sym, ap, subst, ◌∙◌, arith}
+use Rattle.std.proofs.Common.{
+  ◌≡◌,
+  ℕ,
+  zero,
+  suc,
+  ◌<◌,
+  ◌≤◌,
+  List,
+  [],
+  ◌∷◌,
+  length,
+  nat_lt,
+  nat_le,
+  Bool,
+  true,
+  false,
+  cond,
+  ◌&&◌,
+  Option,
+  Some,
+  None,
+  option_and_then,
+  refl,
+  sym,
+  ap,
+  subst,
+  ◌∙◌,
+  arith,
+}
 use Rattle.serde_json.specs.Data.{Data, Items, no_items, item}
 use Rattle.serde_json.specs.Find.{get}
 use Rattle.scoring.specs.declared.doubling.Doubling.{Doubling}
 use Rattle.scoring.specs.declared.doubling.Doubling.TheVariants.{Undoubled, Doubled, Redoubled}
 use Rattle.scoring.specs.Doubling.{times_doubled}
 use Rattle.user_names.specs.declared.name.TheConstants.Name.{MOST}
-use Rattle.json_fields.specs.Form.{Member, Form, applied, form, ◌with◌, formed, HasForm, item_count, first_then, each, AreEach}
-use Rattle.json_fields.specs.Field.{text, number, below_256, small, numbered, short_name, named, at_most, limited, called, written, elements, listed}
+use Rattle.json_fields.specs.Form.{
+  Member,
+  Form,
+  applied,
+  form,
+  ◌with◌,
+  formed,
+  HasForm,
+  item_count,
+  first_then,
+  each,
+  AreEach,
+}
+use Rattle.json_fields.specs.Field.{
+  text,
+  number,
+  below_256,
+  small,
+  numbered,
+  short_name,
+  named,
+  at_most,
+  limited,
+  called,
+  written,
+  elements,
+  listed,
+}
 use Rattle.json_fields.specs.Doubling.{doubling_numbered}
 
 -- what is read of the member is what it is
@@ -86,7 +140,8 @@ numbered_agrees name = record {
   reads = λ o n is. small_reads (number o) n is.is is.below;
 }
 
-pub name_read : (o : Option (List ℕ)) (name : List ℕ) → short_name o ≡ Some name → (o ≡ Some name) × (length name ≤ MOST)
+pub name_read : (o : Option (List ℕ)) (name : List ℕ) → short_name o ≡ Some name → (o ≡ Some name) ×
+    (length name ≤ MOST)
 name_read None name h = absurd (cc)
 name_read (Some text) name h =
     let both = kept (nat_le (length text) MOST) (Some text) name h in
@@ -96,7 +151,8 @@ name_read (Some text) name h =
 pub name_reads : (o : Option (List ℕ)) (name : List ℕ) → o ≡ Some name → length name ≤ MOST → short_name o ≡ Some name
 name_reads o name is short = ap short_name is ∙ ap (λ b. cond b (Some name) None) (most_is (length name) MOST short)
 
-pub named_read : {A : Type 0} (read : List ℕ → Option A) (text_of : A → List ℕ) (reads : (text : List ℕ) (x : A) → read text ≡ Some x → text ≡ text_of x)
+pub named_read : {A : Type 0} (read : List ℕ → Option A) (text_of : A → List ℕ) (reads : (text : List ℕ) (x : A) →
+    read text ≡ Some x → text ≡ text_of x)
     (o : Option (List ℕ)) (x : A) → option_and_then read o ≡ Some x → o ≡ Some (text_of x)
 named_read read text_of reads None x h = absurd (cc)
 named_read read text_of reads (Some text) x h = ap Some (reads text x h)
@@ -126,7 +182,8 @@ pub means_read : {A : Type 0} (of_number : ℕ → Option A) (o : Option Data) (
     → option_and_then of_number (small o) ≡ Some x → (n : ℕ) × (number o ≡ Some n) × (of_number n ≡ Some x)
 means_read of_number o x h = means_at of_number (number o) x h
 
-pub means_reads : {A : Type 0} (of_number : ℕ → Option A) (o : Option Data) (n : ℕ) (x : A) → number o ≡ Some n → n < 256
+pub means_reads : {A : Type 0} (of_number : ℕ → Option A) (o : Option Data) (n : ℕ) (x : A) → number o ≡ Some n →
+    n < 256
     → of_number n ≡ Some x → option_and_then of_number (small o) ≡ Some x
 means_reads of_number o n x is below means = ap (option_and_then of_number) (small_reads (number o) n is below) ∙ means
 

@@ -1,8 +1,59 @@
 -- What a value's one member, and what the elements of a list say of the whole.
-use Rattle.std.proofs.Common.{◌≡◌, ℕ, zero, suc, get_or, drop, ◌+◌, ◌-◌, ◌<◌, ◌≤◌, max, List, [], ◌∷◌, ◌++◌, length, Bool, true, false, cond, nat_le, ◌&&◌, codes, Option, Some, None, IsSome, is_some, Err, option_map, option_and_then, refl, ap, sym, subst, ◌∙◌, arith}
+use Rattle.std.proofs.Common.{
+  ◌≡◌,
+  ℕ,
+  zero,
+  suc,
+  get_or,
+  drop,
+  ◌+◌,
+  ◌-◌,
+  ◌<◌,
+  ◌≤◌,
+  max,
+  List,
+  [],
+  ◌∷◌,
+  ◌++◌,
+  length,
+  Bool,
+  true,
+  false,
+  cond,
+  nat_le,
+  ◌&&◌,
+  codes,
+  Option,
+  Some,
+  None,
+  IsSome,
+  is_some,
+  Err,
+  option_map,
+  option_and_then,
+  refl,
+  ap,
+  sym,
+  subst,
+  ◌∙◌,
+  arith,
+}
 use Rattle.std.proofs.lemmas.Grind.{common_steps}
 use Rattle.std.proofs.lemmas.Option.{same_Some}
-use Rattle.serde_json.specs.Data.{Data, null, boolean, number, string, array, object, Items, no_items, item, no_members, member}
+use Rattle.serde_json.specs.Data.{
+  Data,
+  null,
+  boolean,
+  number,
+  string,
+  array,
+  object,
+  Items,
+  no_items,
+  item,
+  no_members,
+  member,
+}
 use Rattle.serde_json.specs.Find.{as_array}
 use Rattle.serde_json.specs.View.{view, items_view}
 use Rattle.serde_json.specs.declared.value.Value.{Value}
@@ -14,10 +65,32 @@ use Rattle.json_fields.specs.Form.{item_count}
 use Rattle.query_filter.proofs.LimitLemmas.{left_after_first}
 use Rattle.query_filter.specs.declared.condition.Condition.{Condition}
 use Rattle.query_filter.specs.Formula.{Formula, Is, Not, And, Or, Formulas, no_formula, formula_then, formula, formulas}
-use Rattle.query_filter.specs.Limits.{depth, deepest, atoms, atoms_of_all, is_list_within, all_have_lists_within, most_depth, most_atoms, most_members, member_count, has_lists_within, is_within_limits, left_after, left_after_all}
+use Rattle.query_filter.specs.Limits.{
+  depth,
+  deepest,
+  atoms,
+  atoms_of_all,
+  is_list_within,
+  all_have_lists_within,
+  most_depth,
+  most_atoms,
+  most_members,
+  member_count,
+  has_lists_within,
+  is_within_limits,
+  left_after,
+  left_after_all,
+}
 use Rattle.query_filter.specs.declared.atom.Atom.{Atom}
 use Rattle.json_fields.specs.Atom.{atom_called}
-use Rattle.json_fields.specs.Filter.{first_and_others, formula_of, formula_called, formulas_in, formulas_of, within_limits}
+use Rattle.json_fields.specs.Filter.{
+  first_and_others,
+  formula_of,
+  formula_called,
+  formulas_in,
+  formulas_of,
+  within_limits,
+}
 use Rattle.json_fields.specs.declared.filter_fault.FilterFault.{FilterFault}
 use Rattle.json_fields.specs.declared.filter_fault.FilterFault.TheVariants.{BadField, OutOfMemory}
 use Rattle.json_fields.specs.FilterReading.{ReadsFilter, FailsFilter, not_deeper, none_deeper, left_after_list}
@@ -95,27 +168,31 @@ pub left_after_each : (deep many : ℕ) (o : Option Formulas) → 1 ≤ deep
 left_after_each deep many None h = refl
 left_after_each deep many (Some fs) h =
     rw (step_down (deepest fs) deep h)
-    (list_first (nat_le (deepest fs) (deep - 1)) (nat_le (atoms_of_all fs) many) (is_list_within fs) (all_have_lists_within fs) (Some (many - atoms_of_all fs)))
+    (list_first (nat_le (deepest fs) (deep - 1)) (nat_le (atoms_of_all fs) many) (is_list_within fs)
+    (all_have_lists_within fs) (Some (many - atoms_of_all fs)))
 
 pub left_after_some : (deep many : ℕ) (o : Option Formulas) → 1 ≤ deep
     → option_and_then (left_after deep many) (option_map Or o) ≡ option_and_then (left_after_list (deep - 1) many) o
 left_after_some deep many None h = refl
 left_after_some deep many (Some fs) h =
     rw (step_down (deepest fs) deep h)
-    (list_first (nat_le (deepest fs) (deep - 1)) (nat_le (atoms_of_all fs) many) (is_list_within fs) (all_have_lists_within fs) (Some (many - atoms_of_all fs)))
+    (list_first (nat_le (deepest fs) (deep - 1)) (nat_le (atoms_of_all fs) many) (is_list_within fs)
+    (all_have_lists_within fs) (Some (many - atoms_of_all fs)))
 
 no_choice : {A : Type 0} (b : Bool) (x : A) → x ≡ cond b x x
 no_choice true x = refl
 no_choice false x = refl
 
-nothing_after : {A B : Type 0} (o : Option A) (nothing : Option B) → nothing ≡ None → option_and_then (λ _. nothing) o ≡ None
+nothing_after : {A B : Type 0} (o : Option A) (nothing : Option B) → nothing ≡ None → option_and_then (λ _. nothing) o ≡
+    None
 nothing_after None nothing h = refl
 nothing_after (Some x) nothing h = h
 
 -- what is left after a list is left after its first element and then after the others
 pub left_after_first_item : (deep many : ℕ) (o : Option Formula) (others : Option Formulas)
     → option_and_then (left_after_all deep many) (first_and_others o others)
-    ≡ option_and_then (λ left. option_and_then (left_after_all deep left) others) (option_and_then (left_after deep many) o)
+    ≡ option_and_then (λ left. option_and_then (left_after_all deep left) others)
+    (option_and_then (left_after deep many) o)
 left_after_first_item deep many None others = refl
 left_after_first_item deep many (Some f) None = sym (nothing_after (left_after deep many f) None refl)
 left_after_first_item deep many (Some f) (Some fs) = left_after_first deep many f fs
@@ -142,28 +219,34 @@ after_count deep many n (Some fs) counts = rw (counts fs refl) refl
 
 pub left_after_items : (deep many : ℕ) (ds : Items)
     → option_and_then (left_after_list deep many) (formulas_of ds)
-    ≡ cond (nat_le 1 (item_count ds) && nat_le (item_count ds) most_members) (option_and_then (left_after_all deep many) (formulas_of ds)) None
+    ≡ cond (nat_le 1 (item_count ds) && nat_le (item_count ds) most_members) (option_and_then (left_after_all deep many)
+    (formulas_of ds)) None
 left_after_items deep many ds = after_count deep many (item_count ds) (formulas_of ds) (count_of ds)
 
 -- the same of the values of a list
 pub left_after_values : (deep many : ℕ) (values : List Value)
     → option_and_then (left_after_list deep many) (formulas_of (items_view values))
-    ≡ cond (nat_le 1 (length values) && nat_le (length values) most_members) (option_and_then (left_after_all deep many) (formulas_of (items_view values))) None
+    ≡ cond (nat_le 1 (length values) && nat_le (length values) most_members) (option_and_then (left_after_all deep many)
+    (formulas_of (items_view values))) None
 left_after_values deep many values =
     left_after_items deep many (items_view values)
-    ∙ ap (λ n. cond (nat_le 1 n && nat_le n most_members) (option_and_then (left_after_all deep many) (formulas_of (items_view values))) None) (item_count_of values)
+    ∙ ap (λ n. cond (nat_le 1 n && nat_le n most_members) (option_and_then (left_after_all deep many)
+    (formulas_of (items_view values))) None) (item_count_of values)
 
-pub list_within : {A : Type 0} (n : ℕ) (o : Option A) → 1 ≤ n → n ≤ most_members → cond (nat_le 1 n && nat_le n most_members) o None ≡ o
+pub list_within : {A : Type 0} (n : ℕ) (o : Option A) → 1 ≤ n → n ≤ most_members →
+    cond (nat_le 1 n && nat_le n most_members) o None ≡ o
 list_within n o least most = grind (arith, common_steps)
 
 pub list_empty : {A : Type 0} (n : ℕ) (o : Option A) → n < 1 → cond (nat_le 1 n && nat_le n most_members) o None ≡ None
 list_empty n o h = grind (arith, common_steps)
 
-pub list_too_long : {A : Type 0} (n : ℕ) (o : Option A) → most_members < n → cond (nat_le 1 n && nat_le n most_members) o None ≡ None
+pub list_too_long : {A : Type 0} (n : ℕ) (o : Option A) → most_members < n → cond (nat_le 1 n && nat_le n most_members)
+    o None ≡ None
 list_too_long n o h = grind (arith, common_steps)
 
 -- what is left after the values from one on is left after that and then after the next ones
-pub left_after_next : (deep left : ℕ) (values : List Value) (i : ℕ) (v : Value) → i < length values → v ≡ get_or values i v
+pub left_after_next : (deep left : ℕ) (values : List Value) (i : ℕ) (v : Value) → i < length values →
+    v ≡ get_or values i v
     → option_and_then (left_after_all deep left) (formulas_of (items_view (drop i values)))
     ≡ option_and_then (λ n. option_and_then (left_after_all deep n) (formulas_of (items_view (drop (suc i) values))))
     (option_and_then (left_after deep left) (formula_of (view v)))
@@ -174,7 +257,8 @@ left_after_next deep left (w ∷ values) (suc i) v below is = left_after_next de
 
 -- and so of what was read
 pub read_next : (values : List Value) (i : ℕ) (v : Value) → i < length values → v ≡ get_or values i v
-    → formulas_of (items_view (drop i values)) ≡ first_and_others (formula_of (view v)) (formulas_of (items_view (drop (suc i) values)))
+    → formulas_of (items_view (drop i values)) ≡ first_and_others (formula_of (view v))
+    (formulas_of (items_view (drop (suc i) values)))
 read_next [] i v below is = absurd (omega arith)
 read_next (w ∷ values) zero v below is = rw is refl
 read_next (w ∷ values) (suc i) v below is = read_next values i v (omega arith) is
@@ -225,7 +309,8 @@ contrary_called name d f is read = rw is (ap (option_map Not) read)
 pub atom_named : (name : List ℕ) (d : Data) (read : Option Atom) → (name ≡ codes "and" → ⊥) → (name ≡ codes "or" → ⊥)
     → (name ≡ codes "not" → ⊥) → read ≡ atom_called name d → formula_called name d ≡ option_map Is read
 atom_named name d read not_and not_or not_not is =
-    rw (differs name (codes "and") not_and, differs name (codes "or") not_or, differs name (codes "not") not_not, is) refl
+    rw (differs name (codes "and") not_and, differs name (codes "or") not_or, differs name (codes "not") not_not, is)
+    refl
 
 -- where what a member's name says isn't read, the member isn't
 pub each_fails : (deep : ℕ) (name : List ℕ) (d : Data) (fault : FilterFault) → 1 ≤ deep → name ≡ codes "and"
@@ -269,7 +354,8 @@ first_above : (a b deep : ℕ) → nat_le a deep ≡ false → nat_le (max a b) 
 first_above a b deep h = grind (arith, common_steps)
 
 -- a list is too deep where an element is
-pub first_deeper : (deep : ℕ) (o : Option Formula) (others : Option Formulas) → option_and_then (not_deeper deep) o ≡ None
+pub first_deeper : (deep : ℕ) (o : Option Formula) (others : Option Formulas) → option_and_then (not_deeper deep) o ≡
+    None
     → option_and_then (none_deeper deep) (first_and_others o others) ≡ None
 first_deeper deep None others e = refl
 first_deeper deep (Some f) None e = refl
@@ -282,7 +368,8 @@ others_deeper deep f None e = refl
 others_deeper deep f (Some fs) e =
     rw (either_above (depth f) (deepest fs) deep (refused (nat_le (deepest fs) deep) fs e)) refl
 
-pub with_front_deeper : (deep : ℕ) (cs : List Condition) (others : Option Formulas) → option_and_then (none_deeper deep) others ≡ None
+pub with_front_deeper : (deep : ℕ) (cs : List Condition) (others : Option Formulas) → option_and_then (none_deeper deep)
+    others ≡ None
     → option_and_then (none_deeper deep) (with_front cs others) ≡ None
 with_front_deeper deep [] others e = e
 with_front_deeper deep (c ∷ cs) others e =
@@ -313,7 +400,8 @@ pub value_kept : (cs : List Condition) (values : List Value) (i : ℕ) (v : Valu
     → formulas_of (items_view values) ≡ with_front (cs ++ c ∷ []) (formulas_of (items_view (drop (suc i) values)))
 value_kept cs values i v c kept below is read =
     kept
-    ∙ (ap (with_front cs) (read_next values i v below is ∙ ap (λ o. first_and_others o (formulas_of (items_view (drop (suc i) values)))) read)
+    ∙ (ap (with_front cs) (read_next values i v below is
+    ∙ ap (λ o. first_and_others o (formulas_of (items_view (drop (suc i) values)))) read)
     ∙ sym (with_front_last cs c (formulas_of (items_view (drop (suc i) values)))))
 
 drop-past : {A : Type 0} (xs : List A) (i : ℕ) → length xs ≤ i → drop i xs ≡ []
@@ -331,16 +419,19 @@ all_kept cs values i kept end =
 
 -- ---- the whole
 
-pub unchecked : (o : Option Formula) → option_and_then (left_after most_depth most_atoms) o ≡ None → option_and_then within_limits o ≡ None
+pub unchecked : (o : Option Formula) → option_and_then (left_after most_depth most_atoms) o ≡ None →
+    option_and_then within_limits o ≡ None
 unchecked None h = refl
 unchecked (Some f) h = rw (refused (is_within_limits f) (most_atoms - atoms f) h) refl
 
-pub none_left : (o : Option Formula) (r : Option ℕ) → r ≡ option_and_then (left_after most_depth most_atoms) o → is_some r ≡ false
+pub none_left : (o : Option Formula) (r : Option ℕ) → r ≡ option_and_then (left_after most_depth most_atoms) o →
+    is_some r ≡ false
     → option_and_then within_limits o ≡ None
 none_left o None is h = unchecked o (sym is)
 none_left o (Some left) is h = absurd (cc)
 
-passed : {A B : Type 0} (b : Bool) (x : A) (y : B) (z : A) → cond b (Some x) None ≡ Some z → IsSome (cond b (Some y) None)
+passed : {A B : Type 0} (b : Bool) (x : A) (y : B) (z : A) → cond b (Some x) None ≡ Some z →
+    IsSome (cond b (Some y) None)
 passed true x y z h = refl
 passed false x y z h = absurd (cc)
 
@@ -349,7 +440,8 @@ pub checked : (o : Option Formula) (left : ℕ) → option_and_then (left_after 
 checked None left h = absurd (cc)
 checked (Some f) left h = passed (is_within_limits f) (most_atoms - atoms f) f left h
 
-some_left : (o : Option Formula) (r : Option ℕ) → r ≡ option_and_then (left_after most_depth most_atoms) o → is_some r ≡ true
+some_left : (o : Option Formula) (r : Option ℕ) → r ≡ option_and_then (left_after most_depth most_atoms) o →
+    is_some r ≡ true
     → IsSome (option_and_then within_limits o)
 some_left o None is h = absurd (cc)
 some_left o (Some left) is h = checked o left (sym is)
@@ -358,13 +450,17 @@ and_false : (a b : Bool) → a ≡ false → (a && b) ≡ false
 and_false true b h = absurd (cc)
 and_false false b h = refl
 
-pub too_deep : (o : Option Formula) → option_and_then (not_deeper most_depth) o ≡ None → option_and_then within_limits o ≡ None
+pub too_deep : (o : Option Formula) → option_and_then (not_deeper most_depth) o ≡ None → option_and_then within_limits o
+    ≡ None
 too_deep None h = refl
 too_deep (Some f) h =
-    rw (and_false (nat_le (depth f) most_depth) (nat_le (atoms f) most_atoms && has_lists_within f) (refused (nat_le (depth f) most_depth) f h)) refl
+    rw (and_false (nat_le (depth f) most_depth) (nat_le (atoms f) most_atoms && has_lists_within f)
+    (refused (nat_le (depth f) most_depth) f h)) refl
 
 -- a fault after the check
-pub fault_reads : (o : Option Formula) (r : Option ℕ) (fault : FilterFault) → r ≡ option_and_then (left_after most_depth most_atoms) o
-    → is_some r ≡ true → FailsFilter fault (option_and_then (not_deeper most_depth) o) → ReadsFilter (Err fault) (option_and_then within_limits o)
+pub fault_reads : (o : Option Formula) (r : Option ℕ) (fault : FilterFault) → r ≡ option_and_then
+    (left_after most_depth most_atoms) o
+    → is_some r ≡ true → FailsFilter fault (option_and_then (not_deeper most_depth) o) → ReadsFilter (Err fault)
+    (option_and_then within_limits o)
 fault_reads o r BadField is some h = too_deep o h
 fault_reads o r OutOfMemory is some h = some_left o r is some

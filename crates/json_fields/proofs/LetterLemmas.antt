@@ -1,5 +1,30 @@
 -- A letter names the place or the strain that is written so.
-use Rattle.std.proofs.Common.{◌≡◌, ◌≢◌, ℕ, List, [], ◌∷◌, ◌==◌, length, get_or, cond, Bool, true, false, Option, Some, None, IfSome, IfNone, refl, sym, ap, subst, ◌∙◌, arith}
+use Rattle.std.proofs.Common.{
+  ◌≡◌,
+  ◌≢◌,
+  ℕ,
+  List,
+  [],
+  ◌∷◌,
+  ◌==◌,
+  length,
+  get_or,
+  cond,
+  Bool,
+  true,
+  false,
+  Option,
+  Some,
+  None,
+  IfSome,
+  IfNone,
+  refl,
+  sym,
+  ap,
+  subst,
+  ◌∙◌,
+  arith,
+}
 use Rattle.std.specs.List.{find}
 use Rattle.table_terms.specs.declared.place.Place.{Place}
 use Rattle.table_terms.specs.declared.place.Place.TheVariants.{North, East, South, West}
@@ -49,7 +74,8 @@ strain_of_letter [] read len found none = absurd (omega arith)
 strain_of_letter (letter ∷ []) (Some x) len found none =
     subst (λ n. Some x ≡ strain_named (n ∷ [])) found (strain_found x)
 strain_of_letter (letter ∷ []) None len found none =
-    sym (find_nothing _ (strain.Spades ∷ strain.Hearts ∷ strain.Diamonds ∷ strain.Clubs ∷ strain.NoTrump ∷ []) (λ x. unequal (strain_letter x) letter (none x)))
+    sym (find_nothing _ (strain.Spades ∷ strain.Hearts ∷ strain.Diamonds ∷ strain.Clubs ∷ strain.NoTrump ∷ [])
+    (λ x. unequal (strain_letter x) letter (none x)))
 strain_of_letter (letter ∷ other ∷ rest) read len found none = absurd (omega arith)
 
 -- what is found passes the test
@@ -68,11 +94,15 @@ equal m n h = grind arith
 pub place_reads : (text : List ℕ) (place : Place) → place_named text ≡ Some place → text ≡ place_letter place ∷ []
 place_reads [] place h = absurd (cc)
 place_reads (letter ∷ []) place h =
-    ap (λ n. n ∷ []) (sym (equal (place_letter place) letter (found_passes (λ x. place_letter x == letter) (North ∷ East ∷ South ∷ West ∷ []) place h)))
+    ap (λ n. n ∷ [])
+    (sym (equal (place_letter place) letter (found_passes (λ x. place_letter x == letter)
+    (North ∷ East ∷ South ∷ West ∷ []) place h)))
 place_reads (letter ∷ other ∷ rest) place h = absurd (cc)
 
 pub strain_reads : (text : List ℕ) (x : Strain) → strain_named text ≡ Some x → text ≡ strain_letter x ∷ []
 strain_reads [] x h = absurd (cc)
 strain_reads (letter ∷ []) x h =
-    ap (λ n. n ∷ []) (sym (equal (strain_letter x) letter (found_passes (λ y. strain_letter y == letter) (strain.Spades ∷ strain.Hearts ∷ strain.Diamonds ∷ strain.Clubs ∷ strain.NoTrump ∷ []) x h)))
+    ap (λ n. n ∷ [])
+    (sym (equal (strain_letter x) letter (found_passes (λ y. strain_letter y == letter)
+    (strain.Spades ∷ strain.Hearts ∷ strain.Diamonds ∷ strain.Clubs ∷ strain.NoTrump ∷ []) x h)))
 strain_reads (letter ∷ other ∷ rest) x h = absurd (cc)

@@ -1,5 +1,27 @@
 -- What an object says by a table's form, and the words of a table.
-use Rattle.std.proofs.Common.{◌≡◌, ◌≢◌, ℕ, List, [], ◌∷◌, Bool, true, false, not, cond, ◌&&◌, ◌||◌, All, Some, refl, ap, subst, ◌∙◌, inl, inr}
+use Rattle.std.proofs.Common.{
+  ◌≡◌,
+  ◌≢◌,
+  ℕ,
+  List,
+  [],
+  ◌∷◌,
+  Bool,
+  true,
+  false,
+  not,
+  cond,
+  ◌&&◌,
+  ◌||◌,
+  All,
+  Some,
+  refl,
+  ap,
+  subst,
+  ◌∙◌,
+  inl,
+  inr,
+}
 use Rattle.std.specs.List.{list_any}
 use Rattle.std.specs.Str.{bytes_eq}
 use Rattle.std.proofs.lemmas.List.Elements.{All-nil, All-cons, All-head, All-tail}
@@ -58,7 +80,8 @@ pub none_among : (ws : List (List ℕ)) (word : List ℕ) → is_among ws word �
 none_among [] word h = All-nil (λ other. word ≢ other)
 none_among (w ∷ ws) word h =
     let parts = or_parts (bytes_eq word w) (is_among ws word) h in
-    All-cons (λ other. word ≢ other) w ws (λ same. let is = (bytes_eq-Decides word w).1 same in let isnt = parts.0 in cc) (none_among ws word parts.1)
+    All-cons (λ other. word ≢ other) w ws (λ same. let is = (bytes_eq-Decides word w).1 same in let isnt = parts.0 in
+    cc) (none_among ws word parts.1)
 
 other_than : (word w : List ℕ) (b : Bool) → bytes_eq word w ≡ b → word ≢ w → b ≡ false
 other_than word w true is other = absurd (other ((bytes_eq-Decides word w).0 is))
@@ -67,7 +90,8 @@ other_than word w false is other = refl
 pub among_none : (ws : List (List ℕ)) (word : List ℕ) → All (λ other. word ≢ other) ws → is_among ws word ≡ false
 among_none [] word h = refl
 among_none (w ∷ ws) word h =
-    ap (λ b. b || is_among ws word) (other_than word w (bytes_eq word w) refl (All-head (λ other. word ≢ other) w ws h)) ∙ among_none ws word (All-tail (λ other. word ≢ other) w ws h)
+    ap (λ b. b || is_among ws word) (other_than word w (bytes_eq word w) refl (All-head (λ other. word ≢ other) w ws h))
+    ∙ among_none ws word (All-tail (λ other. word ≢ other) w ws h)
 
 -- ---- reading by the word
 
@@ -94,5 +118,6 @@ by_word_reads others (f ∷ fs) all apart word d x (inl has) =
     ∙ formed_reads others f all.0 d x has.1
 by_word_reads others (f ∷ fs) all apart word d x (inr has) =
     let parts = and_parts (is_among (words fs) f.word) (are_apart (words fs)) apart in
-    ap (λ b. cond b (formed others f d) (by_word others fs word d)) (not_first word f.word (words fs) (bytes_eq word f.word) refl (is_word others fs word d x has) parts.0)
+    ap (λ b. cond b (formed others f d) (by_word others fs word d))
+    (not_first word f.word (words fs) (bytes_eq word f.word) refl (is_word others fs word d x has) parts.0)
     ∙ by_word_reads others fs all.1 parts.1 word d x has

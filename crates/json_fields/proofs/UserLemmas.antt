@@ -1,5 +1,41 @@
 -- What is read of a member about a user is what it is, and the other way round.
-use Rattle.std.proofs.Common.{◌≡◌, ◌≢◌, ◌⊎◌, ℕ, zero, suc, ◌+◌, ◌<◌, ◌≤◌, ◌^◌, List, ◌∷◌, ◌++◌, map, get_or, Bool, true, false, cond, codes, Option, Some, None, option_and_then, Result, Ok, Err, refl, sym, ap, subst, ◌∙◌, inl, inr, arith}
+use Rattle.std.proofs.Common.{
+  ◌≡◌,
+  ◌≢◌,
+  ◌⊎◌,
+  ℕ,
+  zero,
+  suc,
+  ◌+◌,
+  ◌<◌,
+  ◌≤◌,
+  ◌^◌,
+  List,
+  ◌∷◌,
+  ◌++◌,
+  map,
+  get_or,
+  Bool,
+  true,
+  false,
+  cond,
+  codes,
+  Option,
+  Some,
+  None,
+  option_and_then,
+  Result,
+  Ok,
+  Err,
+  refl,
+  sym,
+  ap,
+  subst,
+  ◌∙◌,
+  inl,
+  inr,
+  arith,
+}
 use Rattle.std.specs.List.{find, range_with_len}
 use Rattle.std.specs.Option.{option_or}
 use Rattle.std.specs.Str.{bytes_eq}
@@ -17,11 +53,30 @@ use Rattle.table_terms.specs.declared.side.Side.TheVariants.{NorthSouth, EastWes
 use Rattle.table_terms.specs.Pair.{pair_text}
 use Rattle.table_terms.specs.PairReading.{IsPairText}
 use Rattle.session_roles.specs.declared.role.Role.{Role}
-use Rattle.session_roles.specs.declared.role.Role.TheVariants.{Member, Spectator, Contestant, Scorer, Director, Administrator}
+use Rattle.session_roles.specs.declared.role.Role.TheVariants.{
+  Member,
+  Spectator,
+  Contestant,
+  Scorer,
+  Director,
+  Administrator,
+}
 use Rattle.session_roles.specs.Role.{roles, role_name}
 use Rattle.user_names.specs.declared.digest.Digest.{Digest}
 use Rattle.json_fields.specs.Field.{text, number, called}
-use Rattle.json_fields.specs.User.{stood_for, digest_named, digest, role_named, role_of, IsRole, user_roles, side_pairs, pair_named, pair, place}
+use Rattle.json_fields.specs.User.{
+  stood_for,
+  digest_named,
+  digest,
+  role_named,
+  role_of,
+  IsRole,
+  user_roles,
+  side_pairs,
+  pair_named,
+  pair,
+  place,
+}
 use Rattle.json_fields.proofs.LetterLemmas.{place_found, place_reads, find_nothing, found_passes}
 use Rattle.json_fields.proofs.FormLemmas.{Agrees, named_agrees, listed_agrees}
 
@@ -61,7 +116,8 @@ pub role_at : (o : Option (List ℕ)) (role : Role) → option_and_then role_nam
 unfolding role_named
 role_at None role h = absurd (cc)
 role_at (Some word) role h =
-    ap Some (sym ((bytes_eq-Decides (role_name role) word).0 (found_passes (λ r. bytes_eq (role_name r) word) roles role h)))
+    ap Some (sym ((bytes_eq-Decides (role_name role) word).0 (found_passes (λ r. bytes_eq (role_name r) word) roles role
+    h)))
 
 pub role_read : (d : Data) (role : Role) → role_of d ≡ Some role → IsRole d role
 unfolding role_of
@@ -99,21 +155,27 @@ some_pairs side from many = map (a_pair side) (range_with_len from many)
 abbrev is_called : List ℕ → Pair → Bool
 is_called word pair = bytes_eq (pair_text pair) word
 
-same_number : (side : Side) (m n : ℕ) → pair_text (a_pair side m) ≡ pair_text (a_pair side n) → m < 2 ^ 64 → n < 2 ^ 64 → m ≡ n
+same_number : (side : Side) (m n : ℕ) → pair_text (a_pair side m) ≡ pair_text (a_pair side n) → m < 2 ^ 64 →
+    n < 2 ^ 64 → m ≡ n
 same_number NorthSouth m n same small small' = decimal_injective m n small small' (cc)
 same_number EastWest m n same small small' = decimal_injective m n small small' (cc)
 
 -- among pairs of a side, the one that is called so is found
-here_or_later : (side : Side) (word : List ℕ) (from many number : ℕ) (is : Bool) → is_called word (a_pair side from) ≡ is
+here_or_later : (side : Side) (word : List ℕ) (from many number : ℕ) (is : Bool) → is_called word (a_pair side from) ≡
+    is
     → word ≡ pair_text (a_pair side number) → from ≤ number → number < from + suc many → from + suc many ≤ 256
     → (suc from ≤ number → find (is_called word) (some_pairs side (from + 1) many) ≡ Some (a_pair side number))
-    → cond is (Some (a_pair side from)) (find (is_called word) (some_pairs side (from + 1) many)) ≡ Some (a_pair side number)
+    → cond is (Some (a_pair side from)) (find (is_called word) (some_pairs side (from + 1) many)) ≡ Some
+    (a_pair side number)
 here_or_later side word from many number true is called least below few later =
     let same : from ≡ number =
-    same_number side from number ((bytes_eq-Decides (pair_text (a_pair side from)) word).0 is ∙ called) (omega arith) (omega arith) in
+    same_number side from number ((bytes_eq-Decides (pair_text (a_pair side from)) word).0 is ∙ called) (omega arith)
+    (omega arith) in
     ap (λ n. Some (a_pair side n)) same
 here_or_later side word from many number false is called least below few later =
-    later (not_first from number least (λ same. let isnt = is in let equal = (bytes_eq-Decides (pair_text (a_pair side from)) word).1 (ap (λ n. pair_text (a_pair side n)) same ∙ sym called) in cc))
+    later (not_first from number least (λ same. let isnt = is in let equal =
+    (bytes_eq-Decides (pair_text (a_pair side from)) word).1 (ap (λ n. pair_text (a_pair side n)) same ∙ sym called)
+    in cc))
   where
     not_first : (m n : ℕ) → m ≤ n → m ≢ n → suc m ≤ n
     not_first m n le other = omega (arith, other)
@@ -139,7 +201,8 @@ none_called side word from (suc many) none =
 -- what is found is among them
 in_range : (side : Side) (word : List ℕ) (from many : ℕ) (pair : Pair) (is : Bool)
     → cond is (Some (a_pair side from)) (find (is_called word) (some_pairs side (from + 1) many)) ≡ Some pair
-    → (find (is_called word) (some_pairs side (from + 1) many) ≡ Some pair → (from + 1 ≤ pair.number) × (pair.number < from + 1 + many))
+    → (find (is_called word) (some_pairs side (from + 1) many) ≡ Some pair → (from + 1 ≤ pair.number) ×
+    (pair.number < from + 1 + many))
     → (from ≤ pair.number) × (pair.number < from + suc many)
 in_range side word from many pair true h later =
     let same : a_pair side from ≡ pair = same_Some (a_pair side from) pair h in
@@ -167,10 +230,13 @@ pair_found word pair is =
         → find (is_called word) (side_pairs NorthSouth ++ side_pairs EastWest) ≡ Some (a_pair side number)
     by_side NorthSouth number called least most =
         find-append (is_called word) (side_pairs NorthSouth) (side_pairs EastWest)
-        ∙ ap (λ o. option_or o (find (is_called word) (side_pairs EastWest))) (found_pair NorthSouth word 1 255 number called least (omega arith) (omega arith))
+        ∙ ap (λ o. option_or o (find (is_called word) (side_pairs EastWest)))
+        (found_pair NorthSouth word 1 255 number called least (omega arith) (omega arith))
     by_side EastWest number called least most =
         find-append (is_called word) (side_pairs NorthSouth) (side_pairs EastWest)
-        ∙ ap (λ o. option_or o (find (is_called word) (side_pairs EastWest))) (none_called NorthSouth word 1 255 (λ other from to same. other_side 78 69 _ _ (omega arith) (same ∙ called)))
+        ∙ ap (λ o. option_or o (find (is_called word) (side_pairs EastWest)))
+        (none_called NorthSouth word 1 255 (λ other from to same. other_side 78 69 _ _ (omega arith)
+        (same ∙ called)))
         ∙ found_pair EastWest word 1 255 number called least (omega arith) (omega arith)
 
 pub no_pair_found : (word : List ℕ) → ((pair : Pair) → ¬ IsPairText pair word) → None ≡ pair_named word
@@ -180,7 +246,8 @@ no_pair_found word none =
     ∙ ap (λ o. option_or o (find (is_called word) (side_pairs EastWest))) (of_side NorthSouth) ∙ of_side EastWest)
   where
     of_side : (side : Side) → find (is_called word) (side_pairs side) ≡ None
-    of_side side = none_called side word 1 255 (λ number from to same. none (a_pair side number) (record { written = same; least = from; most = omega (arith, to) }))
+    of_side side = none_called side word 1 255 (λ number from to same. none (a_pair side number)
+        (record { written = same; least = from; most = omega (arith, to) }))
 
 -- what is read is one or the other
 one_or_other : {A : Type 0} (a b : Option A) (x : A) → option_or a b ≡ Some x → (a ≡ Some x) ⊎ (b ≡ Some x)
@@ -192,7 +259,8 @@ record Named (word : List ℕ) (pair : Pair) : Type 0 where
   least : 1 ≤ pair.number
   most : pair.number ≤ 255
 
-named_side : (side : Side) (word : List ℕ) (pair : Pair) → find (is_called word) (side_pairs side) ≡ Some pair → Named word pair
+named_side : (side : Side) (word : List ℕ) (pair : Pair) → find (is_called word) (side_pairs side) ≡ Some pair →
+    Named word pair
 named_side side word pair h =
     let range = found_among side word 1 255 pair h in
     record {
@@ -217,5 +285,6 @@ pair_at (Some word) pair h = let is = named_pair word pair h in (ap Some is.text
 pub pair_agrees : Agrees pair
 pair_agrees = record {
   read = λ o x h. let is = pair_at (text o) x h in record { is = is.0; least = is.1; most = is.2 };
-  reads = λ o x is. ap (option_and_then pair_named) is.is ∙ sym (pair_found (pair_text x) x (record { written = refl; least = is.least; most = is.most }));
+  reads = λ o x is. ap (option_and_then pair_named) is.is
+      ∙ sym (pair_found (pair_text x) x (record { written = refl; least = is.least; most = is.most }));
 }

@@ -1,5 +1,22 @@
 -- Atoms, each by the name of its one member.
-use Rattle.std.specs.Prelude.{ℕ, ℤ, pos, neg_ℤ, int_le, List, [], ◌∷◌, ◌&&◌, if◌then◌else◌, codes, Option, Some, None, option_map, option_and_then}
+use Rattle.std.specs.Prelude.{
+  ℕ,
+  ℤ,
+  pos,
+  neg_ℤ,
+  int_le,
+  List,
+  [],
+  ◌∷◌,
+  ◌&&◌,
+  if◌then◌else◌,
+  codes,
+  Option,
+  Some,
+  None,
+  option_map,
+  option_and_then,
+}
 use Rattle.std.specs.List.{find}
 use Rattle.std.specs.Str.{bytes_eq}
 use Rattle.serde_json.specs.Data.{Data}

@@ -1,5 +1,19 @@
 -- Members that are a number, a name, a text or a list.
-use Rattle.std.specs.Prelude.{◌≡◌, ℕ, ◌<◌, ◌≤◌, List, length, nat_lt, nat_le, if◌then◌else◌, Option, Some, None, option_and_then}
+use Rattle.std.specs.Prelude.{
+  ◌≡◌,
+  ℕ,
+  ◌<◌,
+  ◌≤◌,
+  List,
+  length,
+  nat_lt,
+  nat_le,
+  if◌then◌else◌,
+  Option,
+  Some,
+  None,
+  option_and_then,
+}
 use Rattle.serde_json.specs.Data.{Data, Items}
 use Rattle.serde_json.specs.Find.{get, as_str, as_number, as_u64, as_array}
 use Rattle.user_names.specs.declared.name.TheConstants.Name.{MOST}

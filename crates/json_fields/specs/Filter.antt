@@ -1,7 +1,20 @@
 -- A filter as a message has it: an object of one member, by whose name it is a list, a contrary or an atom.
 use Rattle.std.specs.Prelude.{ℕ, List, if◌then◌else◌, codes, Option, Some, None, option_map, option_and_then}
 use Rattle.std.specs.Str.{bytes_eq}
-use Rattle.serde_json.specs.Data.{Data, null, boolean, number, string, array, object, Items, no_items, item, no_members, member}
+use Rattle.serde_json.specs.Data.{
+  Data,
+  null,
+  boolean,
+  number,
+  string,
+  array,
+  object,
+  Items,
+  no_items,
+  item,
+  no_members,
+  member,
+}
 use Rattle.query_filter.specs.declared.atom.Atom.{Atom}
 use Rattle.query_filter.specs.Formula.{Formula, Is, Not, And, Or, Formulas, no_formula, formula_then}
 use Rattle.query_filter.specs.Limits.{is_within_limits}

@@ -1,7 +1,13 @@
 -- Reading: a value, or why there is none.
 use Rattle.std.specs.Prelude.{◌≡◌, Option, Some, None, Result, Ok, Err}
 use Rattle.json_fields.specs.declared.request_fault.RequestFault.{RequestFault}
-use Rattle.json_fields.specs.declared.request_fault.RequestFault.TheVariants.{TooLong, Malformed, UnknownRequest, BadField, OutOfMemory}
+use Rattle.json_fields.specs.declared.request_fault.RequestFault.TheVariants.{
+  TooLong,
+  Malformed,
+  UnknownRequest,
+  BadField,
+  OutOfMemory,
+}
 
 -- what has to be there
 abbrev pub wanted : {A : Type 0} → Option A → Result A RequestFault

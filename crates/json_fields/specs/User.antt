@@ -1,5 +1,22 @@
 -- Members that say who a user is, which roles one has, and where one sits.
-use Rattle.std.specs.Prelude.{◌≡◌, ℕ, ◌≤◌, List, [], ◌∷◌, ◌++◌, map, codes, Option, Some, None, option_and_then, Result, Ok, Err}
+use Rattle.std.specs.Prelude.{
+  ◌≡◌,
+  ℕ,
+  ◌≤◌,
+  List,
+  [],
+  ◌∷◌,
+  ◌++◌,
+  map,
+  codes,
+  Option,
+  Some,
+  None,
+  option_and_then,
+  Result,
+  Ok,
+  Err,
+}
 use Rattle.std.specs.List.{find, range_with_len}
 use Rattle.std.specs.Str.{bytes_eq}
 use Rattle.hex.specs.declared.error.FromHexError.{FromHexError}

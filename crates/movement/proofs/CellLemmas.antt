@@ -3,7 +3,19 @@ use Rattle.std.proofs.Common.{◌≡◌, ℕ, ◌+◌, ◌-◌, ◌*◌, ◌%◌
 use Rattle.std.proofs.Math.Nat.{add-sub_cancel}
 use Rattle.table_terms.specs.declared.side.Side.TheVariants.{EastWest}
 use Rattle.movement.specs.declared.cell.Cell.{Cell}
-use Rattle.movement.specs.Movement.{Section, Row, IsSection, IsOfSet, HasCell, IsCell, boards_of, row_of, rows, east_west_table, set_on}
+use Rattle.movement.specs.Movement.{
+  Section,
+  Row,
+  IsSection,
+  IsOfSet,
+  HasCell,
+  IsCell,
+  boards_of,
+  row_of,
+  rows,
+  east_west_table,
+  set_on,
+}
 use Rattle.movement.specs.Row.{IsAt, IsCellInRange, board_of_set}
 use Rattle.movement.proofs.RoundLemmas.{skipped, table_of_moved}
 use Rattle.movement.proofs.RowLemmas.{made_of, found_in, Any-rows, rounds-le}

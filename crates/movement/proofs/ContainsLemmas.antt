@@ -1,8 +1,32 @@
 -- What a list made of numbers in a row, or of lists end to end, contains.
-use Rattle.std.proofs.Common.{◌≡◌, ℕ, zero, suc, ◌+◌, ◌<◌, List, [], ◌∷◌, map, get_or, refl, sym, ◌∙◌, inl, inr, Contains, arith}
+use Rattle.std.proofs.Common.{
+  ◌≡◌,
+  ℕ,
+  zero,
+  suc,
+  ◌+◌,
+  ◌<◌,
+  List,
+  [],
+  ◌∷◌,
+  map,
+  get_or,
+  refl,
+  sym,
+  ◌∙◌,
+  inl,
+  inr,
+  Contains,
+  arith,
+}
 use Rattle.std.specs.List.{flat_map, range_with_len}
 use Rattle.std.proofs.lemmas.List.Elements.{Contains-append_left, Contains-append_right, Contains-append_cases}
-use Rattle.std.proofs.lemmas.List.FromFn.{length-range_with_len, get_or-range_with_len, length-map-range_with_len, get_or-map-range_with_len}
+use Rattle.std.proofs.lemmas.List.FromFn.{
+  length-range_with_len,
+  get_or-range_with_len,
+  length-map-range_with_len,
+  get_or-map-range_with_len,
+}
 
 -- a number below the end of a range from 0
 pub Contains-range : (n k : ℕ) → k < n → Contains (range_with_len 0 n) k

@@ -48,8 +48,10 @@ same_at_set section first second is_section in_first in_second same_pair same_se
     let b = made_of section second in_second in
     let few = rounds-le section is_section in
     let pair : a.pair ≡ b.pair = omega (arith, ap (λ (pair : Pair). pair.number) same_pair) in
-    let set : set_on n (east_west_table n a.pair a.round) a.round ≡ set_on n (east_west_table n b.pair b.round) b.round = omega arith in
-    let met : set_on n (east_west_table n a.pair a.round) a.round ≡ set_on n (east_west_table n a.pair b.round) b.round = cc in
+    let set : set_on n (east_west_table n a.pair a.round) a.round ≡ set_on n (east_west_table n b.pair b.round)
+    b.round = omega arith in
+    let met : set_on n (east_west_table n a.pair a.round) a.round ≡ set_on n (east_west_table n a.pair b.round)
+    b.round = cc in
     let round : a.round ≡ b.round =
     same_round_of_pair n a.pair a.round b.round a.pair_below (omega arith) (omega arith) met in
     same_made section first second a b round pair

@@ -1,10 +1,43 @@
 -- What stands in the rows of a section by pair and board.
-use Rattle.std.proofs.Common.{◌≡◌, ℕ, ◌+◌, ◌-◌, ◌<◌, ◌≤◌, refl, sym, ap, ◌∙◌, inl, inr, Any, All, Option, Some, None, IfSome, IfNone, get_or, arith}
+use Rattle.std.proofs.Common.{
+  ◌≡◌,
+  ℕ,
+  ◌+◌,
+  ◌-◌,
+  ◌<◌,
+  ◌≤◌,
+  refl,
+  sym,
+  ap,
+  ◌∙◌,
+  inl,
+  inr,
+  Any,
+  All,
+  Option,
+  Some,
+  None,
+  IfSome,
+  IfNone,
+  get_or,
+  arith,
+}
 use Rattle.std.proofs.lemmas.List.Elements.{Contains-get_or}
 use Rattle.table_terms.specs.declared.pair.Pair.{Pair}
 use Rattle.table_terms.specs.declared.side.Side.TheVariants.{NorthSouth, EastWest}
 use Rattle.movement.specs.declared.cell.Cell.{Cell}
-use Rattle.movement.specs.Movement.{Section, Row, IsOfSet, HasCell, IsCell, boards_of, row_of, rows, east_west_table, set_on}
+use Rattle.movement.specs.Movement.{
+  Section,
+  Row,
+  IsOfSet,
+  HasCell,
+  IsCell,
+  boards_of,
+  row_of,
+  rows,
+  east_west_table,
+  set_on,
+}
 use Rattle.movement.specs.Row.{Seats, Plays, IsCellInRange}
 use Rattle.movement.proofs.CellLemmas.{cell_in_range}
 use Rattle.movement.proofs.RowLemmas.{IsMade, made_of, Any-rows, All-rows}
@@ -64,9 +97,11 @@ pair_plays section row number board made plays =
     let seated = seated_east_west section row number made plays.seated in
     let pair : made.pair ≡ number - 1 = omega arith in
     let set : row.set ≡ set_on n (east_west_table n (number - 1) made.round) made.round + 1 = rw pair at made.is_set in
-    let set_below : set_on n (east_west_table n (number - 1) made.round) made.round < n = omega (arith, made.pair_below) in
+    let set_below : set_on n (east_west_table n (number - 1) made.round) made.round < n = omega (arith, made.pair_below)
+    in
     let board_of = rw set at plays.board in
-    let limits = within-boards section (set_on n (east_west_table n (number - 1) made.round) made.round) board set_below board_of in
+    let limits = within-boards section (set_on n (east_west_table n (number - 1) made.round) made.round) board set_below
+    board_of in
     record {
       round = made.round;
       round_below = made.round_below;
@@ -106,7 +141,8 @@ north_south_cell section pair cell is_north_south same (at, row, within, here, h
     (at, row, within, here, (inl seated, has))
 
 pub north_south_none : (section : Section) (pair : Pair) (board : ℕ) → pair.side ≡ NorthSouth →
-    ¬ IsCell section (record { table = pair.number; board = board }) → All (λ row. ¬ Plays section row pair board) (rows section)
+    ¬ IsCell section (record { table = pair.number; board = board }) → All (λ row. ¬ Plays section row pair board)
+    (rows section)
 north_south_none section pair board is_north_south never at default within plays =
     let row : Row = get_or (rows section) at default in
     let among = Contains-get_or (rows section) at default within in
@@ -126,7 +162,8 @@ north_south_found section pair board (Some cell) is_north_south is_it is_cell =
 pub north_south_missed : (section : Section) (pair : Pair) (board : ℕ) (found : Option Cell) →
     pair.side ≡ NorthSouth → IfNone found (¬ IsCell section (record { table = pair.number; board = board })) →
     IfNone found (All (λ row. ¬ Plays section row pair board) (rows section))
-north_south_missed section pair board None is_north_south never = north_south_none section pair board is_north_south never
+north_south_missed section pair board None is_north_south never = north_south_none section pair board is_north_south
+    never
 north_south_missed section pair board (Some cell) is_north_south never = tt
 
 -- what is found for a pair is a cell of the section

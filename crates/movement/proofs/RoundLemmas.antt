@@ -51,7 +51,8 @@ same_round_of_table tables table first second table_below first_below second_bel
 
 -- in two rounds an East-West pair plays two sets
 pub same_round_of_pair : (tables pair first second : ℕ) → pair < tables → first < tables → second < tables →
-    set_on tables (east_west_table tables pair first) first ≡ set_on tables (east_west_table tables pair second) second →
+    set_on tables (east_west_table tables pair first) first ≡ set_on tables (east_west_table tables pair second)
+    second →
     first ≡ second
 same_round_of_pair tables pair first second pair_below first_below second_below same =
     let first_skip = skipped_cases tables first in
@@ -68,7 +69,8 @@ most_rounds_cases tables = grind (arith, nat_tests)
 
 -- in two rounds of a section an East-West pair is at two tables
 pub same_round_at_table : (tables pair first second : ℕ) → pair < tables → first < most_rounds tables →
-    second < most_rounds tables → east_west_table tables pair first ≡ east_west_table tables pair second → first ≡ second
+    second < most_rounds tables → east_west_table tables pair first ≡ east_west_table tables pair second →
+    first ≡ second
 same_round_at_table tables pair first second pair_below first_below second_below same =
     let most = most_rounds_cases tables in
     let first_skip = skipped_cases tables first in

@@ -5,7 +5,14 @@ use Rattle.std.proofs.lemmas.List.Elements.{Contains-get_or}
 use Rattle.table_terms.specs.declared.side.Side.TheVariants.{NorthSouth, EastWest}
 use Rattle.movement.specs.Movement.{Section, Row, IsSection, row_of, rows, east_west_table, set_on}
 use Rattle.movement.specs.Row.{IsInRange}
-use Rattle.movement.proofs.ContainsLemmas.{Contains-range, range-contains, Contains-map_range, map_range-contains, Contains-flat_map, flat_map-contains}
+use Rattle.movement.proofs.ContainsLemmas.{
+  Contains-range,
+  range-contains,
+  Contains-map_range,
+  map_range-contains,
+  Contains-flat_map,
+  flat_map-contains,
+}
 use Rattle.movement.proofs.RoundLemmas.{most_rounds_cases}
 
 -- the round and the East-West pair, counted from 0, whose row this is

@@ -1,5 +1,30 @@
 -- The tables that are scheduled to play a board.
-use Rattle.std.proofs.Common.{◌≡◌, ◌≢◌, ℕ, ◌+◌, ◌≤◌, ◌↔◌, nat_eq, List, [], inl, inr, sym, ap, ◌∙◌, subst, true, false, Option, Some, None, is_some, IfSome, IfNone, arith}
+use Rattle.std.proofs.Common.{
+  ◌≡◌,
+  ◌≢◌,
+  ℕ,
+  ◌+◌,
+  ◌≤◌,
+  ◌↔◌,
+  nat_eq,
+  List,
+  [],
+  inl,
+  inr,
+  sym,
+  ap,
+  ◌∙◌,
+  subst,
+  true,
+  false,
+  Option,
+  Some,
+  None,
+  is_some,
+  IfSome,
+  IfNone,
+  arith,
+}
 use Rattle.std.specs.Prelude.{◌||◌}
 use Rattle.std.proofs.lemmas.Bool.{cases_eq, or_cases, or_left, or_right, eqb-true, eq-eqb, false≢true}
 use Rattle.small_sets.specs.Numbers.{has_number, with_number}
@@ -25,7 +50,8 @@ pub so_far_more : (section : Section) (board : ℕ) (numbers : List ℕ) (table 
     IsSoFar section board (with_number most_tables numbers (table + 1)) (table + 1)
 so_far_more section board numbers table below is_cell so_far t = (
   λ held.
-      let range = within most_tables (with_number most_tables numbers (table + 1)) t (set_with most_tables numbers (table + 1)) held in
+      let range = within most_tables (with_number most_tables numbers (table + 1)) t
+      (set_with most_tables numbers (table + 1)) held in
       let either = sym (has_with_number most_tables numbers (table + 1) t range.0 range.1) ∙ held in
       elim (or_cases (nat_eq t (table + 1)) (has_number numbers t) either) [
         | inl here ↦

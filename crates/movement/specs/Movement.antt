@@ -3,7 +3,25 @@
 -- own: the movement is the plain Mitchell. The North-South pairs stay at their tables, the East-West pairs move up one
 -- table a round, and the sets of boards down one. At an even number of tables the East-West pairs skip a table in the
 -- middle of the session, so that they meet no set again.
-use Rattle.std.specs.Prelude.{◌≡◌, ℕ, ◌+◌, ◌-◌, ◌*◌, ◌/◌, ◌%◌, ◌<◌, ◌≤◌, Bool, List, map, Any, ◌==◌, ◌&&◌, nat_le, if◌then◌else◌}
+use Rattle.std.specs.Prelude.{
+  ◌≡◌,
+  ℕ,
+  ◌+◌,
+  ◌-◌,
+  ◌*◌,
+  ◌/◌,
+  ◌%◌,
+  ◌<◌,
+  ◌≤◌,
+  Bool,
+  List,
+  map,
+  Any,
+  ◌==◌,
+  ◌&&◌,
+  nat_le,
+  if◌then◌else◌,
+}
 use Rattle.std.specs.List.{flat_map, range_with_len}
 use Rattle.table_terms.specs.declared.pair.Pair.{Pair}
 use Rattle.table_terms.specs.declared.side.Side.TheVariants.{NorthSouth, EastWest}

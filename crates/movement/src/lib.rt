@@ -10,4 +10,3 @@ mod movement_error;
 pub use cell::Cell;
 pub use movement::Movement;
 pub use movement_error::MovementError;
-

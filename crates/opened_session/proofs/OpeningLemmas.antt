@@ -21,7 +21,8 @@ pub one_opening : (given : Option (List ℕ)) (text : List ℕ) (one other : Ses
     → OpensWith given text other → one ≡ other
 one_opening given text one other first second =
     first.opens
-    ∙ ap (λ (object : SessionObject). opening_of object.config) (one_text given text first.object second.object first.reads second.reads)
+    ∙ ap (λ (object : SessionObject). opening_of object.config) (one_text given text first.object second.object
+    first.reads second.reads)
     ∙ sym second.opens
 
 -- the boards of a session object are those of its movement
@@ -29,13 +30,16 @@ pub boards_read : (given : Option (List ℕ)) (line : List ℕ) (object : Sessio
     → boards_of object.config.movement ≤ length object.config.boards
 boards_read given line object reads =
     let many : length object.config.boards ≡ boards_of (section_of reads.reads.session) = reads.reads.boards.many in
-    let same : boards_of object.config.movement ≡ boards_of (section_of reads.reads.session) = ap boards_of reads.reads.movement in
+    let same : boards_of object.config.movement ≡ boards_of (section_of reads.reads.session) =
+    ap boards_of reads.reads.movement in
     omega (arith, many, same)
 
 -- the line is no session object, or there was no memory to read it
-pub unread : (given : Option (List ℕ)) (fault : SessionFault) (ended : OpeningFault) (line : List ℕ) → ended ≡ fault_of_session fault → IsSessionRefused fault given line
+pub unread : (given : Option (List ℕ)) (fault : SessionFault) (ended : OpeningFault) (line : List ℕ) →
+    ended ≡ fault_of_session fault → IsSessionRefused fault given line
     → OpensNoneWith given ended line ⊎ (ended ≡ OutOfMemory)
-unread given fault ended line is refused = subst (λ f. OpensNoneWith given f line ⊎ (f ≡ OutOfMemory)) (sym is) (by fault refused)
+unread given fault ended line is refused = subst (λ f. OpensNoneWith given f line ⊎ (f ≡ OutOfMemory)) (sym is)
+    (by fault refused)
   where
     by : (fault : SessionFault) → IsSessionRefused fault given line
         → OpensNoneWith given (fault_of_session fault) line ⊎ (fault_of_session fault ≡ OutOfMemory)
@@ -47,14 +51,18 @@ unread given fault ended line is refused = subst (λ f. OpensNoneWith given f li
     by session.OutOfMemory refused = inr refl
 
 -- the session isn't opened, or there was no memory for it
-pub unopened : (given : Option (List ℕ)) (cause : OpeningRefusal) (ended : OpeningFault) (line : List ℕ) (object : SessionObject) → ended ≡ fault_of_opening cause
+pub unopened : (given : Option (List ℕ)) (cause : OpeningRefusal) (ended : OpeningFault) (line : List ℕ)
+    (object : SessionObject) → ended ≡ fault_of_opening cause
     → ReadsSession given line object
-    → (opening_refusal object.config ≡ Some cause) ⊎ ((cause ≡ refusal.OutOfMemory) × (opening_refusal object.config ≡ None))
+    → (opening_refusal object.config ≡ Some cause) ⊎
+    ((cause ≡ refusal.OutOfMemory) × (opening_refusal object.config ≡ None))
     → OpensNoneWith given ended line ⊎ (ended ≡ OutOfMemory)
-unopened given cause ended line object is reads met = subst (λ f. OpensNoneWith given f line ⊎ (f ≡ OutOfMemory)) (sym is) (by cause met)
+unopened given cause ended line object is reads met = subst (λ f. OpensNoneWith given f line ⊎ (f ≡ OutOfMemory))
+    (sym is) (by cause met)
   where
     by : (cause : OpeningRefusal)
-        → (opening_refusal object.config ≡ Some cause) ⊎ ((cause ≡ refusal.OutOfMemory) × (opening_refusal object.config ≡ None))
+        → (opening_refusal object.config ≡ Some cause) ⊎
+        ((cause ≡ refusal.OutOfMemory) × (opening_refusal object.config ≡ None))
         → OpensNoneWith given (fault_of_opening cause) line ⊎ (fault_of_opening cause ≡ OutOfMemory)
     by refusal.OutOfMemory met = inr refl
     by refusal.BadName (inl met) = inl (record { object = object; reads = reads; refused = met })

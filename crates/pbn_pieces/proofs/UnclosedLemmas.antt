@@ -1,5 +1,28 @@
 -- Where a `"` isn't closed on its line, no later one on that line is: each of them stands in a `\"` of that search.
-use Rattle.std.proofs.Common.{◌≡◌, ◌≢◌, ℕ, ◌+◌, ◌≤◌, true, false, ◌⊎◌, inl, inr, List, [], ◌∷◌, ◌++◌, length, refl, sym, ap, subst, ◌∙◌, arith, length-append}
+use Rattle.std.proofs.Common.{
+  ◌≡◌,
+  ◌≢◌,
+  ℕ,
+  ◌+◌,
+  ◌≤◌,
+  true,
+  false,
+  ◌⊎◌,
+  inl,
+  inr,
+  List,
+  [],
+  ◌∷◌,
+  ◌++◌,
+  length,
+  refl,
+  sym,
+  ap,
+  subst,
+  ◌∙◌,
+  arith,
+  length-append,
+}
 use Rattle.std.specs.Prelude.{Option, Some, None}
 use Rattle.std.proofs.lemmas.Bool.{cases_Bool, cases_eq}
 use Rattle.pbn_pieces.specs.Pieces.{is_escape, is_other_than}
@@ -26,17 +49,20 @@ left_after byte bytes other = grind (arith, other)
 left_all : (byte : ℕ) (bytes : List ℕ) → byte ≡ 10 → line_left (byte ∷ bytes) ≡ 1 + length bytes
 left_all byte bytes feed = grind (arith, feed)
 
-none_letter : (byte next : ℕ) (bytes : List ℕ) → closing (byte ∷ next ∷ bytes) ≡ None → byte ≢ 10 → is_escape byte next ≡ false → closing (next ∷ bytes) ≡ None
+none_letter : (byte next : ℕ) (bytes : List ℕ) → closing (byte ∷ next ∷ bytes) ≡ None → byte ≢ 10 →
+    is_escape byte next ≡ false → closing (next ∷ bytes) ≡ None
 none_letter byte next bytes none feed plain = by_quote (cases_eq byte 34)
   where
     by_quote : (byte ≡ 34) ⊎ (byte ≡ 34 → ⊥) → closing (next ∷ bytes) ≡ None
-    by_quote (inl quote) = absurd (quote_closes (next ∷ bytes) (ap (λ b. closing (b ∷ next ∷ bytes)) (sym quote) ∙ none))
+    by_quote (inl quote) = absurd (quote_closes (next ∷ bytes) (ap (λ b. closing (b ∷ next ∷ bytes)) (sym quote)
+        ∙ none))
     by_quote (inr other) = in_front_none byte (closing (next ∷ bytes)) (sym (letter other) ∙ none)
       where
         letter : byte ≢ 34 → closing (byte ∷ next ∷ bytes) ≡ in_front byte (closing (next ∷ bytes))
         letter quote = grind (arith, quote, feed, plain)
 
-none_escape : (byte next : ℕ) (bytes : List ℕ) → closing (byte ∷ next ∷ bytes) ≡ None → is_escape byte next ≡ true → closing bytes ≡ None
+none_escape : (byte next : ℕ) (bytes : List ℕ) → closing (byte ∷ next ∷ bytes) ≡ None → is_escape byte next ≡ true →
+    closing bytes ≡ None
 none_escape byte next bytes none escape =
     in_front_none next _ (in_front_none byte _ (sym (closing_escape byte next bytes escape) ∙ none))
 
@@ -49,7 +75,8 @@ feeds_first byte front back feed left =
     let long = length-append front (34 ∷ back) in
     omega (arith, all, long, left)
 
-pub none_after : (front back : List ℕ) → closing (front ++ 34 ∷ back) ≡ None → line_left (front ++ 34 ∷ back) ≤ length back → closing back ≡ None
+pub none_after : (front back : List ℕ) → closing (front ++ 34 ∷ back) ≡ None → line_left (front ++ 34 ∷ back) ≤ length
+    back → closing back ≡ None
 none_after [] back none left = absurd (quote_closes back none)
 none_after (byte ∷ []) back none left =
     elim (cases_eq byte 10) [
@@ -66,7 +93,13 @@ none_after (byte ∷ next ∷ front) back none left =
         | inl escape ↦
             let feeds = escape_feeds byte next escape in
             none_after front back (none_escape byte next (front ++ 34 ∷ back) none escape)
-            (omega (arith, left, left_after byte (next ∷ (front ++ 34 ∷ back)) other, left_after next (front ++ 34 ∷ back) feeds.1))
+            (omega (
+              arith,
+              left,
+              left_after byte (next ∷ (front ++ 34 ∷ back)) other,
+              left_after next
+                  (front ++ 34 ∷ back) feeds.1,
+            ))
         | inr plain ↦
             none_after (next ∷ front) back (none_letter byte next (front ++ 34 ∷ back) none other plain)
             (omega (arith, left, left_after byte (next ∷ (front ++ 34 ∷ back)) other))
@@ -82,4 +115,5 @@ unfolding tail_of
 unclosed_on_line after none [] back e left = no_quotes back (ap closing (sym (ap tail_of e)) ∙ none)
 unclosed_on_line after none (byte ∷ front) back e left =
     let rest : after ≡ front ++ 34 ∷ back = ap tail_of e in
-    no_quotes back (none_after front back (ap closing (sym rest) ∙ none) (subst (λ text. line_left text ≤ length back) rest left))
+    no_quotes back (none_after front back (ap closing (sym rest) ∙ none) (subst (λ text. line_left text ≤ length back)
+    rest left))

@@ -1,7 +1,34 @@
 -- The first piece of a text, computed.
 use Rattle.std.specs.Prelude.{ℕ, Bool, true, false, ◌==◌, ◌&&◌, if◌then◌else◌, List, [], ◌∷◌, Option, Some, None}
-use Rattle.pbn_pieces.specs.Bytes.{line_feed, carriage_return, quote, percent, semicolon, open_bracket, close_bracket, open_brace, close_brace}
-use Rattle.pbn_pieces.specs.Pieces.{is_blank, is_space, is_tag_name_byte, is_other_than, is_escape, Tag, Piece, Comment, OpenComment, LineComment, EscapeLine, BlankLine, Quoted, Tagged, Broken, Plain}
+use Rattle.pbn_pieces.specs.Bytes.{
+  line_feed,
+  carriage_return,
+  quote,
+  percent,
+  semicolon,
+  open_bracket,
+  close_bracket,
+  open_brace,
+  close_brace,
+}
+use Rattle.pbn_pieces.specs.Pieces.{
+  is_blank,
+  is_space,
+  is_tag_name_byte,
+  is_other_than,
+  is_escape,
+  Tag,
+  Piece,
+  Comment,
+  OpenComment,
+  LineComment,
+  EscapeLine,
+  BlankLine,
+  Quoted,
+  Tagged,
+  Broken,
+  Plain,
+}
 
 -- the bytes up to the first that fails the test, and the others
 abbrev pub split : (ℕ → Bool) → List ℕ → List ℕ × List ℕ

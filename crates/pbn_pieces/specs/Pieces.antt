@@ -1,7 +1,41 @@
--- What a PBN text is joined of (PBN 2.1, in this project's reading): comments, escape lines, quoted texts, tags, lines of
+-- What a PBN text is joined of (PBN 2.1, in this project's reading): comments, escape lines, quoted texts, tags, lines
+-- of
 -- nothing but blanks, and plain bytes. Bytes are ASCII.
-use Rattle.std.specs.Prelude.{◌≡◌, ◌≢◌, ℕ, ◌<◌, Bool, true, false, not, ◌||◌, ◌&&◌, ◌==◌, nat_le, if◌then◌else◌, List, [], ◌∷◌, ◌++◌, length}
-use Rattle.pbn_pieces.specs.Bytes.{tab, line_feed, carriage_return, space, quote, percent, semicolon, open_bracket, backslash, close_bracket, underscore, open_brace, close_brace}
+use Rattle.std.specs.Prelude.{
+  ◌≡◌,
+  ◌≢◌,
+  ℕ,
+  ◌<◌,
+  Bool,
+  true,
+  false,
+  not,
+  ◌||◌,
+  ◌&&◌,
+  ◌==◌,
+  nat_le,
+  if◌then◌else◌,
+  List,
+  [],
+  ◌∷◌,
+  ◌++◌,
+  length,
+}
+use Rattle.pbn_pieces.specs.Bytes.{
+  tab,
+  line_feed,
+  carriage_return,
+  space,
+  quote,
+  percent,
+  semicolon,
+  open_bracket,
+  backslash,
+  close_bracket,
+  underscore,
+  open_brace,
+  close_brace,
+}
 use Rattle.std.specs.List.{AllByRecursion}
 
 -- space, tab, CR, LF

@@ -3,7 +3,23 @@ use Rattle.std.specs.Prelude.{◌≡◌, ℕ, ◌≤◌, Bool, List, ◌∷◌, 
 use Rattle.pbn_pieces.specs.Bytes.{quote}
 use Rattle.pbn_pieces.specs.declared.piece.NextPiece.{NextPiece}
 use Rattle.pbn_pieces.specs.declared.piece.NextPiece.TheVariants as found
-use Rattle.pbn_pieces.specs.Pieces.{Tag, Piece, Comment, OpenComment, LineComment, EscapeLine, BlankLine, Quoted, Tagged, Broken, Plain, Quotes, spelled, MayStand, starts_line}
+use Rattle.pbn_pieces.specs.Pieces.{
+  Tag,
+  Piece,
+  Comment,
+  OpenComment,
+  LineComment,
+  EscapeLine,
+  BlankLine,
+  Quoted,
+  Tagged,
+  Broken,
+  Plain,
+  Quotes,
+  spelled,
+  MayStand,
+  starts_line,
+}
 use Rattle.pbn_pieces.specs.Cutting.{piece_at}
 
 -- a piece of which nothing is told: neither a tag, nor a `[` that begins none, nor a blank line

@@ -51,7 +51,8 @@ pub no_deal_of_texts : (first : Place) (a b c d : Cards) (own left opposite righ
 no_deal_of_texts first a b c d own left opposite right in_a in_b in_c in_d none hands is =
     none (subst IsDeal (hands_of_texts first a b c d own left opposite right hands in_a in_b in_c in_d is) is.deal)
 
-pub if_some_both : {A : Type 0} {P Q R : A → Type 0} (o : Option A) → ((x : A) → P x → Q x → R x) → IfSome o P → IfSome o Q → IfSome o R
+pub if_some_both : {A : Type 0} {P Q R : A → Type 0} (o : Option A) → ((x : A) → P x → Q x → R x) → IfSome o P →
+    IfSome o Q → IfSome o R
 if_some_both None f one other = one
 if_some_both (Some x) f one other = f x one other
 

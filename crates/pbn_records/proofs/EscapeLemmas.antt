@@ -27,7 +27,8 @@ and_false true other e = e
 and_false false other e = refl
 
 abbrev pub IsSameOrNeither : List ℕ → Type 0
-IsSameOrNeither written = (read_value written ≡ written) ⊎ ((are_free written ≡ false) × (are_free (read_value written) ≡ false))
+IsSameOrNeither written = (read_value written ≡ written) ⊎
+    ((are_free written ≡ false) × (are_free (read_value written) ≡ false))
 
 reads : (byte next : ℕ) (bytes : List ℕ) (b : Bool) → is_escape byte next ≡ b →
     read_value (byte ∷ next ∷ bytes) ≡ (if b then next ∷ read_value bytes else byte ∷ read_value (next ∷ bytes))
@@ -41,12 +42,14 @@ escape_neither byte next bytes escape =
       ap are_free (reads byte next bytes true escape) ∙ false_and (is_free next) (are_free (read_value bytes)) free.1,
     )
 
-letter_same : (byte next : ℕ) (bytes : List ℕ) → is_escape byte next ≡ false → IsSameOrNeither (next ∷ bytes) → IsSameOrNeither (byte ∷ next ∷ bytes)
+letter_same : (byte next : ℕ) (bytes : List ℕ) → is_escape byte next ≡ false → IsSameOrNeither (next ∷ bytes) →
+    IsSameOrNeither (byte ∷ next ∷ bytes)
 letter_same byte next bytes plain (inl same) = inl (reads byte next bytes false plain ∙ ap (λ rest. byte ∷ rest) same)
 letter_same byte next bytes plain (inr neither) =
     inr (
       and_false (is_free byte) (are_free (next ∷ bytes)) neither.0,
-      ap are_free (reads byte next bytes false plain) ∙ and_false (is_free byte) (are_free (read_value (next ∷ bytes))) neither.1,
+      ap are_free (reads byte next bytes false plain) ∙ and_false (is_free byte) (are_free (read_value (next ∷ bytes)))
+          neither.1,
     )
 
 pub same_or_neither : (written : List ℕ) → IsSameOrNeither written
@@ -65,15 +68,22 @@ same_fact P free written = by_case (same_or_neither written)
   where
     by_case : IsSameOrNeither written → (P written → P (read_value written)) × (P (read_value written) → P written)
     by_case (inl same) = (subst P (sym same), subst P same)
-    by_case (inr neither) =
-        ((λ is. absurd (true≢false (sym (free written is) ∙ neither.0))), (λ is. absurd (true≢false (sym (free _ is) ∙ neither.1))))
+    by_case (inr neither) = (
+      (λ is. absurd (true≢false (sym (free written is) ∙ neither.0))),
+      (λ is. absurd (true≢false (sym (free _ is) ∙ neither.1))),
+    )
 
-pub same_test : (test : List ℕ → Bool) → ((value : List ℕ) → test value ≡ true → are_free value ≡ true) → (written : List ℕ) →
+pub same_test : (test : List ℕ → Bool) → ((value : List ℕ) → test value ≡ true → are_free value ≡ true) →
+    (written : List ℕ) →
     test (read_value written) ≡ test written
 same_test test free written = by_case (same_or_neither written)
   where
     not_free : (value : List ℕ) → are_free value ≡ false → test value ≡ false
-    not_free value e = elim (cases_Bool (test value)) [ inl is ↦ absurd (true≢false (sym (free value is) ∙ e)) | inr isnt ↦ isnt ]
+    not_free value e = elim (cases_Bool (test value)) [
+      | inl is ↦ absurd (true≢false (sym (free value is) ∙ e))
+      | inr
+          isnt ↦ isnt
+    ]
 
     by_case : IsSameOrNeither written → test (read_value written) ≡ test written
     by_case (inl same) = ap test same
@@ -100,13 +110,16 @@ digits_are_free : (value : List ℕ) → are_digits value ≡ true → are_free 
 digits_are_free [] is = refl
 digits_are_free (byte ∷ value) is = all_digits_free (byte ∷ value) is
 
-pub same_number : (boards : ℕ) (written : List ℕ) → board_number boards (read_value written) ≡ board_number boards written
+pub same_number : (boards : ℕ) (written : List ℕ) → board_number boards (read_value written) ≡ board_number boards
+    written
 same_number boards written = by_case (same_or_neither written)
   where
     none : (value : List ℕ) → are_free value ≡ false → board_number boards value ≡ None
     none value e =
-        let digits : are_digits value ≡ false = elim (cases_Bool (are_digits value)) [ inl is ↦ absurd (true≢false (sym (digits_are_free value is) ∙ e)) | inr isnt ↦ isnt ] in
-        ap (λ (b : Bool). if b && (nat_le 1 (decimal_number value) && nat_le (decimal_number value) boards) then Some (decimal_number value) else None) digits
+        let digits : are_digits value ≡ false = elim (cases_Bool (are_digits value))
+        [ inl is ↦ absurd (true≢false (sym (digits_are_free value is) ∙ e)) | inr isnt ↦ isnt ] in
+        ap (λ (b : Bool). if b && (nat_le 1 (decimal_number value) && nat_le (decimal_number value) boards) then Some
+        (decimal_number value) else None) digits
 
     by_case : IsSameOrNeither written → board_number boards (read_value written) ≡ board_number boards written
     by_case (inl same) = ap (board_number boards) same
@@ -153,5 +166,6 @@ same_form (byte ∷ next ∷ bytes) =
           ∙ form_no next (read_value bytes) (escape_no_hash byte next escape).1
           ∙ sym (false_and (byte == 35) (next == 35) (escape_no_hash byte next escape).0)
       | inr plain ↦
-          ap is_inherited_form (reads byte next bytes false plain) ∙ is_form_of byte (read_value (next ∷ bytes)) ∙ form_next byte next bytes
+          ap is_inherited_form (reads byte next bytes false plain) ∙ is_form_of byte (read_value (next ∷ bytes))
+          ∙ form_next byte next bytes
     ]

@@ -9,7 +9,8 @@ use Rattle.pbn_records.specs.FourParts.{kept_parts}
 use Rattle.pbn_records.proofs.PartsLemmas.{same_begin}
 
 -- the first part is that with the player's letter
-pub begin_is : (value : List ℕ) (four : Option FourParts) (kept : FourParts) (first : Place) (own left opposite right : List ℕ) →
+pub begin_is : (value : List ℕ) (four : Option FourParts) (kept : FourParts) (first : Place)
+    (own left opposite right : List ℕ) →
     kept_parts four ≡ four_of (parts value) → four ≡ Some kept → (has : HasParts value first own left opposite right) →
     kept.begin.now ≡ has.letter ∷ 58 ∷ own
 begin_is value four kept first own left opposite right are is has =

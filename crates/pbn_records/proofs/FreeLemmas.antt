@@ -1,5 +1,27 @@
 -- The forms of used values have no `"` and no `\`: what is said of a value as written is said of it as read.
-use Rattle.std.proofs.Common.{◌≡◌, ℕ, suc, Bool, true, false, ◌⊎◌, inl, inr, List, [], ◌∷◌, ◌++◌, map, refl, sym, ap, ◌∙◌, arith, append-nil, append_assoc}
+use Rattle.std.proofs.Common.{
+  ◌≡◌,
+  ℕ,
+  suc,
+  Bool,
+  true,
+  false,
+  ◌⊎◌,
+  inl,
+  inr,
+  List,
+  [],
+  ◌∷◌,
+  ◌++◌,
+  map,
+  refl,
+  sym,
+  ap,
+  ◌∙◌,
+  arith,
+  append-nil,
+  append_assoc,
+}
 use Rattle.std.specs.Prelude.{All, ◌&&◌, ◌==◌, if◌then◌else◌, codes}
 use Rattle.std.specs.List.{list_all}
 use Rattle.std.specs.Char.{to_ascii_uppercase, to_ascii_lowercase}
@@ -17,7 +39,16 @@ use Rattle.cards.specs.Hands.{Hands}
 use Rattle.cards.specs.HandReading.{Names, IsHandText}
 use Rattle.pbn_records.specs.Values.{read_value}
 use Rattle.pbn_records.specs.MarkValue.{IsWord, IsDealerValue, IsVulnerableValue}
-use Rattle.pbn_records.specs.DealValue.{ended_part, parts_from, HasParts, IsRankLetter, IsHandForm, IsPart, IsDealValue, IsHiddenValue}
+use Rattle.pbn_records.specs.DealValue.{
+  ended_part,
+  parts_from,
+  HasParts,
+  IsRankLetter,
+  IsHandForm,
+  IsPart,
+  IsDealValue,
+  IsHiddenValue,
+}
 use Rattle.pbn_records.proofs.EscapeLemmas.{is_free, are_free, same_fact}
 use Rattle.pbn_records.proofs.DealValueLemmas.{hand_has}
 
@@ -44,10 +75,12 @@ place_free West = refl
 dealer_free : (place : Place) (value : List ℕ) → IsDealerValue value place → are_free value ≡ true
 dealer_free place value is = sym (uppers_free value) ∙ ap are_free is ∙ place_free place
 
-word_free : (word value : List ℕ) → are_free (map to_ascii_lowercase word) ≡ true → IsWord word value → are_free value ≡ true
+word_free : (word value : List ℕ) → are_free (map to_ascii_lowercase word) ≡ true → IsWord word value →
+    are_free value ≡ true
 word_free word value free is = sym (lowers_free value) ∙ ap are_free is ∙ free
 
-vulnerable_free : (vulnerability : Vulnerability) (value : List ℕ) → IsVulnerableValue value vulnerability → are_free value ≡ true
+vulnerable_free : (vulnerability : Vulnerability) (value : List ℕ) → IsVulnerableValue value vulnerability →
+    are_free value ≡ true
 vulnerable_free Neither value (inl is) = word_free (codes "None") value refl is
 vulnerable_free Neither value (inr (inl is)) = word_free (codes "Love") value refl is
 vulnerable_free Neither value (inr (inr is)) = word_free (codes "-") value refl is
@@ -64,14 +97,16 @@ same_dealer place = same_fact (λ value. IsDealerValue value place) (dealer_free
 pub same_vulnerable : (vulnerability : Vulnerability) (written : List ℕ) →
     (IsVulnerableValue written vulnerability → IsVulnerableValue (read_value written) vulnerability) ×
     (IsVulnerableValue (read_value written) vulnerability → IsVulnerableValue written vulnerability)
-same_vulnerable vulnerability = same_fact (λ value. IsVulnerableValue value vulnerability) (vulnerable_free vulnerability)
+same_vulnerable vulnerability = same_fact (λ value. IsVulnerableValue value vulnerability)
+    (vulnerable_free vulnerability)
 
 -- a text is free where its parts are
 and_true : (one : Bool) → (one && true) ≡ one
 and_true true = refl
 and_true false = refl
 
-ended_free : (part : List ℕ) (more : List (List ℕ)) → list_all are_free (ended_part part more) ≡ (are_free part && list_all are_free more)
+ended_free : (part : List ℕ) (more : List (List ℕ)) → list_all are_free (ended_part part more) ≡
+    (are_free part && list_all are_free more)
 ended_free [] more = refl
 ended_free (byte ∷ part) more = refl
 
@@ -97,10 +132,12 @@ parts_free part (byte ∷ bytes) =
 all_free : (bytes : List ℕ) → All (λ byte. is_free byte ≡ true) bytes → are_free bytes ≡ true
 all_free [] all = refl
 all_free (byte ∷ bytes) all =
-    ap (λ (b : Bool). b && are_free bytes) (all 0 0 (omega arith)) ∙ all_free bytes (λ k d h. all (suc k) d (omega (arith, h)))
+    ap (λ (b : Bool). b && are_free bytes) (all 0 0 (omega arith)) ∙ all_free bytes
+    (λ k d h. all (suc k) d (omega (arith, h)))
 
 rank_free : (rank : Rank) → is_free (rank_letter rank) ≡ true
-rank_free = each_rank (λ rank. is_free (rank_letter rank) ≡ true) refl refl refl refl refl refl refl refl refl refl refl refl refl
+rank_free = each_rank (λ rank. is_free (rank_letter rank) ≡ true) refl refl refl refl refl refl refl refl refl refl refl
+    refl refl
 
 named_free : (letter : ℕ) (rank : Rank) → Names letter rank → is_free letter ≡ true
 named_free letter rank named = sym (upper_free letter) ∙ ap is_free named ∙ rank_free rank
@@ -128,8 +165,10 @@ letter_free letter place e = sym (upper_free letter) ∙ ap is_free e ∙ by_pla
     by_place South = refl
     by_place West = refl
 
-four_free : (value : List ℕ) (first : Place) (own left opposite right : List ℕ) → HasParts value first own left opposite right →
-    are_free own ≡ true → are_free left ≡ true → are_free opposite ≡ true → are_free right ≡ true → are_free value ≡ true
+four_free : (value : List ℕ) (first : Place) (own left opposite right : List ℕ) → HasParts value first own left opposite
+    right →
+    are_free own ≡ true → are_free left ≡ true → are_free opposite ≡ true → are_free right ≡ true →
+    are_free value ≡ true
 four_free value first own left opposite right has a b c d =
     sym (parts_free [] value) ∙ ap (list_all are_free) has.four
     ∙ (λ i. (letter_free has.letter first has.names i && (true && a i)) && (b i && (c i && (d i && true))))
@@ -143,12 +182,15 @@ deal_free hands value is =
 hidden_free : (value : List ℕ) → IsHiddenValue value → are_free value ≡ true
 hidden_free value is =
     four_free value is.first is.own is.left is.opposite is.right is.has
-    (part_free is.own is.hidden.is_own) (part_free is.left is.hidden.is_left) (part_free is.opposite is.hidden.is_opposite)
+    (part_free is.own is.hidden.is_own) (part_free is.left is.hidden.is_left)
+    (part_free is.opposite is.hidden.is_opposite)
     (part_free is.right is.hidden.is_right)
 
 pub same_deal : (hands : Hands) (written : List ℕ) →
-    (IsDealValue hands written → IsDealValue hands (read_value written)) × (IsDealValue hands (read_value written) → IsDealValue hands written)
+    (IsDealValue hands written → IsDealValue hands (read_value written)) × (IsDealValue hands (read_value written) →
+    IsDealValue hands written)
 same_deal hands = same_fact (IsDealValue hands) (deal_free hands)
 
-pub same_hidden : (written : List ℕ) → (IsHiddenValue written → IsHiddenValue (read_value written)) × (IsHiddenValue (read_value written) → IsHiddenValue written)
+pub same_hidden : (written : List ℕ) → (IsHiddenValue written → IsHiddenValue (read_value written)) ×
+    (IsHiddenValue (read_value written) → IsHiddenValue written)
 same_hidden = same_fact IsHiddenValue hidden_free

@@ -1,5 +1,27 @@
 -- What is known of the boards of some games, and of one game more.
-use Rattle.std.proofs.Common.{◌≡◌, ◌≢◌, ℕ, ◌≤◌, get_or, replicate, arith, Bool, true, false, inl, inr, List, [], ◌∷◌, ◌++◌, refl, sym, ap, subst, ◌∙◌}
+use Rattle.std.proofs.Common.{
+  ◌≡◌,
+  ◌≢◌,
+  ℕ,
+  ◌≤◌,
+  get_or,
+  replicate,
+  arith,
+  Bool,
+  true,
+  false,
+  inl,
+  inr,
+  List,
+  [],
+  ◌∷◌,
+  ◌++◌,
+  refl,
+  sym,
+  ap,
+  subst,
+  ◌∙◌,
+}
 use Rattle.std.specs.Prelude.{Option, Some, None, nat_eq, nat_lt, nat_le, ◌&&◌, if◌then◌else◌}
 use Rattle.std.specs.Option.{is_some, option_or}
 use Rattle.std.proofs.lemmas.Bool.{true≢false, cases_Bool, eqb-true, eq-eqb, leb-true, ltb-true, ltb-false, and_parts}
@@ -14,7 +36,16 @@ use Rattle.pbn_pieces.proofs.CutLemmas.{some_same}
 use Rattle.pbn_records.specs.declared.used.Used.TheVariants as used
 use Rattle.pbn_records.specs.Tags.{Valued}
 use Rattle.pbn_records.specs.Values.{Values}
-use Rattle.pbn_records.specs.Boards.{are_digits, decimal_number, is_there, number_in, is_this_board, game_board, first_game, IsRead}
+use Rattle.pbn_records.specs.Boards.{
+  are_digits,
+  decimal_number,
+  is_there,
+  number_in,
+  is_this_board,
+  game_board,
+  first_game,
+  IsRead,
+}
 use Rattle.pbn_records.specs.Faults.{first_game_if_any, IsFaultOf}
 use Rattle.pbn_records.specs.Kept.{KnowsDeal, KnowsBoard, board_at, Knows, Finds, HasTagFault, IsGameFault, error_of}
 
@@ -23,10 +54,12 @@ pub none_yet : (places number : ℕ) (none : Option Board) → get_or (replicate
 none_yet places number none = elim (cases_Bool (nat_lt number places)) [
   | inl within ↦ get_or-replicate places number none none (ltb-true number places within)
   | inr past ↦ get_or_past (replicate places none) number none
-      (let long = length-replicate places none in let after = ltb-false number places past in omega (arith, long, after))
+      (let long = length-replicate places none in let after = ltb-false number places past in
+      omega (arith, long, after))
 ]
 
-knows_deal_of : (number : ℕ) (first : Option Values) (known : Option Board) → KnowsBoard number first known → KnowsDeal first known
+knows_deal_of : (number : ℕ) (first : Option Values) (known : Option Board) → KnowsBoard number first known →
+    KnowsDeal first known
 knows_deal_of number None None knows = tt
 knows_deal_of number None (Some board) knows = knows
 knows_deal_of number (Some values) None knows = knows
@@ -38,7 +71,8 @@ pub knows_first : (boards : ℕ) (games : List Values) (known : KnownBoards) (bo
     Knows boards games known → KnowsDeal (first_game_if_any boards games board) earlier
 knows_first boards games known None earlier some none knows = subst (KnowsDeal None) (sym (none refl)) tt
 knows_first boards games known (Some number) earlier some none knows =
-    subst (KnowsDeal (first_game boards number games)) (sym (some number refl)) (knows_deal_of number _ _ (knows number))
+    subst (KnowsDeal (first_game boards number games)) (sym (some number refl))
+    (knows_deal_of number _ _ (knows number))
 
 -- the first fault of a game
 pub game_finds : (boards : ℕ) (games : List Values) (known : KnownBoards) (values : Values) (board : Option ℕ)
@@ -51,15 +85,18 @@ game_finds boards games known values board earlier found is some none finds know
     (finds (first_game_if_any boards games board) (knows_first boards games known board earlier some none knows))
 
 pub game_fault : (boards : ℕ) (games : List Values) (values : Values) (found : FaultAt) (error : DealsError) →
-    error ≡ error_of found.fault found.offset → Finds (Some found) (IsFaultOf boards games values) → IsGameFault boards games values error
+    error ≡ error_of found.fault found.offset → Finds (Some found) (IsFaultOf boards games values) →
+    IsGameFault boards games values error
 game_fault boards games values found error named finds =
     record { fault = found.fault; offset = found.offset; is = finds.0; least = finds.1; named = named }
 
 -- one game more
 added : (boards number : ℕ) (games : List Values) (values : Values) →
     first_game boards number (games ++ values ∷ [])
-    ≡ option_or (first_game boards number games) (if is_this_board number (game_board boards values) then Some values else None)
-added boards number games values = find-append (λ values. is_this_board number (game_board boards values)) games (values ∷ [])
+    ≡ option_or (first_game boards number games) (if is_this_board number (game_board boards values) then Some values
+    else None)
+added boards number games values = find-append (λ values. is_this_board number (game_board boards values)) games
+    (values ∷ [])
 
 or_none : (one : Option Values) → option_or one None ≡ one
 or_none None = refl
@@ -89,13 +126,15 @@ knows_ignored boards games known values none knows number =
     (sym (first_kept boards number games values (λ is. absurd (true≢false (sym is ∙ ap (is_this_board number) none)))))
     (knows number)
 
-some_known : (number : ℕ) (first : Option Values) (known : Option Board) → KnowsBoard number first known → is_some known ≡ true → is_some first ≡ true
+some_known : (number : ℕ) (first : Option Values) (known : Option Board) → KnowsBoard number first known →
+    is_some known ≡ true → is_some first ≡ true
 some_known number None None knows e = e
 some_known number None (Some board) knows e = absurd knows
 some_known number (Some values) known knows e = refl
 
 -- a game of a board that has an earlier one
-pub knows_again : (boards : ℕ) (games : List Values) (known : KnownBoards) (values : Values) (number : ℕ) (earlier : Option Board) →
+pub knows_again : (boards : ℕ) (games : List Values) (known : KnownBoards) (values : Values) (number : ℕ)
+    (earlier : Option Board) →
     Some number ≡ game_board boards values → earlier ≡ board_at known number → is_some earlier ≡ true →
     Knows boards games known → Knows boards (games ++ values ∷ []) known
 knows_again boards games known values number earlier is at some knows other =
@@ -106,15 +145,19 @@ knows_again boards games known values number earlier is at some knows other =
     (some_known number _ _ (knows number) (ap is_some (sym at) ∙ some)))))
     (knows other)
 
-pub none_known : (number : ℕ) (first : Option Values) (known : Option Board) → KnowsBoard number first known → known ≡ None → first ≡ None
+pub none_known : (number : ℕ) (first : Option Values) (known : Option Board) → KnowsBoard number first known →
+    known ≡ None → first ≡ None
 none_known number None known knows e = refl
 none_known number (Some values) None knows e = absurd knows
 none_known number (Some values) (Some board) knows e = absurd (true≢false (ap is_some e))
 
 -- a board's first game
-pub knows_new : (boards : ℕ) (games : List Values) (old new : KnownBoards) (values : Values) (number : ℕ) (earlier : Option Board) (read : Board) →
-    Some number ≡ game_board boards values → earlier ≡ board_at old number → earlier ≡ None → IsRead number values read →
-    board_at new number ≡ Some read → ((other : ℕ) → other ≢ number → board_at new other ≡ board_at old other) → Knows boards games old → Knows boards (games ++ values ∷ []) new
+pub knows_new : (boards : ℕ) (games : List Values) (old new : KnownBoards) (values : Values) (number : ℕ)
+    (earlier : Option Board) (read : Board) →
+    Some number ≡ game_board boards values → earlier ≡ board_at old number → earlier ≡ None → IsRead number values
+    read →
+    board_at new number ≡ Some read → ((other : ℕ) → other ≢ number → board_at new other ≡ board_at old other) →
+    Knows boards games old → Knows boards (games ++ values ∷ []) new
 knows_new boards games old new values number earlier read is at none reads added_so others knows other =
     elim (cases_Bool (nat_eq number other)) [
       | inl same ↦
@@ -124,7 +167,8 @@ knows_new boards games old new values number earlier read is at none reads added
           (sym added_so)
           (subst (λ first. KnowsBoard number first (Some read))
           (sym (added boards number games values
-          ∙ ap (λ first. option_or first (if is_this_board number (game_board boards values) then Some values else None))
+          ∙ ap (λ first. option_or first (if is_this_board number (game_board boards values) then Some values
+          else None))
           (none_known number _ _ (knows number) (sym at ∙ none))
           ∙ ap (λ board. if is_this_board number board then Some values else None) (sym is)
           ∙ ap (λ (b : Bool). if b then Some values else None) (eq-eqb number number refl)))
@@ -133,18 +177,21 @@ knows_new boards games old new values number earlier read is at none reads added
           subst (λ found. KnowsBoard other (first_game boards other (games ++ values ∷ [])) found)
           (sym (others other (λ e. true≢false (sym (eq-eqb number other (sym e)) ∙ apart))))
           (subst (λ first. KnowsBoard other first (board_at old other))
-          (sym (first_kept boards other games values (λ e. absurd (true≢false (sym (ap (is_this_board other) is ∙ e) ∙ apart)))))
+          (sym (first_kept boards other games values
+          (λ e. absurd (true≢false (sym (ap (is_this_board other) is ∙ e) ∙ apart)))))
           (knows other))
     ]
 
 pub from_one : (boards number : ℕ) (values : Values) → Some number ≡ game_board boards values → 1 ≤ number
 from_one boards number values is = in_board (is_there (values used.Deal)) (values used.Board) is
   where
-    in_value : (value : List ℕ) (b : Bool) → (are_digits value && (nat_le 1 (decimal_number value) && nat_le (decimal_number value) boards)) ≡ b →
+    in_value : (value : List ℕ) (b : Bool) →
+        (are_digits value && (nat_le 1 (decimal_number value) && nat_le (decimal_number value) boards)) ≡ b →
         Some number ≡ (if b then Some (decimal_number value) else None) → 1 ≤ number
     in_value value true e is =
         subst (λ n. 1 ≤ n) (some_same _ _ (sym is))
-        (leb-true 1 (decimal_number value) (and_parts (nat_le 1 (decimal_number value)) (nat_le (decimal_number value) boards)
+        (leb-true 1 (decimal_number value) (and_parts (nat_le 1 (decimal_number value))
+        (nat_le (decimal_number value) boards)
         (and_parts (are_digits value) (nat_le 1 (decimal_number value) && nat_le (decimal_number value) boards) e).1).0)
     in_value value false e is = absurd (true≢false (ap is_some is))
 
@@ -152,7 +199,8 @@ from_one boards number values is = in_board (is_there (values used.Deal)) (value
     in_tag None is = absurd (true≢false (ap is_some is))
     in_tag (Some tag) is = in_value tag.value _ refl is
 
-    in_board : (there : Bool) (tag : Option Valued) → Some number ≡ (if there then number_in boards tag else None) → 1 ≤ number
+    in_board : (there : Bool) (tag : Option Valued) → Some number ≡ (if there then number_in boards tag else None) →
+        1 ≤ number
     in_board true tag is = in_tag tag is
     in_board false tag is = absurd (true≢false (ap is_some is))
 
@@ -161,7 +209,8 @@ none_of_some None some is isnt = refl
 none_of_some (Some board) some is isnt = absurd (true≢false (sym is ∙ isnt))
 
 -- a board's first game with no fault is read
-pub no_fault_at_first : (boards number : ℕ) (values : Values) (board : Option ℕ) (earlier : Option Board) → board ≡ Some number → earlier ≡ None →
+pub no_fault_at_first : (boards number : ℕ) (values : Values) (board : Option ℕ) (earlier : Option Board) →
+    board ≡ Some number → earlier ≡ None →
     ((first : Option Values) → KnowsDeal first earlier → Finds None (HasTagFault board first values)) →
     ((fault : Fault) × (offset : ℕ) × HasTagFault (Some number) None values fault offset) → ⊥
 no_fault_at_first boards number values board earlier is none finds fault =

@@ -11,7 +11,8 @@ number_more digits i within =
     ∙ fold-append (λ number digit. 10 * number + (digit - 48)) 0 (take i digits) (get_or digits i 0 ∷ [])
 
 -- more digits never make a number smaller
-pub capped_more : (digits : List ℕ) (i number : ℕ) → i < length digits → number ≡ min (decimal_number (take i digits)) 256 →
+pub capped_more : (digits : List ℕ) (i number : ℕ) → i < length digits → number ≡ min (decimal_number (take i digits))
+    256 →
     min (10 * number + (get_or digits i 0 - 48)) 256 ≡ min (decimal_number (take (i + 1) digits)) 256
 capped_more digits i number within capped =
     let more = number_more digits i within in

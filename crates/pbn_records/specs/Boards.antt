@@ -1,6 +1,26 @@
 -- The boards of a PBN text: each is read from the first of its games that isn't ignored (PBN 2.1, in this project's
 -- profile).
-use Rattle.std.specs.Prelude.{ℕ, ◌+◌, ◌*◌, ◌-◌, Bool, false, not, ◌&&◌, ◌==◌, nat_le, if◌then◌else◌, List, [], ◌∷◌, Option, Some, None, fold, find}
+use Rattle.std.specs.Prelude.{
+  ℕ,
+  ◌+◌,
+  ◌*◌,
+  ◌-◌,
+  Bool,
+  false,
+  not,
+  ◌&&◌,
+  ◌==◌,
+  nat_le,
+  if◌then◌else◌,
+  List,
+  [],
+  ◌∷◌,
+  Option,
+  Some,
+  None,
+  fold,
+  find,
+}
 use Rattle.std.specs.List.{list_all}
 use Rattle.pbn_records.specs.declared.board.Board.{Board}
 use Rattle.cards.specs.Hands.{Hands}

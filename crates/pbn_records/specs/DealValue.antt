@@ -1,6 +1,23 @@
 -- The value of the tag Deal (PBN 2.1, in this project's profile): a player's letter, a colon, and the hands clockwise
 -- from there.
-use Rattle.std.specs.Prelude.{◌≡◌, ◌==◌, ℕ, List, [], ◌∷◌, ◌++◌, if◌then◌else◌, All, count_by, codes, nat_eq, ◌⊎◌, Option, Some, None}
+use Rattle.std.specs.Prelude.{
+  ◌≡◌,
+  ◌==◌,
+  ℕ,
+  List,
+  [],
+  ◌∷◌,
+  ◌++◌,
+  if◌then◌else◌,
+  All,
+  count_by,
+  codes,
+  nat_eq,
+  ◌⊎◌,
+  Option,
+  Some,
+  None,
+}
 use Rattle.std.specs.Char.{to_ascii_uppercase}
 use Rattle.table_terms.specs.declared.place.Place.{Place}
 use Rattle.cards.specs.declared.rank.Rank.{Rank}

@@ -4,7 +4,14 @@ use Rattle.cards.specs.Hands.{Hands}
 use Rattle.pbn_records.specs.declared.used.Used.{Used}
 use Rattle.pbn_records.specs.declared.used.Used.TheVariants as used
 use Rattle.pbn_records.specs.declared.fault.Fault.{Fault}
-use Rattle.pbn_records.specs.declared.fault.Fault.TheVariants.{BadTag, BadDeal, HiddenHand, BadMark, DealConflict, InheritedForm}
+use Rattle.pbn_records.specs.declared.fault.Fault.TheVariants.{
+  BadTag,
+  BadDeal,
+  HiddenHand,
+  BadMark,
+  DealConflict,
+  InheritedForm,
+}
 use Rattle.pbn_records.specs.Tags.{Valued}
 use Rattle.pbn_records.specs.Values.{Values, is_inherited_form}
 use Rattle.pbn_records.specs.MarkValue.{IsBadDealer, IsBadVulnerable}

@@ -1,5 +1,21 @@
 -- The values in each of a text's games, and in the game before it (PBN 2.1, in this project's profile).
-use Rattle.std.specs.Prelude.{◌≡◌, ◌≢◌, ℕ, zero, suc, ◌-◌, ◌<◌, ◌≤◌, List, [], Option, Some, codes, slice_get, slice_index_or}
+use Rattle.std.specs.Prelude.{
+  ◌≡◌,
+  ◌≢◌,
+  ℕ,
+  zero,
+  suc,
+  ◌-◌,
+  ◌<◌,
+  ◌≤◌,
+  List,
+  [],
+  Option,
+  Some,
+  codes,
+  slice_get,
+  slice_index_or,
+}
 use Rattle.pbn_pieces.specs.Pieces.{Piece}
 use Rattle.pbn_records.specs.declared.used.Used.{Used}
 use Rattle.pbn_records.specs.declared.board.Board.{Board}

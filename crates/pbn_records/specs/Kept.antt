@@ -10,7 +10,14 @@ use Rattle.pbn_records.specs.declared.fault.Fault.{Fault}
 use Rattle.pbn_records.specs.declared.fault.Fault.TheVariants as kind
 use Rattle.pbn_records.specs.declared.fault.FaultAt.{FaultAt}
 use Rattle.pbn_records.specs.declared.deals_error.DealsError.{DealsError}
-use Rattle.pbn_records.specs.declared.deals_error.DealsError.TheVariants.{BadTag, BadDeal, HiddenHand, BadMark, DealConflict, InheritedForm}
+use Rattle.pbn_records.specs.declared.deals_error.DealsError.TheVariants.{
+  BadTag,
+  BadDeal,
+  HiddenHand,
+  BadMark,
+  DealConflict,
+  InheritedForm,
+}
 use Rattle.pbn_records.specs.Tags.{Placed, Valued, Mark, Named, Break, used_of, has_already, games_from}
 use Rattle.pbn_records.specs.Values.{Values, values_of, all_values}
 use Rattle.pbn_records.specs.MarkValue.{IsBadDealer, IsBadVulnerable}

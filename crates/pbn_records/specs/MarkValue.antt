@@ -1,5 +1,22 @@
 -- The values of the tags Dealer and Vulnerable (PBN 2.1, in this project's profile).
-use Rattle.std.specs.Prelude.{◌≡◌, ℕ, Bool, true, false, ◌||◌, List, [], ◌∷◌, map, codes, bytes_eq, ◌⊎◌, Option, Some, None}
+use Rattle.std.specs.Prelude.{
+  ◌≡◌,
+  ℕ,
+  Bool,
+  true,
+  false,
+  ◌||◌,
+  List,
+  [],
+  ◌∷◌,
+  map,
+  codes,
+  bytes_eq,
+  ◌⊎◌,
+  Option,
+  Some,
+  None,
+}
 use Rattle.std.specs.Char.{to_ascii_lowercase, to_ascii_uppercase}
 use Rattle.table_terms.specs.declared.place.Place.{Place}
 use Rattle.table_terms.specs.declared.vulnerability.Vulnerability.{Vulnerability}

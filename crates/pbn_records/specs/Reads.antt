@@ -4,7 +4,16 @@ use Rattle.pbn_pieces.specs.Pieces.{Piece, Joins}
 use Rattle.pbn_records.specs.declared.fault.Fault.{Fault}
 use Rattle.pbn_records.specs.declared.fault.Fault.TheVariants as kind
 use Rattle.pbn_records.specs.declared.deals_error.DealsError.{DealsError}
-use Rattle.pbn_records.specs.declared.deals_error.DealsError.TheVariants.{BadTag, BadDeal, HiddenHand, BadMark, DealConflict, InheritedForm, MissingBoard, OutOfMemory}
+use Rattle.pbn_records.specs.declared.deals_error.DealsError.TheVariants.{
+  BadTag,
+  BadDeal,
+  HiddenHand,
+  BadMark,
+  DealConflict,
+  InheritedForm,
+  MissingBoard,
+  OutOfMemory,
+}
 use Rattle.pbn_records.specs.Tags.{without_mark, marks_from, bad_from, games_from}
 use Rattle.pbn_records.specs.Values.{Values, no_values, all_values}
 use Rattle.pbn_records.specs.Boards.{first_game, IsRead}

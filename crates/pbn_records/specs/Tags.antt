@@ -1,7 +1,36 @@
 -- The tags of a PBN text, and the games that they group into (PBN 2.1, in this project's profile).
-use Rattle.std.specs.Prelude.{ℕ, ◌+◌, Bool, false, ◌&&◌, ◌==◌, if◌then◌else◌, List, [], ◌∷◌, ◌++◌, Option, Some, None, codes, bytes_eq}
+use Rattle.std.specs.Prelude.{
+  ℕ,
+  ◌+◌,
+  Bool,
+  false,
+  ◌&&◌,
+  ◌==◌,
+  if◌then◌else◌,
+  List,
+  [],
+  ◌∷◌,
+  ◌++◌,
+  Option,
+  Some,
+  None,
+  codes,
+  bytes_eq,
+}
 use Rattle.std.specs.Option.{is_some, option_or}
-use Rattle.pbn_pieces.specs.Pieces.{Piece, Comment, OpenComment, LineComment, EscapeLine, BlankLine, Quoted, Tagged, Broken, Plain, size}
+use Rattle.pbn_pieces.specs.Pieces.{
+  Piece,
+  Comment,
+  OpenComment,
+  LineComment,
+  EscapeLine,
+  BlankLine,
+  Quoted,
+  Tagged,
+  Broken,
+  Plain,
+  size,
+}
 use Rattle.pbn_records.specs.declared.used.Used.{Used}
 use Rattle.pbn_records.specs.declared.used.Used.TheVariants.{Board, Dealer, Vulnerable, Deal}
 

@@ -1,5 +1,20 @@
 -- What value each used tag has in a game (PBN 2.1, in this project's profile).
-use Rattle.std.specs.Prelude.{ℕ, Bool, false, ◌&&◌, ◌==◌, if◌then◌else◌, List, [], ◌∷◌, Option, Some, None, codes, bytes_eq}
+use Rattle.std.specs.Prelude.{
+  ℕ,
+  Bool,
+  false,
+  ◌&&◌,
+  ◌==◌,
+  if◌then◌else◌,
+  List,
+  [],
+  ◌∷◌,
+  Option,
+  Some,
+  None,
+  codes,
+  bytes_eq,
+}
 use Rattle.pbn_pieces.specs.Pieces.{is_escape}
 use Rattle.pbn_records.specs.Bytes.{hash}
 use Rattle.pbn_records.specs.declared.used.Used.{Used}

@@ -8,11 +8,13 @@ module _ {X : Type 0} (P : X → Type 0) where
   where_true : (bs : List Bool) (xs : List X) → All P xs → All P (items_where_true bs xs)
   where_true [] xs all = All-nil P
   where_true (b ∷ bs) [] all = All-nil P
-  where_true (true ∷ bs) (x ∷ xs) all = All-cons P x (items_where_true bs xs) (All-head P x xs all) (where_true bs xs (All-tail P x xs all))
+  where_true (true ∷ bs) (x ∷ xs) all = All-cons P x (items_where_true bs xs) (All-head P x xs all)
+      (where_true bs xs (All-tail P x xs all))
   where_true (false ∷ bs) (x ∷ xs) all = where_true bs xs (All-tail P x xs all)
 
   -- what `retain` keeps
-  pub all_kept : {F : Type 0} {R : F → X → Bool → F → Type 0} {f : F} (xs ys : List X) → IsFiltered R f xs ys → All P xs → All P ys
+  pub all_kept : {F : Type 0} {R : F → X → Bool → F → Type 0} {f : F} (xs ys : List X) → IsFiltered R f xs ys →
+      All P xs → All P ys
   all_kept xs ys kept all = subst (All P) (sym kept.4) (where_true kept.0 xs all)
 
   -- what `push` leaves

@@ -1,11 +1,56 @@
 -- The ranks below a height, from the top down, and the cards of a suit that are held of them.
-use Rattle.std.proofs.Common.{◌≡◌, ℕ, ◌+◌, ◌-◌, ◌*◌, ◌^◌, ◌%◌, bit_and, ◌<◌, ◌≤◌, true, false, ◌⊎◌, List, [], ◌∷◌, refl, sym, ap, ◌∙◌, subst, inl, inr, arith, zero, suc, Some, None, add-one, lit<}
+use Rattle.std.proofs.Common.{
+  ◌≡◌,
+  ℕ,
+  ◌+◌,
+  ◌-◌,
+  ◌*◌,
+  ◌^◌,
+  ◌%◌,
+  bit_and,
+  ◌<◌,
+  ◌≤◌,
+  true,
+  false,
+  ◌⊎◌,
+  List,
+  [],
+  ◌∷◌,
+  refl,
+  sym,
+  ap,
+  ◌∙◌,
+  subst,
+  inl,
+  inr,
+  arith,
+  zero,
+  suc,
+  Some,
+  None,
+  add-one,
+  lit<,
+}
 use Rattle.std.proofs.Math.Nat.{pow-suc, mul_comm}
 use Rattle.std.proofs.lemmas.Nat.{one_shl, and_mask}
 use Rattle.cards.specs.declared.card.Card.{Card}
 use Rattle.table_terms.specs.declared.suit.Suit.{Suit}
 use Rattle.cards.specs.declared.rank.Rank.{Rank}
-use Rattle.cards.specs.declared.rank.Rank.TheVariants.{Two, Three, Four, Five, Six, Seven, Eight, Nine, Ten, Jack, Queen, King, Ace}
+use Rattle.cards.specs.declared.rank.Rank.TheVariants.{
+  Two,
+  Three,
+  Four,
+  Five,
+  Six,
+  Seven,
+  Eight,
+  Nine,
+  Ten,
+  Jack,
+  Queen,
+  King,
+  Ace,
+}
 use Rattle.table_terms.specs.declared.place.Place.{Place}
 use Rattle.table_terms.specs.declared.place.Place.TheVariants.{North, East, South, West}
 use Rattle.cards.specs.Hands.{Hands}

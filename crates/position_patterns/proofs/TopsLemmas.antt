@@ -1,9 +1,47 @@
 -- What is remembered of a pattern holds of each position of it.
-use Rattle.std.proofs.Common.{subst, ◌≡◌, ℕ, ◌+◌, ◌*◌, ◌%◌, ◌^◌, ◌<◌, ◌≤◌, Bool, true, List, [], ◌∷◌, length, refl, sym, ap, ◌∙◌, inl, inr, arith, Option, Some, None, false}
+use Rattle.std.proofs.Common.{
+  subst,
+  ◌≡◌,
+  ℕ,
+  ◌+◌,
+  ◌*◌,
+  ◌%◌,
+  ◌^◌,
+  ◌<◌,
+  ◌≤◌,
+  Bool,
+  true,
+  List,
+  [],
+  ◌∷◌,
+  length,
+  refl,
+  sym,
+  ap,
+  ◌∙◌,
+  inl,
+  inr,
+  arith,
+  Option,
+  Some,
+  None,
+  false,
+}
 use Rattle.std.specs.Prelude.{◌||◌, ◌&&◌}
 use Rattle.std.specs.List.{list_any}
 use Rattle.std.specs.Ordering.{eq_by_cmp}
-use Rattle.std.proofs.lemmas.Bool.{or_cases, or_left, or_right, and_parts, and_from, true≢false, leb-true, leb-false, le-leb, lt-leb}
+use Rattle.std.proofs.lemmas.Bool.{
+  or_cases,
+  or_left,
+  or_right,
+  and_parts,
+  and_from,
+  true≢false,
+  leb-true,
+  leb-false,
+  le-leb,
+  lt-leb,
+}
 use Rattle.cards.specs.declared.card.Card.{Card}
 use Rattle.table_terms.specs.declared.suit.Suit.{Suit}
 use Rattle.table_terms.specs.declared.suit.Suit.TheVariants.{Spades, Hearts, Diamonds, Clubs}
@@ -23,13 +61,33 @@ use Rattle.cards.specs.Play.{cards_left, IsApart, Position, start, without}
 use Rattle.position_patterns.proofs.DigitLemmas.{tops_from_digits}
 use Rattle.position_patterns.proofs.RankLemmas.{low_digits_four}
 use Rattle.position_patterns.proofs.SetLemmas.{in_first, in_second}
-use Rattle.position_patterns.specs.Tops.{HasTopCards, HasTops, IsPatternOf, IsReach, IsTruePattern, Matches, lengths_number, place_weight, tops_of}
+use Rattle.position_patterns.specs.Tops.{
+  HasTopCards,
+  HasTops,
+  IsPatternOf,
+  IsReach,
+  IsTruePattern,
+  Matches,
+  lengths_number,
+  place_weight,
+  tops_of,
+}
 use Rattle.double_dummy_laws.proofs.EqualCardsLemmas.{kept}
 use Rattle.double_dummy_laws.proofs.HandLemmas.{without_had}
 use Rattle.double_dummy_laws.proofs.OwnershipLemmas.{tight}
 use Rattle.double_dummy_laws.proofs.PatternLemmas.{listed_top, partition}
 use Rattle.double_dummy_laws.specs.Found.{IsFound, IsOwned}
-use Rattle.double_dummy_laws.specs.Pattern.{Held, IsTop, held_before, held_of, holder_of, holding, how_many, one_if, same_place}
+use Rattle.double_dummy_laws.specs.Pattern.{
+  Held,
+  IsTop,
+  held_before,
+  held_of,
+  holder_of,
+  holding,
+  how_many,
+  one_if,
+  same_place,
+}
 use Rattle.double_dummy_laws.specs.Renaming.{Ownership}
 
 -- the lengths, from their number

@@ -1,5 +1,32 @@
 -- How a script's run goes on from line to line.
-use Rattle.std.proofs.Common.{◌≡◌, ◌≢◌, ◌⊎◌, ℕ, ◌==◌, false, ◌+◌, ◌≤◌, ◌<◌, inl, inr, List, [], ◌∷◌, ◌++◌, take, length, refl, sym, ap, subst, ◌∙◌, append_assoc, append-nil, length-append, arith}
+use Rattle.std.proofs.Common.{
+  ◌≡◌,
+  ◌≢◌,
+  ◌⊎◌,
+  ℕ,
+  ◌==◌,
+  false,
+  ◌+◌,
+  ◌≤◌,
+  ◌<◌,
+  inl,
+  inr,
+  List,
+  [],
+  ◌∷◌,
+  ◌++◌,
+  take,
+  length,
+  refl,
+  sym,
+  ap,
+  subst,
+  ◌∙◌,
+  append_assoc,
+  append-nil,
+  length-append,
+  arith,
+}
 use Rattle.std.specs.Prelude.{Option, Some, None, IfSome, IfErr, OnOk, Err, Ok, Result, filter}
 use Rattle.std.proofs.lemmas.List.{map-append, length-take}
 use Rattle.std.proofs.lemmas.List.Sums.{fold-append}
@@ -25,7 +52,20 @@ use Rattle.program.specs.declared.fault.Fault.TheVariants.{Session, Opening, Inp
 use Rattle.program.specs.FirstLine.{Opens, OpensNone}
 use Rattle.request_answers.specs.Response.{Response}
 use Rattle.program.specs.Script.{Received, respond, responses_to, response_to_line, is_not_empty, messages_among}
-use Rattle.program.specs.Writes.{script_limit, Responds, RespondsToEach, WritesResponses, WritesSoFar, WritesPartOfLast, IsDone, IsUnopened, IsWithoutMemory, IsCutShort, IsUnwritten, EndsWith}
+use Rattle.program.specs.Writes.{
+  script_limit,
+  Responds,
+  RespondsToEach,
+  WritesResponses,
+  WritesSoFar,
+  WritesPartOfLast,
+  IsDone,
+  IsUnopened,
+  IsWithoutMemory,
+  IsCutShort,
+  IsUnwritten,
+  EndsWith,
+}
 use Rattle.program.specs.Standing.{StandsAtLine, StandsAtEnd, StandsAfter, line_feeds, fault_of_read}
 
 -- ---- responses
@@ -36,25 +76,32 @@ unfolding responses_to
 responds_to_none opening = record { received = []; each = refl; journal_is = refl; text_is = refl }
 
 -- one message more
-pub responds_to_more : (opening : SessionState) (messages : List (List ℕ)) (journal after : List Entry) (text more line : List ℕ) →
-    RespondsToEach opening messages journal text → Responds opening journal line after more → RespondsToEach opening (messages ++ line ∷ []) after (text ++ more)
+pub responds_to_more : (opening : SessionState) (messages : List (List ℕ)) (journal after : List Entry)
+    (text more line : List ℕ) →
+    RespondsToEach opening messages journal text → Responds opening journal line after more → RespondsToEach opening
+    (messages ++ line ∷ []) after (text ++ more)
 unfolding responses_to
 responds_to_more opening messages journal after text more line so_far next =
     let received : Received = record { line = line; memory = next.memory } in
     let before : Response = responses_to opening so_far.received in
-    let step : responses_to opening (so_far.received ++ received ∷ []) ≡ respond opening before received = fold-append (respond opening) (record { journal = []; text = [] }) so_far.received (received ∷ []) in
-    let here : response_to_line opening before.journal received ≡ response_to_line opening journal received = ap (λ j. response_to_line opening j received) so_far.journal_is in
+    let step : responses_to opening (so_far.received ++ received ∷ []) ≡ respond opening before received =
+    fold-append (respond opening) (record { journal = []; text = [] }) so_far.received (received ∷ []) in
+    let here : response_to_line opening before.journal received ≡ response_to_line opening journal received =
+    ap (λ j. response_to_line opening j received) so_far.journal_is in
     record {
       received = so_far.received ++ received ∷ [];
-      each = map-append (λ (h : Received). h.line) so_far.received (received ∷ []) ∙ ap (λ lines. lines ++ line ∷ []) so_far.each;
+      each = map-append (λ (h : Received). h.line) so_far.received (received ∷ []) ∙ ap (λ lines. lines ++ line ∷ [])
+          so_far.each;
       journal_is = ap (λ (t : Response). t.journal) step ∙ ap (λ (t : Response). t.journal) here ∙ next.journal_is;
-      text_is = ap (λ (t : Response). t.text) step ∙ (λ i. so_far.text_is i ++ ((here i).text ++ 10 ∷ [])) ∙ ap (λ bytes. text ++ bytes) next.text_is;
+      text_is = ap (λ (t : Response). t.text) step ∙ (λ i. so_far.text_is i ++ ((here i).text ++ 10 ∷ []))
+          ∙ ap (λ bytes. text ++ bytes) next.text_is;
     }
 
 -- ---- messages among lines
 
 -- the messages among lines, after the first of them, are a first part of those among more lines
-pub among_first : (lines later : List (List ℕ)) → 1 ≤ length lines → messages_among (lines ++ later) ≡ messages_among lines ++ filter is_not_empty later
+pub among_first : (lines later : List (List ℕ)) → 1 ≤ length lines → messages_among (lines ++ later) ≡ messages_among
+    lines ++ filter is_not_empty later
 among_first [] later begun = absurd (omega arith)
 among_first (first ∷ lines) later begun = filter-append is_not_empty lines later
 
@@ -102,14 +149,16 @@ at_most_one [] = omega arith
 at_most_one (byte ∷ bytes) = omega arith
 
 -- what is written after the first line
-so_far : (lines : List (List ℕ)) (before after : Option (List ℕ)) → 1 ≤ length lines → WritesResponses lines before after → WritesSoFar lines before after
+so_far : (lines : List (List ℕ)) (before after : Option (List ℕ)) → 1 ≤ length lines → WritesResponses lines before
+    after → WritesSoFar lines before after
 so_far [] before after begun written = absurd (omega arith)
 so_far (first ∷ lines) before after begun written = written
 
 -- ---- the bytes that were taken
 
 -- a reader of known bytes has lost what was taken of them
-pub taken_of : (input : List ℕ) (reader : Option (List ℕ)) (taken : List ℕ) → Consumes (Some input) reader taken → (rest : List ℕ) × (reader ≡ Some rest) × (input ≡ taken ++ rest)
+pub taken_of : (input : List ℕ) (reader : Option (List ℕ)) (taken : List ℕ) → Consumes (Some input) reader taken →
+    (rest : List ℕ) × (reader ≡ Some rest) × (input ≡ taken ++ rest)
 taken_of input None taken consumed = absurd consumed
 taken_of input (Some rest) taken consumed = (rest, refl, consumed)
 
@@ -119,11 +168,14 @@ taken_of input (Some rest) taken consumed = (rest, refl, consumed)
 abbrev with_line : List (List ℕ) → List ℕ → List (List ℕ)
 with_line messages line = messages ++ filter is_not_empty (line ∷ [])
 
-module _ (input before : Option (List ℕ)) (reader reader' writer' : Option (List ℕ)) (ledger' : Ledger) (left left' : ℕ) (line : List ℕ) (taken text' : List ℕ) where
+module _ (input before : Option (List ℕ)) (reader reader' writer' : Option (List ℕ)) (ledger' : Ledger) (left left' : ℕ)
+    (line : List ℕ) (taken text' : List ℕ) where
   -- after a line more, whose message has its response or is passed over
-  advance : (end : LineEnd) → (whole : (pieces_of taken).rest ≡ []) → 1 ≤ length (ended_lines taken) → Consumes input reader taken → left + length taken ≡ script_limit →
+  advance : (end : LineEnd) → (whole : (pieces_of taken).rest ≡ []) → 1 ≤ length (ended_lines taken) →
+      Consumes input reader taken → left + length taken ≡ script_limit →
       Opens (first_line_of (ended_lines taken)) ledger'.opening → TakesLine end reader reader' line left left' →
-      RespondsToEach ledger'.opening (with_line (messages_among (ended_lines taken)) line) ledger'.journal text' → Appends before writer' text' → StandsAfter end input before reader' writer' ledger' left'
+      RespondsToEach ledger'.opening (with_line (messages_among (ended_lines taken)) line) ledger'.journal text' →
+      Appends before writer' text' → StandsAfter end input before reader' writer' ledger' left'
   advance LineFeed whole begun consumed counted opened takes responses appended =
       let lines : ended_lines (taken ++ (takes.piece ++ 10 ∷ [])) ≡ ended_lines taken ++ line ∷ [] =
       ended_more taken takes.piece whole takes.unbroken ∙ ap (λ l. ended_lines taken ++ l ∷ []) (sym takes.shortened) in
@@ -133,61 +185,86 @@ module _ (input before : Option (List ℕ)) (reader reader' writer' : Option (Li
         begun = subst (λ ls. 1 ≤ length ls) (sym lines) (omega (arith, length-append (ended_lines taken) (line ∷ [])));
         stands = record {
           consumed = Consumes-trans input reader reader' taken (takes.piece ++ 10 ∷ []) consumed takes.consumed;
-          counted = omega (arith, counted, takes.counted, length-append taken (takes.piece ++ 10 ∷ []), length-append takes.piece (10 ∷ []));
-          opened = subst (λ first. Opens first ledger'.opening) (sym (ap first_line_of lines ∙ first_more (ended_lines taken) (line ∷ []) begun)) opened;
+          counted = omega (
+            arith,
+            counted,
+            takes.counted,
+            length-append taken (takes.piece ++ 10 ∷ []),
+            length-append takes.piece (10 ∷ []),
+          );
+          opened = subst (λ first. Opens first ledger'.opening)
+              (sym (ap first_line_of lines ∙ first_more (ended_lines taken) (line ∷ []) begun)) opened;
           text = text';
-          responses = subst (λ messages. RespondsToEach ledger'.opening messages ledger'.journal text') (sym (ap messages_among lines ∙ among_first (ended_lines taken) (line ∷ []) begun)) responses;
+          responses = subst (λ messages. RespondsToEach ledger'.opening messages ledger'.journal text')
+              (sym (ap messages_among lines ∙ among_first (ended_lines taken) (line ∷ []) begun)) responses;
           appended = appended;
         };
       }
   advance EndOfInput whole begun consumed counted opened takes responses appended =
-      let lines : lines_of (taken ++ line) ≡ ended_lines taken ++ last_line line = lines_rest taken line whole takes.unbroken in
+      let lines : lines_of (taken ++ line) ≡ ended_lines taken ++ last_line line = lines_rest taken line whole
+      takes.unbroken in
       record {
         taken = taken ++ line;
         at_end = takes.at_end;
         stands = record {
           consumed = Consumes-trans input reader reader' taken line consumed takes.consumed;
           counted = omega (arith, counted, takes.counted, length-append taken line);
-          opened = subst (λ first. Opens first ledger'.opening) (sym (ap first_line_of lines ∙ first_more (ended_lines taken) (last_line line) begun)) opened;
+          opened = subst (λ first. Opens first ledger'.opening)
+              (sym (ap first_line_of lines ∙ first_more (ended_lines taken) (last_line line) begun)) opened;
           text = text';
           responses = subst (λ messages. RespondsToEach ledger'.opening messages ledger'.journal text')
-              (sym (ap messages_among lines ∙ among_first (ended_lines taken) (last_line line) begun ∙ ap (λ rest. messages_among (ended_lines taken) ++ rest) (last_message line))) responses;
+              (sym (ap messages_among lines ∙ among_first (ended_lines taken) (last_line line) begun
+              ∙ ap (λ rest. messages_among (ended_lines taken) ++ rest) (last_message line))) responses;
           appended = appended;
         };
       }
 
-module _ (input before reader reader' writer writer' : Option (List ℕ)) (ledger ledger' : Ledger) (left left' : ℕ) (line : List ℕ) (end : LineEnd) where
+module _ (input before reader reader' writer writer' : Option (List ℕ)) (ledger ledger' : Ledger) (left left' : ℕ)
+    (line : List ℕ) (end : LineEnd) where
   -- an empty line is passed over
-  pub passed_over : StandsAtLine input before reader writer ledger left → TakesLine end reader reader' line left left' → length line ≡ 0 → ledger' ≡ ledger → writer' ≡ writer →
+  pub passed_over : StandsAtLine input before reader writer ledger left → TakesLine end reader reader' line left left' →
+      length line ≡ 0 → ledger' ≡ ledger → writer' ≡ writer →
       StandsAfter end input before reader' writer' ledger' left'
   passed_over at takes empty same unwritten =
       subst (λ (l : Ledger). StandsAfter end input before reader' writer' l left') (sym same)
       (subst (λ w. StandsAfter end input before reader' w ledger left') (sym unwritten)
-      (advance input before reader reader' writer ledger left left' line at.taken at.stands.text end at.whole at.begun at.stands.consumed at.stands.counted at.stands.opened takes
+      (advance input before reader reader' writer ledger left left' line at.taken at.stands.text end at.whole at.begun
+      at.stands.consumed at.stands.counted at.stands.opened takes
       (subst (λ messages. RespondsToEach ledger.opening messages ledger.journal at.stands.text)
-      (sym (ap (λ more. messages_among (ended_lines at.taken) ++ more) (no_message line (nothing_of line empty)) ∙ append-nil (messages_among (ended_lines at.taken)))) at.stands.responses)
+      (sym (ap (λ more. messages_among (ended_lines at.taken) ++ more) (no_message line (nothing_of line empty))
+      ∙ append-nil (messages_among (ended_lines at.taken)))) at.stands.responses)
       at.stands.appended))
 
   -- a message has its response
-  pub responded_next : StandsAtLine input before reader writer ledger left → TakesLine end reader reader' line left left' → 1 ≤ length line → ledger'.opening ≡ ledger.opening →
-      (text : List ℕ) → Responds ledger.opening ledger.journal line ledger'.journal text → Appends writer writer' text → StandsAfter end input before reader' writer' ledger' left'
+  pub responded_next : StandsAtLine input before reader writer ledger left → TakesLine end reader reader' line left
+      left' → 1 ≤ length line → ledger'.opening ≡ ledger.opening →
+      (text : List ℕ) → Responds ledger.opening ledger.journal line ledger'.journal text → Appends writer writer' text →
+      StandsAfter end input before reader' writer' ledger' left'
   responded_next at takes some same text tells appended =
-      advance input before reader reader' writer' ledger' left left' line at.taken (at.stands.text ++ text) end at.whole at.begun at.stands.consumed at.stands.counted
+      advance input before reader reader' writer' ledger' left left' line at.taken (at.stands.text ++ text) end at.whole
+      at.begun at.stands.consumed at.stands.counted
       (subst (Opens (first_line_of (ended_lines at.taken))) (sym same) at.stands.opened) takes
-      (subst (λ opening. RespondsToEach opening (with_line (messages_among (ended_lines at.taken)) line) ledger'.journal (at.stands.text ++ text)) (sym same)
-      (subst (λ more. RespondsToEach ledger.opening (messages_among (ended_lines at.taken) ++ more) ledger'.journal (at.stands.text ++ text)) (sym (is_message line some))
-      (responds_to_more ledger.opening _ ledger.journal ledger'.journal at.stands.text text line at.stands.responses tells)))
+      (subst (λ opening. RespondsToEach opening (with_line (messages_among (ended_lines at.taken)) line) ledger'.journal
+      (at.stands.text ++ text)) (sym same)
+      (subst (λ more. RespondsToEach ledger.opening (messages_among (ended_lines at.taken) ++ more) ledger'.journal
+      (at.stands.text ++ text)) (sym (is_message line some))
+      (responds_to_more ledger.opening _ ledger.journal ledger'.journal at.stands.text text line at.stands.responses
+      tells)))
       (Appends-trans before writer writer' at.stands.text text at.stands.appended appended)
 
 -- ---- faults
 
 -- a byte that is lost ends no line
 with_lost : (line : List ℕ) (lost : ℕ) → IsUnbroken line → lost ≢ 10 → IsUnbroken (line ++ lost ∷ [])
-with_lost line lost unbroken other = All-append (λ byte. byte ≢ 10) line (lost ∷ []) unbroken (All-cons (λ byte. byte ≢ 10) lost [] other (All-nil (λ byte. byte ≢ 10)))
+with_lost line lost unbroken other = All-append (λ byte. byte ≢ 10) line (lost ∷ []) unbroken
+    (All-cons (λ byte. byte ≢ 10) lost [] other (All-nil (λ byte. byte ≢ 10)))
 
-module _ (input : List ℕ) (before reader reader' writer : Option (List ℕ)) (ledger : Ledger) (left left' most : ℕ) (taken text line : List ℕ) where
-  module _ (whole : (pieces_of taken).rest ≡ []) (begun : 1 ≤ length (ended_lines taken)) (taken_first : Consumes (Some input) reader taken) (counted : left + length taken ≡ script_limit)
-      (opened : Opens (first_line_of (ended_lines taken)) ledger.opening) (responses : RespondsToEach ledger.opening (messages_among (ended_lines taken)) ledger.journal text) (appended : Appends before writer text) where
+module _ (input : List ℕ) (before reader reader' writer : Option (List ℕ)) (ledger : Ledger) (left left' most : ℕ)
+    (taken text line : List ℕ) where
+  module _ (whole : (pieces_of taken).rest ≡ []) (begun : 1 ≤ length (ended_lines taken))
+      (taken_first : Consumes (Some input) reader taken) (counted : left + length taken ≡ script_limit)
+      (opened : Opens (first_line_of (ended_lines taken)) ledger.opening) (responses : RespondsToEach ledger.opening
+      (messages_among (ended_lines taken)) ledger.journal text) (appended : Appends before writer text) where
     -- bytes of a line that hasn't ended change nothing
     written_so_far : (piece : List ℕ) → IsUnbroken piece → WritesSoFar (ended_lines (taken ++ piece)) before writer
     written_so_far piece unbroken =
@@ -208,17 +285,20 @@ module _ (input : List ℕ) (before reader reader' writer : Option (List ℕ)) (
         piece : List ℕ
         piece = fails.piece
 
-        by : (beyond : List ℕ) → Consumes reader reader' (piece ++ beyond) → length beyond ≤ 1 → (0 < length beyond → left' ≡ 0) → EndsWith Input input reader' before writer
+        by : (beyond : List ℕ) → Consumes reader reader' (piece ++ beyond) → length beyond ≤ 1 →
+            (0 < length beyond → left' ≡ 0) → EndsWith Input input reader' before writer
         by [] consumed few full = inl (record {
           read = taken ++ piece;
-          consumed = Consumes-trans (Some input) reader reader' taken piece taken_first (subst (Consumes reader reader') (append-nil piece) consumed);
+          consumed = Consumes-trans (Some input) reader reader' taken piece taken_first
+              (subst (Consumes reader reader') (append-nil piece) consumed);
           within = omega (arith, counted, fails.counted, length-append taken piece);
           written = written_so_far piece fails.unbroken;
         })
         by (byte ∷ []) consumed few full = inr (record {
           read = taken ++ piece;
           beyond = byte;
-          consumed = subst (Consumes (Some input) reader') (sym (append_assoc taken piece (byte ∷ []))) (Consumes-trans (Some input) reader reader' taken (piece ++ byte ∷ []) taken_first consumed);
+          consumed = subst (Consumes (Some input) reader') (sym (append_assoc taken piece (byte ∷ [])))
+              (Consumes-trans (Some input) reader reader' taken (piece ++ byte ∷ []) taken_first consumed);
           full = omega (arith, counted, fails.counted, full (omega arith), length-append taken piece);
           written = written_so_far piece fails.unbroken;
         })
@@ -231,34 +311,52 @@ module _ (input : List ℕ) (before reader reader' writer : Option (List ℕ)) (
         record {
           read = taken ++ piece;
           consumed = Consumes-trans (Some input) reader reader' taken piece taken_first fails.consumed;
-          within = omega (arith, counted, fails.counted, length-append taken piece, length-append line (fails.lost ∷ []));
+          within = omega (
+            arith,
+            counted,
+            fails.counted,
+            length-append taken piece,
+            length-append line
+                (fails.lost ∷ []),
+          );
           written = written_so_far piece (with_lost line fails.lost fails.unbroken fails.ends_no_line);
         }
 
-    ends_of_read : (fault : ReadFault) → FailsFor fault reader reader' most line left left' → EndsWith (fault_of_read fault) input reader' before writer
+    ends_of_read : (fault : ReadFault) → FailsFor fault reader reader' most line left left' →
+        EndsWith (fault_of_read fault) input reader' before writer
     ends_of_read read.Input fails = at_input fails
     ends_of_read read.OutOfMemory fails = inr (for_memory fails)
 
 -- a line after the first isn't read
-pub cut_short : (fault : ReadFault) (input : List ℕ) (before reader reader' writer : Option (List ℕ)) (ledger : Ledger) (left left' most : ℕ) (line : List ℕ) →
-    StandsAtLine (Some input) before reader writer ledger left → FailsFor fault reader reader' most line left left' → EndsWith (fault_of_read fault) input reader' before writer
+pub cut_short : (fault : ReadFault) (input : List ℕ) (before reader reader' writer : Option (List ℕ)) (ledger : Ledger)
+    (left left' most : ℕ) (line : List ℕ) →
+    StandsAtLine (Some input) before reader writer ledger left → FailsFor fault reader reader' most line left left' →
+    EndsWith (fault_of_read fault) input reader' before writer
 cut_short fault input before reader reader' writer ledger left left' most line at fails =
-    ends_of_read input before reader reader' writer ledger left left' most at.taken at.stands.text line at.whole at.begun at.stands.consumed at.stands.counted at.stands.opened at.stands.responses at.stands.appended fault fails
+    ends_of_read input before reader reader' writer ledger left left' most at.taken at.stands.text line at.whole
+    at.begun at.stands.consumed at.stands.counted at.stands.opened at.stands.responses at.stands.appended fault
+    fails
 
 -- no LF ends a line of these bytes
 none_ended : (piece : List ℕ) → IsUnbroken piece → ended_lines piece ≡ []
 unfolding ended_lines
 none_ended piece unbroken = ended_same [] piece refl unbroken
 
-nothing_written : (piece : List ℕ) (writer : Option (List ℕ)) → IsUnbroken piece → WritesSoFar (ended_lines piece) writer writer
-nothing_written piece writer unbroken = subst (λ lines. WritesSoFar lines writer writer) (sym (none_ended piece unbroken)) (Appends-nil writer)
+nothing_written : (piece : List ℕ) (writer : Option (List ℕ)) → IsUnbroken piece → WritesSoFar (ended_lines piece)
+    writer writer
+nothing_written piece writer unbroken = subst (λ lines. WritesSoFar lines writer writer)
+    (sym (none_ended piece unbroken)) (Appends-nil writer)
 
 -- the first line isn't read
-first_cut_short : (fault : ReadFault) (input : List ℕ) (reader' writer : Option (List ℕ)) (room : ℕ) (line : List ℕ) (left' : ℕ) →
-    FailsFor fault (Some input) reader' room line script_limit left' → EndsWith (fault_of_read fault) input reader' writer writer
-first_cut_short read.Input input reader' writer room line left' fails = by fails.beyond fails.consumed fails.few fails.full
+first_cut_short : (fault : ReadFault) (input : List ℕ) (reader' writer : Option (List ℕ)) (room : ℕ) (line : List ℕ)
+    (left' : ℕ) →
+    FailsFor fault (Some input) reader' room line script_limit left' → EndsWith (fault_of_read fault) input reader'
+    writer writer
+first_cut_short read.Input input reader' writer room line left' fails = by fails.beyond fails.consumed fails.few
+    fails.full
   where
-    by : (beyond : List ℕ) → Consumes (Some input) reader' (fails.piece ++ beyond) → length beyond ≤ 1 → (0 < length beyond → left' ≡ 0) →
+    by : (beyond : List ℕ) → Consumes (Some input) reader' (fails.piece ++ beyond) → length beyond ≤ 1 →
+        (0 < length beyond → left' ≡ 0) →
         EndsWith Input input reader' writer writer
     by [] consumed few full = inl (record {
       read = fails.piece;
@@ -278,13 +376,17 @@ first_cut_short read.OutOfMemory input reader' writer room line left' fails = in
   read = line ++ fails.lost ∷ [];
   consumed = fails.consumed;
   within = omega (arith, fails.counted, length-append line (fails.lost ∷ []));
-  written = nothing_written (line ++ fails.lost ∷ []) writer (with_lost line fails.lost fails.unbroken fails.ends_no_line);
+  written = nothing_written (line ++ fails.lost ∷ []) writer
+      (with_lost line fails.lost fails.unbroken fails.ends_no_line);
 })
 
 -- a response was written in part alone
-pub broken : (input : List ℕ) (before reader reader' writer writer' : Option (List ℕ)) (ledger : Ledger) (left left' : ℕ) (line : List ℕ) (end : LineEnd) →
-    StandsAtLine (Some input) before reader writer ledger left → TakesLine end reader reader' line left left' → 1 ≤ length line →
-    (after : List Entry) (text : List ℕ) → Responds ledger.opening ledger.journal line after text → WritesPart writer writer' text → IsUnwritten input reader' before writer'
+pub broken : (input : List ℕ) (before reader reader' writer writer' : Option (List ℕ)) (ledger : Ledger)
+    (left left' : ℕ) (line : List ℕ) (end : LineEnd) →
+    StandsAtLine (Some input) before reader writer ledger left → TakesLine end reader reader' line left left' →
+    1 ≤ length line →
+    (after : List Entry) (text : List ℕ) → Responds ledger.opening ledger.journal line after text →
+    WritesPart writer writer' text → IsUnwritten input reader' before writer'
 broken input before reader reader' writer writer' ledger left left' line end at takes some after text tells part =
     by end takes
   where
@@ -307,19 +409,30 @@ broken input before reader reader' writer writer' ledger left left' line end at 
       appended = Appends-trans before writer writer' at.stands.text part.part at.stands.appended part.appended;
     }
 
-    one_more : (read : List ℕ) → lines_of read ≡ lines ++ line ∷ [] → messages_among (lines_of read) ≡ messages_among lines ++ line ∷ []
-    one_more read are = ap messages_among are ∙ among_first lines (line ∷ []) at.begun ∙ ap (λ more. messages_among lines ++ more) (is_message line some)
+    one_more : (read : List ℕ) → lines_of read ≡ lines ++ line ∷ [] → messages_among (lines_of read) ≡ messages_among
+        lines ++ line ∷ []
+    one_more read are = ap messages_among are ∙ among_first lines (line ∷ []) at.begun
+        ∙ ap (λ more. messages_among lines ++ more) (is_message line some)
 
     by : (end : LineEnd) → TakesLine end reader reader' line left left' → IsUnwritten input reader' before writer'
     by LineFeed takes =
         let read : List ℕ = at.taken ++ (takes.piece ++ 10 ∷ []) in
-        let whole : (pieces_of read).rest ≡ [] = ap (λ p. p.rest) (piece_more at.taken takes.piece at.whole takes.unbroken) in
+        let whole : (pieces_of read).rest ≡ [] = ap (λ p. p.rest)
+        (piece_more at.taken takes.piece at.whole takes.unbroken) in
         let are : lines_of read ≡ lines ++ line ∷ [] =
-        all_ended read whole ∙ ended_more at.taken takes.piece at.whole takes.unbroken ∙ ap (λ l. lines ++ l ∷ []) (sym takes.shortened) in
+        all_ended read whole ∙ ended_more at.taken takes.piece at.whole takes.unbroken ∙ ap (λ l. lines ++ l ∷ [])
+        (sym takes.shortened) in
         record {
           read = read;
-          consumed = Consumes-trans (Some input) reader reader' at.taken (takes.piece ++ 10 ∷ []) at.stands.consumed takes.consumed;
-          within = omega (arith, at.stands.counted, takes.counted, length-append at.taken (takes.piece ++ 10 ∷ []), length-append takes.piece (10 ∷ []));
+          consumed = Consumes-trans (Some input) reader reader' at.taken (takes.piece ++ 10 ∷ []) at.stands.consumed
+              takes.consumed;
+          within = omega (
+            arith,
+            at.stands.counted,
+            takes.counted,
+            length-append at.taken (takes.piece ++ 10 ∷ []),
+            length-append takes.piece (10 ∷ []),
+          );
           whole = inl whole;
           lines = lines;
           last = line;
@@ -330,7 +443,8 @@ broken input before reader reader' writer writer' ledger left left' line end at 
         }
     by EndOfInput takes =
         let read : List ℕ = at.taken ++ line in
-        let are : lines_of read ≡ lines ++ line ∷ [] = lines_rest at.taken line at.whole takes.unbroken ∙ ap (λ l. lines ++ l) (is_last line some) in
+        let are : lines_of read ≡ lines ++ line ∷ [] = lines_rest at.taken line at.whole takes.unbroken
+        ∙ ap (λ l. lines ++ l) (is_last line some) in
         record {
           read = read;
           consumed = Consumes-trans (Some input) reader reader' at.taken line at.stands.consumed takes.consumed;
@@ -347,11 +461,13 @@ broken input before reader reader' writer writer' ledger left left' line end at 
 -- ---- the first line and the end
 
 -- the first line has opened its session, and there is no message yet
-pub begins : (reader reader' writer : Option (List ℕ)) (ledger : Ledger) (left' : ℕ) (line : List ℕ) (end : LineEnd) → Opens line ledger.opening → ledger.journal ≡ [] →
+pub begins : (reader reader' writer : Option (List ℕ)) (ledger : Ledger) (left' : ℕ) (line : List ℕ) (end : LineEnd) →
+    Opens line ledger.opening → ledger.journal ≡ [] →
     TakesLine end reader reader' line script_limit left' → StandsAfter end reader writer reader' writer ledger left'
 unfolding ended_lines
 begins reader reader' writer ledger left' line LineFeed opened none takes =
-    let lines : ended_lines (takes.piece ++ 10 ∷ []) ≡ ended_line takes.piece ∷ [] = ended_more [] takes.piece refl takes.unbroken in
+    let lines : ended_lines (takes.piece ++ 10 ∷ []) ≡ ended_line takes.piece ∷ [] = ended_more [] takes.piece refl
+    takes.unbroken in
     record {
       taken = takes.piece ++ 10 ∷ [];
       whole = ap (λ p. p.rest) (piece_more [] takes.piece refl takes.unbroken);
@@ -361,7 +477,8 @@ begins reader reader' writer ledger left' line LineFeed opened none takes =
         counted = omega (arith, takes.counted, length-append takes.piece (10 ∷ []));
         opened = subst (λ first. Opens first ledger.opening) (takes.shortened ∙ sym (ap first_line_of lines)) opened;
         text = [];
-        responses = subst (λ ls. RespondsToEach ledger.opening (messages_among ls) ledger.journal []) (sym lines) (subst (λ j. RespondsToEach ledger.opening [] j []) (sym none) (responds_to_none ledger.opening));
+        responses = subst (λ ls. RespondsToEach ledger.opening (messages_among ls) ledger.journal []) (sym lines)
+            (subst (λ j. RespondsToEach ledger.opening [] j []) (sym none) (responds_to_none ledger.opening));
         appended = Appends-nil writer;
       };
     }
@@ -375,7 +492,8 @@ begins reader reader' writer ledger left' line EndOfInput opened none takes =
         counted = omega (arith, takes.counted);
         opened = subst (λ first. Opens first ledger.opening) (sym (ap first_line_of lines ∙ first_last line)) opened;
         text = [];
-        responses = subst (λ ls. RespondsToEach ledger.opening (messages_among ls) ledger.journal []) (sym lines) (no_more line);
+        responses = subst (λ ls. RespondsToEach ledger.opening (messages_among ls) ledger.journal []) (sym lines)
+            (no_more line);
         appended = Appends-nil writer;
       };
     }
@@ -397,17 +515,27 @@ record ReadsFirst (input : List ℕ) (left : Option (List ℕ)) (line : List ℕ
   one : length (lines_of read) ≤ 1
   first : first_line_of (lines_of input) ≡ line
 
-reads_first : (end : LineEnd) (input : List ℕ) (reader' : Option (List ℕ)) (line : List ℕ) (all left' : ℕ) → TakesLine end (Some input) reader' line all left' →
+reads_first : (end : LineEnd) (input : List ℕ) (reader' : Option (List ℕ)) (line : List ℕ) (all left' : ℕ) →
+    TakesLine end (Some input) reader' line all left' →
     length line ≤ most_bytes → ReadsFirst input reader' line
 unfolding ended_lines
 reads_first LineFeed input reader' line all left' takes short =
     let (rest, known, is_input) = taken_of input reader' (takes.piece ++ 10 ∷ []) takes.consumed in
-    let whole : (pieces_of (takes.piece ++ 10 ∷ [])).rest ≡ [] = ap (λ p. p.rest) (piece_more [] takes.piece refl takes.unbroken) in
-    let lines : ended_lines (takes.piece ++ 10 ∷ []) ≡ ended_line takes.piece ∷ [] = ended_more [] takes.piece refl takes.unbroken in
+    let whole : (pieces_of (takes.piece ++ 10 ∷ [])).rest ≡ [] = ap (λ p. p.rest)
+    (piece_more [] takes.piece refl takes.unbroken) in
+    let lines : ended_lines (takes.piece ++ 10 ∷ []) ≡ ended_line takes.piece ∷ [] = ended_more [] takes.piece refl
+    takes.unbroken in
     record {
       read = takes.piece ++ 10 ∷ [];
       consumed = takes.consumed;
-      few = omega (arith, short, ap length takes.shortened, at_most_one_less takes.piece, length-append takes.piece (10 ∷ []));
+      few = omega (
+        arith,
+        short,
+        ap length takes.shortened,
+        at_most_one_less takes.piece,
+        length-append takes.piece
+            (10 ∷ []),
+      );
       one = subst (λ ls. length ls ≤ 1) (sym (all_ended (takes.piece ++ 10 ∷ []) whole ∙ lines)) (omega arith);
       first = ap (λ bytes. first_line_of (lines_of bytes)) is_input
           ∙ ap first_line_of (lines_more (takes.piece ++ 10 ∷ []) rest whole)
@@ -423,45 +551,57 @@ reads_first EndOfInput input reader' line all left' takes short =
       consumed = takes.consumed;
       few = omega (arith, short);
       one = subst (λ ls. length ls ≤ 1) (sym lines) (at_most_one line);
-      first = ap (λ bytes. first_line_of (lines_of bytes)) (is_input ∙ ap (λ r. line ++ r) none ∙ append-nil line) ∙ ap first_line_of lines ∙ first_last line;
+      first = ap (λ bytes. first_line_of (lines_of bytes)) (is_input ∙ ap (λ r. line ++ r) none ∙ append-nil line)
+          ∙ ap first_line_of lines ∙ first_last line;
     }
 
-module _ (input : List ℕ) (reader' writer : Option (List ℕ)) (line : List ℕ) (reads : ReadsFirst input reader' line) where
-  isnt_opened : (fault : Fault) → OpensNone fault line → IsUnopened fault input reader' writer writer
-  isnt_opened fault none = record {
-    read = reads.read;
-    consumed = reads.consumed;
-    few = reads.few;
-    first = reads.one;
-    opens_none = subst (OpensNone fault) (sym reads.first) none;
-    unwritten = Appends-nil writer;
-  }
+module _ (input : List ℕ) (reader' writer : Option (List ℕ)) (line : List ℕ) (reads : ReadsFirst input reader' line)
+  where
+    isnt_opened : (fault : Fault) → OpensNone fault line → IsUnopened fault input reader' writer writer
+    isnt_opened fault none = record {
+      read = reads.read;
+      consumed = reads.consumed;
+      few = reads.few;
+      first = reads.one;
+      opens_none = subst (OpensNone fault) (sym reads.first) none;
+      unwritten = Appends-nil writer;
+    }
 
-  without_memory : IsWithoutMemory input reader' writer writer
-  without_memory = record { read = reads.read; consumed = reads.consumed; few = reads.few; first = reads.one; unwritten = Appends-nil writer }
+    without_memory : IsWithoutMemory input reader' writer writer
+    without_memory = record {
+      read = reads.read;
+      consumed = reads.consumed;
+      few = reads.few;
+      first = reads.one;
+      unwritten = Appends-nil writer;
+    }
 
-  ends_there : (fault : Fault) → OpensNone fault line ⊎ (fault ≡ OutOfMemory) → EndsWith fault input reader' writer writer
-  ends_there (Session fault) (inl none) = isnt_opened (Session fault) none
-  ends_there (Session fault) (inr same) = absurd (cc)
-  ends_there (Opening cause) (inl none) = isnt_opened (Opening cause) none
-  ends_there (Opening cause) (inr same) = absurd (cc)
-  ends_there Input (inl none) = absurd none
-  ends_there Input (inr same) = absurd (cc)
-  ends_there Output (inl none) = absurd none
-  ends_there Output (inr same) = absurd (cc)
-  ends_there OutOfMemory (inl none) = absurd none
-  ends_there OutOfMemory (inr same) = inl without_memory
+    ends_there : (fault : Fault) → OpensNone fault line ⊎ (fault ≡ OutOfMemory) → EndsWith fault input reader' writer
+        writer
+    ends_there (Session fault) (inl none) = isnt_opened (Session fault) none
+    ends_there (Session fault) (inr same) = absurd (cc)
+    ends_there (Opening cause) (inl none) = isnt_opened (Opening cause) none
+    ends_there (Opening cause) (inr same) = absurd (cc)
+    ends_there Input (inl none) = absurd none
+    ends_there Input (inr same) = absurd (cc)
+    ends_there Output (inl none) = absurd none
+    ends_there Output (inr same) = absurd (cc)
+    ends_there OutOfMemory (inl none) = absurd none
+    ends_there OutOfMemory (inr same) = inl without_memory
 
 -- a line that is no longer than a session object opens none
-pub first_refused : (known reader' writer : Option (List ℕ)) (end : LineEnd) (line : List ℕ) (left' : ℕ) (fault : Fault) →
-    TakesLine end known reader' line script_limit left' → length line ≤ most_bytes → OpensNone fault line ⊎ (fault ≡ OutOfMemory) →
+pub first_refused : (known reader' writer : Option (List ℕ)) (end : LineEnd) (line : List ℕ) (left' : ℕ)
+    (fault : Fault) →
+    TakesLine end known reader' line script_limit left' → length line ≤ most_bytes → OpensNone fault line ⊎
+    (fault ≡ OutOfMemory) →
     IfSome known (λ input. EndsWith fault input reader' writer writer)
 first_refused None reader' writer end line left' fault takes short none = tt
 first_refused (Some input) reader' writer end line left' fault takes short none =
     ends_there input reader' writer line (reads_first end input reader' line script_limit left' takes short) fault none
 
 -- a longer line
-pub first_too_long : (known reader' writer : Option (List ℕ)) (left' : ℕ) → TakesLonger known reader' most_bytes script_limit left' →
+pub first_too_long : (known reader' writer : Option (List ℕ)) (left' : ℕ) → TakesLonger known reader' most_bytes
+    script_limit left' →
     IfSome known (λ input. EndsWith (Session session.TooLong) input reader' writer writer)
 unfolding ended_lines
 first_too_long None reader' writer left' takes = tt
@@ -475,14 +615,18 @@ first_too_long (Some input) reader' writer left' takes = record {
 }
 
 -- reading the first line fails
-pub first_unread : (known reader' writer : Option (List ℕ)) (room : ℕ) (line : List ℕ) (left' : ℕ) (fault : ReadFault) (ended : Fault) → ended ≡ fault_of_read fault →
-    FailsFor fault known reader' room line script_limit left' → IfSome known (λ input. EndsWith ended input reader' writer writer)
+pub first_unread : (known reader' writer : Option (List ℕ)) (room : ℕ) (line : List ℕ) (left' : ℕ) (fault : ReadFault)
+    (ended : Fault) → ended ≡ fault_of_read fault →
+    FailsFor fault known reader' room line script_limit left' → IfSome known
+    (λ input. EndsWith ended input reader' writer writer)
 first_unread None reader' writer room line left' fault ended same fails = tt
 first_unread (Some input) reader' writer room line left' fault ended same fails =
-    subst (λ f. EndsWith f input reader' writer writer) (sym same) (first_cut_short fault input reader' writer room line left' fails)
+    subst (λ f. EndsWith f input reader' writer writer) (sym same) (first_cut_short fault input reader' writer room line
+    left' fails)
 
 -- the whole input is read
-pub finished : (input : List ℕ) (before reader writer : Option (List ℕ)) (ledger : Ledger) (left : ℕ) → StandsAtEnd (Some input) before reader writer ledger left → IsDone input reader before writer
+pub finished : (input : List ℕ) (before reader writer : Option (List ℕ)) (ledger : Ledger) (left : ℕ) →
+    StandsAtEnd (Some input) before reader writer ledger left → IsDone input reader before writer
 finished input before reader writer ledger left at =
     let (rest, known, is_input) = taken_of input reader at.taken at.stands.consumed in
     let none : rest ≡ [] = subst IsAtEnd known at.at_end in
@@ -495,26 +639,30 @@ finished input before reader writer ledger left at =
         opened = subst (λ bytes. Opens (first_line_of (lines_of bytes)) ledger.opening) (sym all) at.stands.opened;
         journal = ledger.journal;
         text = at.stands.text;
-        responses = subst (λ bytes. RespondsToEach ledger.opening (messages_among (lines_of bytes)) ledger.journal at.stands.text) (sym all) at.stands.responses;
+        responses = subst (λ bytes. RespondsToEach ledger.opening (messages_among (lines_of bytes)) ledger.journal
+            at.stands.text) (sym all) at.stands.responses;
         appended = at.stands.appended;
       };
     }
 
 -- a line that is read leaves fewer bytes to read, unless it was the last
-pub fewer : (end : LineEnd) (reader reader' : Option (List ℕ)) (line : List ℕ) (left left' : ℕ) → TakesLine end reader reader' line left left' → left' + line_feeds end ≤ left
+pub fewer : (end : LineEnd) (reader reader' : Option (List ℕ)) (line : List ℕ) (left left' : ℕ) → TakesLine end reader
+    reader' line left left' → left' + line_feeds end ≤ left
 fewer LineFeed reader reader' line left left' takes = omega (arith, takes.counted)
 fewer EndOfInput reader reader' line left left' takes = omega (arith, takes.counted)
 
 -- ---- what is known of a reader
 
-pub done_from : {T E : Type 0} (known before reader writer : Option (List ℕ)) (ledger : Ledger) (left : ℕ) (result : Result T E) → OnOk result (StandsAtEnd known before reader writer ledger left) →
+pub done_from : {T E : Type 0} (known before reader writer : Option (List ℕ)) (ledger : Ledger) (left : ℕ)
+    (result : Result T E) → OnOk result (StandsAtEnd known before reader writer ledger left) →
     OnOk result (IfSome known (λ input. IsDone input reader before writer))
 done_from None before reader writer ledger left (Ok x) at = tt
 done_from (Some input) before reader writer ledger left (Ok x) at = finished input before reader writer ledger left at
 done_from known before reader writer ledger left (Err fault) at = tt
 
 pub ended_from : {T : Type 0} (known before reader writer : Option (List ℕ)) (result : Result T Fault) →
-    ((input : List ℕ) → known ≡ Some input → IfErr result (λ fault. EndsWith fault input reader before writer)) → IfErr result (λ fault. IfSome known (λ input. EndsWith fault input reader before writer))
+    ((input : List ℕ) → known ≡ Some input → IfErr result (λ fault. EndsWith fault input reader before writer)) →
+    IfErr result (λ fault. IfSome known (λ input. EndsWith fault input reader before writer))
 ended_from known before reader writer (Ok x) ends = tt
 ended_from None before reader writer (Err fault) ends = tt
 ended_from (Some input) before reader writer (Err fault) ends = ends input refl

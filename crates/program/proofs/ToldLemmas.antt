@@ -1,5 +1,23 @@
 -- A script is a conversation, which a history tells.
-use Rattle.std.proofs.Common.{◌≡◌, inl, inr, ℕ, Bool, true, false, List, [], ◌∷◌, ◌++◌, refl, sym, subst, ◌∙◌, append_assoc, append-nil}
+use Rattle.std.proofs.Common.{
+  ◌≡◌,
+  inl,
+  inr,
+  ℕ,
+  Bool,
+  true,
+  false,
+  List,
+  [],
+  ◌∷◌,
+  ◌++◌,
+  refl,
+  sym,
+  subst,
+  ◌∙◌,
+  append_assoc,
+  append-nil,
+}
 use Rattle.std.specs.Prelude.{Result, Ok, Err, ◌&&◌, if◌then◌else◌}
 use Rattle.std.proofs.lemmas.Bool.{and_parts}
 use Rattle.std.specs.List.{fold}
@@ -16,7 +34,17 @@ use Rattle.wire.specs.declared.request.ScriptRequest.{ScriptRequest}
 use Rattle.wire.specs.declared.request.UserRequest.{UserRequest}
 use Rattle.wire.specs.declared.request.UserRequest.TheVariants.{Query, Batch, Audit}
 use Rattle.request_answers.specs.Answering.{IsAnsweredOnce, LeadsOn}
-use Rattle.request_answers.specs.Conversing.{Turn, Answered, TakenIn, Passed, TakesTurn, Stop, journal_now, IsConversation, OnlyAdd}
+use Rattle.request_answers.specs.Conversing.{
+  Turn,
+  Answered,
+  TakenIn,
+  Passed,
+  TakesTurn,
+  Stop,
+  journal_now,
+  IsConversation,
+  OnlyAdd,
+}
 use Rattle.request_answers.specs.Response.{Response, response_at}
 use Rattle.request_answers.proofs.ConversingLemmas.{response_accepted, telling}
 use Rattle.program.specs.Script.{Received, respond, response_to_line, response_to_meaning, responses_to}
@@ -34,15 +62,17 @@ leads_nowhere (Audit range) left = refl
 -- ---- one message
 
 -- a message takes a turn, and its response is the line of the turn
-record TurnFor (opening : SessionState) (journal : List Entry) (received : Received) (response : Response) : Type 0 where
-  turn : Turn
-  takes : TakesTurn Alone opening journal turn response.journal
-  is_line : IsLineOf received turn response.text
-  accepted : IsAccepted opening journal → IsAccepted opening response.journal
+record TurnFor (opening : SessionState) (journal : List Entry) (received : Received) (response : Response) : Type 0
+  where
+    turn : Turn
+    takes : TakesTurn Alone opening journal turn response.journal
+    is_line : IsLineOf received turn response.text
+    accepted : IsAccepted opening journal → IsAccepted opening response.journal
 
 module _ (opening : SessionState) (journal : List Entry) (received : Received) where
   -- nothing comes of it
-  passed : (text : List ℕ) → IsLineOf received Passed text → TurnFor opening journal received (record { journal = journal; text = text })
+  passed : (text : List ℕ) → IsLineOf received Passed text → TurnFor opening journal received
+      (record { journal = journal; text = text })
   passed text is_line = record { turn = Passed; takes = inl refl; is_line = is_line; accepted = λ accepted. accepted }
 
   module _ (said : ScriptRequest) (means : script_meaning received.line ≡ Ok said) where
@@ -61,7 +91,8 @@ module _ (opening : SessionState) (journal : List Entry) (received : Received) w
 
     -- a user's request is answered, or there is no memory for its text
     of_request : (b : Bool) → received.memory.refused_after ≡ b →
-        TurnFor opening journal received (record { journal = response.journal; text = if b then fault_text OutOfMemory else response.text })
+        TurnFor opening journal received
+        (record { journal = response.journal; text = if b then fault_text OutOfMemory else response.text })
     of_request true refused = record {
       turn = TakenIn said.user said.request;
       takes = (response.text, answer);
@@ -75,12 +106,14 @@ module _ (opening : SessionState) (journal : List Entry) (received : Received) w
       accepted = response_accepted opening journal received.memory.refused_at said.user said.request;
     }
 
-  of_meaning : (meant : Result ScriptRequest RequestFault) → script_meaning received.line ≡ meant → TurnFor opening journal received (response_to_meaning opening journal received.memory meant)
+  of_meaning : (meant : Result ScriptRequest RequestFault) → script_meaning received.line ≡ meant →
+      TurnFor opening journal received (response_to_meaning opening journal received.memory meant)
   of_meaning (Ok said) means = of_request said means received.memory.refused_after refl
   of_meaning (Err fault) means = passed (fault_text fault) (inr (fault, means, refl))
 
   of_refused : (b : Bool) → (received.memory.refused_before && is_message_text received.line) ≡ b →
-      TurnFor opening journal received (if b then record { journal = journal; text = fault_text OutOfMemory } else response_to_meaning opening journal received.memory (script_meaning received.line))
+      TurnFor opening journal received (if b then record { journal = journal; text = fault_text OutOfMemory }
+      else response_to_meaning opening journal received.memory (script_meaning received.line))
   of_refused true refused =
       let both = and_parts received.memory.refused_before (is_message_text received.line) refused in
       passed (fault_text OutOfMemory) (inl (both.0, both.1, refl))
@@ -101,34 +134,51 @@ record Converses (opening : SessionState) (received : List Received) (so_far : R
   accepted : IsAccepted opening so_far.journal
 
 module _ (opening : SessionState) where
-  one_more : (received : List Received) (so_far : Response) (next : Received) → Converses opening received so_far → Converses opening (received ++ next ∷ []) (respond opening so_far next)
+  one_more : (received : List Received) (so_far : Response) (next : Received) → Converses opening received so_far →
+      Converses opening (received ++ next ∷ []) (respond opening so_far next)
   one_more received so_far next before =
       let turn = takes_turn opening so_far.journal next in
       let after : List Entry = (response_to_line opening so_far.journal next).journal in
       let accepted : IsAccepted opening after = turn.accepted before.accepted in
       record {
         stops = record { turn = turn.turn; journal = after } ∷ before.stops;
-        conversation = (subst (λ journal. TakesTurn Alone opening journal turn.turn after) (sym before.journal) turn.takes, accepted, before.conversation);
+        conversation = (
+          subst (λ journal. TakesTurn Alone opening journal turn.turn after) (sym before.journal)
+              turn.takes,
+          accepted,
+          before.conversation,
+        );
         lines = (
           received,
           so_far.text,
-          record { last = next; line = (response_to_line opening so_far.journal next).text; messages = refl; lines = refl; is_line = turn.is_line },
+          record {
+            last = next;
+            line = (response_to_line opening so_far.journal next).text;
+            messages = refl;
+            lines =
+                refl;
+            is_line = turn.is_line;
+          },
           before.lines,
         );
         journal = refl;
         accepted = accepted;
       }
 
-  more : (received later : List Received) (so_far : Response) → Converses opening received so_far → Converses opening (received ++ later) (fold (respond opening) so_far later)
-  more received [] so_far before = subst (λ messages. Converses opening messages so_far) (sym (append-nil received)) before
+  more : (received later : List Received) (so_far : Response) → Converses opening received so_far → Converses opening
+      (received ++ later) (fold (respond opening) so_far later)
+  more received [] so_far before = subst (λ messages. Converses opening messages so_far) (sym (append-nil received))
+      before
   more received (next ∷ later) so_far before =
-      subst (λ messages. Converses opening messages (fold (respond opening) (respond opening so_far next) later)) (append_assoc received (next ∷ []) later)
+      subst (λ messages. Converses opening messages (fold (respond opening) (respond opening so_far next) later))
+      (append_assoc received (next ∷ []) later)
       (more (received ++ next ∷ []) later (respond opening so_far next) (one_more received so_far next before))
 
   script_converses : (received : List Received) → Converses opening received (responses_to opening received)
   unfolding responses_to
   script_converses received =
-      more [] received (record { journal = []; text = [] }) (record { stops = []; conversation = tt; lines = (refl, refl); journal = refl; accepted = tt })
+      more [] received (record { journal = []; text = [] })
+      (record { stops = []; conversation = tt; lines = (refl, refl); journal = refl; accepted = tt })
 
   -- a script is told by a history
   pub script_told : (received : List Received) → IsScriptTold opening received

@@ -1,5 +1,24 @@
 -- A script: each of its lines after the first that isn't empty is a message, and one line responds to each, in order.
-use Rattle.std.specs.Prelude.{ℕ, Bool, true, false, ◌&&◌, if◌then◌else◌, Option, None, Result, Ok, Err, List, [], ◌∷◌, ◌++◌, map, filter, drop}
+use Rattle.std.specs.Prelude.{
+  ℕ,
+  Bool,
+  true,
+  false,
+  ◌&&◌,
+  if◌then◌else◌,
+  Option,
+  None,
+  Result,
+  Ok,
+  Err,
+  List,
+  [],
+  ◌∷◌,
+  ◌++◌,
+  map,
+  filter,
+  drop,
+}
 use Rattle.std.specs.List.{fold}
 use Rattle.script_lines.specs.Lines.{lines_of}
 use Rattle.session_state.specs.SessionState.{SessionState}
@@ -57,12 +76,14 @@ response_to_request opening journal memory said =
     record { journal = response.journal; text = text_with memory response.text }
 
 -- what is no request has its fault, whose text takes no memory
-abbrev pub response_to_meaning : SessionState → List Entry → MemoryRefusals → Result ScriptRequest RequestFault → Response
+abbrev pub response_to_meaning : SessionState → List Entry → MemoryRefusals → Result ScriptRequest RequestFault →
+    Response
 response_to_meaning opening journal memory (Ok said) = response_to_request opening journal memory said
 response_to_meaning opening journal memory (Err fault) =
     record { journal = journal; text = fault_text fault }
 
--- a message is what its line means, unless memory was refused before it had any effect. A line that is too long, or no text
+-- a message is what its line means, unless memory was refused before it had any effect. A line that is too long, or no
+-- text
 -- in UTF-8, takes none
 unfoldable pub response_to_line : SessionState → List Entry → Received → Response
 response_to_line opening journal received =

@@ -53,10 +53,12 @@ module _ (one other : SessionState) (user : List ℕ) (agree : Agree one other u
       ∙ (λ i. map (said other) (filter (is_allowed (same_public i) (agree.viewer i)) (facts (same_public i).movement)))
 
   -- two states that agree for a user give the user the same reply to every query
-  pub same_replies : (version : ℕ) (query : Query) (since : ℕ) → reply_of one version user query since ≡ reply_of other version user query since
+  pub same_replies : (version : ℕ) (query : Query) (since : ℕ) → reply_of one version user query since ≡ reply_of other
+      version user query since
   unfolding body_of
   same_replies version query since =
       λ i. record {
         version = version;
-        body = unwrap_or (before_answer (same_public i) version (agree.viewer i) (fact_of query) since) (answer_from query (same_shown i));
+        body = unwrap_or (before_answer (same_public i) version (agree.viewer i) (fact_of query) since)
+            (answer_from query (same_shown i));
       }

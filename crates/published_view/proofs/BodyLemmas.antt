@@ -1,5 +1,27 @@
 -- What a reply says, case by case: what comes before an answer, a denial, an answer, and the numbers in it.
-use Rattle.std.proofs.Common.{◌≡◌, ◌≢◌, ℕ, ◌<◌, ◌≤◌, ◌⊎◌, Bool, true, false, not, if◌then◌else◌, nat_lt, List, refl, sym, ap, subst, ◌∙◌, inl, inr, arith}
+use Rattle.std.proofs.Common.{
+  ◌≡◌,
+  ◌≢◌,
+  ℕ,
+  ◌<◌,
+  ◌≤◌,
+  ◌⊎◌,
+  Bool,
+  true,
+  false,
+  not,
+  if◌then◌else◌,
+  nat_lt,
+  List,
+  refl,
+  sym,
+  ap,
+  subst,
+  ◌∙◌,
+  inl,
+  inr,
+  arith,
+}
 use Rattle.std.specs.Prelude.{Option, Some, None, option_map, option_and_then}
 use Rattle.std.specs.Option.{unwrap_or}
 use Rattle.std.proofs.lemmas.Bool.{false≢true}
@@ -27,7 +49,18 @@ use Rattle.session_state.specs.declared.seated.Seated.{Seated}
 use Rattle.session_queries.specs.Content.{Content, analysis_of, costs_of}
 use Rattle.session_queries.specs.Facts.{has_place}
 use Rattle.session_queries.specs.Numbers.{IsAnalysisOf, IsCountOf}
-use Rattle.session_queries.specs.Reading.{as_analysis, as_costs, shown_public, shown_seats, shown_accounts, shown_pairs, shown_hands, shown_marks, shown_analysis, shown_costs}
+use Rattle.session_queries.specs.Reading.{
+  as_analysis,
+  as_costs,
+  shown_public,
+  shown_seats,
+  shown_accounts,
+  shown_pairs,
+  shown_hands,
+  shown_marks,
+  shown_analysis,
+  shown_costs,
+}
 use Rattle.session_queries.specs.Shown.{Shown, shown, content_shown}
 use Rattle.session_queries.specs.declared.card_costs.CardCosts.{CardCosts}
 use Rattle.session_queries.specs.declared.card_costs.CardCosts.TheVariants.{Pending, NoCards}
@@ -37,7 +70,16 @@ use Rattle.session_queries.specs.declared.body.Body.{Body}
 use Rattle.session_queries.specs.declared.body.Body.TheVariants as body
 use Rattle.session_queries.specs.declared.query.Query.{Query}
 use Rattle.session_queries.specs.declared.query.Query.TheVariants as query
-use Rattle.published_view.specs.Answers.{answer_from, status_by, board_by, traveller_by, analysis_by, list_by, ranking_by, accounts_by}
+use Rattle.published_view.specs.Answers.{
+  answer_from,
+  status_by,
+  board_by,
+  traveller_by,
+  analysis_by,
+  list_by,
+  ranking_by,
+  accounts_by,
+}
 use Rattle.published_view.specs.History.{IsAllowed, NamesFirst}
 use Rattle.published_view.specs.Listing.{tricks_shown}
 use Rattle.published_view.specs.Reply.{before_answer, body_of}
@@ -100,7 +142,8 @@ board_kind board None marks = inr refl
 board_kind board (Some hands) None = inr refl
 board_kind board (Some hands) (Some marks) = inl refl
 
-traveller_kind : (items : List Shown) (board : ℕ) (public : Option Public) (marks : Option Marks) → IsOfKind 6 (traveller_by items board public marks)
+traveller_kind : (items : List Shown) (board : ℕ) (public : Option Public) (marks : Option Marks) →
+    IsOfKind 6 (traveller_by items board public marks)
 traveller_kind items board None marks = inr refl
 traveller_kind items board (Some public) None = inr refl
 traveller_kind items board (Some public) (Some marks) = inl refl
@@ -109,7 +152,8 @@ analysis_kind : (board : ℕ) (tricks : Option (Option TrickTable)) → IsOfKind
 analysis_kind board None = inr refl
 analysis_kind board (Some tricks) = inl refl
 
-list_kind : (items : List Shown) (formula : Option Formula) (from limit : ℕ) (public : Option Public) → IsOfKind 11 (list_by items formula from limit public)
+list_kind : (items : List Shown) (formula : Option Formula) (from limit : ℕ) (public : Option Public) →
+    IsOfKind 11 (list_by items formula from limit public)
 list_kind items formula from limit None = inr refl
 list_kind items formula from limit (Some public) = inl refl
 
@@ -117,7 +161,8 @@ ranking_kind : (items : List Shown) (public : Option Public) → IsOfKind 12 (ra
 ranking_kind items None = inr refl
 ranking_kind items (Some public) = inl refl
 
-accounts_kind : (users : Option (List Account)) (pairs : Option (List Inheritance)) → IsOfKind 13 (accounts_by users pairs)
+accounts_kind : (users : Option (List Account)) (pairs : Option (List Inheritance)) →
+    IsOfKind 13 (accounts_by users pairs)
 accounts_kind None pairs = inr refl
 accounts_kind (Some users) None = inr refl
 accounts_kind (Some users) (Some pairs) = inl refl
@@ -137,7 +182,8 @@ answer_kind query.Ranking items = ranking_kind items (shown_public items)
 answer_kind query.Accounts items = accounts_kind (shown_accounts items) (shown_pairs items)
 
 -- an answer of a kind above 0 is that of a query of the kind
-kind_of_answer : (asked : Query) (items : List Shown) (found : Body) → answer_from asked items ≡ found → 0 < kind found → kind_asked asked ≡ kind found
+kind_of_answer : (asked : Query) (items : List Shown) (found : Body) → answer_from asked items ≡ found →
+    0 < kind found → kind_asked asked ≡ kind found
 kind_of_answer asked items found is above =
     elim (answer_kind asked items) [
       | inl own ↦ sym own ∙ ap kind is
@@ -145,47 +191,96 @@ kind_of_answer asked items found is above =
     ]
 
 -- only a query for an analysis is answered by one, and it is the one that is shown
-analysis_answered : (asked : Query) (items : List Shown) (board : ℕ) (tricks : TrickTable) → answer_from asked items ≡ body.Analysis board (Some tricks) →
+analysis_answered : (asked : Query) (items : List Shown) (board : ℕ) (tricks : TrickTable) → answer_from asked items ≡
+    body.Analysis board (Some tricks) →
     shown_analysis items board ≡ Some (Some tricks)
 unfolding answer_from
-analysis_answered query.Status items board tricks is = absurd (omega (arith, kind_of_answer query.Status items (body.Analysis board (Some tricks)) is (omega arith)))
-analysis_answered (query.Board other) items board tricks is = absurd (omega (arith, kind_of_answer (query.Board other) items (body.Analysis board (Some tricks)) is (omega arith)))
-analysis_answered (query.Traveller other) items board tricks is = absurd (omega (arith, kind_of_answer (query.Traveller other) items (body.Analysis board (Some tricks)) is (omega arith)))
+analysis_answered query.Status items board tricks is =
+    absurd (omega (arith, kind_of_answer query.Status items (body.Analysis board (Some tricks)) is (omega arith)))
+analysis_answered (query.Board other) items board tricks is =
+    absurd (omega (
+      arith,
+      kind_of_answer (query.Board other) items (body.Analysis board (Some tricks)) is
+          (omega arith),
+    ))
+analysis_answered (query.Traveller other) items board tricks is =
+    absurd (omega (
+      arith,
+      kind_of_answer (query.Traveller other) items (body.Analysis board (Some tricks)) is
+          (omega arith),
+    ))
 analysis_answered (query.Analysis other) items board tricks is = by_shown (shown_analysis items other) refl is
   where
-    by_shown : (found : Option (Option TrickTable)) → shown_analysis items other ≡ found → analysis_by other found ≡ body.Analysis board (Some tricks) → shown_analysis items board ≡ Some (Some tricks)
+    by_shown : (found : Option (Option TrickTable)) → shown_analysis items other ≡ found → analysis_by other found ≡
+        body.Analysis board (Some tricks) → shown_analysis items board ≡ Some (Some tricks)
     by_shown None at is = absurd (omega (arith, ap kind is))
     by_shown (Some said) at is =
         let here : other ≡ board = cc in
         let own : said ≡ Some tricks = cc in
         subst (λ b. shown_analysis items b ≡ Some (Some tricks)) here (at ∙ ap Some own)
-analysis_answered (query.Play cell) items board tricks is = absurd (omega (arith, kind_of_answer (query.Play cell) items (body.Analysis board (Some tricks)) is (omega arith)))
-analysis_answered (query.Costs cell) items board tricks is = absurd (omega (arith, kind_of_answer (query.Costs cell) items (body.Analysis board (Some tricks)) is (omega arith)))
-analysis_answered (query.Reason cell) items board tricks is = absurd (omega (arith, kind_of_answer (query.Reason cell) items (body.Analysis board (Some tricks)) is (omega arith)))
-analysis_answered (query.List formula from limit) items board tricks is = absurd (omega (arith, kind_of_answer (query.List formula from limit) items (body.Analysis board (Some tricks)) is (omega arith)))
-analysis_answered query.Ranking items board tricks is = absurd (omega (arith, kind_of_answer query.Ranking items (body.Analysis board (Some tricks)) is (omega arith)))
-analysis_answered query.Accounts items board tricks is = absurd (omega (arith, kind_of_answer query.Accounts items (body.Analysis board (Some tricks)) is (omega arith)))
+analysis_answered (query.Play cell) items board tricks is =
+    absurd (omega (arith, kind_of_answer (query.Play cell) items (body.Analysis board (Some tricks)) is (omega arith)))
+analysis_answered (query.Costs cell) items board tricks is =
+    absurd (omega (arith, kind_of_answer (query.Costs cell) items (body.Analysis board (Some tricks)) is (omega arith)))
+analysis_answered (query.Reason cell) items board tricks is =
+    absurd (omega (
+      arith,
+      kind_of_answer (query.Reason cell) items (body.Analysis board (Some tricks)) is
+          (omega arith),
+    ))
+analysis_answered (query.List formula from limit) items board tricks is =
+    absurd (omega (
+      arith,
+      kind_of_answer (query.List formula from limit) items (body.Analysis board (Some tricks)) is
+          (omega arith),
+    ))
+analysis_answered query.Ranking items board tricks is =
+    absurd (omega (arith, kind_of_answer query.Ranking items (body.Analysis board (Some tricks)) is (omega arith)))
+analysis_answered query.Accounts items board tricks is =
+    absurd (omega (arith, kind_of_answer query.Accounts items (body.Analysis board (Some tricks)) is (omega arith)))
 
 -- only a query for costs is answered by them, and they are those that are shown
 record AsksCosts (asked : Query) (items : List Shown) (cell : Cell) (counted : CardCosts) : Type 0 where
   query : asked ≡ query.Costs cell
   shown : shown_costs items cell ≡ Some counted
 
-costs_answered : (asked : Query) (items : List Shown) (cell : Cell) (counted : CardCosts) → answer_from asked items ≡ body.Costs cell (Some counted) → AsksCosts asked items cell counted
+costs_answered : (asked : Query) (items : List Shown) (cell : Cell) (counted : CardCosts) → answer_from asked items ≡
+    body.Costs cell (Some counted) → AsksCosts asked items cell counted
 unfolding answer_from
-costs_answered query.Status items cell counted is = absurd (omega (arith, kind_of_answer query.Status items (body.Costs cell (Some counted)) is (omega arith)))
-costs_answered (query.Board other) items cell counted is = absurd (omega (arith, kind_of_answer (query.Board other) items (body.Costs cell (Some counted)) is (omega arith)))
-costs_answered (query.Traveller other) items cell counted is = absurd (omega (arith, kind_of_answer (query.Traveller other) items (body.Costs cell (Some counted)) is (omega arith)))
-costs_answered (query.Analysis other) items cell counted is = absurd (omega (arith, kind_of_answer (query.Analysis other) items (body.Costs cell (Some counted)) is (omega arith)))
-costs_answered (query.Play other) items cell counted is = absurd (omega (arith, kind_of_answer (query.Play other) items (body.Costs cell (Some counted)) is (omega arith)))
+costs_answered query.Status items cell counted is =
+    absurd (omega (arith, kind_of_answer query.Status items (body.Costs cell (Some counted)) is (omega arith)))
+costs_answered (query.Board other) items cell counted is =
+    absurd (omega (arith, kind_of_answer (query.Board other) items (body.Costs cell (Some counted)) is (omega arith)))
+costs_answered (query.Traveller other) items cell counted is =
+    absurd (omega (
+      arith,
+      kind_of_answer (query.Traveller other) items (body.Costs cell (Some counted)) is
+          (omega arith),
+    ))
+costs_answered (query.Analysis other) items cell counted is =
+    absurd (omega (
+      arith,
+      kind_of_answer (query.Analysis other) items (body.Costs cell (Some counted)) is
+          (omega arith),
+    ))
+costs_answered (query.Play other) items cell counted is =
+    absurd (omega (arith, kind_of_answer (query.Play other) items (body.Costs cell (Some counted)) is (omega arith)))
 costs_answered (query.Costs other) items cell counted is =
     let here : other ≡ cell = cc in
     let own : shown_costs items other ≡ Some counted = cc in
     record { query = ap query.Costs here; shown = sym (ap (shown_costs items) here) ∙ own }
-costs_answered (query.Reason other) items cell counted is = absurd (omega (arith, kind_of_answer (query.Reason other) items (body.Costs cell (Some counted)) is (omega arith)))
-costs_answered (query.List formula from limit) items cell counted is = absurd (omega (arith, kind_of_answer (query.List formula from limit) items (body.Costs cell (Some counted)) is (omega arith)))
-costs_answered query.Ranking items cell counted is = absurd (omega (arith, kind_of_answer query.Ranking items (body.Costs cell (Some counted)) is (omega arith)))
-costs_answered query.Accounts items cell counted is = absurd (omega (arith, kind_of_answer query.Accounts items (body.Costs cell (Some counted)) is (omega arith)))
+costs_answered (query.Reason other) items cell counted is =
+    absurd (omega (arith, kind_of_answer (query.Reason other) items (body.Costs cell (Some counted)) is (omega arith)))
+costs_answered (query.List formula from limit) items cell counted is =
+    absurd (omega (
+      arith,
+      kind_of_answer (query.List formula from limit) items (body.Costs cell (Some counted)) is
+          (omega arith),
+    ))
+costs_answered query.Ranking items cell counted is =
+    absurd (omega (arith, kind_of_answer query.Ranking items (body.Costs cell (Some counted)) is (omega arith)))
+costs_answered query.Accounts items cell counted is =
+    absurd (omega (arith, kind_of_answer query.Accounts items (body.Costs cell (Some counted)) is (omega arith)))
 
 -- what is answered where there is no such place is no more than that
 place_kind : (asked : Fact) → kind (no_such_place asked) ≤ 1
@@ -200,27 +295,34 @@ place_kind (fact.Reason cell) = omega arith
 
 -- the numbers that are shown of a state are its own
 module _ (state : SessionState) (viewer : Viewer) where
-  analysis_shown_own : (board : ℕ) (tricks : TrickTable) → shown_analysis (shown state viewer) board ≡ Some (Some tricks) → analysis_of state board ≡ Some tricks
+  analysis_shown_own : (board : ℕ) (tricks : TrickTable) → shown_analysis (shown state viewer) board ≡ Some
+      (Some tricks) → analysis_of state board ≡ Some tricks
   analysis_shown_own board tricks is = by_said (content_shown (shown state viewer) (fact.Analysis board)) refl is
     where
-      by_said : (told : Option Content) → content_shown (shown state viewer) (fact.Analysis board) ≡ told → option_and_then as_analysis told ≡ Some (Some tricks) → analysis_of state board ≡ Some tricks
+      by_said : (told : Option Content) → content_shown (shown state viewer) (fact.Analysis board) ≡ told →
+          option_and_then as_analysis told ≡ Some (Some tricks) → analysis_of state board ≡ Some tricks
       by_said None at is = absurd cc
       by_said (Some said) at is =
-          let own : Some (analysis_of state board) ≡ Some (Some tricks) = sym (ap as_analysis (shown_says state viewer (fact.Analysis board) said at)) ∙ is in
+          let own : Some (analysis_of state board) ≡ Some (Some tricks) =
+          sym (ap as_analysis (shown_says state viewer (fact.Analysis board) said at)) ∙ is in
           cc
 
-  costs_shown_own : (cell : Cell) (counted : CardCosts) → shown_costs (shown state viewer) cell ≡ Some counted → costs_of (cell_at state cell) ≡ Some counted
+  costs_shown_own : (cell : Cell) (counted : CardCosts) → shown_costs (shown state viewer) cell ≡ Some counted →
+      costs_of (cell_at state cell) ≡ Some counted
   costs_shown_own cell counted is = by_said (content_shown (shown state viewer) (fact.Cost cell)) refl is
     where
-      by_said : (told : Option Content) → content_shown (shown state viewer) (fact.Cost cell) ≡ told → option_and_then as_costs told ≡ Some counted → costs_of (cell_at state cell) ≡ Some counted
+      by_said : (told : Option Content) → content_shown (shown state viewer) (fact.Cost cell) ≡ told →
+          option_and_then as_costs told ≡ Some counted → costs_of (cell_at state cell) ≡ Some counted
       by_said None at is = absurd cc
       by_said (Some said) at is = sym (ap as_costs (shown_says state viewer (fact.Cost cell) said at)) ∙ is
 
   -- the table by which a filter is read
-  tricks_shown_own : (board : ℕ) (tricks : TrickTable) → tricks_shown (shown_analysis (shown state viewer) board) ≡ Some tricks → analysis_of state board ≡ Some tricks
+  tricks_shown_own : (board : ℕ) (tricks : TrickTable) → tricks_shown (shown_analysis (shown state viewer) board) ≡ Some
+      tricks → analysis_of state board ≡ Some tricks
   tricks_shown_own board tricks is = by_shown (shown_analysis (shown state viewer) board) refl is
     where
-      by_shown : (found : Option (Option TrickTable)) → shown_analysis (shown state viewer) board ≡ found → tricks_shown found ≡ Some tricks → analysis_of state board ≡ Some tricks
+      by_shown : (found : Option (Option TrickTable)) → shown_analysis (shown state viewer) board ≡ found →
+          tricks_shown found ≡ Some tricks → analysis_of state board ≡ Some tricks
       by_shown None at is = absurd cc
       by_shown (Some said) at is = analysis_shown_own board tricks (at ∙ ap Some is)
 
@@ -234,11 +336,13 @@ module _ (state : SessionState) (version : ℕ) (user : List ℕ) (asked : Query
   abbrev denial : Rule → Denial
   denial rule = denial_by state.public (seat_of state user) (fact_of asked) rule
 
-  -- what is answered, by whether there is such a place, whether a newer version is wanted, and which rule forbids the fact
+  -- what is answered, by whether there is such a place, whether a newer version is wanted, and which rule forbids the
+  -- fact
   abbrev body_by : Bool → Bool → Option Rule → Body
   body_by has behind rule =
       unwrap_or
-      (if not has then Some (no_such_place (fact_of asked)) else if behind then Some body.Behind else option_map body.Denied (option_map denial rule))
+      (if not has then Some (no_such_place (fact_of asked)) else if behind then Some body.Behind else option_map
+      body.Denied (option_map denial rule))
       (answer_from asked (shown state (viewer_of state user)))
 
   body_is : body_of state version user asked since ≡ body_by place (nat_lt version since) first
@@ -256,14 +360,18 @@ module _ (state : SessionState) (version : ℕ) (user : List ℕ) (asked : Query
   in_time : since ≤ version → nat_lt version since ≡ false
   in_time enough = grind (arith, enough)
 
-  some_first : (rule : Rule) → forbids rule state.public (viewer_of state user) (fact_of asked) ≡ true → (named : Rule) × (first ≡ Some named)
+  some_first : (rule : Rule) → forbids rule state.public (viewer_of state user) (fact_of asked) ≡ true → (named : Rule)
+      × (first ≡ Some named)
   some_first rule forbidden = by_first first refl
     where
       by_first : (found : Option Rule) → first ≡ found → (named : Rule) × (first ≡ Some named)
-      by_first None none = absurd (false≢true (sym (none_forbids state.public (viewer_of state user) (fact_of asked) none rule) ∙ forbidden))
+      by_first None none =
+          absurd (false≢true (sym (none_forbids state.public (viewer_of state user) (fact_of asked) none rule)
+          ∙ forbidden))
       by_first (Some named) is = (named, is)
 
-  pub denied : place ≡ true → since ≤ version → (rule : Rule) → forbids rule state.public (viewer_of state user) (fact_of asked) ≡ true →
+  pub denied : place ≡ true → since ≤ version → (rule : Rule) → forbids rule state.public (viewer_of state user)
+      (fact_of asked) ≡ true →
       (found : Denial) × (body_of state version user asked since ≡ body.Denied found)
   denied has enough rule forbidden =
       let named = some_first rule forbidden in
@@ -272,18 +380,26 @@ module _ (state : SessionState) (version : ℕ) (user : List ℕ) (asked : Query
   pub answered : place ≡ true → since ≤ version → IsAllowed state user (fact_of asked) →
       body_of state version user asked since ≡ answer_from asked (shown state (viewer_of state user))
   answered has enough allowed =
-      body_is ∙ (λ i. body_by (has i) (in_time enough i) (no_first state.public (viewer_of state user) (fact_of asked) allowed i))
+      body_is ∙ (λ i. body_by (has i) (in_time enough i) (no_first state.public (viewer_of state user) (fact_of asked)
+      allowed i))
 
   -- a denial is by the first rule
-  by_rule : (has late : Bool) (rule : Option Rule) (found : Denial) → body_by has late rule ≡ body.Denied found → (named : Rule) × (rule ≡ Some named) × (found ≡ denial named)
+  by_rule : (has late : Bool) (rule : Option Rule) (found : Denial) → body_by has late rule ≡ body.Denied found →
+      (named : Rule) × (rule ≡ Some named) × (found ≡ denial named)
   by_rule false late rule found is = absurd (omega (arith, ap kind is, place_kind (fact_of asked)))
   by_rule true true rule found is = absurd (omega (arith, ap kind is))
   by_rule true false None found is =
-      absurd (omega (arith, kind_above asked, kind_of_answer asked (shown state (viewer_of state user)) (body.Denied found) is (omega arith)))
+      absurd (omega (
+        arith,
+        kind_above asked,
+        kind_of_answer asked (shown state (viewer_of state user))
+            (body.Denied found) is (omega arith),
+      ))
   by_rule true false (Some named) found is =
       let same : denial named ≡ found = cc in (named, refl, sym same)
 
-  pub names_first : (found : Denial) → body_of state version user asked since ≡ body.Denied found → NamesFirst state user (fact_of asked) found
+  pub names_first : (found : Denial) → body_of state version user asked since ≡ body.Denied found →
+      NamesFirst state user (fact_of asked) found
   names_first found is =
       let by = by_rule place (nat_lt version since) first found (sym body_is ∙ is) in
       subst (NamesFirst state user (fact_of asked)) (sym by.2)
@@ -302,22 +418,28 @@ module _ (state : SessionState) (version : ℕ) (user : List ℕ) (asked : Query
   by_answer true false None found is above = (refl, is)
   by_answer true false (Some named) found is above = absurd (omega (arith, above, ap kind is))
 
-  pub analysis_is : (board : ℕ) (tricks : TrickTable) → KeepsOwn state → body_of state version user asked since ≡ body.Analysis board (Some tricks) → IsAnalysisOf state board tricks
+  pub analysis_is : (board : ℕ) (tricks : TrickTable) → KeepsOwn state → body_of state version user asked since ≡
+      body.Analysis board (Some tricks) → IsAnalysisOf state board tricks
   analysis_is board tricks keeps is =
-      let answer = by_answer place (nat_lt version since) first (body.Analysis board (Some tricks)) (sym body_is ∙ is) (omega arith) in
+      let answer = by_answer place (nat_lt version since) first (body.Analysis board (Some tricks)) (sym body_is ∙ is)
+      (omega arith) in
       analysis_own state board tricks keeps
       (analysis_shown_own state (viewer_of state user) board tricks
       (analysis_answered asked (shown state (viewer_of state user)) board tricks answer.1))
 
   pub costs_are : (cell : Cell) (counted : CardCosts) → KeepsOwn state → IsSection state.public.movement →
-      body_of state version user asked since ≡ body.Costs cell (Some counted) → counted ≢ Pending → counted ≢ NoCards → IsCountOf state cell counted
+      body_of state version user asked since ≡ body.Costs cell (Some counted) → counted ≢ Pending → counted ≢ NoCards →
+      IsCountOf state cell counted
   costs_are cell counted keeps section is not_pending some_cards =
-      let answer = by_answer place (nat_lt version since) first (body.Costs cell (Some counted)) (sym body_is ∙ is) (omega arith) in
+      let answer = by_answer place (nat_lt version since) first (body.Costs cell (Some counted)) (sym body_is ∙ is)
+      (omega arith) in
       let asks = costs_answered asked (shown state (viewer_of state user)) cell counted answer.1 in
-      let scheduled : is_scheduled state.public.movement cell ≡ true = sym (ap (λ q. has_place state.public.movement (fact_of q)) asks.query) ∙ answer.0 in
+      let scheduled : is_scheduled state.public.movement cell ≡ true =
+      sym (ap (λ q. has_place state.public.movement (fact_of q)) asks.query) ∙ answer.0 in
       costs_own state cell counted keeps (scheduled_placed state cell section scheduled)
       (costs_shown_own state (viewer_of state user) cell counted asks.shown) not_pending some_cards
 
 pub filter_is : (state : SessionState) (viewer : Viewer) (board : ℕ) (tricks : TrickTable) → KeepsOwn state →
     tricks_shown (shown_analysis (shown state viewer) board) ≡ Some tricks → IsAnalysisOf state board tricks
-filter_is state viewer board tricks keeps is = analysis_own state board tricks keeps (tricks_shown_own state viewer board tricks is)
+filter_is state viewer board tricks keeps is = analysis_own state board tricks keeps
+    (tricks_shown_own state viewer board tricks is)

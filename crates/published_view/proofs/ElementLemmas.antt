@@ -1,5 +1,32 @@
 -- The elements of lists that are made from others.
-use Rattle.std.proofs.Common.{◌≡◌, ℕ, zero, suc, ◌+◌, ◌<◌, ◌≤◌, ◌⊎◌, Bool, true, false, cond, List, [], ◌∷◌, map, filter, Contains, refl, sym, ap, subst, ◌∙◌, inl, inr, arith}
+use Rattle.std.proofs.Common.{
+  ◌≡◌,
+  ℕ,
+  zero,
+  suc,
+  ◌+◌,
+  ◌<◌,
+  ◌≤◌,
+  ◌⊎◌,
+  Bool,
+  true,
+  false,
+  cond,
+  List,
+  [],
+  ◌∷◌,
+  map,
+  filter,
+  Contains,
+  refl,
+  sym,
+  ap,
+  subst,
+  ◌∙◌,
+  inl,
+  inr,
+  arith,
+}
 use Rattle.std.specs.List.{flat_map, range_with_len}
 use Rattle.std.proofs.lemmas.Bool.{false≢true}
 use Rattle.std.proofs.lemmas.List.Elements.{Contains-append_cases}
@@ -25,7 +52,8 @@ contains_map f (first ∷ xs) x there =
       | inr later ↦ contains_later (f first) (map f xs) (f x) (contains_map f xs x later)
     ]
 
-pub from_map : {X Y : Type 0} (f : X → Y) (xs : List X) (y : Y) → Contains (map f xs) y → (x : X) × Contains xs x × (f x ≡ y)
+pub from_map : {X Y : Type 0} (f : X → Y) (xs : List X) (y : Y) → Contains (map f xs) y → (x : X) × Contains xs x ×
+    (f x ≡ y)
 from_map f [] y there = none_there y there
 from_map f (first ∷ xs) y there =
     elim (contains_cases (f first) (map f xs) y there) [
@@ -34,7 +62,8 @@ from_map f (first ∷ xs) y there =
     ]
 
 module _ {X : Type 0} (keeps : X → Bool) where
-  contains_kept : (b : Bool) (first : X) (xs : List X) (x : X) → keeps first ≡ b → keeps x ≡ true → (first ≡ x) ⊎ Contains xs x → Contains (cond b (first ∷ xs) xs) x
+  contains_kept : (b : Bool) (first : X) (xs : List X) (x : X) → keeps first ≡ b → keeps x ≡ true → (first ≡ x) ⊎
+      Contains xs x → Contains (cond b (first ∷ xs) xs) x
   contains_kept true first xs x is kept (inl same) = subst (Contains (first ∷ xs)) same (contains_first first xs)
   contains_kept true first xs x is kept (inr later) = contains_later first xs x later
   contains_kept false first xs x is kept (inl same) = absurd (false≢true (sym is ∙ (ap keeps same ∙ kept)))
@@ -49,7 +78,8 @@ module _ {X : Type 0} (keeps : X → Bool) where
         | inr later ↦ inr (contains_filter xs x later kept)
       ])
 
-  from_kept : (b : Bool) (first : X) (xs : List X) (x : X) → keeps first ≡ b → Contains (cond b (first ∷ xs) xs) x → ((first ≡ x) × (keeps x ≡ true)) ⊎ Contains xs x
+  from_kept : (b : Bool) (first : X) (xs : List X) (x : X) → keeps first ≡ b → Contains (cond b (first ∷ xs) xs) x →
+      ((first ≡ x) × (keeps x ≡ true)) ⊎ Contains xs x
   from_kept true first xs x is there =
       elim (contains_cases first xs x there) [
         | inl same ↦ inl (same, sym (ap keeps same) ∙ is)
@@ -65,7 +95,8 @@ module _ {X : Type 0} (keeps : X → Bool) where
         | inr later ↦ let rest = from_filter xs x later in (contains_later first xs x rest.0, rest.1)
       ]
 
-pub from_flat : {X Y : Type 0} (f : X → List Y) (xs : List X) (y : Y) → Contains (flat_map f xs) y → (x : X) × Contains xs x × Contains (f x) y
+pub from_flat : {X Y : Type 0} (f : X → List Y) (xs : List X) (y : Y) → Contains (flat_map f xs) y → (x : X) ×
+    Contains xs x × Contains (f x) y
 from_flat f [] y there = none_there y there
 from_flat f (first ∷ xs) y there =
     elim (Contains-append_cases (f first) (flat_map f xs) y there) [

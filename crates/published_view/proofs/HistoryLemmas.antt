@@ -1,5 +1,27 @@
 -- What holds of a session after every history, and of the version that a reply in it names.
-use Rattle.std.proofs.Common.{◌≡◌, ℕ, ◌≤◌, List, [], ◌∷◌, ◌++◌, length, take, Contains, refl, sym, ap, subst, ◌∙◌, ◌⊎◌, false, max, inl, inr, arith}
+use Rattle.std.proofs.Common.{
+  ◌≡◌,
+  ℕ,
+  ◌≤◌,
+  List,
+  [],
+  ◌∷◌,
+  ◌++◌,
+  length,
+  take,
+  Contains,
+  refl,
+  sym,
+  ap,
+  subst,
+  ◌∙◌,
+  ◌⊎◌,
+  false,
+  max,
+  inl,
+  inr,
+  arith,
+}
 use Rattle.std.specs.Prelude.{Option, Some, None, IfSome}
 use Rattle.std.proofs.Math.Seq.{take-append_seam}
 use Rattle.std.proofs.lemmas.List.{length-append}
@@ -17,7 +39,19 @@ use Rattle.session_queries.specs.declared.reply.Reply.{Reply}
 use Rattle.published_view.specs.History.{IsGivenIn, NamesPublished, state_there}
 use Rattle.published_view.specs.Reply.{reply_of}
 use Rattle.published_view.specs.View.{version_of, reply_after}
-use Rattle.published_view.specs.World.{World, Reading, Read, Moment, Solves, ReadsVersion, MayGoOn, IsHistory, now, with_journal, with_seen}
+use Rattle.published_view.specs.World.{
+  World,
+  Reading,
+  Read,
+  Moment,
+  Solves,
+  ReadsVersion,
+  MayGoOn,
+  IsHistory,
+  now,
+  with_journal,
+  with_seen,
+}
 use Rattle.published_view.proofs.StepLemmas.{Extends, same_extends, more_extends, step_leaves}
 use Rattle.published_view.proofs.ElementLemmas.{contains_first, contains_cases}
 
@@ -62,23 +96,28 @@ module _ (opening : SessionState) where
         accepted = leaves.accepted before.accepted;
         newest = leaves.newest before.newest;
         seen = leaves.seen before.seen;
-        within = λ version there. no_longer version (longer (now earlier).journal moment.after.journal leaves.more) before.within (leaves.published version there);
+        within = λ version there. no_longer version (longer (now earlier).journal moment.after.journal leaves.more)
+            before.within (leaves.published version there);
       }
     where
       no_longer : (version : ℕ) → length (now earlier).journal ≤ length moment.after.journal →
           ((other : ℕ) → Contains (now earlier).published other → other ≤ length (now earlier).journal) →
-          Contains (now earlier).published version ⊎ (version ≡ length moment.after.journal) → version ≤ length moment.after.journal
+          Contains (now earlier).published version ⊎ (version ≡ length moment.after.journal) →
+          version ≤ length moment.after.journal
       no_longer version grown within (inl old) = omega (arith, grown, within version old)
       no_longer version grown within (inr new) = omega (arith, new)
 
   -- the journal only grows
-  journal_grows : (later earlier : List Moment) → IsHistory opening (later ++ earlier) → Extends (now earlier).journal (now (later ++ earlier)).journal
+  journal_grows : (later earlier : List Moment) → IsHistory opening (later ++ earlier) → Extends (now earlier).journal
+      (now (later ++ earlier)).journal
   journal_grows [] earlier is = same_extends (now earlier).journal
   journal_grows (moment ∷ later) earlier (happens, is) =
-      more_extends (now earlier).journal (now (later ++ earlier)).journal moment.after.journal (journal_grows later earlier is)
+      more_extends (now earlier).journal (now (later ++ earlier)).journal moment.after.journal
+      (journal_grows later earlier is)
       (step_leaves opening (now (later ++ earlier)) moment.step moment.after happens).more
 
-  was_newest : (history : List Moment) → IsHistory opening history → (version : ℕ) → Contains (now history).published version → WasNewest history version
+  was_newest : (history : List Moment) → IsHistory opening history → (version : ℕ) → Contains (now history).published
+      version → WasNewest history version
   was_newest [] is version there = by_cases (contains_cases 0 [] version there)
     where
       by_cases : (0 ≡ version) ⊎ Contains {X = ℕ} [] version → WasNewest [] version
@@ -88,17 +127,32 @@ module _ (opening : SessionState) where
       elim ((step_leaves opening (now earlier) moment.step moment.after happens).published version there) [
         | inl old ↦
             let was = was_newest earlier is version old in
-            record { earlier = was.earlier; later = moment ∷ was.later; split = ap (λ moments. moment ∷ moments) was.split; length = was.length }
+            record {
+              earlier = was.earlier;
+              later = moment ∷ was.later;
+              split = ap (λ moments. moment ∷ moments)
+                  was.split;
+              length = was.length;
+            }
         | inr new ↦ record { earlier = moment ∷ earlier; later = []; split = refl; length = sym new }
       ]
 
   -- a step may be next: a command of the solver's is accepted, or answered why not
-  solver_next : (before : World) (command : Command) (found : Option Refusal) → refusal_after opening before.journal Solver command ≡ found → (after : World) × Solves opening before command after
+  solver_next : (before : World) (command : Command) (found : Option Refusal) → refusal_after opening before.journal
+      Solver command ≡ found → (after : World) × Solves opening before command after
   solver_next before command None may =
       let journal = before.journal ++ record { actor = Solver; command = command } ∷ [] in
       (with_journal before journal, record { answer = Accepted; journal = journal; tried = (may, refl); leaves = refl })
-  solver_next before command (Some cause) refused =
-      (with_journal before before.journal, record { answer = Refused cause; journal = before.journal; tried = (inl refused, refl); leaves = refl })
+  solver_next before command (Some cause) refused = (
+    with_journal before before.journal,
+    record {
+      answer = Refused cause;
+      journal = before.journal;
+      tried =
+          (inl refused, refl);
+      leaves = refl;
+    },
+  )
 
   goes_on : (world : World) → Holds opening world → MayGoOn opening world
   goes_on world holds = record {
@@ -112,11 +166,18 @@ module _ (opening : SessionState) where
     query = λ display user query since. (
       reply_after opening (take (length world.journal) world.journal) user query since,
       with_seen world display (length world.journal),
-      record { published = holds.newest; not_older = holds.within (world.seen display) (holds.seen display); reply = refl; leaves = refl },
+      record {
+        published = holds.newest;
+        not_older = holds.within (world.seen display) (holds.seen display);
+        reply =
+            refl;
+        leaves = refl;
+      },
     );
   }
 
-  pub may_go_on : (history : List Moment) → IsHistory opening history → IsAccepted opening (now history).journal × MayGoOn opening (now history)
+  pub may_go_on : (history : List Moment) → IsHistory opening history → IsAccepted opening (now history).journal ×
+      MayGoOn opening (now history)
   may_go_on history is = let holds = all_hold history is in (holds.accepted, goes_on (now history) holds)
 
   -- a reply in a history: the version that it names, and that it is the one which the journal of that version gives
@@ -128,13 +189,16 @@ module _ (opening : SessionState) where
   version_is : (entries : List Entry) → IsAccepted opening entries → version_of entries ≡ length entries
   version_is entries accepted = let few = accepted_length opening entries accepted in omega (arith, few)
 
-  reply_given : (before : World) (reading : Reading) (reply : Reply) (after : World) → ReadsVersion opening before reading after → reading.reply ≡ Some reply →
+  reply_given : (before : World) (reading : Reading) (reply : Reply) (after : World) → ReadsVersion opening before
+      reading after → reading.reply ≡ Some reply →
       reply ≡ reply_after opening (take reading.version before.journal) reading.user reading.query reading.since
   reply_given before reading reply after reads told =
-      subst (λ (found : Option Reply). IfSome found (λ r. r ≡ reply_after opening (take reading.version before.journal) reading.user reading.query reading.since)) told reads.reply
+      subst (λ (found : Option Reply). IfSome found (λ r. r ≡ reply_after opening (take reading.version before.journal)
+      reading.user reading.query reading.since)) told reads.reply
 
   is_of : (later : List Moment) (after : World) (earlier : List Moment) (reading : Reading) (reply : Reply) →
-      IsHistory opening (later ++ record { step = Read reading; after = after } ∷ earlier) → reading.reply ≡ Some reply →
+      IsHistory opening (later ++ record { step = Read reading; after = after } ∷ earlier) → reading.reply ≡ Some
+      reply →
       IsOf (later ++ record { step = Read reading; after = after } ∷ earlier) earlier reading reply
   is_of later after earlier reading reply is told =
       let moment : Moment = record { step = Read reading; after = after } in
@@ -142,23 +206,38 @@ module _ (opening : SessionState) where
       let reads : ReadsVersion opening (now earlier) reading after = here.0 in
       let was = was_newest earlier here.1 reading.version reads.published in
       let entries = (now was.earlier).journal in
-      let then : IsHistory opening was.earlier = history_before was.later was.earlier (subst (IsHistory opening) was.split here.1) in
+      let then : IsHistory opening was.earlier = history_before was.later was.earlier
+      (subst (IsHistory opening) was.split here.1) in
       let held = all_hold was.earlier then in
       let grown : Extends entries (now earlier).journal =
-      subst (λ moments. Extends entries (now moments).journal) (sym was.split) (journal_grows was.later was.earlier (subst (IsHistory opening) was.split here.1)) in
-      let grown_on : Extends (now (moment ∷ earlier)).journal (now (later ++ moment ∷ earlier)).journal = journal_grows later (moment ∷ earlier) is in
-      let stayed : Extends (now earlier).journal after.journal = (step_leaves opening (now earlier) (Read reading) after reads).more in
+      subst (λ moments. Extends entries (now moments).journal) (sym was.split)
+      (journal_grows was.later was.earlier (subst (IsHistory opening) was.split here.1)) in
+      let grown_on : Extends (now (moment ∷ earlier)).journal (now (later ++ moment ∷ earlier)).journal =
+      journal_grows later (moment ∷ earlier) is in
+      let stayed : Extends (now earlier).journal after.journal =
+      (step_leaves opening (now earlier) (Read reading) after reads).more in
       let whole : Extends entries (now (later ++ moment ∷ earlier)).journal =
-      more_extends entries after.journal _ (more_extends entries (now earlier).journal after.journal grown stayed) grown_on in
-      let first : take reading.version (now earlier).journal ≡ entries = begins_with entries (now earlier).journal reading.version was.length grown in
+      more_extends entries after.journal _ (more_extends entries (now earlier).journal after.journal grown stayed)
+      grown_on in
+      let first : take reading.version (now earlier).journal ≡ entries = begins_with entries (now earlier).journal
+      reading.version was.length grown in
       let given : reply ≡ reply_after opening entries reading.user reading.query reading.since =
-      reply_given (now earlier) reading reply after reads told ∙ ap (λ es. reply_after opening es reading.user reading.query reading.since) first in
-      let version : reply.version ≡ length entries = ap (λ (r : Reply). r.version) given ∙ version_is entries held.accepted in
+      reply_given (now earlier) reading reply after reads told
+      ∙ ap (λ es. reply_after opening es reading.user reading.query reading.since) first in
+      let version : reply.version ≡ length entries = ap (λ (r : Reply). r.version) given ∙ version_is entries
+      held.accepted in
       record {
         names = record {
           entries = entries;
           version = version;
-          published = record { earlier = was.earlier; later = was.later; split = was.split; journal = refl; published = held.newest };
+          published = record {
+            earlier = was.earlier;
+            later = was.later;
+            split = was.split;
+            journal = refl;
+            published =
+                held.newest;
+          };
           not_older = omega (arith, reads.not_older, version, was.length);
           accepted = held.accepted;
           begins = begins_with entries (now (later ++ moment ∷ earlier)).journal reply.version (sym version) whole;
@@ -166,11 +245,13 @@ module _ (opening : SessionState) where
         given = given;
       }
     where
-      begins_with : (entries journal : List Entry) (version : ℕ) → length entries ≡ version → Extends entries journal → take version journal ≡ entries
+      begins_with : (entries journal : List Entry) (version : ℕ) → length entries ≡ version → Extends entries journal →
+          take version journal ≡ entries
       begins_with entries journal version long (more, is) =
           ap (λ n. take n journal) (sym long) ∙ (ap (take (length entries)) is ∙ take-append_seam entries more)
 
-  module _ (history : List Moment) (reading : Reading) (reply : Reply) (is : IsHistory opening history) (told : IsGivenIn history reading reply) where
+  module _ (history : List Moment) (reading : Reading) (reply : Reply) (is : IsHistory opening history)
+      (told : IsGivenIn history reading reply) where
     reply_is : IsOf history told.earlier reading reply
     reply_is =
         subst (λ moments. IsOf moments told.earlier reading reply) (sym told.split)
@@ -180,10 +261,13 @@ module _ (opening : SessionState) where
     names_published = reply_is.names
 
     -- it is the one that the state of its version gives
-    pub reply_there : reply ≡ reply_of (state_there opening history reply) reply.version reading.user reading.query reading.since
+    pub reply_there : reply ≡ reply_of (state_there opening history reply) reply.version reading.user reading.query
+        reading.since
     reply_there =
-        let version : version_of reply_is.names.entries ≡ reply.version = sym (ap (λ (r : Reply). r.version) reply_is.given) in
-        reply_is.given ∙ (λ i. reply_of (replay opening (sym reply_is.names.begins i)) (version i) reading.user reading.query reading.since)
+        let version : version_of reply_is.names.entries ≡ reply.version =
+        sym (ap (λ (r : Reply). r.version) reply_is.given) in
+        reply_is.given ∙ (λ i. reply_of (replay opening (sym reply_is.names.begins i)) (version i) reading.user
+        reading.query reading.since)
 
     pub journal_accepted : IsAccepted opening (now history).journal
     journal_accepted = (all_hold history is).accepted

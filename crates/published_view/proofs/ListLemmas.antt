@@ -1,5 +1,24 @@
 -- Lists that a loop makes, an item at a time.
-use Rattle.std.proofs.Common.{◌≡◌, ℕ, zero, suc, ◌+◌, ◌<◌, Bool, List, [], ◌∷◌, ◌++◌, length, take, get_or, refl, ap, ◌∙◌, arith}
+use Rattle.std.proofs.Common.{
+  ◌≡◌,
+  ℕ,
+  zero,
+  suc,
+  ◌+◌,
+  ◌<◌,
+  Bool,
+  List,
+  [],
+  ◌∷◌,
+  ◌++◌,
+  length,
+  take,
+  get_or,
+  refl,
+  ap,
+  ◌∙◌,
+  arith,
+}
 use Rattle.std.specs.Prelude.{Option, Some, None, cond, filter, slice_get}
 use Rattle.std.specs.Option.{option_map}
 use Rattle.rbac.specs.declared.inheritance.Inheritance.{Inheritance}
@@ -12,7 +31,8 @@ use Rattle.std.proofs.lemmas.List.Elements.{filter_map-append, filter-append}
 -- what is given of the first items, and of one more
 pub filter_map_more : {X Y : Type 0} (f : X → Option Y) (xs : List X) (k : ℕ) (d : X) → k < length xs →
     filter_map f (take (k + 1) xs) ≡ filter_map f (take k xs) ++ cons_option (f (get_or xs k d)) []
-filter_map_more f xs k d below = ap (filter_map f) (take_more xs k d below) ∙ filter_map-append f (take k xs) (get_or xs k d ∷ [])
+filter_map_more f xs k d below = ap (filter_map f) (take_more xs k d below) ∙ filter_map-append f (take k xs)
+    (get_or xs k d ∷ [])
 
 -- numbers in a row, and one more
 pub range_more : (first n : ℕ) → range_with_len first (n + 1) ≡ range_with_len first n ++ (first + n) ∷ []
@@ -26,7 +46,8 @@ range_more first n = ap (range_with_len first) one_more ∙ more first n
       where
         none_more : first ≡ first + 0
         none_more = omega arith
-    more first (suc n) = ap (λ rest. first ∷ rest) (more (first + 1) n ∙ (λ i. range_with_len (first + 1) n ++ next i ∷ []))
+    more first (suc n) = ap (λ rest. first ∷ rest)
+        (more (first + 1) n ∙ (λ i. range_with_len (first + 1) n ++ next i ∷ []))
       where
         next : first + 1 + n ≡ first + suc n
         next = omega arith
@@ -50,7 +71,8 @@ flat_map_range_more f n =
 
 -- the first pairs and one more, where that is found at its place
 pub pair_more : (pairs : List Inheritance) (k : ℕ) (senior junior : Role) →
-    option_map {U = Role × Role} (λ (pair : Inheritance). (pair.senior, pair.junior)) (slice_get pairs k) ≡ Some (senior, junior) →
+    option_map {U = Role × Role} (λ (pair : Inheritance). (pair.senior, pair.junior)) (slice_get pairs k) ≡ Some
+    (senior, junior) →
     take (suc k) pairs ≡ take k pairs ++ record { senior = senior; junior = junior } ∷ []
 pair_more [] k senior junior there = absurd (cc)
 pair_more (pair ∷ pairs) zero senior junior there =
@@ -63,7 +85,8 @@ pair_more (pair ∷ pairs) (suc k) senior junior there = ap (λ rest. pair ∷ r
 
 -- where no pair is found at a place, all pairs are before it
 pub pairs_end : (pairs : List Inheritance) (k : ℕ) →
-    option_map {U = Role × Role} (λ (pair : Inheritance). (pair.senior, pair.junior)) (slice_get pairs k) ≡ None → take k pairs ≡ pairs
+    option_map {U = Role × Role} (λ (pair : Inheritance). (pair.senior, pair.junior)) (slice_get pairs k) ≡ None →
+    take k pairs ≡ pairs
 pairs_end [] zero none = refl
 pairs_end [] (suc k) none = refl
 pairs_end (pair ∷ pairs) zero none = absurd (cc)

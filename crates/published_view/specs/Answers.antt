@@ -11,7 +11,14 @@ use Rattle.rbac.specs.declared.account.Account.{Account}
 use Rattle.rbac.specs.declared.inheritance.Inheritance.{Inheritance}
 use Rattle.session_state.specs.declared.seated.Seated.{Seated}
 use Rattle.session_queries.specs.Facts.{boards}
-use Rattle.session_queries.specs.Reading.{shown_public, shown_seats, shown_accounts, shown_pairs, shown_hands, shown_marks}
+use Rattle.session_queries.specs.Reading.{
+  shown_public,
+  shown_seats,
+  shown_accounts,
+  shown_pairs,
+  shown_hands,
+  shown_marks,
+}
 use Rattle.session_queries.specs.Reading.{shown_analysis, shown_play, shown_costs, shown_reason, shown_results}
 use Rattle.session_queries.specs.Shown.{Shown}
 use Rattle.session_queries.specs.declared.query.Query.{Query}

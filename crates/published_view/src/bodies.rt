@@ -20,13 +20,15 @@ use disclosure_rules::{Fact, Viewer, decide};
 use movement::Cell;
 use query_filter::Filter;
 use rbac::{Account, Inheritance};
-use session_state::{Seated, State};
-use session_queries::{Body, Query, analysis_of, costs_of, play_of, push_found, reason_of, shown_results};
-use table_terms::Items;
 use session_commands::CellState;
 use session_commands::room::with_room;
+use session_queries::{
+    Body, Query, analysis_of, costs_of, play_of, push_found, reason_of, shown_results,
+};
+use session_state::{Seated, State};
 use standings::{Earning, add_earnings, ranking_of, traveller_rows};
 use std::alloc::{AllocError, Global};
+use table_terms::Items;
 
 /// The answer to a query, from what the user is shown of a state.
 #[tactic(auto, using(crate::proofs::AnswerLemmas::status_answered, crate::proofs::AnswerLemmas::board_answered, crate::proofs::AnswerLemmas::traveller_answered, crate::proofs::AnswerLemmas::analysis_answered, crate::proofs::AnswerLemmas::play_answered, crate::proofs::AnswerLemmas::costs_answered, crate::proofs::AnswerLemmas::reason_answered, crate::proofs::AnswerLemmas::list_answered, crate::proofs::AnswerLemmas::ranking_answered, crate::proofs::AnswerLemmas::accounts_answered))]

@@ -15,9 +15,9 @@ use class_views::ClassViews;
 use disclosure_rules::Viewer;
 use query_filter::Filter;
 use session_queries::{Body, Query};
-use table_terms::Items;
 use standings::ranked;
 use std::alloc::{AllocError, Global};
+use table_terms::Items;
 
 /// The answer to a query, from what the user is shown of a state.
 #[tactic(auto, using(crate::proofs::AnswerLemmas::list_answered, crate::proofs::AnswerLemmas::ranking_answered))]

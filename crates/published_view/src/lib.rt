@@ -11,5 +11,4 @@ mod query_fault;
 mod view;
 
 pub use query_fault::{NoEntry, QueryFault};
-
 pub use view::View;

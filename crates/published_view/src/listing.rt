@@ -9,11 +9,11 @@ ghost use Rattle.published_view.specs.Listing.{facts_for, is_listed, listed_from
 use disclosure_rules::{Fact, Marks, Viewer, decide};
 use query_filter::{BoardFacts, Filter, TrickTable};
 use scoring::Outcome;
-use session_state::State;
 use session_queries::{analysis_of, push_found, shown_results};
-use table_terms::Items;
+use session_state::State;
 use standings::{CellResult, TableResult};
 use std::alloc::{AllocError, Global};
+use table_terms::Items;
 
 /// The boards from one on that are listed.
 pub(crate) fn listed_from(

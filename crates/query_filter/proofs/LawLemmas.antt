@@ -30,7 +30,8 @@ not_some (formula_then f fs) facts =
     not_either (holds f facts) (any_holds fs facts) ∙ ap (λ q. not (holds f facts) && q) (not_some fs facts)
 
 -- a test that some element passes is passed by a list of that element alone
-one_alone : {X : Type 0} (test : X → Bool) (xs : List X) → list_any test xs ≡ true → Any (λ x. list_any test (x ∷ []) ≡ true) xs
+one_alone : {X : Type 0} (test : X → Bool) (xs : List X) → list_any test xs ≡ true →
+    Any (λ x. list_any test (x ∷ []) ≡ true) xs
 one_alone test xs h =
     let found : Any (λ x. test x ≡ true) xs = Any-from_list_any test xs h in
     (found.0, found.1, found.2, found.3, ap (λ q. q || false) found.4)

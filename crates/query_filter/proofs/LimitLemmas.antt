@@ -1,9 +1,49 @@
 -- How many atoms are left, member by member.
-use Rattle.std.proofs.Common.{◌≡◌, ℕ, ◌+◌, ◌-◌, ◌<◌, max, Bool, true, false, nat_le, ◌&&◌, if◌then◌else◌, Option, Some, None, option_and_then, List, [], ◌∷◌, length, map, drop, refl, ap, ◌∙◌, arith, get_or, drop-cons, add-one}
+use Rattle.std.proofs.Common.{
+  ◌≡◌,
+  ℕ,
+  ◌+◌,
+  ◌-◌,
+  ◌<◌,
+  max,
+  Bool,
+  true,
+  false,
+  nat_le,
+  ◌&&◌,
+  if◌then◌else◌,
+  Option,
+  Some,
+  None,
+  option_and_then,
+  List,
+  [],
+  ◌∷◌,
+  length,
+  map,
+  drop,
+  refl,
+  ap,
+  ◌∙◌,
+  arith,
+  get_or,
+  drop-cons,
+  add-one,
+}
 use Rattle.std.proofs.lemmas.Grind.{common_steps}
 use Rattle.query_filter.specs.declared.condition.Condition.{Condition}
 use Rattle.query_filter.specs.Formula.{Formula, formula, formulas, Formulas, no_formula, formula_then}
-use Rattle.query_filter.specs.Limits.{depth, deepest, atoms, atoms_of_all, has_lists_within, all_have_lists_within, member_count, left_after, left_after_all}
+use Rattle.query_filter.specs.Limits.{
+  depth,
+  deepest,
+  atoms,
+  atoms_of_all,
+  has_lists_within,
+  all_have_lists_within,
+  member_count,
+  left_after,
+  left_after_all,
+}
 
 -- the members of a list are as many as its conditions
 pub member_count_formulas : (members : List Condition) → member_count (formulas members) ≡ length members
@@ -21,6 +61,8 @@ left_of_sum a b deep x y many false false = grind (arith, common_steps)
 
 -- what is left after formulas is left after the first and then after the others
 pub left_after_first : (deep many : ℕ) (f : Formula) (fs : Formulas)
-    → left_after_all deep many (formula_then f fs) ≡ option_and_then (λ left. left_after_all deep left fs) (left_after deep many f)
+    → left_after_all deep many (formula_then f fs) ≡ option_and_then (λ left. left_after_all deep left fs)
+    (left_after deep many f)
 left_after_first deep many f fs =
-    left_of_sum (depth f) (deepest fs) deep (atoms f) (atoms_of_all fs) many (has_lists_within f) (all_have_lists_within fs)
+    left_of_sum (depth f) (deepest fs) deep (atoms f) (atoms_of_all fs) many (has_lists_within f)
+    (all_have_lists_within fs)

@@ -1,5 +1,32 @@
 -- Lists: the first element that passes a test, some element, and elements by place.
-use Rattle.std.proofs.Common.{◌≡◌, ℕ, ◌<◌, ◌≤◌, Bool, true, false, cond, List, [], ◌∷◌, ◌++◌, length, inl, inr, get_or, Some, None, zero, suc, refl, sym, ap, subst, ◌∙◌, arith}
+use Rattle.std.proofs.Common.{
+  ◌≡◌,
+  ℕ,
+  ◌<◌,
+  ◌≤◌,
+  Bool,
+  true,
+  false,
+  cond,
+  List,
+  [],
+  ◌∷◌,
+  ◌++◌,
+  length,
+  inl,
+  inr,
+  get_or,
+  Some,
+  None,
+  zero,
+  suc,
+  refl,
+  sym,
+  ap,
+  subst,
+  ◌∙◌,
+  arith,
+}
 use Rattle.std.specs.Prelude.{find, All, ◌⊎◌, Contains, filter}
 use Rattle.std.specs.List.{Any, list_any, AllByRecursion, IsDistinct}
 use Rattle.std.specs.Cmp.{IsEquivalence}
@@ -12,7 +39,8 @@ use Rattle.std.proofs.lemmas.Bool.{cond-true, cond-false, cases_lt}
 use Rattle.std.proofs.lemmas.List.Folds.{Any-from_list_any, list_any-from_Any}
 
 -- the first element that passes is found
-pub find_first : {X : Type 0} (p : X → Bool) (xs : List X) (i : ℕ) (d : X) → i < length xs → p (get_or xs i d) ≡ true → ((k : ℕ) → k < i → p (get_or xs k d) ≡ false) → find p xs ≡ Some (get_or xs i d)
+pub find_first : {X : Type 0} (p : X → Bool) (xs : List X) (i : ℕ) (d : X) → i < length xs → p (get_or xs i d) ≡ true →
+    ((k : ℕ) → k < i → p (get_or xs k d) ≡ false) → find p xs ≡ Some (get_or xs i d)
 find_first p [] i d within passes before = absurd (omega arith)
 find_first p (x ∷ xs) zero d within passes before = cond-true (p x) (Some x) (find p xs) passes
 find_first p (x ∷ xs) (suc i) d within passes before =
@@ -23,17 +51,20 @@ find_first p (x ∷ xs) (suc i) d within passes before =
 pub find_none : {X : Type 0} (p : X → Bool) (xs : List X) → All (λ x. p x ≡ false) xs → find p xs ≡ None
 find_none p [] fails = refl
 find_none p (x ∷ xs) fails =
-    cond-false (p x) (Some x) (find p xs) (fails 0 x (omega arith)) ∙ find_none p xs (λ k d below. fails (suc k) d (omega arith))
+    cond-false (p x) (Some x) (find p xs) (fails 0 x (omega arith)) ∙ find_none p xs
+    (λ k d below. fails (suc k) d (omega arith))
 
 -- a test of the elements decides whether some element has what the test decides
-pub decides_any : {X : Type 0} (p : X → Bool) (P : X → Type 0) → ((x : X) → Decides (p x) (P x)) → (xs : List X) → Decides (list_any p xs) (Any P xs)
+pub decides_any : {X : Type 0} (p : X → Bool) (P : X → Type 0) → ((x : X) → Decides (p x) (P x)) → (xs : List X) →
+    Decides (list_any p xs) (Any P xs)
 decides_any p P each xs = (
   λ passes. let w = Any-from_list_any p xs passes in (w.0, w.1, w.2, w.3, (each w.1).0 w.4),
   λ some. list_any-from_Any p xs (some.0, some.1, some.2, some.3, (each some.1).1 some.4),
 )
 
 -- some element of a list that got one more
-push_cases : {X : Type 0} (P : X → Type 0) (xs : List X) (y : X) (k : ℕ) (x : X) → k < length (xs ++ y ∷ []) → get_or (xs ++ y ∷ []) k x ≡ x → P x → (k < length xs) ⊎ (length xs ≤ k) → Any P xs ⊎ P y
+push_cases : {X : Type 0} (P : X → Type 0) (xs : List X) (y : X) (k : ℕ) (x : X) → k < length (xs ++ y ∷ []) →
+    get_or (xs ++ y ∷ []) k x ≡ x → P x → (k < length xs) ⊎ (length xs ≤ k) → Any P xs ⊎ P y
 push_cases P xs y k x within is holds (inl old) =
     inl (k, x, old, sym (get_or_append_left xs (y ∷ []) x k old) ∙ is, holds)
 push_cases P xs y k x within is holds (inr new) =
@@ -47,12 +78,14 @@ Any-push_cases P xs y some = push_cases P xs y some.0 some.1 some.2 some.3 some.
 pub equivalence : {X : Type 0} (same : X → X → Bool) → ((a b : X) → Decides (same a b) (a ≡ b)) → IsEquivalence same
 equivalence same decides = record {
   refl = λ x. (decides x x).1 refl;
-  symm = λ x y. same_from_decides (same x y) (same y x) (decides x y) (Decides-like (same y x) (λ e. sym e) (λ e. sym e) (decides y x));
+  symm = λ x y. same_from_decides (same x y) (same y x) (decides x y) (Decides-like (same y x) (λ e. sym e) (λ e. sym e)
+      (decides y x));
   congr = λ x y z e. ap (λ w. same w z) ((decides x y).0 e);
 }
 
 -- and decides whether an element is there
-pub decides_contains : {X : Type 0} (same : X → X → Bool) → ((a b : X) → Decides (same a b) (a ≡ b)) → (xs : List X) (x : X) → Decides (list_any (λ y. same y x) xs) (Contains xs x)
+pub decides_contains : {X : Type 0} (same : X → X → Bool) → ((a b : X) → Decides (same a b) (a ≡ b)) → (xs : List X)
+    (x : X) → Decides (list_any (λ y. same y x) xs) (Contains xs x)
 decides_contains same decides xs x =
     Decides-like (list_any (λ y. same y x) xs)
     (λ some. (some.0, some.2, get_or_default xs some.0 x some.1 some.2 ∙ some.3 ∙ some.4))
@@ -60,20 +93,24 @@ decides_contains same decides xs x =
     (decides_any (λ y. same y x) (λ y. y ≡ x) (λ y. decides y x) xs)
 
 -- a filter keeps apart what was apart
-all_filtered : {X : Type 0} (p : X → Bool) (P : X → Type 0) (xs : List X) → AllByRecursion P xs → AllByRecursion P (filter p xs)
+all_filtered : {X : Type 0} (p : X → Bool) (P : X → Type 0) (xs : List X) → AllByRecursion P xs → AllByRecursion P
+    (filter p xs)
 all_filtered p P xs all = recursion_from_All P (filter p xs) (All-filter p P xs (All-from_recursion P xs all))
 
-kept_or_not : {X : Type 0} (e : X → X → Bool) (b : Bool) (x : X) (xs : List X) → AllByRecursion (λ y. e x y ≡ false) xs → IsDistinct e xs → IsDistinct e (cond b (x ∷ xs) xs)
+kept_or_not : {X : Type 0} (e : X → X → Bool) (b : Bool) (x : X) (xs : List X) → AllByRecursion (λ y. e x y ≡ false)
+    xs → IsDistinct e xs → IsDistinct e (cond b (x ∷ xs) xs)
 kept_or_not e true x xs apart distinct = IsDistinct-cons e x xs apart distinct
 kept_or_not e false x xs apart distinct = distinct
 
 pub distinct_none : {X : Type 0} (e : X → X → Bool) → IsDistinct e []
 distinct_none e = IsDistinct-from_apart e [] (λ i j d before within. absurd (omega arith))
 
-pub distinct_filter : {X : Type 0} (e : X → X → Bool) (p : X → Bool) (xs : List X) → IsDistinct e xs → IsDistinct e (filter p xs)
+pub distinct_filter : {X : Type 0} (e : X → X → Bool) (p : X → Bool) (xs : List X) → IsDistinct e xs → IsDistinct e
+    (filter p xs)
 distinct_filter e p [] distinct = distinct
 distinct_filter e p (x ∷ xs) distinct =
-    kept_or_not e (p x) x (filter p xs) (all_filtered p (λ y. e x y ≡ false) xs (IsDistinct-head e x xs distinct)) (distinct_filter e p xs (IsDistinct-tail e x xs distinct))
+    kept_or_not e (p x) x (filter p xs) (all_filtered p (λ y. e x y ≡ false) xs (IsDistinct-head e x xs distinct))
+    (distinct_filter e p xs (IsDistinct-tail e x xs distinct))
 
 -- a filter that every element passes changes nothing
 pub filter_all : {X : Type 0} (p : X → Bool) (xs : List X) → All (λ x. p x ≡ true) xs → filter p xs ≡ xs

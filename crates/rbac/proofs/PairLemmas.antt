@@ -1,5 +1,23 @@
 -- Inheritance pairs as a list: that no pair is there twice, how many there can be, and the pairs of a new session.
-use Rattle.std.proofs.Common.{◌≡◌, ℕ, ◌<◌, ◌≤◌, true, false, List, [], ◌∷◌, ◌++◌, length, zero, suc, refl, ap, subst, arith}
+use Rattle.std.proofs.Common.{
+  ◌≡◌,
+  ℕ,
+  ◌<◌,
+  ◌≤◌,
+  true,
+  false,
+  List,
+  [],
+  ◌∷◌,
+  ◌++◌,
+  length,
+  zero,
+  suc,
+  refl,
+  ap,
+  subst,
+  arith,
+}
 use Rattle.std.specs.Prelude.{Contains, map}
 use Rattle.std.specs.List.{list_any, IsDistinct, flat_map}
 use Rattle.std.specs.Bool.{Decides}
@@ -10,7 +28,14 @@ use Rattle.std.proofs.lemmas.List.Elements.{All-from_recursion, All-contains}
 use Rattle.std.proofs.lemmas.Map.Keys.{IsDistinct-push}
 use Rattle.std.proofs.lemmas.Map.Made.{length-le_from_is_member, IsDistinct-from_count}
 use Rattle.session_roles.specs.declared.role.Role.{Role}
-use Rattle.session_roles.specs.declared.role.Role.TheVariants.{Member, Spectator, Contestant, Scorer, Director, Administrator}
+use Rattle.session_roles.specs.declared.role.Role.TheVariants.{
+  Member,
+  Spectator,
+  Contestant,
+  Scorer,
+  Director,
+  Administrator,
+}
 use Rattle.rbac.specs.declared.inheritance.Inheritance.{Inheritance}
 use Rattle.session_roles.specs.Role.{roles}
 use Rattle.rbac.specs.Inheritance.{most_pairs, pair_of, Chain, IsAcyclic, opening_pairs, same_inheritance}
@@ -43,11 +68,13 @@ each_pair =
     (each_role _ refl refl refl refl refl refl)
 
 -- there is room for one pair more
-pub room_for_pair : (pairs : List Inheritance) (pair : Inheritance) → IsDistinct same_inheritance pairs → list_any (same_inheritance pair) pairs ≡ false → length pairs < most_pairs
+pub room_for_pair : (pairs : List Inheritance) (pair : Inheritance) → IsDistinct same_inheritance pairs →
+    list_any (same_inheritance pair) pairs ≡ false → length pairs < most_pairs
 unfolding all_pairs
 room_for_pair pairs pair once new =
     let distinct = IsDistinct-push same_pair_equivalence pairs pair once new in
-    let few : length (pairs ++ pair ∷ []) ≤ most_pairs = length-le_from_is_member same_pair_equivalence (pairs ++ pair ∷ []) all_pairs distinct (λ q there. each_pair q.senior q.junior) in
+    let few : length (pairs ++ pair ∷ []) ≤ most_pairs = length-le_from_is_member same_pair_equivalence
+    (pairs ++ pair ∷ []) all_pairs distinct (λ q there. each_pair q.senior q.junior) in
     omega (arith, length_push pairs pair)
 
 -- each pair of a new session leads from a higher place to a lower one
@@ -63,7 +90,8 @@ each_falls : (senior junior : Role) → Contains opening_pairs (pair_of senior j
 unfolding height
 each_falls senior junior =
     All-contains (λ pair. height pair.junior < height pair.senior) opening_pairs (pair_of senior junior)
-    (All-from_recursion (λ pair. height pair.junior < height pair.senior) opening_pairs (omega arith, (omega arith, (omega arith, (omega arith, (omega arith, (omega arith, tt)))))))
+    (All-from_recursion (λ pair. height pair.junior < height pair.senior) opening_pairs
+    (omega arith, (omega arith, (omega arith, (omega arith, (omega arith, (omega arith, tt)))))))
 
 falls : (n : ℕ) (senior junior : Role) → Chain opening_pairs n senior junior → height junior ≤ height senior
 falls zero senior junior same = subst (λ role. height role ≤ height senior) same (omega arith)

@@ -1,5 +1,25 @@
 -- What is true of users and roles at all times stays true under each change.
-use Rattle.std.proofs.Common.{◌≡◌, ◌≢◌, ℕ, ◌<◌, ◌≤◌, Bool, true, false, cond, List, [], length, get_or, inl, inr, refl, sym, subst, arith}
+use Rattle.std.proofs.Common.{
+  ◌≡◌,
+  ◌≢◌,
+  ℕ,
+  ◌<◌,
+  ◌≤◌,
+  Bool,
+  true,
+  false,
+  cond,
+  List,
+  [],
+  length,
+  get_or,
+  inl,
+  inr,
+  refl,
+  sym,
+  subst,
+  arith,
+}
 use Rattle.std.specs.Prelude.{◌⊎◌, All}
 use Rattle.std.specs.List.{list_any}
 use Rattle.std.proofs.lemmas.Bool.{false≢true}
@@ -20,7 +40,15 @@ use Rattle.rbac.specs.RoleData.{RoleData, opening_data, add_user, assign_user, a
 use Rattle.rbac.specs.Authorization.{IsReached, IsBroken, KeepsSeparation, IsValid}
 use Rattle.rbac.proofs.InheritanceLemmas.{acyclic_push, acyclic_without, reaches_without}
 use Rattle.rbac.proofs.ListLemmas.{Any-push_cases, distinct_filter}
-use Rattle.rbac.proofs.AccountLemmas.{FoundAt, with_roles, changed, name_kept, any_changed, apart_changed, length_changed}
+use Rattle.rbac.proofs.AccountLemmas.{
+  FoundAt,
+  with_roles,
+  changed,
+  name_kept,
+  any_changed,
+  apart_changed,
+  length_changed,
+}
 use Rattle.rbac.proofs.AuthorizationLemmas.{ReachesBoth}
 use Rattle.rbac.proofs.PairLemmas.{same_pair_equivalence, opening_acyclic, opening_once}
 
@@ -41,11 +69,14 @@ valid_opening = record {
 }
 
 -- a new user is authorized for nothing
-new_breaks : (state : RoleData) (name : List ℕ) (set : SeparationSet) → IsValid state → IsBroken state set ⊎ ReachesBoth state.pairs [] set → ⊥
+new_breaks : (state : RoleData) (name : List ℕ) (set : SeparationSet) → IsValid state → IsBroken state set ⊎
+    ReachesBoth state.pairs [] set → ⊥
 new_breaks state name set valid (inl old) = valid.separate set old
 new_breaks state name set valid (inr new) = false≢true new.0.1
 
-pub valid_add_user : (state : RoleData) (name : List ℕ) → IsValid state → is_user_name name ≡ true → All (λ account. account.name ≢ name) state.accounts → length state.accounts < most_users → IsValid (add_user state name)
+pub valid_add_user : (state : RoleData) (name : List ℕ) → IsValid state → is_user_name name ≡ true →
+    All (λ account. account.name ≢ name) state.accounts → length state.accounts < most_users →
+    IsValid (add_user state name)
 valid_add_user state name valid fits new room = record {
   named = All-push (λ account. is_user_name account.name ≡ true) state.accounts (new_account name) valid.named fits;
   listed = All-push (λ account. IsListed account.assigned) state.accounts (new_account name) valid.listed listed_none;
@@ -53,20 +84,29 @@ valid_add_user state name valid fits new room = record {
   few = omega (arith, length_push state.accounts (new_account name));
   once = valid.once;
   acyclic = valid.acyclic;
-  separate = λ set broken. new_breaks state name set valid (Any-push_cases (λ account. ReachesBoth state.pairs account.assigned set) state.accounts (new_account name) broken);
+  separate = λ set broken. new_breaks state name set valid
+      (Any-push_cases (λ account. ReachesBoth state.pairs account.assigned set) state.accounts (new_account name)
+      broken);
 }
 
-listed_as : (b : Bool) (account : Account) (set : List Role) → IsListed account.assigned → IsListed set → IsListed (cond b (with_roles account set) account).assigned
+listed_as : (b : Bool) (account : Account) (set : List Role) → IsListed account.assigned → IsListed set →
+    IsListed (cond b (with_roles account set) account).assigned
 listed_as true account set old new = new
 listed_as false account set old new = old
 
 -- the roles of a user change, and nobody comes to be authorized for both roles of a separation set
-valid_changed : (state : RoleData) (change : List Role → List Role) (name : List ℕ) → IsValid state → ((set : List Role) → IsListed (change set))
+valid_changed : (state : RoleData) (change : List Role → List Role) (name : List ℕ) → IsValid state →
+    ((set : List Role) → IsListed (change set))
     → KeepsSeparation (record { accounts = with_change change name state.accounts; pairs = state.pairs })
     → IsValid (record { accounts = with_change change name state.accounts; pairs = state.pairs })
 valid_changed state change name valid listed keeps = record {
-  named = All-map (λ account. is_user_name account.name ≡ true) (changed change name) state.accounts (λ k e within. subst (λ text. is_user_name text ≡ true) (sym (name_kept change name (get_or state.accounts k e))) (valid.named k e within));
-  listed = All-map (λ account. IsListed account.assigned) (changed change name) state.accounts (λ k e within. listed_as (same_name (get_or state.accounts k e).name name) (get_or state.accounts k e) (change (get_or state.accounts k e).assigned) (valid.listed k e within) (listed (get_or state.accounts k e).assigned));
+  named = All-map (λ account. is_user_name account.name ≡ true) (changed change name) state.accounts
+      (λ k e within. subst (λ text. is_user_name text ≡ true) (sym (name_kept change name (get_or state.accounts k e)))
+      (valid.named k e within));
+  listed = All-map (λ account. IsListed account.assigned) (changed change name) state.accounts
+      (λ k e within. listed_as (same_name (get_or state.accounts k e).name name) (get_or state.accounts k e)
+      (change (get_or state.accounts k e).assigned) (valid.listed k e within)
+      (listed (get_or state.accounts k e).assigned));
   names = apart_changed change name state.accounts valid.names;
   few = subst (λ n. n ≤ most_users) (sym (length_changed change name state.accounts)) valid.few;
   once = valid.once;
@@ -74,24 +114,37 @@ valid_changed state change name valid listed keeps = record {
   separate = keeps;
 }
 
-pub valid_assigned : (state : RoleData) (name : List ℕ) (role : Role) → IsValid state → KeepsSeparation (assign_user state name role) → IsValid (assign_user state name role)
+pub valid_assigned : (state : RoleData) (name : List ℕ) (role : Role) → IsValid state → KeepsSeparation
+    (assign_user state name role) → IsValid (assign_user state name role)
 valid_assigned state name role valid keeps =
     valid_changed state (λ set. with_role set role) name valid (λ set. listed_roles_that _) keeps
 
 -- the roles of one user change
-module _ (state : RoleData) (change : List Role → List Role) (name : List ℕ) (place : ℕ) (at : FoundAt state.accounts name place) (valid : IsValid state) (d : Account) where
+module _ (state : RoleData) (change : List Role → List Role) (name : List ℕ) (place : ℕ)
+    (at : FoundAt state.accounts name place) (valid : IsValid state) (d : Account) where
   -- of the separation sets only those can be broken that the user breaks
-  pub breaks_itself : (set : SeparationSet) → IsBroken (record { accounts = with_change change name state.accounts; pairs = state.pairs }) set → ReachesBoth state.pairs (change (get_or state.accounts place d).assigned) set
-  breaks_itself set broken = itself set (any_changed change name state.accounts place at valid.names d (λ account. ReachesBoth state.pairs account.assigned set) broken)
+  pub breaks_itself : (set : SeparationSet) →
+      IsBroken (record { accounts = with_change change name state.accounts; pairs = state.pairs }) set →
+      ReachesBoth state.pairs (change (get_or state.accounts place d).assigned) set
+  breaks_itself set broken = itself set (any_changed change name state.accounts place at valid.names d
+      (λ account. ReachesBoth state.pairs account.assigned set) broken)
     where
-      itself : (set : SeparationSet) → IsBroken state set ⊎ ReachesBoth state.pairs (change (get_or state.accounts place d).assigned) set → ReachesBoth state.pairs (change (get_or state.accounts place d).assigned) set
+      itself : (set : SeparationSet) → IsBroken state set ⊎ ReachesBoth state.pairs
+          (change (get_or state.accounts place d).assigned) set → ReachesBoth state.pairs
+          (change (get_or state.accounts place d).assigned) set
       itself set (inl old) = absurd (valid.separate set old)
       itself set (inr new) = new
 
-  pub valid_change : ((set : List Role) → IsListed (change set)) → ((set : SeparationSet) → ¬ ReachesBoth state.pairs (change (get_or state.accounts place d).assigned) set) → IsValid (record { accounts = with_change change name state.accounts; pairs = state.pairs })
-  valid_change listed keeps = valid_changed state change name valid listed (λ set broken. keeps set (breaks_itself set broken))
+  pub valid_change : ((set : List Role) → IsListed (change set)) → ((set : SeparationSet) → ¬ ReachesBoth state.pairs
+      (change (get_or state.accounts place d).assigned) set) →
+      IsValid (record { accounts = with_change change name state.accounts; pairs = state.pairs })
+  valid_change listed keeps = valid_changed state change name valid listed
+      (λ set broken. keeps set (breaks_itself set broken))
 
-pub valid_add_inheritance : (state : RoleData) (senior junior : Role) → IsValid state → ¬ Reaches state.pairs junior senior → list_any (same_inheritance (pair_of senior junior)) state.pairs ≡ false → ((set : SeparationSet) → ¬ IsBroken (add_inheritance state senior junior) set) → IsValid (add_inheritance state senior junior)
+pub valid_add_inheritance : (state : RoleData) (senior junior : Role) → IsValid state → ¬ Reaches state.pairs junior
+    senior → list_any (same_inheritance (pair_of senior junior)) state.pairs ≡ false →
+    ((set : SeparationSet) → ¬ IsBroken (add_inheritance state senior junior) set) →
+    IsValid (add_inheritance state senior junior)
 valid_add_inheritance state senior junior valid up new keeps = record {
   named = valid.named;
   listed = valid.listed;
@@ -103,10 +156,12 @@ valid_add_inheritance state senior junior valid up new keeps = record {
 }
 
 -- without a pair no more is reached
-less_reached : (pairs : List Inheritance) (pair : Inheritance) (assigned : List Role) (role : Role) → IsReached (without_pair pairs pair) assigned role → IsReached pairs assigned role
+less_reached : (pairs : List Inheritance) (pair : Inheritance) (assigned : List Role) (role : Role) →
+    IsReached (without_pair pairs pair) assigned role → IsReached pairs assigned role
 less_reached pairs pair assigned role is = (is.0, is.1, reaches_without pairs pair is.0 role is.2)
 
-pub valid_delete_inheritance : (state : RoleData) (senior junior : Role) → IsValid state → IsValid (delete_inheritance state senior junior)
+pub valid_delete_inheritance : (state : RoleData) (senior junior : Role) → IsValid state →
+    IsValid (delete_inheritance state senior junior)
 valid_delete_inheritance state senior junior valid = record {
   named = valid.named;
   listed = valid.listed;

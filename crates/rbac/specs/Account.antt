@@ -1,5 +1,22 @@
 -- The accounts of users (core RBAC of INCITS 359-2012): the users, and the roles that are assigned to each.
-use Rattle.std.specs.Prelude.{◌≡◌, ℕ, Bool, true, ◌||◌, ◌&&◌, nat_eq, nat_le, List, [], map, find, length, Option, option_map, if◌then◌else◌}
+use Rattle.std.specs.Prelude.{
+  ◌≡◌,
+  ℕ,
+  Bool,
+  true,
+  ◌||◌,
+  ◌&&◌,
+  nat_eq,
+  nat_le,
+  List,
+  [],
+  map,
+  find,
+  length,
+  Option,
+  option_map,
+  if◌then◌else◌,
+}
 use Rattle.std.specs.List.{Any, list_all}
 use Rattle.std.specs.Char.{is_ascii_alphanumeric}
 use Rattle.std.specs.Cmp.Lexicographic.{pointwise}

@@ -1,7 +1,14 @@
 -- The role hierarchy (hierarchical RBAC of INCITS 359-2012): which roles a role inherits, by the pairs that were added.
 use Rattle.std.specs.Prelude.{◌≡◌, ℕ, zero, suc, Bool, ◌||◌, ◌&&◌, not, List, [], ◌∷◌, filter, Contains}
 use Rattle.session_roles.specs.declared.role.Role.{Role}
-use Rattle.session_roles.specs.declared.role.Role.TheVariants.{Member, Spectator, Contestant, Scorer, Director, Administrator}
+use Rattle.session_roles.specs.declared.role.Role.TheVariants.{
+  Member,
+  Spectator,
+  Contestant,
+  Scorer,
+  Director,
+  Administrator,
+}
 use Rattle.rbac.specs.declared.inheritance.Inheritance.{Inheritance}
 use Rattle.rbac.specs.declared.roles.TheConstants.Roles.{MOST_PAIRS}
 use Rattle.session_roles.specs.Role.{same_role}

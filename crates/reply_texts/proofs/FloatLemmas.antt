@@ -22,7 +22,16 @@ use Rattle.standings.specs.declared.row_result.RowResult.{RowResult}
 use Rattle.standings.specs.declared.row_result.RowResult.TheVariants.{Played, Ruled}
 use Rattle.standings.specs.declared.traveller_row.TravellerRow.{TravellerRow}
 use Rattle.reply_texts.specs.DataOf.{number_data, list_data, option_data}
-use Rattle.reply_texts.specs.StatusText.{held_boards, live_tables, tables_data, live_data, mark_data, marks_data, seat_data, status_data}
+use Rattle.reply_texts.specs.StatusText.{
+  held_boards,
+  live_tables,
+  tables_data,
+  live_data,
+  mark_data,
+  marks_data,
+  seat_data,
+  status_data,
+}
 use Rattle.reply_texts.specs.BoardText.{tricks_data}
 use Rattle.reply_texts.specs.TravellerText.{outcome_data, result_data, traveller_row_data}
 use Rattle.reply_texts.specs.CostsText.{card_costs_data}
@@ -99,7 +108,8 @@ none_in_a_body body.Behind = refl
 none_in_a_body (body.Denied denial) = refl
 none_in_a_body (body.Status public seats) = none_in_a_status public seats
 none_in_a_body (body.Board number hands marks) = refl
-none_in_a_body (body.Traveller number rows) = ap (λ b. b || false) (none_in_a_list traveller_row_data none_in_a_row rows)
+none_in_a_body (body.Traveller number rows) = ap (λ b. b || false) (none_in_a_list traveller_row_data none_in_a_row
+    rows)
 none_in_a_body (body.Analysis number tricks) =
     ap (λ b. b || false) (none_in_an_option tricks_data (λ table. refl) tricks)
 none_in_a_body (body.Play cell cards) =

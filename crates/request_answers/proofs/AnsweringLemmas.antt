@@ -1,5 +1,26 @@
 -- What a keeper told of a request is what its response is.
-use Rattle.std.proofs.Common.{◌≡◌, ◌↔◌, inr, ℕ, Bool, true, false, List, [], ◌∷◌, ◌++◌, map, take, drop, length, refl, sym, ap, subst, ◌∙◌}
+use Rattle.std.proofs.Common.{
+  ◌≡◌,
+  ◌↔◌,
+  inr,
+  ℕ,
+  Bool,
+  true,
+  false,
+  List,
+  [],
+  ◌∷◌,
+  ◌++◌,
+  map,
+  take,
+  drop,
+  length,
+  refl,
+  sym,
+  ap,
+  subst,
+  ◌∙◌,
+}
 use Rattle.std.specs.Prelude.{Option, Some, None, Result, Ok, Err, IfOk, IfErr, OnOk, OnErr, is_some, if◌then◌else◌}
 use mathlib.Core.List.{IsPrefix}
 use Rattle.rbac.specs.Authorization.{HasPermission, has_permission}
@@ -54,47 +75,60 @@ query_answered Others opening before user query since reply text now came is wri
 
 module _ (opening : SessionState) (journal : List Entry) where
   -- a place in a batch where memory was refused
-  abbrev place : (stopped : Bool) (actor : List ℕ) (batch : List Command) (after : Progress) → Runs stopped opening journal actor batch after → Option ℕ
+  abbrev place : (stopped : Bool) (actor : List ℕ) (batch : List Command) (after : Progress) → Runs stopped opening
+      journal actor batch after → Option ℕ
   place false actor batch after runs = None
   place true actor batch after runs = Some (length runs.tried)
 
-  taken : (tried : List Command) (command : Command) (later : List Command) → take (length tried) (tried ++ command ∷ later) ≡ tried
+  taken : (tried : List Command) (command : Command) (later : List Command) → take (length tried)
+      (tried ++ command ∷ later) ≡ tried
   taken [] command later = refl
   taken (first ∷ tried) command later = ap (λ commands. first ∷ commands) (taken tried command later)
 
-  dropped : (tried : List Command) (command : Command) (later : List Command) → drop (length tried) (tried ++ command ∷ later) ≡ command ∷ later
+  dropped : (tried : List Command) (command : Command) (later : List Command) → drop (length tried)
+      (tried ++ command ∷ later) ≡ command ∷ later
   dropped [] command later = refl
   dropped (first ∷ tried) command later = dropped tried command later
 
   -- what a batch comes to is what it comes to with memory refused there
-  runs_with : (stopped : Bool) (actor : List ℕ) (batch : List Command) (after : Progress) → (runs : Runs stopped opening journal actor batch after) →
+  runs_with : (stopped : Bool) (actor : List ℕ) (batch : List Command) (after : Progress) →
+      (runs : Runs stopped opening journal actor batch after) →
       run_with (place stopped actor batch after runs) opening journal actor batch ≡ after
   runs_with false actor batch after runs = sym runs
   runs_with true actor batch after runs =
       let whole : Progress = run opening journal actor batch in
       let so_far : Progress = run opening journal actor runs.tried in
-      ap (λ commands. stopped_at opening actor whole (run opening journal actor (take (length runs.tried) commands)) (drop (length runs.tried) commands)) runs.split
-      ∙ (λ i. stopped_at opening actor whole (run opening journal actor (taken runs.tried runs.command runs.later i)) (dropped runs.tried runs.command runs.later i))
-      ∙ ap (λ o. if is_some o then whole else record { journal = so_far.journal; answers = so_far.answers ++ Refused refusal.OutOfMemory ∷ map (λ _. Refused refusal.NotTried) runs.later }) runs.accepted
+      ap (λ commands. stopped_at opening actor whole (run opening journal actor (take (length runs.tried) commands))
+      (drop (length runs.tried) commands)) runs.split
+      ∙ (λ i. stopped_at opening actor whole (run opening journal actor (taken runs.tried runs.command runs.later i))
+      (dropped runs.tried runs.command runs.later i))
+      ∙ ap (λ o. if is_some o then whole else record {
+        journal = so_far.journal;
+        answers = so_far.answers
+            ++ Refused refusal.OutOfMemory ∷ map (λ _. Refused refusal.NotTried) runs.later;
+      }) runs.accepted
       ∙ (λ i. record { journal = sym runs.journal i; answers = sym runs.answers i })
 
 -- a batch's receipt
 pub batch_answered : (Others : List Entry → List Entry → Type 0) (opening : SessionState) (before : List Entry)
     (user : List ℕ) (commands : List Command) (receipt : BatchReceipt) (text : List ℕ) (now : List Entry) →
     RanOnce Others opening before user commands receipt now →
-    text ≡ receipt_text receipt.submission.answers.items receipt.submission.first receipt.submission.last receipt.version →
+    text ≡ receipt_text receipt.submission.answers.items receipt.submission.first receipt.submission.last
+    receipt.version →
     IsAnsweredOnce Others opening before user (wanting.Batch commands) text now
 batch_answered Others opening before user commands receipt text now once written =
     let after : Progress = record { journal = once.left; answers = receipt.submission.answers.items } in
     let at = place opening once.met once.stopped user commands after once.ran in
-    let ran : run_with at opening once.met user commands ≡ after = runs_with opening once.met once.stopped user commands after once.ran in
+    let ran : run_with at opening once.met user commands ≡ after = runs_with opening once.met once.stopped user commands
+    after once.ran in
     record {
       met = once.met;
       refused_at = at;
       came = once.came;
       says =
           ap (receipt_of once.met) ran
-          ∙ (λ i. receipt_text receipt.submission.answers.items (sym once.first i) (sym once.last i) (sym once.version i))
+          ∙ (λ i. receipt_text receipt.submission.answers.items (sym once.first i) (sym once.last i)
+          (sym once.version i))
           ∙ sym written;
       went = subst (λ left. Others left now) (ap (λ (p : Progress). p.journal) (sym ran)) once.went;
       begins = subst (λ left. IsPrefix left now) (ap (λ (p : Progress). p.journal) (sym ran)) once.begins;
@@ -138,15 +172,18 @@ audit_answered Others opening before user range receipt text now audit written =
 
     shown : Bool → List ℕ
     shown permitted =
-        if permitted then audit_text (audit_rows audit.journal range.from range.limit) (version_of audit.journal) else audit_refusal_text
+        if permitted then audit_text (audit_rows audit.journal range.from range.limit) (version_of audit.journal)
+        else audit_refusal_text
 
-    by : (rows : Result (List AuditRow) AuditError) → IfOk rows (λ found. found ≡ audit_rows audit.journal range.from range.limit) → OnOk rows Has →
+    by : (rows : Result (List AuditRow) AuditError) → IfOk rows (λ found. found ≡ audit_rows audit.journal range.from
+        range.limit) → OnOk rows Has →
         IfErr rows (λ fault. (fault ≡ error.NotPermitted) ↔ (¬ Has)) → IsRowsText rows receipt.version text →
         audit_reply opening audit.journal user range ≡ text
     by (Ok rows) same permitted refused written =
         ap shown (exact.1 permitted) ∙ (λ i. audit_text (sym same i) (sym audit.version i)) ∙ sym written
     by (Err error.NotPermitted) same permitted refused written =
-        ap shown (test_fails (has_permission (replay opening audit.journal).roles user operation.Audit) Has exact.0 (refused.0 refl)) ∙ sym written
+        ap shown (test_fails (has_permission (replay opening audit.journal).roles user operation.Audit) Has exact.0
+        (refused.0 refl)) ∙ sym written
     by (Err error.OutOfMemory) same permitted refused written = absurd written
 
 -- where there is no memory for its text
@@ -157,7 +194,15 @@ pub audit_taken_in : (Others : List Entry → List Entry → Type 0) (opening : 
 audit_taken_in Others opening before user range receipt now audit =
     inr (
       audit_reply opening audit.journal user range,
-      record { met = audit.journal; refused_at = None; came = audit.came; says = refl; went = audit.went; begins = audit.begins },
+      record {
+        met = audit.journal;
+        refused_at = None;
+        came = audit.came;
+        says = refl;
+        went = audit.went;
+        begins =
+            audit.begins;
+      },
     )
 
 -- a batch of commands under another name

@@ -1,5 +1,26 @@
 -- A history of a session that tells a conversation.
-use Rattle.std.proofs.Common.{◌≡◌, inl, inr, ℕ, Bool, true, false, List, [], ◌∷◌, ◌++◌, map, take, drop, refl, sym, ap, subst, ◌∙◌, append_assoc}
+use Rattle.std.proofs.Common.{
+  ◌≡◌,
+  inl,
+  inr,
+  ℕ,
+  Bool,
+  true,
+  false,
+  List,
+  [],
+  ◌∷◌,
+  ◌++◌,
+  map,
+  take,
+  drop,
+  refl,
+  sym,
+  ap,
+  subst,
+  ◌∙◌,
+  append_assoc,
+}
 use Rattle.std.specs.Prelude.{Option, Some, None, is_some, if◌then◌else◌}
 use Rattle.std.proofs.Math.Seq.{take-length}
 use Rattle.std.proofs.lemmas.List.{append-nil, take-append-drop}
@@ -15,7 +36,18 @@ use Rattle.session_book.specs.declared.answer.Answer.TheVariants.{Accepted, Refu
 use Rattle.session_book.specs.Journal.{Follow, IsAccepted, refusal_after}
 use Rattle.session_book.specs.Run.{Progress, answered, run, Runs}
 use Rattle.published_view.specs.View.{reply_after}
-use Rattle.published_view.specs.World.{World, Read, Submit, Solve, Moment, IsHistory, Submits, newest, now, with_journal}
+use Rattle.published_view.specs.World.{
+  World,
+  Read,
+  Submit,
+  Solve,
+  Moment,
+  IsHistory,
+  Submits,
+  newest,
+  now,
+  with_journal,
+}
 use Rattle.published_view.proofs.HistoryLemmas.{may_go_on}
 use Rattle.published_view.proofs.StepLemmas.{step_leaves}
 use Rattle.session_keeper.proofs.KeepingLemmas.{prefix_self, prefix_trans, runs_begin}
@@ -23,7 +55,21 @@ use Rattle.reply_texts.specs.ReplyText.{reply_text}
 use Rattle.wire.specs.declared.request.UserRequest.{UserRequest}
 use Rattle.wire.specs.declared.request.UserRequest.TheVariants.{Query, Batch, Audit}
 use Rattle.request_answers.specs.Answering.{IsAnsweredOnce}
-use Rattle.request_answers.specs.Conversing.{Turn, Answered, TakenIn, Passed, TakesTurn, Stop, journal_now, IsConversation, OnlyAdd, IsTextSince, IsEffectSince, IsTurnSince, IsToldBy}
+use Rattle.request_answers.specs.Conversing.{
+  Turn,
+  Answered,
+  TakenIn,
+  Passed,
+  TakesTurn,
+  Stop,
+  journal_now,
+  IsConversation,
+  OnlyAdd,
+  IsTextSince,
+  IsEffectSince,
+  IsTurnSince,
+  IsToldBy,
+}
 use Rattle.request_answers.specs.Response.{audit_reply, receipt_of, response_at, run_with, stopped_at}
 
 -- ---- accepted journals
@@ -31,14 +77,22 @@ use Rattle.request_answers.specs.Response.{audit_reply, receipt_of, response_at,
 -- entries that follow, and others after them
 follow_parts : (opening : SessionState) (before first next : List Entry) → Follow opening before (first ++ next) →
     Follow opening before first × Follow opening (before ++ first) next
-follow_parts opening before [] next follow = (tt, subst (λ entries. Follow opening entries next) (sym (append-nil before)) follow)
+follow_parts opening before [] next follow = (
+  tt,
+  subst (λ entries. Follow opening entries next)
+      (sym (append-nil before)) follow,
+)
 follow_parts opening before (entry ∷ first) next follow =
     let parts : Follow opening (before ++ entry ∷ []) first × Follow opening ((before ++ entry ∷ []) ++ first) next =
-    follow_parts opening (before ++ entry ∷ []) first next follow.1 in
-    ((follow.0, parts.0), subst (λ entries. Follow opening entries next) (append_assoc before (entry ∷ []) first) parts.1)
+    follow_parts opening (before ++ entry ∷ []) first next follow.1 in (
+      (follow.0, parts.0),
+      subst (λ entries. Follow opening entries next) (append_assoc before (entry ∷ []) first)
+          parts.1,
+    )
 
 -- a journal with which an accepted one begins is accepted
-pub beginning_accepted : (opening : SessionState) (before after : List Entry) → IsPrefix before after → IsAccepted opening after → IsAccepted opening before
+pub beginning_accepted : (opening : SessionState) (before after : List Entry) → IsPrefix before after →
+    IsAccepted opening after → IsAccepted opening before
 beginning_accepted opening before after begins accepted =
     (follow_parts opening [] before begins.0 (subst (IsAccepted opening) (sym begins.1) accepted)).0
 
@@ -55,7 +109,11 @@ module _ (opening : SessionState) (journal : List Entry) (actor : List ℕ) (bat
 
     stops_there : (found : Option Refusal) → refusal_after opening so_far.journal (User actor) command ≡ found →
         MayRun (if is_some found then run opening journal actor batch
-        else record { journal = so_far.journal; answers = so_far.answers ++ Refused refusal.OutOfMemory ∷ map (λ _. Refused refusal.NotTried) later })
+        else record {
+          journal = so_far.journal;
+          answers = so_far.answers ++ Refused refusal.OutOfMemory ∷ map
+              (λ _. Refused refusal.NotTried) later;
+        })
     stops_there None is = (
       true,
       record {
@@ -71,17 +129,20 @@ module _ (opening : SessionState) (journal : List Entry) (actor : List ℕ) (bat
     stops_there (Some cause) is = (false, refl)
 
   stops_at : (k : ℕ) (rest : List Command) → drop k batch ≡ rest →
-      MayRun (stopped_at opening actor (run opening journal actor batch) (run opening journal actor (take k batch)) rest)
+      MayRun (stopped_at opening actor (run opening journal actor batch) (run opening journal actor (take k batch))
+      rest)
   stops_at k [] is = (false, refl)
   stops_at k (command ∷ later) is =
-      stops_there k command later is (refusal_after opening (run opening journal actor (take k batch)).journal (User actor) command) refl
+      stops_there k command later is (refusal_after opening (run opening journal actor (take k batch)).journal
+      (User actor) command) refl
 
   pub runs_of : (refused_at : Option ℕ) → MayRun (run_with refused_at opening journal actor batch)
   runs_of None = (false, refl)
   runs_of (Some k) = stops_at k (drop k batch) refl
 
 -- what a request comes to at an accepted journal leaves an accepted one
-pub response_accepted : (opening : SessionState) (journal : List Entry) (refused_at : Option ℕ) (user : List ℕ) (request : UserRequest) →
+pub response_accepted : (opening : SessionState) (journal : List Entry) (refused_at : Option ℕ) (user : List ℕ)
+    (request : UserRequest) →
     IsAccepted opening journal → IsAccepted opening (response_at opening journal refused_at user request).journal
 response_accepted opening journal refused_at user (Query query wanted) accepted = accepted
 response_accepted opening journal refused_at user (Batch commands) accepted =
@@ -102,7 +163,8 @@ module _ (opening : SessionState) where
     pub happened : IsHistory opening (since ++ earlier)
     pub journal_is : (now (since ++ earlier)).journal ≡ journal
 
-  abbrev over : (earlier : List Moment) (middle journal : List Entry) (first : Since earlier middle) → Since (first.since ++ earlier) journal → Since earlier journal
+  abbrev over : (earlier : List Moment) (middle journal : List Entry) (first : Since earlier middle) →
+      Since (first.since ++ earlier) journal → Since earlier journal
   over earlier middle journal first next = record {
     since = next.since ++ first.since;
     happened = subst (IsHistory opening) (sym (append_assoc next.since first.since earlier)) next.happened;
@@ -110,12 +172,16 @@ module _ (opening : SessionState) where
   }
 
   -- an entry joins the journal by one step
-  ran_alone : (journal : List Entry) (user : List ℕ) (command : Command) → refusal_after opening journal (User user) command ≡ None →
-      (run opening journal user (command ∷ [])).journal ≡ journal ++ record { actor = User user; command = command } ∷ []
+  ran_alone : (journal : List Entry) (user : List ℕ) (command : Command) → refusal_after opening journal (User user)
+      command ≡ None →
+      (run opening journal user (command ∷ [])).journal ≡ journal ++ record { actor = User user; command = command } ∷
+      []
   unfolding run
-  ran_alone journal user command may = ap (λ found. (answered (record { journal = journal; answers = [] }) user command found).journal) may
+  ran_alone journal user command may =
+      ap (λ found. (answered (record { journal = journal; answers = [] }) user command found).journal) may
 
-  joins : (earlier : List Moment) → IsHistory opening earlier → (actor : Actor) (command : Command) → refusal_after opening (now earlier).journal actor command ≡ None →
+  joins : (earlier : List Moment) → IsHistory opening earlier → (actor : Actor) (command : Command) →
+      refusal_after opening (now earlier).journal actor command ≡ None →
       Since earlier ((now earlier).journal ++ record { actor = actor; command = command } ∷ [])
   joins earlier happened (User user) command may =
       let journal = (now earlier).journal in
@@ -134,44 +200,59 @@ module _ (opening : SessionState) where
       }
 
   -- so do many
-  all_join : (more : List Entry) (earlier : List Moment) → IsHistory opening earlier → (before : List Entry) → (now earlier).journal ≡ before → Follow opening before more →
+  all_join : (more : List Entry) (earlier : List Moment) → IsHistory opening earlier → (before : List Entry) →
+      (now earlier).journal ≡ before → Follow opening before more →
       Since earlier (before ++ more)
-  all_join [] earlier happened before is follow = record { since = []; happened = happened; journal_is = is ∙ sym (append-nil before) }
+  all_join [] earlier happened before is follow = record {
+    since = [];
+    happened = happened;
+    journal_is =
+        is ∙ sym (append-nil before);
+  }
   all_join (entry ∷ more) earlier happened before is follow =
       let may : refusal_after opening (now earlier).journal entry.actor entry.command ≡ None =
       subst (λ journal. refusal_after opening journal entry.actor entry.command ≡ None) (sym is) follow.0 in
       let first : Since earlier (before ++ entry ∷ []) =
-      subst (λ journal. Since earlier (journal ++ entry ∷ [])) is (joins earlier happened entry.actor entry.command may) in
+      subst (λ journal. Since earlier (journal ++ entry ∷ [])) is (joins earlier happened entry.actor entry.command may)
+      in
       let next : Since (first.since ++ earlier) ((before ++ entry ∷ []) ++ more) =
       all_join more (first.since ++ earlier) first.happened (before ++ entry ∷ []) first.journal_is follow.1 in
-      subst (Since earlier) (append_assoc before (entry ∷ []) more) (over earlier (before ++ entry ∷ []) ((before ++ entry ∷ []) ++ more) first next)
+      subst (Since earlier) (append_assoc before (entry ∷ []) more)
+      (over earlier (before ++ entry ∷ []) ((before ++ entry ∷ []) ++ more) first next)
 
   -- a history goes on to each accepted journal that begins with its own
-  pub goes_on_to : (earlier : List Moment) → IsHistory opening earlier → (before after : List Entry) → (now earlier).journal ≡ before → IsPrefix before after → IsAccepted opening after → Since earlier after
+  pub goes_on_to : (earlier : List Moment) → IsHistory opening earlier → (before after : List Entry) →
+      (now earlier).journal ≡ before → IsPrefix before after → IsAccepted opening after → Since earlier after
   goes_on_to earlier happened before after is begins accepted =
-      let follow : Follow opening before begins.0 = (follow_parts opening [] before begins.0 (subst (IsAccepted opening) (sym begins.1) accepted)).1 in
+      let follow : Follow opening before begins.0 =
+      (follow_parts opening [] before begins.0 (subst (IsAccepted opening) (sym begins.1) accepted)).1 in
       subst (Since earlier) begins.1 (all_join begins.0 earlier happened before is follow)
 
 -- ---- conversations
 
 -- what happened since a history, after which the journal is this one, and what it tells
-record SinceTold (opening : SessionState) (earlier : List Moment) (journal : List Entry) (Told : List Moment → Type 0) : Type 0 where
+record SinceTold (opening : SessionState) (earlier : List Moment) (journal : List Entry)
+    (Told : List Moment → Type 0) : Type 0 where
   happened : Since opening earlier journal
   told : Told happened.since
 
 -- what tells of a text tells of the effect
-effect_of_text : (opening : SessionState) (earlier since : List Moment) (user : List ℕ) (request : UserRequest) (text : List ℕ) →
+effect_of_text : (opening : SessionState) (earlier since : List Moment) (user : List ℕ) (request : UserRequest)
+    (text : List ℕ) →
     IsTextSince opening earlier since user request text → IsEffectSince opening earlier since user request
 effect_of_text opening earlier since user (Query query wanted) text told = tt
 effect_of_text opening earlier since user (Batch commands) text told = told.submitted
 effect_of_text opening earlier since user (Audit range) text told = tt
 
 module _ (Others : List Entry → List Entry → Type 0) (only_add : OnlyAdd Others) (opening : SessionState) where
-  module _ (earlier : List Moment) (happened : IsHistory opening earlier) (before after : List Entry) (is : (now earlier).journal ≡ before)
+  module _ (earlier : List Moment) (happened : IsHistory opening earlier) (before after : List Entry)
+      (is : (now earlier).journal ≡ before)
       (accepted : IsAccepted opening after) where
     -- a batch was run after others had led the journal on, who did so afterwards too
-    receipt_since : (met : List Entry) (first : Since opening earlier met) (refused_at : Option ℕ) (user : List ℕ) (commands : List Command) (text : List ℕ) →
-        receipt_of met (run_with refused_at opening met user commands) ≡ text → IsPrefix (run_with refused_at opening met user commands).journal after →
+    receipt_since : (met : List Entry) (first : Since opening earlier met) (refused_at : Option ℕ) (user : List ℕ)
+        (commands : List Command) (text : List ℕ) →
+        receipt_of met (run_with refused_at opening met user commands) ≡ text →
+        IsPrefix (run_with refused_at opening met user commands).journal after →
         SinceTold opening earlier after (λ since. IsTextSince opening earlier since user (Batch commands) text)
     receipt_since met first refused_at user commands text says begins =
         let world = now (first.since ++ earlier) in
@@ -190,13 +271,21 @@ module _ (Others : List Entry → List Entry → Type 0) (only_add : OnlyAdd Oth
         record {
           happened = over opening earlier left after second third;
           told = record {
-            submitted = record { until = first.since; after = with_journal world progress.journal; later = third.since; split = refl; submits = submits };
-            says = sym says ∙ ap (λ journal. receipt_of journal (run_with refused_at opening journal user commands)) (sym first.journal_is);
+            submitted = record {
+              until = first.since;
+              after = with_journal world progress.journal;
+              later = third.since;
+              split = refl;
+              submits = submits;
+            };
+            says = sym says ∙ ap (λ journal. receipt_of journal (run_with refused_at opening journal user commands))
+                (sym first.journal_is);
           };
         }
 
     -- a request was answered
-    text_since : (user : List ℕ) (request : UserRequest) (text : List ℕ) → IsAnsweredOnce Others opening before user request text after →
+    text_since : (user : List ℕ) (request : UserRequest) (text : List ℕ) → IsAnsweredOnce Others opening before user
+        request text after →
         SinceTold opening earlier after (λ since. IsTextSince opening earlier since user request text)
     text_since user (Query query wanted) text answer =
         let first : Since opening earlier answer.met =
@@ -204,10 +293,14 @@ module _ (Others : List Entry → List Entry → Type 0) (only_add : OnlyAdd Oth
         (beginning_accepted opening answer.met after answer.begins accepted) in
         let reads = (may_go_on opening (first.since ++ earlier) first.happened).1.query 0 user query wanted in
         let same : reply_after opening answer.met user query wanted ≡ reads.0 =
-        sym (reads.2.reply ∙ ap (λ entries. reply_after opening entries user query wanted) (take-length (now (first.since ++ earlier)).journal ∙ first.journal_is)) in
+        sym (reads.2.reply ∙ ap (λ entries. reply_after opening entries user query wanted)
+        (take-length (now (first.since ++ earlier)).journal ∙ first.journal_is)) in
         record {
           happened = record {
-            since = record { step = Read (newest (now (first.since ++ earlier)) 0 user query wanted (Some reads.0)); after = reads.1 } ∷ first.since;
+            since = record {
+              step = Read (newest (now (first.since ++ earlier)) 0 user query wanted (Some reads.0));
+              after = reads.1;
+            } ∷ first.since;
             happened = (reads.2, first.happened);
             journal_is = ap (λ world. world.journal) reads.2.leaves ∙ first.journal_is ∙ sym answer.went;
           };
@@ -225,7 +318,8 @@ module _ (Others : List Entry → List Entry → Type 0) (only_add : OnlyAdd Oth
         let may = runs_of opening answer.met user commands answer.refused_at in
         let begins : IsPrefix answer.met after =
         prefix_trans answer.met (run_with answer.refused_at opening answer.met user commands).journal after
-        (runs_begin may.0 opening answer.met user commands (run_with answer.refused_at opening answer.met user commands) may.1)
+        (runs_begin may.0 opening answer.met user commands (run_with answer.refused_at opening answer.met user commands)
+        may.1)
         answer.begins in
         let first : Since opening earlier answer.met =
         goes_on_to opening earlier happened before answer.met is (only_add before answer.met answer.came)
@@ -236,7 +330,8 @@ module _ (Others : List Entry → List Entry → Type 0) (only_add : OnlyAdd Oth
         goes_on_to opening earlier happened before answer.met is (only_add before answer.met answer.came)
         (beginning_accepted opening answer.met after answer.begins accepted) in
         let second : Since opening (first.since ++ earlier) after =
-        goes_on_to opening (first.since ++ earlier) first.happened answer.met after first.journal_is answer.begins accepted in
+        goes_on_to opening (first.since ++ earlier) first.happened answer.met after first.journal_is answer.begins
+        accepted in
         record {
           happened = over opening earlier answer.met after first second;
           told = record {
@@ -248,16 +343,26 @@ module _ (Others : List Entry → List Entry → Type 0) (only_add : OnlyAdd Oth
         }
 
     -- a turn was taken
-    turn_since : (turn : Turn) → TakesTurn Others opening before turn after → SinceTold opening earlier after (λ since. IsTurnSince opening earlier since turn)
+    turn_since : (turn : Turn) → TakesTurn Others opening before turn after → SinceTold opening earlier after
+        (λ since. IsTurnSince opening earlier since turn)
     turn_since (Answered user request text) takes = text_since user request text takes
     turn_since (TakenIn user request) (text, answer) =
         let found = text_since user request text answer in
-        record { happened = found.happened; told = effect_of_text opening earlier found.happened.since user request text found.told }
+        record {
+          happened = found.happened;
+          told = effect_of_text opening earlier found.happened.since user request text
+              found.told;
+        }
     turn_since Passed (inl same) = record {
-      happened = goes_on_to opening earlier happened before after is (subst (IsPrefix before) (sym same) (prefix_self before)) accepted;
+      happened = goes_on_to opening earlier happened before after is
+          (subst (IsPrefix before) (sym same) (prefix_self before)) accepted;
       told = tt;
     }
-    turn_since Passed (inr others) = record { happened = goes_on_to opening earlier happened before after is (only_add before after others) accepted; told = tt }
+    turn_since Passed (inr others) = record {
+      happened = goes_on_to opening earlier happened before after is
+          (only_add before after others) accepted;
+      told = tt;
+    }
 
   -- a history that tells a conversation, and after which the journal is the one at which it stops
   pub record Telling (stops : List Stop) : Type 0 where
@@ -270,7 +375,8 @@ module _ (Others : List Entry → List Entry → Type 0) (only_add : OnlyAdd Oth
   telling [] conversation = record { history = []; happened = tt; tells = refl; journal = refl }
   telling (stop ∷ earlier) (takes, accepted, conversation) =
       let before = telling earlier conversation in
-      let found = turn_since before.history before.happened (journal_now earlier) stop.journal before.journal accepted stop.turn takes in
+      let found = turn_since before.history before.happened (journal_now earlier) stop.journal before.journal accepted
+      stop.turn takes in
       record {
         history = found.happened.since ++ before.history;
         happened = found.happened.happened;
@@ -283,7 +389,8 @@ module _ (Others : List Entry → List Entry → Type 0) (only_add : OnlyAdd Oth
       }
 
 -- a conversation is told by a history
-pub conversation_told : (Others : List Entry → List Entry → Type 0) (opening : SessionState) (stops : List Stop) → OnlyAdd Others → IsConversation Others opening stops →
+pub conversation_told : (Others : List Entry → List Entry → Type 0) (opening : SessionState) (stops : List Stop) →
+    OnlyAdd Others → IsConversation Others opening stops →
     (history : List Moment) × IsHistory opening history × IsToldBy opening stops history
 conversation_told Others opening stops only_add conversation =
     let told = telling Others only_add opening stops conversation in (told.history, told.happened, told.tells)

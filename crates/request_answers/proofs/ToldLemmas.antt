@@ -13,8 +13,10 @@ use Rattle.request_answers.specs.Conversing.{Answered, TakenIn, Passed, TakesTur
 use Rattle.request_answers.specs.Response.{audit_reply, receipt_of}
 
 -- what has no answer took effect, or passed
-pub taken_in_or_passed : (Others : List Entry → List Entry → Type 0) (no_entry : Type 0) (opening : SessionState) (before : List Entry) (user : List ℕ)
-    (request : UserRequest) (fault : QueryFault) (after : List Entry) → IsUnanswered Others no_entry opening before user request fault after →
+pub taken_in_or_passed : (Others : List Entry → List Entry → Type 0) (no_entry : Type 0) (opening : SessionState)
+    (before : List Entry) (user : List ℕ)
+    (request : UserRequest) (fault : QueryFault) (after : List Entry) → IsUnanswered Others no_entry opening before user
+    request fault after →
     TakesTurn Others opening before (TakenIn user request) after ⊎ TakesTurn Others opening before Passed after
 taken_in_or_passed Others no_entry opening before user request NoEntry after unanswered = inr (inl unanswered.2)
 taken_in_or_passed Others no_entry opening before user request OutOfMemory after (inl others) = inr (inr others)
@@ -22,7 +24,8 @@ taken_in_or_passed Others no_entry opening before user request OutOfMemory after
 
 module _ (opening : SessionState) (user : List ℕ) where
   -- what happened since some moments happened since earlier ones
-  since_earlier : (rest middle since : List Moment) (request : UserRequest) (text : List ℕ) → IsTextSince opening (middle ++ rest) since user request text →
+  since_earlier : (rest middle since : List Moment) (request : UserRequest) (text : List ℕ) → IsTextSince opening
+      (middle ++ rest) since user request text →
       IsTextSince opening rest (since ++ middle) user request text
   since_earlier rest middle since (Query query wanted) text told = record {
     reading = told.reading;
@@ -31,7 +34,8 @@ module _ (opening : SessionState) (user : List ℕ) where
       earlier = told.given.earlier ++ middle;
       after = told.given.after;
       later = told.given.later;
-      split = ap (λ moments. moments ++ middle) told.given.split ∙ append_assoc told.given.later (_ ∷ told.given.earlier) middle;
+      split = ap (λ moments. moments ++ middle) told.given.split ∙ append_assoc told.given.later
+          (_ ∷ told.given.earlier) middle;
       given = told.given.given;
     };
     of_user = told.of_user;
@@ -49,12 +53,15 @@ module _ (opening : SessionState) (user : List ℕ) where
           until = until ++ middle;
           after = told.submitted.after;
           later = told.submitted.later;
-          split = ap (λ moments. moments ++ middle) told.submitted.split ∙ append_assoc told.submitted.later (moment ∷ until) middle;
+          split = ap (λ moments. moments ++ middle) told.submitted.split ∙ append_assoc told.submitted.later
+              (moment ∷ until) middle;
           submits = record {
             stopped = submits.stopped;
             progress = submits.progress;
-            ran = subst (λ moments. Runs submits.stopped opening (now moments).journal user commands submits.progress) same submits.ran;
-            leaves = subst (λ moments. told.submitted.after ≡ with_journal (now moments) submits.progress.journal) same submits.leaves;
+            ran = subst (λ moments. Runs submits.stopped opening (now moments).journal user commands submits.progress)
+                same submits.ran;
+            leaves = subst (λ moments. told.submitted.after ≡ with_journal (now moments) submits.progress.journal) same
+                submits.leaves;
           };
         };
         says = subst (λ moments. text ≡ receipt_of (now moments).journal submits.progress) same told.says;
@@ -63,11 +70,13 @@ module _ (opening : SessionState) (user : List ℕ) where
     until = told.until ++ middle;
     later = told.later;
     split = ap (λ moments. moments ++ middle) told.split ∙ append_assoc told.later told.until middle;
-    says = subst (λ moments. text ≡ audit_reply opening (now moments).journal user range) (sym (append_assoc told.until middle rest)) told.says;
+    says = subst (λ moments. text ≡ audit_reply opening (now moments).journal user range)
+        (sym (append_assoc told.until middle rest)) told.says;
   }
 
   -- and it still has when more has happened
-  since_still : (rest since more : List Moment) (request : UserRequest) (text : List ℕ) → IsTextSince opening rest since user request text →
+  since_still : (rest since more : List Moment) (request : UserRequest) (text : List ℕ) → IsTextSince opening rest since
+      user request text →
       IsTextSince opening rest (more ++ since) user request text
   since_still rest since more (Query query wanted) text told = record {
     reading = told.reading;
@@ -76,7 +85,8 @@ module _ (opening : SessionState) (user : List ℕ) where
       earlier = told.given.earlier;
       after = told.given.after;
       later = more ++ told.given.later;
-      split = ap (λ moments. more ++ moments) told.given.split ∙ sym (append_assoc more told.given.later (_ ∷ told.given.earlier));
+      split = ap (λ moments. more ++ moments) told.given.split
+          ∙ sym (append_assoc more told.given.later (_ ∷ told.given.earlier));
       given = told.given.given;
     };
     of_user = told.of_user;
@@ -91,7 +101,8 @@ module _ (opening : SessionState) (user : List ℕ) where
           until = told.submitted.until;
           after = told.submitted.after;
           later = more ++ told.submitted.later;
-          split = ap (λ moments. more ++ moments) told.submitted.split ∙ sym (append_assoc more told.submitted.later (moment ∷ told.submitted.until));
+          split = ap (λ moments. more ++ moments) told.submitted.split ∙ sym (append_assoc more told.submitted.later
+              (moment ∷ told.submitted.until));
           submits = told.submitted.submits;
         };
         says = told.says;
@@ -108,15 +119,19 @@ module _ (opening : SessionState) (user : List ℕ) where
     answered_stop = record { turn = Answered user request text; journal = journal }
 
     -- a text is that of what happened since the opening
-    in_whole : (later earlier : List Stop) (history : List Moment) → IsToldBy opening (later ++ answered_stop ∷ earlier) history → IsTextSince opening [] history user request text
+    in_whole : (later earlier : List Stop) (history : List Moment) → IsToldBy opening (later ++ answered_stop ∷ earlier)
+        history → IsTextSince opening [] history user request text
     in_whole [] earlier history (before, ends, tells) =
         subst (λ moments. IsTextSince opening [] moments user request text) (sym ends.split)
         (since_earlier [] before ends.since request text
-        (subst (λ moments. IsTextSince opening moments ends.since user request text) (sym (append-nil before)) ends.told))
+        (subst (λ moments. IsTextSince opening moments ends.since user request text) (sym (append-nil before))
+        ends.told))
     in_whole (stop ∷ later) earlier history (before, ends, tells) =
         subst (λ moments. IsTextSince opening [] moments user request text) (sym ends.split)
         (since_still [] before ends.since request text (in_whole later earlier before tells))
 
-    pub text_in_whole : (stops later earlier : List Stop) (history : List Moment) → IsToldBy opening stops history → stops ≡ later ++ answered_stop ∷ earlier →
+    pub text_in_whole : (stops later earlier : List Stop) (history : List Moment) → IsToldBy opening stops history →
+        stops ≡ later ++ answered_stop ∷ earlier →
         IsTextSince opening [] history user request text
-    text_in_whole stops later earlier history tells split = in_whole later earlier history (subst (λ all. IsToldBy opening all history) split tells)
+    text_in_whole stops later earlier history tells split = in_whole later earlier history
+        (subst (λ all. IsToldBy opening all history) split tells)

@@ -14,7 +14,8 @@ use Rattle.wire.specs.declared.request.UserRequest.{UserRequest}
 use Rattle.wire.specs.declared.request.UserRequest.TheVariants.{Query, Batch, Audit}
 use Rattle.request_answers.specs.Response.{response_at}
 
--- the journal for which the keeper stands after it left one: a query is answered of the journal that is then known; after
+-- the journal for which the keeper stands after it left one: a query is answered of the journal that is then known;
+-- after
 -- a batch or an audit others may have led on
 abbrev pub LeadsOn : (List Entry → List Entry → Type 0) → UserRequest → List Entry → List Entry → Type 0
 LeadsOn Others (Query query since) left now = now ≡ left
@@ -34,7 +35,8 @@ pub record IsAnsweredOnce (Others : List Entry → List Entry → Type 0) (openi
   pub begins : IsPrefix (response_at opening met refused_at user request).journal now
 
 -- where memory was refused: nothing came of the request, or all but its text
-abbrev pub IsTakenIn : (List Entry → List Entry → Type 0) → SessionState → List Entry → List ℕ → UserRequest → List Entry
+abbrev pub IsTakenIn : (List Entry → List Entry → Type 0) → SessionState → List Entry → List ℕ → UserRequest →
+    List Entry
     → Type 0
 IsTakenIn Others opening before user request now =
     Others before now ⊎ ((text : List ℕ) × IsAnsweredOnce Others opening before user request text now)

@@ -1,6 +1,22 @@
--- What a user's request comes to at a journal: the journal after it, and the text that answers it. Scripts and connections
+-- What a user's request comes to at a journal: the journal after it, and the text that answers it. Scripts and
+-- connections
 -- are answered so.
-use Rattle.std.specs.Prelude.{ℕ, is_some, if◌then◌else◌, Option, Some, None, List, ◌∷◌, [], ◌++◌, map, take, drop, length}
+use Rattle.std.specs.Prelude.{
+  ℕ,
+  is_some,
+  if◌then◌else◌,
+  Option,
+  Some,
+  None,
+  List,
+  ◌∷◌,
+  [],
+  ◌++◌,
+  map,
+  take,
+  drop,
+  length,
+}
 use Rattle.rbac.specs.Authorization.{has_permission}
 use Rattle.session_roles.specs.declared.operation.Operation.TheVariants as operation
 use Rattle.session_state.specs.SessionState.{SessionState}

@@ -19,7 +19,8 @@ use Rattle.scoring.specs.Outcome.{outcome_parts, same_outcome}
 
 abbrev strain_of : ℕ → Strain
 strain_of letter =
-    if letter == 83 then Spades else if letter == 72 then Hearts else if letter == 68 then Diamonds else if letter == 67 then Clubs else NoTrump
+    if letter == 83 then Spades else if letter == 72 then Hearts else if letter == 68 then Diamonds else if letter == 67
+    then Clubs else NoTrump
 
 strain_of-letter : (strain : Strain) → strain_of (strain_letter strain) ≡ strain
 strain_of-letter Spades = refl
@@ -48,7 +49,13 @@ doubling_of-times Redoubled = refl
 -- the outcome that such numbers tell
 abbrev outcome_of : List ℕ → Outcome
 outcome_of (level ∷ strain ∷ declarer ∷ times ∷ tricks ∷ []) =
-    Played (record { level = level; strain = strain_of strain; declarer = place_of declarer; doubling = doubling_of times }) tricks
+    Played (record {
+      level = level;
+      strain = strain_of strain;
+      declarer = place_of declarer;
+      doubling =
+          doubling_of times;
+    }) tricks
 outcome_of _ = PassedOut
 
 outcome_of-marks : (outcome : Outcome) → outcome_of (outcome_parts outcome) ≡ outcome

@@ -10,7 +10,20 @@ use Rattle.std.specs.Cmp.{ranked}
 use Rattle.table_terms.specs.declared.side.Side.{Side}
 use Rattle.table_terms.specs.declared.side.Side.TheVariants.{NorthSouth, EastWest}
 use Rattle.scoring.specs.declared.standing.Standing.{Standing}
-use Rattle.scoring.specs.Ranking.{Key, ByPercentage, BySide, ByNumber, ByTops, ByEarned, key_order, HasHigherPercentage, place_of_side, IsBefore, IsTied, RanksBefore}
+use Rattle.scoring.specs.Ranking.{
+  Key,
+  ByPercentage,
+  BySide,
+  ByNumber,
+  ByTops,
+  ByEarned,
+  key_order,
+  HasHigherPercentage,
+  place_of_side,
+  IsBefore,
+  IsTied,
+  RanksBefore,
+}
 
 -- ---- each key alone
 
@@ -31,9 +44,11 @@ cross ae at be bt ce ct some low high =
     let other = mul-le (ae * bt) ct (be * at) ct low (omega arith) in
     lt_of_mul-lt-mul_right at (omega arith)
 
-higher-split : (a b c : Standing) → 0 < b.tops → a.earned * b.tops ≤ b.earned * a.tops → HasHigherPercentage a c → HasHigherPercentage b c
+higher-split : (a b c : Standing) → 0 < b.tops → a.earned * b.tops ≤ b.earned * a.tops → HasHigherPercentage a c →
+    HasHigherPercentage b c
 higher-split a b c some low (a_tops, inl none) = (some, inl none)
-higher-split a b c some low (a_tops, inr more) = (some, inr (cross a.earned a.tops b.earned b.tops c.earned c.tops some low more))
+higher-split a b c some low (a_tops, inr more) =
+    (some, inr (cross a.earned a.tops b.earned b.tops c.earned c.tops some low more))
 
 -- what comes before c comes before b, or b comes before c
 before-split : (key : Key) (a b c : Standing) → IsBefore key a c → (IsBefore key a b) ⊎ (IsBefore key b c)
@@ -45,8 +60,12 @@ before-split ByPercentage a b c h =
         | inr low ↦ inr (higher-split a b c some low h)
       ]
     ]
-before-split BySide a b c h = elim (cases_lt (place_of_side a.pair.side) (place_of_side b.pair.side)) [ inl l ↦ inl l | inr g ↦ inr (omega arith) ]
-before-split ByNumber a b c h = elim (cases_lt a.pair.number b.pair.number) [ inl l ↦ inl l | inr g ↦ inr (omega arith) ]
+before-split BySide a b c h = elim (cases_lt (place_of_side a.pair.side) (place_of_side b.pair.side))
+    [ inl l ↦ inl l | inr g ↦ inr (omega arith) ]
+before-split ByNumber a b c h = elim (cases_lt a.pair.number b.pair.number) [
+  | inl l ↦ inl l
+  | inr g ↦ inr (omega arith)
+]
 before-split ByTops a b c h = elim (cases_lt a.tops b.tops) [ inl l ↦ inl l | inr g ↦ inr (omega arith) ]
 before-split ByEarned a b c h = elim (cases_lt a.earned b.earned) [ inl l ↦ inl l | inr g ↦ inr (omega arith) ]
 
@@ -149,54 +168,95 @@ second_key a b p ByNumber h = absurd (omega arith)
 second_key a b p ByTops h = absurd (omega arith)
 second_key a b p ByEarned h = absurd (omega arith)
 
-third_key : (a b : Standing) → IsTied ByPercentage a b → IsTied BySide a b → (other : Key) → key_order other < 2 → IsTied other a b
+third_key : (a b : Standing) → IsTied ByPercentage a b → IsTied BySide a b → (other : Key) → key_order other < 2 →
+    IsTied other a b
 third_key a b p s ByPercentage h = p
 third_key a b p s BySide h = s
 third_key a b p s ByNumber h = absurd (omega arith)
 third_key a b p s ByTops h = absurd (omega arith)
 third_key a b p s ByEarned h = absurd (omega arith)
 
-fourth_key : (a b : Standing) → IsTied ByPercentage a b → IsTied BySide a b → IsTied ByNumber a b → (other : Key) → key_order other < 3 → IsTied other a b
+fourth_key : (a b : Standing) → IsTied ByPercentage a b → IsTied BySide a b → IsTied ByNumber a b → (other : Key) →
+    key_order other < 3 → IsTied other a b
 fourth_key a b p s n ByPercentage h = p
 fourth_key a b p s n BySide h = s
 fourth_key a b p s n ByNumber h = n
 fourth_key a b p s n ByTops h = absurd (omega arith)
 fourth_key a b p s n ByEarned h = absurd (omega arith)
 
-fifth_key : (a b : Standing) → IsTied ByPercentage a b → IsTied BySide a b → IsTied ByNumber a b → IsTied ByTops a b → (other : Key) → key_order other < 4 → IsTied other a b
+fifth_key : (a b : Standing) → IsTied ByPercentage a b → IsTied BySide a b → IsTied ByNumber a b → IsTied ByTops a b →
+    (other : Key) → key_order other < 4 → IsTied other a b
 fifth_key a b p s n t ByPercentage h = p
 fifth_key a b p s n t BySide h = s
 fifth_key a b p s n t ByNumber h = n
 fifth_key a b p s n t ByTops h = t
 fifth_key a b p s n t ByEarned h = absurd (omega arith)
 
-every_key : (a b : Standing) → IsTied ByPercentage a b → IsTied BySide a b → IsTied ByNumber a b → IsTied ByTops a b → IsTied ByEarned a b → (key : Key) → IsTied key a b
+every_key : (a b : Standing) → IsTied ByPercentage a b → IsTied BySide a b → IsTied ByNumber a b → IsTied ByTops a b →
+    IsTied ByEarned a b → (key : Key) → IsTied key a b
 every_key a b p s n t e ByPercentage = p
 every_key a b p s n t e BySide = s
 every_key a b p s n t e ByNumber = n
 every_key a b p s n t e ByTops = t
 every_key a b p s n t e ByEarned = e
 
-by_keys : (a b : Standing) (p s n t e : Ordering) → Compares ByPercentage a b p → Compares BySide a b s → Compares ByNumber a b n → Compares ByTops a b t → Compares ByEarned a b e → Ranks a b (ordering_then (ordering_then (ordering_then (ordering_then p s) n) t) e)
+by_keys : (a b : Standing) (p s n t e : Ordering) → Compares ByPercentage a b p → Compares BySide a b s →
+    Compares ByNumber a b n → Compares ByTops a b t → Compares ByEarned a b e →
+    Ranks a b (ordering_then (ordering_then (ordering_then (ordering_then p s) n) t) e)
 by_keys a b Less s n t e hp hs hn ht he = record { key = ByPercentage; before = hp; earlier = first_key a b }
 by_keys a b Greater s n t e hp hs hn ht he = record { key = ByPercentage; before = hp; earlier = first_key b a }
 by_keys a b Equal Less n t e hp hs hn ht he = record { key = BySide; before = hs; earlier = second_key a b hp }
-by_keys a b Equal Greater n t e hp hs hn ht he = record { key = BySide; before = hs; earlier = second_key b a (flip_tied ByPercentage a b hp) }
+by_keys a b Equal Greater n t e hp hs hn ht he = record {
+  key = BySide;
+  before = hs;
+  earlier = second_key b a
+      (flip_tied ByPercentage a b hp);
+}
 by_keys a b Equal Equal Less t e hp hs hn ht he = record { key = ByNumber; before = hn; earlier = third_key a b hp hs }
-by_keys a b Equal Equal Greater t e hp hs hn ht he = record { key = ByNumber; before = hn; earlier = third_key b a (flip_tied ByPercentage a b hp) (flip_tied BySide a b hs) }
-by_keys a b Equal Equal Equal Less e hp hs hn ht he = record { key = ByTops; before = ht; earlier = fourth_key a b hp hs hn }
-by_keys a b Equal Equal Equal Greater e hp hs hn ht he = record { key = ByTops; before = ht; earlier = fourth_key b a (flip_tied ByPercentage a b hp) (flip_tied BySide a b hs) (flip_tied ByNumber a b hn) }
-by_keys a b Equal Equal Equal Equal Less hp hs hn ht he = record { key = ByEarned; before = he; earlier = fifth_key a b hp hs hn ht }
-by_keys a b Equal Equal Equal Equal Greater hp hs hn ht he = record { key = ByEarned; before = he; earlier = fifth_key b a (flip_tied ByPercentage a b hp) (flip_tied BySide a b hs) (flip_tied ByNumber a b hn) (flip_tied ByTops a b ht) }
+by_keys a b Equal Equal Greater t e hp hs hn ht he = record {
+  key = ByNumber;
+  before = hn;
+  earlier = third_key b a
+      (flip_tied ByPercentage a b hp) (flip_tied BySide a b hs);
+}
+by_keys a b Equal Equal Equal Less e hp hs hn ht he = record {
+  key = ByTops;
+  before = ht;
+  earlier = fourth_key a b hp hs
+      hn;
+}
+by_keys a b Equal Equal Equal Greater e hp hs hn ht he = record {
+  key = ByTops;
+  before = ht;
+  earlier = fourth_key b a
+      (flip_tied ByPercentage a b hp) (flip_tied BySide a b hs) (flip_tied ByNumber a b hn);
+}
+by_keys a b Equal Equal Equal Equal Less hp hs hn ht he = record {
+  key = ByEarned;
+  before = he;
+  earlier =
+      fifth_key a b hp hs hn ht;
+}
+by_keys a b Equal Equal Equal Equal Greater hp hs hn ht he = record {
+  key = ByEarned;
+  before = he;
+  earlier =
+      fifth_key b a (flip_tied ByPercentage a b hp) (flip_tied BySide a b hs) (flip_tied ByNumber a b hn)
+      (flip_tied ByTops a b ht);
+}
 by_keys a b Equal Equal Equal Equal Equal hp hs hn ht he = every_key a b hp hs hn ht he
 
 -- two numbers, compared as keys are
-compared : (x y : ℕ) (o : Ordering) → MatchOrdering o (x < y) (x ≡ y) (y < x) → MatchOrdering o (x < y) ((¬ (x < y)) × (¬ (y < x))) (y < x)
+compared : (x y : ℕ) (o : Ordering) → MatchOrdering o (x < y) (x ≡ y) (y < x) → MatchOrdering o (x < y)
+    ((¬ (x < y)) × (¬ (y < x))) (y < x)
 compared x y Less h = h
 compared x y Equal h = (λ l. omega arith, λ l. omega arith)
 compared x y Greater h = h
 
-pub ranks_from_comparisons : (a b : Standing) (p s n t e : Ordering) → Compares ByPercentage a b p → s ≡ nat_cmp (place_of_side a.pair.side) (place_of_side b.pair.side) → n ≡ nat_cmp a.pair.number b.pair.number → t ≡ nat_cmp a.tops b.tops → e ≡ nat_cmp a.earned b.earned → Ranks a b (ordering_then (ordering_then (ordering_then (ordering_then p s) n) t) e)
+pub ranks_from_comparisons : (a b : Standing) (p s n t e : Ordering) → Compares ByPercentage a b p →
+    s ≡ nat_cmp (place_of_side a.pair.side) (place_of_side b.pair.side) → n ≡ nat_cmp a.pair.number b.pair.number →
+    t ≡ nat_cmp a.tops b.tops → e ≡ nat_cmp a.earned b.earned →
+    Ranks a b (ordering_then (ordering_then (ordering_then (ordering_then p s) n) t) e)
 ranks_from_comparisons a b p s n t e hp hs hn ht he =
     by_keys a b p s n t e hp
     (compared _ _ s (ranked _ _ s hs))
@@ -229,7 +289,13 @@ by_percentage a b =
           | inr none ↦ (Less, (some, inl (omega arith)))
           | inl also ↦ elim (cases_lt (a.earned * b.tops) (b.earned * a.tops)) [
             | inl more ↦ (Greater, (also, inr more))
-            | inr level ↦ (Equal, (λ h. elim (h.1) [ inl none ↦ omega arith | inr more ↦ omega arith ], λ h. elim (h.1) [ inl none ↦ omega arith | inr more ↦ omega arith ]))
+            | inr level ↦ (
+              Equal,
+              (
+                λ h. elim (h.1) [ inl none ↦ omega arith | inr more ↦ omega arith ],
+                λ h. elim (h.1) [ inl none ↦ omega arith | inr more ↦ omega arith ],
+              ),
+            )
           ]
         ]
       ]

@@ -39,7 +39,12 @@ undoubled_undertricks (suc k) = omega (arith, undoubled_undertricks k, each_undo
 
 pub undoubled_undertricks_vulnerable : (k : ℕ) → undertricks true Undoubled k ≡ 100 * k
 undoubled_undertricks_vulnerable zero = refl
-undoubled_undertricks_vulnerable (suc k) = omega (arith, undoubled_undertricks_vulnerable k, each_undoubled_vulnerable k)
+undoubled_undertricks_vulnerable (suc k) = omega (
+  arith,
+  undoubled_undertricks_vulnerable k,
+  each_undoubled_vulnerable
+      k,
+)
 
 doubled_from_third : (k : ℕ) → undertricks false Doubled (suc (suc (suc k))) ≡ 300 * k + 500
 doubled_from_third zero = refl
@@ -68,6 +73,12 @@ pub doubled_undertricks_vulnerable : (k : ℕ) → 1 ≤ k → undertricks true 
 doubled_undertricks_vulnerable zero least = absurd (omega arith)
 doubled_undertricks_vulnerable (suc k) least = omega (arith, doubled_from_first k)
 
-pub redoubled_undertricks : (vulnerable : Bool) (k : ℕ) → undertricks vulnerable Redoubled k ≡ 2 * undertricks vulnerable Doubled k
+pub redoubled_undertricks : (vulnerable : Bool) (k : ℕ) → undertricks vulnerable Redoubled k ≡ 2 * undertricks
+    vulnerable Doubled k
 redoubled_undertricks vulnerable zero = refl
-redoubled_undertricks vulnerable (suc k) = omega (arith, redoubled_undertricks vulnerable k, each_redoubled vulnerable k)
+redoubled_undertricks vulnerable (suc k) = omega (
+  arith,
+  redoubled_undertricks vulnerable k,
+  each_redoubled vulnerable
+      k,
+)

@@ -1,6 +1,22 @@
 -- Law 77 of the Laws of Duplicate Bridge 2017: what a contract scores for declarer's side. One definition for each line
 -- of the law's table, in its order.
-use Rattle.std.specs.Prelude.{ℕ, zero, suc, ◌+◌, ◌-◌, ◌*◌, ℤ, pos, neg_ℤ, Bool, true, false, nat_le, ◌==◌, if◌then◌else◌}
+use Rattle.std.specs.Prelude.{
+  ℕ,
+  zero,
+  suc,
+  ◌+◌,
+  ◌-◌,
+  ◌*◌,
+  ℤ,
+  pos,
+  neg_ℤ,
+  Bool,
+  true,
+  false,
+  nat_le,
+  ◌==◌,
+  if◌then◌else◌,
+}
 use Rattle.table_terms.specs.declared.side.Side.{Side}
 use Rattle.table_terms.specs.declared.side.Side.TheVariants.{NorthSouth, EastWest}
 use Rattle.table_terms.specs.declared.strain.Strain.{Strain}
@@ -41,7 +57,8 @@ abbrev pub trick_score : Contract → ℕ
 trick_score contract =
     (first_odd_trick contract.strain + (contract.level - 1) * trick_value contract.strain) * factor contract.doubling
 
--- the two columns of the law's table, for declarer's side not vulnerable and vulnerable: a line has a number for each, in
+-- the two columns of the law's table, for declarer's side not vulnerable and vulnerable: a line has a number for each,
+-- in
 -- this order
 abbrev pub by_column : Bool → ℕ → ℕ → ℕ
 by_column false not_vulnerable vulnerable = not_vulnerable

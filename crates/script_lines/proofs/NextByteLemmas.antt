@@ -1,5 +1,32 @@
 -- What a line has taken, once one byte more is asked of the reader.
-use Rattle.std.proofs.Common.{◌≡◌, ◌≢◌, ◌+◌, ◌-◌, ◌<◌, ◌≤◌, ◌∷◌, [], ◌++◌, ◌∙◌, ℕ, List, Bool, true, false, cond, length, take, sym, ap, subst, append-nil, length-append, length-take, length-take-le, arith}
+use Rattle.std.proofs.Common.{
+  ◌≡◌,
+  ◌≢◌,
+  ◌+◌,
+  ◌-◌,
+  ◌<◌,
+  ◌≤◌,
+  ◌∷◌,
+  [],
+  ◌++◌,
+  ◌∙◌,
+  ℕ,
+  List,
+  Bool,
+  true,
+  false,
+  cond,
+  length,
+  take,
+  sym,
+  ap,
+  subst,
+  append-nil,
+  length-append,
+  length-take,
+  length-take-le,
+  arith,
+}
 use Rattle.std.specs.Prelude.{Option, Some, None, Result, Ok, Err, OnOk, OnErr}
 use Rattle.std.specs.Result.{is_err}
 use Rattle.std.specs.Io.BufRead.{ends_with_byte}
@@ -51,7 +78,8 @@ pub record GoesOn (before after : Option (List ℕ)) (piece : List ℕ) (byte al
 module _ (before reader after : Option (List ℕ)) (piece : List ℕ) (all left left' : ℕ) (unbroken : IsUnbroken piece)
     (consumed : Consumes before reader piece) (counted : left + length piece ≡ all) where
   -- an LF ends the line
-  pub ends_here : TakesByte (Some 10) reader after left left' → (line : List ℕ) → line ≡ ended_line piece → TakesEnded before after line all left'
+  pub ends_here : TakesByte (Some 10) reader after left left' → (line : List ℕ) → line ≡ ended_line piece →
+      TakesEnded before after line all left'
   ends_here taken line shortened = record {
     piece = piece;
     unbroken = unbroken;
@@ -61,18 +89,22 @@ module _ (before reader after : Option (List ℕ)) (piece : List ℕ) (all left 
   }
 
   -- there is none
-  pub is_rest : (found : Option ℕ) → found ≡ None → TakesByte found reader after left left' → TakesRest before after piece all left'
+  pub is_rest : (found : Option ℕ) → found ≡ None → TakesByte found reader after left left' → TakesRest before after
+      piece all left'
   is_rest found none taken =
-      let ended : TakesByte None reader after left left' = subst (λ o. TakesByte o reader after left left') none taken in
+      let ended : TakesByte None reader after left left' = subst (λ o. TakesByte o reader after left left') none taken
+      in
       record {
         unbroken = unbroken;
-        consumed = subst (Consumes before after) (append-nil piece) (Consumes-trans before reader after piece [] consumed ended.0);
+        consumed = subst (Consumes before after) (append-nil piece) (Consumes-trans before reader after piece []
+            consumed ended.0);
         at_end = ended.1;
         counted = omega (arith, counted, ended.2);
       }
 
   -- the reader fails
-  pub fails_for : (fault : ReadFault) → fault ≡ Input → FailsAtByte reader after left left' → (room : ℕ) (line : List ℕ) → line ≡ take room piece
+  pub fails_for : (fault : ReadFault) → fault ≡ Input → FailsAtByte reader after left left' →
+      (room : ℕ) (line : List ℕ) → line ≡ take room piece
       → FailsFor fault before after room line all left'
   fails_for OutOfMemory is fails room line kept = absurd (cc)
   fails_for Input is fails room line kept = record {
@@ -90,7 +122,8 @@ module _ (before reader after : Option (List ℕ)) (piece : List ℕ) (all left 
   pub goes_on : (found : Option ℕ) (byte : ℕ) → found ≡ Some byte → byte ≢ 10 → TakesByte found reader after left left'
       → GoesOn before after piece byte all left left'
   goes_on found byte is other taken =
-      let known : TakesByte (Some byte) reader after left left' = subst (λ o. TakesByte o reader after left left') is taken in
+      let known : TakesByte (Some byte) reader after left left' = subst (λ o. TakesByte o reader after left left') is
+      taken in
       record {
         unbroken = unbroken_with piece byte unbroken other;
         consumed = Consumes-trans before reader after piece (byte ∷ []) consumed known.0;
@@ -99,7 +132,8 @@ module _ (before reader after : Option (List ℕ)) (piece : List ℕ) (all left 
       }
 
   -- there is no memory for that byte
-  pub fails_for_memory : (byte room : ℕ) → byte ≢ 10 → GoesOn before after piece byte all left left' → (line : List ℕ) → line ≡ piece
+  pub fails_for_memory : (byte room : ℕ) → byte ≢ 10 → GoesOn before after piece byte all left left' → (line : List ℕ) →
+      line ≡ piece
       → length line < room → FailsForMemory before after room line all left'
   fails_for_memory byte room other more line same few = record {
     unbroken = subst IsUnbroken (sym same) unbroken;
@@ -111,10 +145,12 @@ module _ (before reader after : Option (List ℕ)) (piece : List ℕ) (all left 
   }
 
 -- the reader fails after a CR that follows a line of which as much is kept as may be
-pub fails_after : (before reader after : Option (List ℕ)) (line : List ℕ) (room all left left' : ℕ) → IsUnbroken line → length line ≡ room
+pub fails_after : (before reader after : Option (List ℕ)) (line : List ℕ) (room all left left' : ℕ) → IsUnbroken line →
+    length line ≡ room
     → Consumes before reader (line ++ 13 ∷ []) → left + (length line + 1) ≡ all → (fault : ReadFault) → fault ≡ Input
     → FailsAtByte reader after left left' → FailsFor fault before after room line all left'
 fails_after before reader after line room all left left' unbroken full consumed counted fault is fails =
-    fails_for before reader after (line ++ 13 ∷ []) all left left' (unbroken_with line 13 unbroken (λ same. absurd (omega (arith, same)))) consumed
+    fails_for before reader after (line ++ 13 ∷ []) all left left'
+    (unbroken_with line 13 unbroken (λ same. absurd (omega (arith, same)))) consumed
     (omega (arith, counted, length-append line (13 ∷ []))) fault is fails room line
     (sym (ap (λ n. take n (line ++ 13 ∷ [])) (sym full) ∙ take-append_seam line (13 ∷ [])))

@@ -1,7 +1,13 @@
 -- What a caller reads of the rows of a parse.
 use Rattle.std.proofs.Common.{◌≡◌, ◌∙◌, refl, sym, subst, List, ℕ}
 use Rattle.std.specs.Prelude.{Option, Some, None, IsSomeAnd}
-use Rattle.std.specs.Str.Parse.{ParsesUnsigned, ExplainsUnsignedError, HasUnsignedDigitsIfOk, digits_value, without_leading_plus}
+use Rattle.std.specs.Str.Parse.{
+  ParsesUnsigned,
+  ExplainsUnsignedError,
+  HasUnsignedDigitsIfOk,
+  digits_value,
+  without_leading_plus,
+}
 use Rattle.clap.specs.Words.{ReadsOne, first_of, first_value, found_of, one_text, rows_of}
 use Rattle.clap.specs.declared.parser.matches.ArgMatches.{ArgMatches}
 use Rattle.clap.proofs.WalkLemmas.{first_value-rows, one_text-rows}
@@ -21,7 +27,8 @@ first_in_rows m id text is = maybe_first_in_rows m id (Some text) is
 module _ (m : ArgMatches) (id : List ℕ) (bits : ℕ) (found : Option ℕ) (number : ℕ) (is : found ≡ Some number) where
   pub number_in_rows : (one_text (found_of m) id ≡ None → found ≡ None)
       → ((text : List ℕ) → one_text (found_of m) id ≡ Some text
-      → ReadsOne (λ bs r. ParsesUnsigned bits 10 bs r × ExplainsUnsignedError 10 bs r × HasUnsignedDigitsIfOk bs r) text found)
+      → ReadsOne (λ bs r. ParsesUnsigned bits 10 bs r × ExplainsUnsignedError 10 bs r × HasUnsignedDigitsIfOk bs r) text
+      found)
       → IsGiven (rows_of (found_of m)) id number
   number_in_rows none value =
       subst (λ (text : Option (List ℕ)). IsSomeAnd text (λ t. number ≡ digits_value 10 (without_leading_plus t)))
@@ -31,5 +38,6 @@ module _ (m : ArgMatches) (id : List ℕ) (bits : ℕ) (found : Option ℕ) (num
           → IsSomeAnd text (λ t. number ≡ digits_value 10 (without_leading_plus t))
       by_text None missing = let never : None ≡ Some number = sym (none missing) ∙ is in absurd cc
       by_text (Some text) there =
-          (subst (λ (f : Option ℕ). ReadsOne (λ bs r. ParsesUnsigned bits 10 bs r × ExplainsUnsignedError 10 bs r × HasUnsignedDigitsIfOk bs r) text f)
+          (subst (λ (f : Option ℕ). ReadsOne (λ bs r. ParsesUnsigned bits 10 bs r × ExplainsUnsignedError 10 bs r ×
+          HasUnsignedDigitsIfOk bs r) text f)
           is (value text there)).0.1

@@ -5,7 +5,17 @@ use Rattle.std.specs.Str.Parse.{digits_value, without_leading_plus}
 use Rattle.clap.specs.Words.{IsAmong, Kinds, Row, Text, fault_of, first_of, one_of, subcommand_of, subcommand_rows_of}
 use Rattle.clap.specs.declared.error.kind.ErrorKind.TheVariants.{DisplayHelp, DisplayVersion}
 use Rattle.clap.specs.declared.parser.matches.ArgMatches.{ArgMatches}
-use Rattle.server_words.specs.CommandLine.{command_line, least_port, most_port, least_displays, most_displays, most_workers, most_connections, least_idle, most_idle}
+use Rattle.server_words.specs.CommandLine.{
+  command_line,
+  least_port,
+  most_port,
+  least_displays,
+  most_displays,
+  most_workers,
+  most_connections,
+  least_idle,
+  most_idle,
+}
 use Rattle.server_words.specs.declared.words.Words.{Words}
 use Rattle.server_words.specs.declared.words.Words.TheVariants.{Script, Serve}
 use Rattle.server_words.specs.declared.words.Serving.{Serving}

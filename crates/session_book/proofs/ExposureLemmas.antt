@@ -34,26 +34,38 @@ some_part p (entry ∷ entries) some =
     elim (or_cases (p []) _ some) [
       | inl here ↦ record { first = []; later = entry ∷ entries; split = refl; passes = here }
       | inr later ↦
-          let rest = some_part (λ part. p (entry ∷ part)) entries (sym (any_map p (λ part. entry ∷ part) (first_parts entries)) ∙ later) in
-          record { first = entry ∷ rest.first; later = rest.later; split = ap (λ es. entry ∷ es) rest.split; passes = rest.passes }
+          let rest = some_part (λ part. p (entry ∷ part)) entries
+          (sym (any_map p (λ part. entry ∷ part) (first_parts entries)) ∙ later) in
+          record {
+            first = entry ∷ rest.first;
+            later = rest.later;
+            split = ap (λ es. entry ∷ es) rest.split;
+            passes =
+                rest.passes;
+          }
     ]
 
-part_passes : (p : List Entry → Bool) (first later : List Entry) → p first ≡ true → list_any p (first_parts (first ++ later)) ≡ true
+part_passes : (p : List Entry → Bool) (first later : List Entry) → p first ≡ true →
+    list_any p (first_parts (first ++ later)) ≡ true
 part_passes p [] [] passes = or_left (p []) false passes
 part_passes p [] (entry ∷ entries) passes = or_left (p []) _ passes
 part_passes p (entry ∷ first) later passes =
-    or_right (p []) _ (any_map p (λ part. entry ∷ part) (first_parts (first ++ later)) ∙ part_passes (λ part. p (entry ∷ part)) first later passes)
+    or_right (p []) _ (any_map p (λ part. entry ∷ part) (first_parts (first ++ later)) ∙ part_passes
+    (λ part. p (entry ∷ part)) first later passes)
 
 pub none_is : {A : Type 0} (found : Option A) → is_none found ≡ true → found ≡ None
 none_is None none = refl
 none_is (Some x) none = absurd (false≢true none)
 
 -- where some secret fact of a board is allowed, its hands are
-pub sees_from_allowed : (state : SessionState) (user : List ℕ) (board : ℕ) → SomeAllowed state user board → sees_hands state user board ≡ true
-sees_from_allowed state user board some = ap is_none (hands_allowed state.public (viewer_of state user) some.fact board some.of_board some.allowed)
+pub sees_from_allowed : (state : SessionState) (user : List ℕ) (board : ℕ) → SomeAllowed state user board →
+    sees_hands state user board ≡ true
+sees_from_allowed state user board some = ap is_none (hands_allowed state.public (viewer_of state user) some.fact board
+    some.of_board some.allowed)
 
 -- the test says who is exposed
-pub exposed_decides : (opening : SessionState) (journal : List Entry) (user : List ℕ) (board : ℕ) → Decides (is_exposed opening journal user board) (Exposed opening journal user board)
+pub exposed_decides : (opening : SessionState) (journal : List Entry) (user : List ℕ) (board : ℕ) →
+    Decides (is_exposed opening journal user board) (Exposed opening journal user board)
 unfolding is_exposed
 exposed_decides opening journal user board = (meaning, test)
   where
@@ -69,10 +81,13 @@ exposed_decides opening journal user board = (meaning, test)
 
     test : Exposed opening journal user board → is_exposed opening journal user board ≡ true
     test exposed =
-        ap (λ entries. list_any (λ part. sees_hands (replay opening part) user board) (first_parts entries)) exposed.split
-        ∙ part_passes (λ part. sees_hands (replay opening part) user board) exposed.first exposed.later (sees_from_allowed (replay opening exposed.first) user board exposed.shown)
+        ap (λ entries. list_any (λ part. sees_hands (replay opening part) user board) (first_parts entries))
+        exposed.split
+        ∙ part_passes (λ part. sees_hands (replay opening part) user board) exposed.first exposed.later
+        (sees_from_allowed (replay opening exposed.first) user board exposed.shown)
 
-parts_more : (journal : List Entry) (entry : Entry) → first_parts (journal ++ entry ∷ []) ≡ first_parts journal ++ (journal ++ entry ∷ []) ∷ []
+parts_more : (journal : List Entry) (entry : Entry) → first_parts (journal ++ entry ∷ []) ≡ first_parts journal
+    ++ (journal ++ entry ∷ []) ∷ []
 parts_more [] entry = refl
 parts_more (e ∷ es) entry =
     ap (λ parts. [] ∷ map (λ part. e ∷ part) parts) (parts_more es entry)
@@ -84,7 +99,8 @@ or_none false = refl
 
 -- one entry more exposes to what the user sees then
 pub exposed_more : (opening : SessionState) (journal : List Entry) (entry : Entry) (user : List ℕ) (board : ℕ) →
-    is_exposed opening (journal ++ entry ∷ []) user board ≡ (is_exposed opening journal user board || sees_hands (replay opening (journal ++ entry ∷ [])) user board)
+    is_exposed opening (journal ++ entry ∷ []) user board ≡ (is_exposed opening journal user board || sees_hands
+    (replay opening (journal ++ entry ∷ [])) user board)
 unfolding is_exposed
 exposed_more opening journal entry user board =
     let seen : List Entry → Bool = λ part. sees_hands (replay opening part) user board in
@@ -93,12 +109,14 @@ exposed_more opening journal entry user board =
     ∙ ap (λ b. list_any seen (first_parts journal) || b) (or_none (seen (journal ++ entry ∷ [])))
 
 -- the empty journal exposes to what the user sees at the opening
-pub exposed_at_opening : (opening : SessionState) (user : List ℕ) (board : ℕ) → is_exposed opening [] user board ≡ sees_hands opening user board
+pub exposed_at_opening : (opening : SessionState) (user : List ℕ) (board : ℕ) → is_exposed opening [] user board ≡
+    sees_hands opening user board
 unfolding is_exposed replay
 exposed_at_opening opening user board = or_none (sees_hands opening user board)
 
 -- who sees the hands now is exposed
-pub exposed_now : (opening : SessionState) (journal : List Entry) (user : List ℕ) (board : ℕ) → sees_hands (replay opening journal) user board ≡ true → is_exposed opening journal user board ≡ true
+pub exposed_now : (opening : SessionState) (journal : List Entry) (user : List ℕ) (board : ℕ) →
+    sees_hands (replay opening journal) user board ≡ true → is_exposed opening journal user board ≡ true
 exposed_now opening journal user board sees =
     (exposed_decides opening journal user board).1 (record {
       first = journal;

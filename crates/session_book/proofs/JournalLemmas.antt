@@ -1,5 +1,22 @@
 -- A journal of one entry more.
-use Rattle.std.proofs.Common.{◌≡◌, ℕ, ◌≤◌, ◌<◌, List, [], ◌∷◌, ◌++◌, length, refl, sym, ap, subst, append_assoc, length-append, arith}
+use Rattle.std.proofs.Common.{
+  ◌≡◌,
+  ℕ,
+  ◌≤◌,
+  ◌<◌,
+  List,
+  [],
+  ◌∷◌,
+  ◌++◌,
+  length,
+  refl,
+  sym,
+  ap,
+  subst,
+  append_assoc,
+  length-append,
+  arith,
+}
 use Rattle.std.specs.Prelude.{None}
 use Rattle.std.proofs.lemmas.List.Sums.{fold-append}
 use Rattle.session_commands.specs.declared.entry.Entry.{Entry}
@@ -13,29 +30,41 @@ use Rattle.session_commands.specs.declared.command.Command.{Command}
 use Rattle.session_state.proofs.RefusalLemmas.{room_left}
 
 -- one entry more does to the state what the entry does
-pub replayed_more : (opening : SessionState) (journal : List Entry) (entry : Entry) → replay opening (journal ++ entry ∷ []) ≡ apply (replay opening journal) entry
+pub replayed_more : (opening : SessionState) (journal : List Entry) (entry : Entry) → replay opening
+    (journal ++ entry ∷ []) ≡ apply (replay opening journal) entry
 unfolding replay
 replayed_more opening journal entry = fold-append apply opening journal (entry ∷ [])
 
-follow_more : (opening : SessionState) (before entries : List Entry) (entry : Entry) → Follow opening before entries → MayFollow opening (before ++ entries) entry →
+follow_more : (opening : SessionState) (before entries : List Entry) (entry : Entry) → Follow opening before entries →
+    MayFollow opening (before ++ entries) entry →
     Follow opening before (entries ++ entry ∷ [])
-follow_more opening before [] entry follow may = (subst (λ journal. MayFollow opening journal entry) (none before) may, tt)
+follow_more opening before [] entry follow may = (
+  subst (λ journal. MayFollow opening journal entry) (none before) may,
+  tt,
+)
   where
     none : (xs : List Entry) → xs ++ [] ≡ xs
     none [] = refl
     none (x ∷ xs) = ap (λ ys. x ∷ ys) (none xs)
-follow_more opening before (first ∷ entries) entry follow may =
-    (follow.0, follow_more opening (before ++ first ∷ []) entries entry follow.1 (subst (λ journal. MayFollow opening journal entry) (sym (append_assoc before (first ∷ []) entries)) may))
+follow_more opening before (first ∷ entries) entry follow may = (
+  follow.0,
+  follow_more opening (before ++ first ∷ []) entries entry follow.1
+      (subst (λ journal. MayFollow opening journal entry) (sym (append_assoc before (first ∷ []) entries)) may),
+)
 
 -- an entry that may follow keeps the journal accepted
-pub accepted_more : (opening : SessionState) (journal : List Entry) (entry : Entry) → IsAccepted opening journal → MayFollow opening journal entry → IsAccepted opening (journal ++ entry ∷ [])
+pub accepted_more : (opening : SessionState) (journal : List Entry) (entry : Entry) → IsAccepted opening journal →
+    MayFollow opening journal entry → IsAccepted opening (journal ++ entry ∷ [])
 accepted_more opening journal entry accepted may = follow_more opening [] journal entry accepted may
 
-room_after : (opening : SessionState) (journal : List Entry) (actor : Actor) (command : Command) → refusal_after opening journal actor command ≡ None → length journal < most_entries
+room_after : (opening : SessionState) (journal : List Entry) (actor : Actor) (command : Command) → refusal_after opening
+    journal actor command ≡ None → length journal < most_entries
 unfolding refusal_after
-room_after opening journal actor command none = room_left (replay opening journal) (spoiler_of opening journal command) actor command (length journal) none
+room_after opening journal actor command none = room_left (replay opening journal) (spoiler_of opening journal command)
+    actor command (length journal) none
 
-follow_length : (opening : SessionState) (before entries : List Entry) → Follow opening before entries → length before ≤ most_entries → length (before ++ entries) ≤ most_entries
+follow_length : (opening : SessionState) (before entries : List Entry) → Follow opening before entries →
+    length before ≤ most_entries → length (before ++ entries) ≤ most_entries
 follow_length opening before [] follow few = omega (arith, length-append before [])
 follow_length opening before (entry ∷ entries) follow few =
     let below = room_after opening before entry.actor entry.command follow.0 in
@@ -43,5 +72,6 @@ follow_length opening before (entry ∷ entries) follow few =
     (follow_length opening (before ++ entry ∷ []) entries follow.1 (omega (arith, length-append before (entry ∷ []))))
 
 -- an accepted journal is no longer than the limit
-pub accepted_length : (opening : SessionState) (journal : List Entry) → IsAccepted opening journal → length journal ≤ most_entries
+pub accepted_length : (opening : SessionState) (journal : List Entry) → IsAccepted opening journal →
+    length journal ≤ most_entries
 accepted_length opening journal accepted = follow_length opening [] journal accepted (omega arith)

@@ -14,7 +14,15 @@ use Rattle.session_state.specs.SessionState.{SessionState, cell_at}
 use Rattle.session_commands.specs.declared.cell_state.CellState.{CellState}
 use Rattle.session_commands.specs.declared.cell_state.CellState.TheVariants.{Empty, Entered, Confirmed, Ruled}
 use Rattle.session_commands.specs.declared.command.Command.{Command}
-use Rattle.session_commands.specs.declared.command.Command.TheVariants.{Enter, Confirm, Correct, Rule, Void, Hold, Release}
+use Rattle.session_commands.specs.declared.command.Command.TheVariants.{
+  Enter,
+  Confirm,
+  Correct,
+  Rule,
+  Void,
+  Hold,
+  Release,
+}
 use Rattle.session_commands.specs.declared.command.Command.TheVariants.{Seat, Unseat, NextRound, Close, Finalise}
 use Rattle.session_commands.specs.declared.command.Command.TheVariants.{AddUser, Assign, Deassign, AddInheritance}
 use Rattle.session_commands.specs.declared.command.Command.TheVariants.{DeleteInheritance, Solved, Analysed}
@@ -29,8 +37,13 @@ pub record Lasts (before after : SessionState) : Type 0 where
   pub movement : after.public.movement ≡ before.public.movement
 
 -- nobody joined
-abbrev nobody : (before after : SessionState) → users_of after ≡ users_of before → after.public.movement ≡ before.public.movement → Lasts before after
-nobody before after users movement = record { joined = []; users = users ∙ sym (append-nil (users_of before)); movement = movement }
+abbrev nobody : (before after : SessionState) → users_of after ≡ users_of before → after.public.movement ≡
+    before.public.movement → Lasts before after
+nobody before after users movement = record {
+  joined = [];
+  users = users ∙ sym (append-nil (users_of before));
+  movement = movement;
+}
 
 confirmed_lasts : (state : SessionState) (cell : Cell) (known : CellState) → Lasts state (confirmed state cell known)
 confirmed_lasts state cell Empty = nobody state state refl refl
@@ -40,13 +53,15 @@ confirmed_lasts state cell (Ruled north_south east_west reason) = nobody state s
 
 -- whatever roles are assigned, users keep their names
 names_kept : (change : List Role → List Role) (name : List ℕ) (accounts : List Account) →
-    map (λ (account : Account). account.name) (with_change change name accounts) ≡ map (λ (account : Account). account.name) accounts
+    map (λ (account : Account). account.name) (with_change change name accounts) ≡ map
+    (λ (account : Account). account.name) accounts
 names_kept change name [] = refl
 names_kept change name (account ∷ accounts) = λ i. name_kept change name account i ∷ names_kept change name accounts i
 
 -- a user who joins comes last
 joined_last : (accounts : List Account) (account : Account) →
-    map (λ (account : Account). account.name) (accounts ++ account ∷ []) ≡ map (λ (account : Account). account.name) accounts ++ account.name ∷ []
+    map (λ (account : Account). account.name) (accounts ++ account ∷ []) ≡ map (λ (account : Account). account.name)
+    accounts ++ account.name ∷ []
 joined_last [] account = refl
 joined_last (first ∷ accounts) account = ap (λ names. first.name ∷ names) (joined_last accounts account)
 
@@ -86,7 +101,8 @@ apply_lasts state entry = by_hindrance (is_some (hindrance_of state entry.comman
 pub lasts_on : (a b c : SessionState) → Lasts a b → Lasts b c → Lasts a c
 lasts_on a b c first then = record {
   joined = first.joined ++ then.joined;
-  users = then.users ∙ (ap (λ users. users ++ then.joined) first.users ∙ append_assoc (users_of a) first.joined then.joined);
+  users = then.users ∙ (ap (λ users. users ++ then.joined) first.users ∙ append_assoc (users_of a) first.joined
+      then.joined);
   movement = then.movement ∙ first.movement;
 }
 
@@ -94,4 +110,5 @@ lasts_on a b c first then = record {
 pub replay_lasts : (state : SessionState) (journal : List Entry) → Lasts state (replay state journal)
 unfolding replay
 replay_lasts state [] = nobody state state refl refl
-replay_lasts state (entry ∷ entries) = lasts_on state (apply state entry) (replay (apply state entry) entries) (apply_lasts state entry) (replay_lasts (apply state entry) entries)
+replay_lasts state (entry ∷ entries) = lasts_on state (apply state entry) (replay (apply state entry) entries)
+    (apply_lasts state entry) (replay_lasts (apply state entry) entries)

@@ -25,26 +25,33 @@ first_none None rest none = refl
 first_none (Some cause) rest none = absurd cc
 
 -- what nothing refuses, the state doesn't hinder
-free_of_hindrance : (state : SessionState) (spoiler : Option (List ℕ)) (actor : Actor) (command : Command) (entries : ℕ) → refusal_of state spoiler actor command entries ≡ None →
+free_of_hindrance : (state : SessionState) (spoiler : Option (List ℕ)) (actor : Actor) (command : Command)
+    (entries : ℕ) → refusal_of state spoiler actor command entries ≡ None →
     hindrance_of state command ≡ None
 free_of_hindrance state spoiler actor command entries none = by_permission (is_permitted state.roles actor command) refl
   where
     by_permission : (b : Bool) → is_permitted state.roles actor command ≡ b → hindrance_of state command ≡ None
     by_permission true allowed =
-        first_none (hindrance_of state command) (first_cause (last_causes spoiler command entries)) (sym (refused_else state spoiler actor command entries allowed) ∙ none)
+        first_none (hindrance_of state command) (first_cause (last_causes spoiler command entries))
+        (sym (refused_else state spoiler actor command entries allowed) ∙ none)
     by_permission false denied =
-        let refused : Some NotPermitted ≡ None = sym (refused_actor state spoiler actor command entries denied) ∙ none in
+        let refused : Some NotPermitted ≡ None = sym (refused_actor state spoiler actor command entries denied)
+        ∙ none in
         absurd cc
 
-may_tell : (opening : SessionState) (before : List Entry) (entry : Entry) → MayFollow opening before entry → TellsOwn (replay opening before) entry.command
+may_tell : (opening : SessionState) (before : List Entry) (entry : Entry) → MayFollow opening before entry →
+    TellsOwn (replay opening before) entry.command
 unfolding refusal_after
 may_tell opening before entry may =
     told_own (replay opening before) entry.command
-    (free_of_hindrance (replay opening before) (spoiler_of opening before entry.command) entry.actor entry.command (length before) may)
+    (free_of_hindrance (replay opening before) (spoiler_of opening before entry.command) entry.actor entry.command
+    (length before) may)
 
 -- what an accepted journal tells is of its own
-pub accepted_own : (opening : SessionState) (before after : List Entry) (entry : Entry) → IsAccepted opening (before ++ entry ∷ after) → TellsOwn (replay opening before) entry.command
-accepted_own opening before after entry accepted = may_tell opening before entry (follows opening [] before entry after accepted)
+pub accepted_own : (opening : SessionState) (before after : List Entry) (entry : Entry) → IsAccepted opening
+    (before ++ entry ∷ after) → TellsOwn (replay opening before) entry.command
+accepted_own opening before after entry accepted = may_tell opening before entry
+    (follows opening [] before entry after accepted)
 
 -- no entry changes a hand
 pub deals_kept : (opening : SessionState) (journal : List Entry) → (replay opening journal).deals ≡ opening.deals
@@ -55,12 +62,15 @@ deals_kept opening journal = by_entries opening journal
     by_entries state [] = refl
     by_entries state (entry ∷ entries) = by_entries (apply state entry) entries ∙ (entry_part state entry).deals
 
-still_own : (state : SessionState) (entries : List Entry) → IsSection state.public.movement → KeepsOwn state → KeepsOwn (fold apply state entries)
+still_own : (state : SessionState) (entries : List Entry) → IsSection state.public.movement → KeepsOwn state →
+    KeepsOwn (fold apply state entries)
 still_own state [] is_section keeps = keeps
 still_own state (entry ∷ entries) is_section keeps =
-    still_own (apply state entry) entries (subst IsSection (sym (entry_part state entry).movement) is_section) (entry_keeps state entry is_section keeps)
+    still_own (apply state entry) entries (subst IsSection (sym (entry_part state entry).movement) is_section)
+    (entry_keeps state entry is_section keeps)
 
 -- what is kept of a session is of its own
-pub all_kept : (opening : SessionState) (journal : List Entry) → IsSection opening.public.movement → KeepsOwn opening → KeepsOwn (replay opening journal)
+pub all_kept : (opening : SessionState) (journal : List Entry) → IsSection opening.public.movement → KeepsOwn opening →
+    KeepsOwn (replay opening journal)
 unfolding replay
 all_kept opening journal is_section keeps = still_own opening journal is_section keeps

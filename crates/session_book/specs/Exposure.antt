@@ -3,7 +3,24 @@
 -- own: who was shown something of a board plays it no more. It keeps what Law 16D asks of a player (no information from
 -- elsewhere about a board that is still to be played): no result is entered or confirmed at a cell where such a user
 -- sits.
-use Rattle.std.specs.Prelude.{◌≡◌, ℕ, Bool, ◌&&◌, if◌then◌else◌, Option, Some, None, is_none, List, [], ◌∷◌, ◌++◌, map, find, option_and_then}
+use Rattle.std.specs.Prelude.{
+  ◌≡◌,
+  ℕ,
+  Bool,
+  ◌&&◌,
+  if◌then◌else◌,
+  Option,
+  Some,
+  None,
+  is_none,
+  List,
+  [],
+  ◌∷◌,
+  ◌++◌,
+  map,
+  find,
+  option_and_then,
+}
 use Rattle.std.specs.List.{list_any}
 use Rattle.movement.specs.declared.cell.Cell.{Cell}
 use Rattle.disclosure_rules.specs.declared.fact.Fact.{Fact}

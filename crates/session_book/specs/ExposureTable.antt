@@ -1,5 +1,21 @@
 -- For private clauses: the table in which a book keeps who was shown something of which board.
-use Rattle.std.specs.Prelude.{◌≡◌, ℕ, ◌<◌, ◌≤◌, Bool, false, ◌||◌, ◌&&◌, nat_eq, nat_le, nat_lt, List, [], length, slice_index_or}
+use Rattle.std.specs.Prelude.{
+  ◌≡◌,
+  ℕ,
+  ◌<◌,
+  ◌≤◌,
+  Bool,
+  false,
+  ◌||◌,
+  ◌&&◌,
+  nat_eq,
+  nat_le,
+  nat_lt,
+  List,
+  [],
+  length,
+  slice_index_or,
+}
 use Rattle.movement.specs.Movement.{boards_of, most_boards}
 use Rattle.small_sets.specs.Numbers.{has_number}
 use Rattle.session_commands.specs.declared.entry.Entry.{Entry}

@@ -3,7 +3,15 @@ use Rattle.std.specs.Prelude.{ℕ, Bool, true, false, ◌&&◌, nat_eq, nat_le, 
 use Rattle.rbac.specs.Account.{same_name}
 use Rattle.session_state.specs.SessionState.{SessionState}
 use Rattle.session_commands.specs.declared.command.Command.{Command}
-use Rattle.session_commands.specs.declared.command.Command.TheVariants.{Enter, Confirm, Correct, Rule, Void, Hold, Release}
+use Rattle.session_commands.specs.declared.command.Command.TheVariants.{
+  Enter,
+  Confirm,
+  Correct,
+  Rule,
+  Void,
+  Hold,
+  Release,
+}
 use Rattle.session_commands.specs.declared.command.Command.TheVariants.{Seat, Unseat, NextRound, Close, Finalise}
 use Rattle.session_commands.specs.declared.command.Command.TheVariants.{AddUser, Assign, Deassign, AddInheritance}
 use Rattle.session_commands.specs.declared.command.Command.TheVariants.{DeleteInheritance, Solved, Analysed}
@@ -12,8 +20,10 @@ use Rattle.session_book.specs.declared.touched.Touched.TheVariants.{Nothing, Boa
 use Rattle.session_book.specs.ExposureTable.{user_at}
 
 -- what each command touches: a result may complete its board, and a board that is released is shown again, to anybody;
--- a user who takes a seat, is assigned a role or loses one may see more of any board, since a rule may bind or spare who
--- has a role; so may everybody where an inheritance comes or goes. What is entered, voided or held, a seat that is left,
+-- a user who takes a seat, is assigned a role or loses one may see more of any board, since a rule may bind or spare
+-- who
+-- has a role; so may everybody where an inheritance comes or goes. What is entered, voided or held, a seat that is
+-- left,
 -- a user with no role yet, a round and a phase let nobody see more; nor do the solver's numbers, since no rule looks at
 -- what a fact says
 abbrev pub touched_by : Command → Touched

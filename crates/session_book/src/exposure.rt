@@ -11,8 +11,8 @@ ghost use Rattle.session_book.specs.ExposureTable.{is_noted, user_at, IsAsked, I
 use crate::touched::Touched;
 use disclosure_rules::{Boards, Fact, Viewer, decide};
 use rbac::Roles;
-use session_state::State;
 use session_commands::room::filled;
+use session_state::State;
 use std::alloc::{AllocError, Global};
 use std::marker::Model;
 use user_names::Name;

@@ -12,5 +12,4 @@ mod touched;
 pub use answer::Answer;
 pub use audit::{AuditError, AuditRow, AuditRows};
 pub use book::Book;
-
 pub use submission::Submission;

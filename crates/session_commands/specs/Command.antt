@@ -10,7 +10,15 @@ use Rattle.session_roles.specs.declared.operation.Operation.TheVariants as opera
 use Rattle.disclosure_rules.specs.declared.phase.Phase.{Phase}
 use Rattle.disclosure_rules.specs.declared.phase.Phase.TheVariants.{Running, Closed, Final}
 use Rattle.session_commands.specs.declared.command.Command.{Command}
-use Rattle.session_commands.specs.declared.command.Command.TheVariants.{Enter, Confirm, Correct, Rule, Void, Hold, Release}
+use Rattle.session_commands.specs.declared.command.Command.TheVariants.{
+  Enter,
+  Confirm,
+  Correct,
+  Rule,
+  Void,
+  Hold,
+  Release,
+}
 use Rattle.session_commands.specs.declared.command.Command.TheVariants.{Seat, Unseat, NextRound, Close, Finalise}
 use Rattle.session_commands.specs.declared.command.Command.TheVariants.{AddUser, Assign, Deassign, AddInheritance}
 use Rattle.session_commands.specs.declared.command.Command.TheVariants.{DeleteInheritance, Solved, Analysed}

@@ -1,9 +1,18 @@
--- What an audit tells of a command: how it is called, and what it is about. One line for each command, in the order of the
+-- What an audit tells of a command: how it is called, and what it is about. One line for each command, in the order of
+-- the
 -- commands.
 --
 -- own: an audit tells no result, no card, no percentage and no reason.
 use Rattle.session_commands.specs.declared.command.Command.{Command}
-use Rattle.session_commands.specs.declared.command.Command.TheVariants.{Enter, Confirm, Correct, Rule, Void, Hold, Release}
+use Rattle.session_commands.specs.declared.command.Command.TheVariants.{
+  Enter,
+  Confirm,
+  Correct,
+  Rule,
+  Void,
+  Hold,
+  Release,
+}
 use Rattle.session_commands.specs.declared.command.Command.TheVariants.{Seat, Unseat, NextRound, Close, Finalise}
 use Rattle.session_commands.specs.declared.command.Command.TheVariants.{AddUser, Assign, Deassign, AddInheritance}
 use Rattle.session_commands.specs.declared.command.Command.TheVariants.{DeleteInheritance, Solved, Analysed}

@@ -17,5 +17,4 @@ pub use command::Command;
 pub use command_word::CommandWord;
 pub use entry::Entry;
 pub use refusal::Refusal;
-
 pub use target::Target;

@@ -1,5 +1,30 @@
 -- A journal only grows, and a view follows it entry by entry.
-use Rattle.std.proofs.Common.{◌≡◌, ℕ, zero, suc, ◌+◌, ◌≤◌, ◌<◌, Bool, true, false, List, [], ◌∷◌, ◌++◌, take, length, slice_get, refl, sym, ap, subst, ◌∙◌, append_assoc, arith}
+use Rattle.std.proofs.Common.{
+  ◌≡◌,
+  ℕ,
+  zero,
+  suc,
+  ◌+◌,
+  ◌≤◌,
+  ◌<◌,
+  Bool,
+  true,
+  false,
+  List,
+  [],
+  ◌∷◌,
+  ◌++◌,
+  take,
+  length,
+  slice_get,
+  refl,
+  sym,
+  ap,
+  subst,
+  ◌∙◌,
+  append_assoc,
+  arith,
+}
 use Rattle.std.specs.Prelude.{Option, Some, None, min}
 use Rattle.std.specs.List.{fold}
 use Rattle.std.proofs.Math.Seq.{take-append_seam, take-suc}
@@ -44,7 +69,8 @@ fold_extends : (opening : SessionState) (actor : List ℕ) (batch : List Command
     Extends so_far.journal (fold (after_command opening actor) so_far batch).journal
 fold_extends opening actor [] so_far = same_extends so_far.journal
 fold_extends opening actor (command ∷ batch) so_far =
-    more_extends so_far.journal (after_command opening actor so_far command).journal (fold (after_command opening actor) (after_command opening actor so_far command) batch).journal
+    more_extends so_far.journal (after_command opening actor so_far command).journal
+    (fold (after_command opening actor) (after_command opening actor so_far command) batch).journal
     (answered_extends so_far actor command (refusal_after opening so_far.journal (User actor) command))
     (fold_extends opening actor batch (after_command opening actor so_far command))
 
@@ -54,16 +80,20 @@ unfolding run
 run_extends opening before actor batch = fold_extends opening actor batch (record { journal = before; answers = [] })
 
 -- a batch adds to the journal
-pub runs_extend : (stopped : Bool) (opening : SessionState) (before : List Entry) (actor : List ℕ) (batch : List Command) (after : Progress) →
+pub runs_extend : (stopped : Bool) (opening : SessionState) (before : List Entry) (actor : List ℕ)
+    (batch : List Command) (after : Progress) →
     Runs stopped opening before actor batch after → Extends before after.journal
 runs_extend false opening before actor batch after ran =
     subst (λ (p : Progress). Extends before p.journal) (sym ran) (run_extends opening before actor batch)
 runs_extend true opening before actor batch after ran =
     subst (Extends before) (sym ran.journal) (run_extends opening before actor ran.tried)
 
-behind_by : (before after : List Entry) → Extends before after → (take (length before) after ≡ before) × (length before ≤ length after)
-behind_by before after (more, is) =
-    (ap (take (length before)) is ∙ take-append_seam before more, omega (arith, ap length is, length-append before more))
+behind_by : (before after : List Entry) → Extends before after → (take (length before) after ≡ before) ×
+    (length before ≤ length after)
+behind_by before after (more, is) = (
+  ap (take (length before)) is ∙ take-append_seam before more,
+  omega (arith, ap length is, length-append before more),
+)
 
 -- so does what is tried by itself
 pub tried_extends : (before after : Ledger) (actor : Actor) (command : Command) (answer : Answer) →
@@ -90,7 +120,8 @@ behind_extends opening before after seen extends stands accepted =
       state = stands.state ∙ ap (replay opening) (sym both.0 ∙ ap (λ n. take n after) (sym version));
     }
 
-take_more : (journal : List Entry) (number : ℕ) (entry : Entry) → slice_get journal number ≡ Some entry → take (number + 1) journal ≡ take number journal ++ entry ∷ []
+take_more : (journal : List Entry) (number : ℕ) (entry : Entry) → slice_get journal number ≡ Some entry →
+    take (number + 1) journal ≡ take number journal ++ entry ∷ []
 take_more journal number entry found =
     let next : number + 1 ≡ suc number = omega arith in
     ap (λ n. take n journal) next
@@ -98,8 +129,10 @@ take_more journal number entry found =
     ∙ ap (λ e. take number journal ++ e ∷ []) (get_or_from_slice_get journal number entry entry found)
 
 -- an entry more of those that a journal has
-pub one_more : (opening : SessionState) (journal : List Entry) (seen : Seen) (entry : Entry) (number : ℕ) → seen.version ≡ number → length journal ≤ most_entries →
-    slice_get journal number ≡ Some entry → IsBehind opening journal seen → IsBehind opening journal (seen_after seen entry)
+pub one_more : (opening : SessionState) (journal : List Entry) (seen : Seen) (entry : Entry) (number : ℕ) →
+    seen.version ≡ number → length journal ≤ most_entries →
+    slice_get journal number ≡ Some entry → IsBehind opening journal seen → IsBehind opening journal
+    (seen_after seen entry)
 one_more opening journal seen entry number at few found behind =
     let below = slice_get_within journal number entry found in
     let next : min (seen.version + 1) most_versions ≡ number + 1 = omega (arith, at) in
@@ -108,7 +141,8 @@ one_more opening journal seen entry number at few found behind =
       state =
           ap (λ s. apply s entry) behind.state
           ∙ sym (replayed_more opening (take seen.version journal) entry)
-          ∙ ap (replay opening) (ap (λ n. take n journal ++ entry ∷ []) at ∙ sym (take_more journal number entry found) ∙ ap (λ n. take n journal) (sym next));
+          ∙ ap (replay opening) (ap (λ n. take n journal ++ entry ∷ []) at ∙ sym (take_more journal number entry found)
+          ∙ ap (λ n. take n journal) (sym next));
     }
 
 -- the entry after so many

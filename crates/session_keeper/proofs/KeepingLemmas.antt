@@ -22,12 +22,14 @@ pub prefix_self : (entries : List Entry) → IsPrefix entries entries
 prefix_self [] = ([], refl)
 prefix_self (entry ∷ entries) = let rest = prefix_self entries in (rest.0, ap (λ es. entry ∷ es) rest.1)
 
-pub prefix_trans : (before middle after : List Entry) → IsPrefix before middle → IsPrefix middle after → IsPrefix before after
+pub prefix_trans : (before middle after : List Entry) → IsPrefix before middle → IsPrefix middle after →
+    IsPrefix before after
 prefix_trans before middle after first then =
     (first.0 ++ then.0, sym (append_assoc before first.0 then.0) ∙ (ap (λ es. es ++ then.0) first.1 ∙ then.1))
 
 -- a batch's journal begins with the one before it
-pub runs_begin : (stopped : Bool) (opening : SessionState) (before : List Entry) (actor : List ℕ) (batch : List Command) (after : Progress) →
+pub runs_begin : (stopped : Bool) (opening : SessionState) (before : List Entry) (actor : List ℕ) (batch : List Command)
+    (after : Progress) →
     Runs stopped opening before actor batch after → IsPrefix before after.journal
 runs_begin stopped opening before actor batch after ran =
     let extends = runs_extend stopped opening before actor batch after ran in (extends.0, sym extends.1)

@@ -8,8 +8,8 @@ ghost use Rattle.session_keeper.specs.Keeping.{GoesOn, RanOnce, TriedOnce, IsAud
 
 use crate::keeper::Keeper;
 use crate::receipt::{AuditReceipt, BatchReceipt};
-use session_book::Answer;
 use movement::Cell;
+use session_book::Answer;
 use session_commands::Command;
 use solver_results::{DdTable, PlayCosts};
 use std::alloc::AllocError;

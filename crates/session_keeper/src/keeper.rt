@@ -8,9 +8,8 @@ ghost use Rattle.session_keeper.specs.Keeping.{GoesOn};
 
 use published_view::{NoEntry, QueryFault};
 use session_queries::{Query, Reply};
-use user_names::Digest;
 use std::alloc::Global;
-use user_names::Name;
+use user_names::{Digest, Name};
 
 /// One who keeps a session. It stands for an accepted journal, which each call replaces by one that begins with it. None
 /// of these calls waits.

@@ -9,16 +9,16 @@ ghost use Rattle.session_keeper.specs.PlainKeeping.{IsBehind};
 use crate::command_keeper::CommandKeeper;
 use crate::keeper::Keeper;
 use crate::receipt::{AuditReceipt, BatchReceipt};
+use movement::Cell;
 use published_view::{NoEntry, QueryFault, View};
 use session_book::{Answer, Book};
-use session_state::State;
-use session_queries::{Query, Reply};
-use movement::Cell;
 use session_commands::Command;
+use session_queries::{Query, Reply};
+use session_state::State;
 use solver_results::{DdTable, PlayCosts};
-use user_names::{Digest, Name};
 use std::alloc::{AllocError, Global};
 use std::marker::Model;
+use user_names::{Digest, Name};
 
 /// One book and one view of it: what the book accepts, the view takes in before the next call.
 #[derive(Drop)]

@@ -13,9 +13,24 @@ use Rattle.pbn_records.specs.declared.deals_error.DealsError.TheVariants as deal
 use Rattle.movement.specs.Movement.{boards_of}
 use Rattle.session_object.specs.declared.object.SessionObject.{SessionObject}
 use Rattle.session_object.specs.declared.session_fault.SessionFault.{SessionFault}
-use Rattle.session_object.specs.declared.session_fault.SessionFault.TheVariants.{TooLong, Malformed, BadField, Movement, Deals, OutOfMemory}
+use Rattle.session_object.specs.declared.session_fault.SessionFault.TheVariants.{
+  TooLong,
+  Malformed,
+  BadField,
+  Movement,
+  Deals,
+  OutOfMemory,
+}
 use Rattle.session_object.specs.Session.{Session}
-use Rattle.session_object.specs.Reading.{section_of, HasNoMovementError, ReadsObject, IsRefusedObject, ReadsSession, IsSessionRefused, IsRefusedText}
+use Rattle.session_object.specs.Reading.{
+  section_of,
+  HasNoMovementError,
+  ReadsObject,
+  IsRefusedObject,
+  ReadsSession,
+  IsSessionRefused,
+  IsRefusedText,
+}
 use Rattle.session_object.proofs.SessionLemmas.{one_session}
 
 -- a text whose boards are read has no fault
@@ -39,15 +54,23 @@ none_missing text boards set board read least =
 read_or_refused : (text : List ℕ) (boards : ℕ) (set : List Board) (error : DealsError) → error ≢ deals.OutOfMemory
     → pbn.Reads text boards set → pbn.IsRefused error text boards → ⊥
 read_or_refused text boards set deals.OutOfMemory other read refused = other refl
-read_or_refused text boards set (deals.BadTag offset) other read refused = no_first_fault text boards set _ offset read refused
-read_or_refused text boards set (deals.BadDeal offset) other read refused = no_first_fault text boards set _ offset read refused
-read_or_refused text boards set (deals.HiddenHand offset) other read refused = no_first_fault text boards set _ offset read refused
-read_or_refused text boards set (deals.BadMark offset) other read refused = no_first_fault text boards set _ offset read refused
-read_or_refused text boards set (deals.DealConflict offset) other read refused = no_first_fault text boards set _ offset read refused
-read_or_refused text boards set (deals.InheritedForm offset) other read refused = no_first_fault text boards set _ offset read refused
-read_or_refused text boards set (deals.MissingBoard board) other read refused = none_missing text boards set board read refused
+read_or_refused text boards set (deals.BadTag offset) other read refused = no_first_fault text boards set _ offset read
+    refused
+read_or_refused text boards set (deals.BadDeal offset) other read refused = no_first_fault text boards set _ offset read
+    refused
+read_or_refused text boards set (deals.HiddenHand offset) other read refused = no_first_fault text boards set _ offset
+    read refused
+read_or_refused text boards set (deals.BadMark offset) other read refused = no_first_fault text boards set _ offset read
+    refused
+read_or_refused text boards set (deals.DealConflict offset) other read refused = no_first_fault text boards set _ offset
+    read refused
+read_or_refused text boards set (deals.InheritedForm offset) other read refused = no_first_fault text boards set _
+    offset read refused
+read_or_refused text boards set (deals.MissingBoard board) other read refused = none_missing text boards set board read
+    refused
 
-object_or_refused : (fault : SessionFault) (given : Option (List ℕ)) (d : Data) (object : SessionObject) → fault ≢ OutOfMemory
+object_or_refused : (fault : SessionFault) (given : Option (List ℕ)) (d : Data) (object : SessionObject) →
+    fault ≢ OutOfMemory
     → ReadsObject given d object → IsRefusedObject fault given d → ⊥
 object_or_refused TooLong given d object other read refused = refused
 object_or_refused Malformed given d object other read refused = refused
@@ -61,17 +84,24 @@ object_or_refused (Deals error) given d object other read (kind, refused) =
     (subst (λ (s : Session). pbn.IsRefused error s.pbn (boards_of (section_of s))) same refused.refused)
 object_or_refused OutOfMemory given d object other read refused = other refl
 
-text_or_refused : (fault : SessionFault) (given : Option (List ℕ)) (text : List ℕ) (object : SessionObject) → fault ≢ OutOfMemory
+text_or_refused : (fault : SessionFault) (given : Option (List ℕ)) (text : List ℕ) (object : SessionObject) →
+    fault ≢ OutOfMemory
     → ReadsSession given text object → IsRefusedText fault given text → ⊥
 text_or_refused fault given text object other read refused =
-    let same : refused.said ≡ read.said = same_Some refused.said read.said (sym refused.is.object.reads ∙ read.is.object.reads) in
-    object_or_refused fault given read.said object other read.reads (subst (IsRefusedObject fault given) same refused.refused)
+    let same : refused.said ≡ read.said = same_Some refused.said read.said
+    (sym refused.is.object.reads ∙ read.is.object.reads) in
+    object_or_refused fault given read.said object other read.reads
+    (subst (IsRefusedObject fault given) same refused.refused)
 
-pub not_refused : (given : Option (List ℕ)) (text : List ℕ) (object : SessionObject) (fault : SessionFault) → ReadsSession given text object
+pub not_refused : (given : Option (List ℕ)) (text : List ℕ) (object : SessionObject) (fault : SessionFault) →
+    ReadsSession given text object
     → fault ≢ OutOfMemory → ¬ IsSessionRefused fault given text
 not_refused given text object TooLong read other refused = omega (arith, read.is.short, refused)
 not_refused given text object Malformed read other refused = refused.none read.said read.is.object
-not_refused given text object BadField read other refused = text_or_refused BadField given text object other read refused
-not_refused given text object (Movement error) read other refused = text_or_refused (Movement error) given text object other read refused
-not_refused given text object (Deals error) read other refused = text_or_refused (Deals error) given text object other read refused
+not_refused given text object BadField read other refused = text_or_refused BadField given text object other read
+    refused
+not_refused given text object (Movement error) read other refused = text_or_refused (Movement error) given text object
+    other read refused
+not_refused given text object (Deals error) read other refused = text_or_refused (Deals error) given text object other
+    read refused
 not_refused given text object OutOfMemory read other refused = other refl

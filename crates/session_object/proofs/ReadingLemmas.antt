@@ -1,5 +1,37 @@
 -- What is read from a session object's text, and why it is refused.
-use Rattle.std.proofs.Common.{◌≡◌, ◌<◌, ◌≤◌, ◌==◌, ℕ, zero, suc, true, is_some, List, [], ◌∷◌, length, get_or, drop, append-nil, Option, Some, None, Result, Ok, Err, IfOk, IfErr, IsUtf8, refl, sym, ap, subst, ◌∙◌, arith}
+use Rattle.std.proofs.Common.{
+  ◌≡◌,
+  ◌<◌,
+  ◌≤◌,
+  ◌==◌,
+  ℕ,
+  zero,
+  suc,
+  true,
+  is_some,
+  List,
+  [],
+  ◌∷◌,
+  length,
+  get_or,
+  drop,
+  append-nil,
+  Option,
+  Some,
+  None,
+  Result,
+  Ok,
+  Err,
+  IfOk,
+  IfErr,
+  IsUtf8,
+  refl,
+  sym,
+  ap,
+  subst,
+  ◌∙◌,
+  arith,
+}
 use Rattle.std.proofs.lemmas.Str.{utf8_valid_len-IsUtf8}
 use Rattle.std.proofs.lemmas.Option.{same_Some}
 use Rattle.serde_json.specs.Data.{Data}
@@ -21,15 +53,36 @@ use Rattle.pbn_records.proofs.LawLemmas.{one_reading}
 use Rattle.session_object.specs.declared.object.SessionObject.{SessionObject}
 use Rattle.session_object.specs.declared.parts.Parts.{Parts}
 use Rattle.session_object.specs.declared.session_fault.SessionFault.{SessionFault}
-use Rattle.session_object.specs.declared.session_fault.SessionFault.TheVariants.{TooLong, Malformed, BadField, Movement, Deals, OutOfMemory}
+use Rattle.session_object.specs.declared.session_fault.SessionFault.TheVariants.{
+  TooLong,
+  Malformed,
+  BadField,
+  Movement,
+  Deals,
+  OutOfMemory,
+}
 use Rattle.session_object.specs.Session.{Session, session_of, IsSession}
-use Rattle.session_object.specs.Reading.{section_of, HasNoMovementError, ReadsObject, HasNoBoards, IsRefusedObject, most_bytes, ReadsSession, IsObjectText, IsSessionRefused, session_of_parts, fault_of_deals, FailsPart}
+use Rattle.session_object.specs.Reading.{
+  section_of,
+  HasNoMovementError,
+  ReadsObject,
+  HasNoBoards,
+  IsRefusedObject,
+  most_bytes,
+  ReadsSession,
+  IsObjectText,
+  IsSessionRefused,
+  session_of_parts,
+  fault_of_deals,
+  FailsPart,
+}
 use Rattle.session_object.proofs.SessionLemmas.{session_read, session_reads, one_session}
 
 -- ---- the elements of a list
 
 -- where an element isn't read, those from it on aren't
-none_from : {A : Type 0} (read : Data → Option A) (values : List Value) (i : ℕ) (v : Value) → i < length values → v ≡ get_or values i v
+none_from : {A : Type 0} (read : Data → Option A) (values : List Value) (i : ℕ) (v : Value) → i < length values →
+    v ≡ get_or values i v
     → read (view v) ≡ None → each read (items_view (drop i values)) ≡ None
 none_from read [] i v below is none = absurd (omega arith)
 none_from read (w ∷ values) zero v below is none =
@@ -37,12 +90,15 @@ none_from read (w ∷ values) zero v below is none =
 none_from read (w ∷ values) (suc i) v below is none = none_from read values i v (omega arith) is none
 
 -- nor is the list
-pub each_fails : {A : Type 0} (read : Data → Option A) (front : List A) (values : List Value) (i : ℕ) (v : Value) (fault : SessionFault)
+pub each_fails : {A : Type 0} (read : Data → Option A) (front : List A) (values : List Value) (i : ℕ) (v : Value)
+    (fault : SessionFault)
     → with_front front (each read (items_view (drop i values))) ≡ each read (items_view values)
-    → i < length values → v ≡ get_or values i v → FailsPart fault (read (view v)) → FailsPart fault (each read (items_view values))
+    → i < length values → v ≡ get_or values i v → FailsPart fault (read (view v)) → FailsPart fault
+    (each read (items_view values))
 each_fails read front values i v TooLong kept below is fails = fails
 each_fails read front values i v Malformed kept below is fails = fails
-each_fails read front values i v BadField kept below is fails = sym kept ∙ ap (with_front front) (none_from read values i v below is fails)
+each_fails read front values i v BadField kept below is fails = sym kept ∙ ap (with_front front)
+    (none_from read values i v below is fails)
 each_fails read front values i v (Movement error) kept below is fails = fails
 each_fails read front values i v (Deals error) kept below is fails = fails
 each_fails read front values i v OutOfMemory kept below is fails = tt
@@ -78,22 +134,33 @@ module _ (given : Option (List ℕ)) (d : Data) where
       → IsFirst number_of (λ other. Refuses other (section_of (session_of_parts parts))) error
       → IsRefusedObject (Movement error) given d
   refused_section parts error said refused =
-      record { session = session_of_parts parts; says = session_read given d (session_of_parts parts) said; refused = refused }
+      record {
+        session = session_of_parts parts;
+        says = session_read given d (session_of_parts parts) said;
+        refused =
+            refused;
+      }
 
-  module _ (session : Session) (says : IsSession given d session) (allowed : HasNoMovementError (section_of session)) where
-    refused_by : (error : DealsError) → pbn.IsRefused error session.pbn (boards_of (section_of session)) → HasNoBoards given d error
-    refused_by error refused = record { session = session; says = says; allowed = allowed; refused = refused }
+  module _ (session : Session) (says : IsSession given d session) (allowed : HasNoMovementError (section_of session))
+    where
+      refused_by : (error : DealsError) → pbn.IsRefused error session.pbn (boards_of (section_of session)) →
+          HasNoBoards given d error
+      refused_by error refused = record { session = session; says = says; allowed = allowed; refused = refused }
 
-    by_error : (error : DealsError) → pbn.IsRefused error session.pbn (boards_of (section_of session))
-        → IsRefusedObject (fault_of_deals error) given d
-    by_error deals.OutOfMemory refused = tt
-    by_error (deals.BadTag offset) refused = (λ same. absurd (cc), refused_by (deals.BadTag offset) refused)
-    by_error (deals.BadDeal offset) refused = (λ same. absurd (cc), refused_by (deals.BadDeal offset) refused)
-    by_error (deals.HiddenHand offset) refused = (λ same. absurd (cc), refused_by (deals.HiddenHand offset) refused)
-    by_error (deals.BadMark offset) refused = (λ same. absurd (cc), refused_by (deals.BadMark offset) refused)
-    by_error (deals.DealConflict offset) refused = (λ same. absurd (cc), refused_by (deals.DealConflict offset) refused)
-    by_error (deals.InheritedForm offset) refused = (λ same. absurd (cc), refused_by (deals.InheritedForm offset) refused)
-    by_error (deals.MissingBoard board) refused = (λ same. absurd (cc), refused_by (deals.MissingBoard board) refused)
+      by_error : (error : DealsError) → pbn.IsRefused error session.pbn (boards_of (section_of session))
+          → IsRefusedObject (fault_of_deals error) given d
+      by_error deals.OutOfMemory refused = tt
+      by_error (deals.BadTag offset) refused = (λ same. absurd (cc), refused_by (deals.BadTag offset) refused)
+      by_error (deals.BadDeal offset) refused = (λ same. absurd (cc), refused_by (deals.BadDeal offset) refused)
+      by_error (deals.HiddenHand offset) refused = (λ same. absurd (cc), refused_by (deals.HiddenHand offset) refused)
+      by_error (deals.BadMark offset) refused = (λ same. absurd (cc), refused_by (deals.BadMark offset) refused)
+      by_error (deals.DealConflict offset) refused = (λ same. absurd (cc), refused_by (deals.DealConflict offset) refused)
+      by_error (deals.InheritedForm offset) refused = (
+        λ same. absurd (cc),
+        refused_by (deals.InheritedForm offset)
+            refused,
+      )
+      by_error (deals.MissingBoard board) refused = (λ same. absurd (cc), refused_by (deals.MissingBoard board) refused)
 
   pub refused_boards : (parts : Parts) (section : Section) (boards : ℕ) (error : DealsError) (fault : SessionFault)
       → fault ≡ fault_of_deals error → session_of given d ≡ Some (session_of_parts parts)
@@ -101,13 +168,18 @@ module _ (given : Option (List ℕ)) (d : Data) where
       → pbn.IsRefused error parts.pbn.now boards → IsRefusedObject fault given d
   refused_boards parts section boards error fault is said same allowed many refused =
       subst (λ f. IsRefusedObject f given d) (sym is)
-      (by_error (session_of_parts parts) (session_read given d (session_of_parts parts) said) (subst HasNoMovementError same allowed) error
+      (by_error (session_of_parts parts) (session_read given d (session_of_parts parts) said)
+      (subst HasNoMovementError same allowed) error
       (subst (pbn.IsRefused error parts.pbn.now) (many ∙ ap boards_of same) refused))
 
-  pub reads_object : (parts : Parts) (section : Section) (many : ℕ) (boards : List Board) → session_of given d ≡ Some (session_of_parts parts)
+  pub reads_object : (parts : Parts) (section : Section) (many : ℕ) (boards : List Board) → session_of given d ≡ Some
+      (session_of_parts parts)
       → section ≡ section_of (session_of_parts parts) → HasNoMovementError section → many ≡ boards_of section
       → pbn.Reads parts.pbn.now many boards
-      → ReadsObject given d (record { config = record { movement = section; boards = boards; users = parts.users }; budget = parts.budget })
+      → ReadsObject given d (record {
+        config = record { movement = section; boards = boards; users = parts.users };
+        budget = parts.budget;
+      })
   reads_object parts section many boards said same allowed is_many read = record {
     session = session_of_parts parts;
     says = session_read given d (session_of_parts parts) said;
@@ -132,19 +204,22 @@ refused_text OutOfMemory given text d is refused = tt
 same_number : (m n : ℕ) → m ≡ n → (m == n) ≡ true
 same_number m n h = grind arith
 
-pub object_text : (text : List ℕ) (d : Data) → length text ≤ most_bytes → IsUtf8 text → read text ≡ Some d → is_some (as_object d) ≡ true
+pub object_text : (text : List ℕ) (d : Data) → length text ≤ most_bytes → IsUtf8 text → read text ≡ Some d →
+    is_some (as_object d) ≡ true
     → IsObjectText text d
 object_text text d short utf8 reads members = record {
   short = short;
   object = record { utf8 = same_number _ _ (utf8_valid_len-IsUtf8 text utf8); reads = reads; members = members };
 }
 
-pub refused_in : {A : Type 0} (result : Result A SessionFault) (given : Option (List ℕ)) (text : List ℕ) (d : Data) → IsObjectText text d
+pub refused_in : {A : Type 0} (result : Result A SessionFault) (given : Option (List ℕ)) (text : List ℕ) (d : Data) →
+    IsObjectText text d
     → IfErr result (λ fault. IsRefusedObject fault given d) → IfErr result (λ fault. IsSessionRefused fault given text)
 refused_in (Ok x) given text d is refused = tt
 refused_in (Err fault) given text d is refused = refused_text fault given text d is refused
 
-pub read_in : (result : Result SessionObject SessionFault) (given : Option (List ℕ)) (text : List ℕ) (d : Data) → IsObjectText text d
+pub read_in : (result : Result SessionObject SessionFault) (given : Option (List ℕ)) (text : List ℕ) (d : Data) →
+    IsObjectText text d
     → IfOk result (ReadsObject given d) → IfOk result (ReadsSession given text)
 read_in (Ok x) given text d is reads = record { said = d; is = is; reads = reads }
 read_in (Err fault) given text d is reads = tt
@@ -152,19 +227,28 @@ read_in (Err fault) given text d is reads = tt
 -- ---- one reading
 
 module _ (given : Option (List ℕ)) where
-  one_object : (d : Data) (one other : SessionObject) → ReadsObject given d one → ReadsObject given d other → one ≡ other
+  one_object : (d : Data) (one other : SessionObject) → ReadsObject given d one → ReadsObject given d other →
+      one ≡ other
   one_object d one other first second =
-      let session : first.session ≡ second.session = one_session given d first.session second.session first.says second.says in
+      let session : first.session ≡ second.session = one_session given d first.session second.session first.says
+      second.says in
       let again : pbn.Reads first.session.pbn (boards_of (section_of first.session)) other.config.boards =
-      subst (λ (s : Session). pbn.Reads s.pbn (boards_of (section_of s)) other.config.boards) (sym session) second.boards in
+      subst (λ (s : Session). pbn.Reads s.pbn (boards_of (section_of s)) other.config.boards) (sym session)
+      second.boards in
       let boards : one.config.boards ≡ other.config.boards =
-      one_reading first.session.pbn (boards_of (section_of first.session)) one.config.boards other.config.boards first.boards again in
-      let movement : one.config.movement ≡ other.config.movement = first.movement ∙ ap section_of session ∙ sym second.movement in
-      let users : one.config.users ≡ other.config.users = first.users ∙ ap (λ (s : Session). s.users) session ∙ sym second.users in
-      let budget : one.budget ≡ other.budget = first.budget ∙ ap (λ (s : Session). s.budget) session ∙ sym second.budget in
+      one_reading first.session.pbn (boards_of (section_of first.session)) one.config.boards other.config.boards
+      first.boards again in
+      let movement : one.config.movement ≡ other.config.movement = first.movement ∙ ap section_of session
+      ∙ sym second.movement in
+      let users : one.config.users ≡ other.config.users = first.users ∙ ap (λ (s : Session). s.users) session
+      ∙ sym second.users in
+      let budget : one.budget ≡ other.budget = first.budget ∙ ap (λ (s : Session). s.budget) session ∙ sym second.budget
+      in
       λ i. record { config = record { movement = movement i; boards = boards i; users = users i }; budget = budget i }
 
-  pub one_text : (text : List ℕ) (one other : SessionObject) → ReadsSession given text one → ReadsSession given text other → one ≡ other
+  pub one_text : (text : List ℕ) (one other : SessionObject) → ReadsSession given text one → ReadsSession given text
+      other → one ≡ other
   one_text text one other first second =
-      let same : first.said ≡ second.said = same_Some first.said second.said (sym first.is.object.reads ∙ second.is.object.reads) in
+      let same : first.said ≡ second.said = same_Some first.said second.said
+      (sym first.is.object.reads ∙ second.is.object.reads) in
       one_object first.said one other first.reads (subst (λ d. ReadsObject given d other) (sym same) second.reads)

@@ -6,21 +6,45 @@ use Rattle.serde_json.specs.Find.{get}
 use Rattle.session_opening.specs.declared.new_user.NewUser.{NewUser}
 use Rattle.json_fields.specs.User.{user_name, digest, user_roles, pair, place}
 use Rattle.json_fields.specs.Field.{limited, numbered, written}
-use Rattle.json_fields.proofs.FormLemmas.{Agrees, AgreesForm, form_agrees, with_agrees, formed_read, formed_reads, numbered_agrees}
+use Rattle.json_fields.proofs.FormLemmas.{
+  Agrees,
+  AgreesForm,
+  form_agrees,
+  with_agrees,
+  formed_read,
+  formed_reads,
+  numbered_agrees,
+}
 use Rattle.json_fields.proofs.FormLemmas.{limited_agrees, called_agrees, written_agrees, listed_agrees}
 use Rattle.json_fields.proofs.UserLemmas.{digest_agrees, user_roles_agree, pair_agrees, place_agrees}
-use Rattle.session_object.specs.Session.{Session, seated, unseated, user_form, new_user_of, IsUser, users, most_visits, with_boards, beside_boards, session_form, session_of, IsSession}
+use Rattle.session_object.specs.Session.{
+  Session,
+  seated,
+  unseated,
+  user_form,
+  new_user_of,
+  IsUser,
+  users,
+  most_visits,
+  with_boards,
+  beside_boards,
+  session_form,
+  session_of,
+  IsSession,
+}
 
 -- ---- users
 
 seated_agrees : AgreesForm seated
 seated_agrees =
-    with_agrees _ user_roles (with_agrees _ place (with_agrees _ pair (with_agrees _ user_name (with_agrees _ digest (form_agrees [] _)
+    with_agrees _ user_roles
+    (with_agrees _ place (with_agrees _ pair (with_agrees _ user_name (with_agrees _ digest (form_agrees [] _)
     digest_agrees) (called_agrees _)) pair_agrees) place_agrees) user_roles_agree
 
 unseated_agrees : AgreesForm unseated
 unseated_agrees =
-    with_agrees _ user_roles (with_agrees _ user_name (with_agrees _ digest (form_agrees [] _) digest_agrees) (called_agrees _)) user_roles_agree
+    with_agrees _ user_roles (with_agrees _ user_name (with_agrees _ digest (form_agrees [] _) digest_agrees)
+    (called_agrees _)) user_roles_agree
 
 user_agrees : (o : Option Data) → AgreesForm (user_form o)
 user_agrees None = unseated_agrees
@@ -41,13 +65,15 @@ users_agree = listed_agrees (codes "users") new_user_of IsUser user_read user_re
 
 with_boards_agrees : AgreesForm with_boards
 with_boards_agrees =
-    with_agrees _ users (with_agrees _ (numbered (codes "tables")) (with_agrees _ (numbered (codes "rounds")) (with_agrees _ (numbered (codes "per_set"))
+    with_agrees _ users (with_agrees _ (numbered (codes "tables")) (with_agrees _ (numbered (codes "rounds"))
+    (with_agrees _ (numbered (codes "per_set"))
     (with_agrees _ (written (codes "pbn")) (with_agrees _ (limited (codes "budget") most_visits) (form_agrees [] _)
     (limited_agrees _ _)) (written_agrees _)) (numbered_agrees _)) (numbered_agrees _)) (numbered_agrees _)) users_agree
 
 beside_boards_agrees : (given : List ℕ) → AgreesForm (beside_boards given)
 beside_boards_agrees given =
-    with_agrees _ users (with_agrees _ (numbered (codes "tables")) (with_agrees _ (numbered (codes "rounds")) (with_agrees _ (numbered (codes "per_set"))
+    with_agrees _ users (with_agrees _ (numbered (codes "tables")) (with_agrees _ (numbered (codes "rounds"))
+    (with_agrees _ (numbered (codes "per_set"))
     (with_agrees _ (limited (codes "budget") most_visits) (form_agrees [] _)
     (limited_agrees _ _)) (numbered_agrees _)) (numbered_agrees _)) (numbered_agrees _)) users_agree
 

@@ -14,7 +14,14 @@ use Rattle.session_object.specs.declared.object.SessionObject.{SessionObject}
 use Rattle.session_object.specs.declared.parts.Parts.{Parts}
 use Rattle.session_object.specs.declared.reading.TheConstants.{MOST_BYTES}
 use Rattle.session_object.specs.declared.session_fault.SessionFault.{SessionFault}
-use Rattle.session_object.specs.declared.session_fault.SessionFault.TheVariants.{TooLong, Malformed, BadField, Movement, Deals, OutOfMemory}
+use Rattle.session_object.specs.declared.session_fault.SessionFault.TheVariants.{
+  TooLong,
+  Malformed,
+  BadField,
+  Movement,
+  Deals,
+  OutOfMemory,
+}
 use Rattle.session_object.specs.Session.{Session, IsSession}
 
 -- how many bytes the text of a session object has at most

@@ -11,8 +11,8 @@ use crate::user::users_of;
 use json_fields::{has_only, limited_at, small_number_at, text_at};
 use serde_json::Value;
 use session_opening::NewUser;
-use table_terms::Items;
 use std::alloc::Global;
+use table_terms::Items;
 
 /// The most visits of a solver's call.
 const MOST_VISITS: u64 = 1_000_000_000_000_000_000;

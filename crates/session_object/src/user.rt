@@ -13,9 +13,9 @@ use disclosure_rules::Seat;
 use json_fields::{has_only, name_at, read_digest, read_pair, read_place, read_role};
 use serde_json::Value;
 use session_opening::NewUser;
-use table_terms::Items;
 use session_roles::Role;
 use std::alloc::Global;
+use table_terms::Items;
 use user_names::{Digest, Name};
 
 fn roles_in(alloc: Global, list: &[Value]) -> Result<Vec<Role>, SessionFault>

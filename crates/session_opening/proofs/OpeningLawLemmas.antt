@@ -1,5 +1,27 @@
 -- What holds of every session that opens.
-use Rattle.std.proofs.Common.{◌≡◌, ℕ, ◌+◌, ◌<◌, ◌≤◌, zero, suc, true, List, [], ◌∷◌, length, take, get_or, None, refl, sym, ap, subst, ◌∙◌, arith}
+use Rattle.std.proofs.Common.{
+  ◌≡◌,
+  ℕ,
+  ◌+◌,
+  ◌<◌,
+  ◌≤◌,
+  zero,
+  suc,
+  true,
+  List,
+  [],
+  ◌∷◌,
+  length,
+  take,
+  get_or,
+  None,
+  refl,
+  sym,
+  ap,
+  subst,
+  ◌∙◌,
+  arith,
+}
 use Rattle.std.specs.Prelude.{not}
 use Rattle.std.specs.Bool.{then_some}
 use Rattle.std.proofs.lemmas.List.{map_more, take_all}
@@ -23,7 +45,8 @@ use Rattle.session_opening.proofs.OpeningLemmas.{given_at}
 use Rattle.session_opening.proofs.OpeningRefusalLemmas.{first_append, none_parts, not_met, was_met, users_join}
 
 -- each user who joins leaves the roles apart
-apart_at : (users : List NewUser) → JoinInTurn users → (k : ℕ) → k ≤ length users → KeepsSeparation (opening_roles (take k users))
+apart_at : (users : List NewUser) → JoinInTurn users → (k : ℕ) → k ≤ length users → KeepsSeparation
+    (opening_roles (take k users))
 apart_at users join zero within = valid_opening.separate
 apart_at users join (suc k) within =
     let below : k < length users = omega (arith, within) in
@@ -35,7 +58,8 @@ apart_at users join (suc k) within =
     ∙ ap (λ accounts. record before { accounts = accounts }) (sym (map_more account_of users k user below)) in
     let one_on : k + 1 ≡ suc k = omega arith in
     subst (λ n. KeepsSeparation (opening_roles (take n users))) one_on
-    (subst KeepsSeparation joined (apart_so_far before next (join k user below) (apart_at users join k (omega (arith, within))) (length next.roles)))
+    (subst KeepsSeparation joined (apart_so_far before next (join k user below)
+    (apart_at users join k (omega (arith, within))) (length next.roles)))
 
 pub keeps_separation : (config : Config) → opening_refusal config ≡ None → KeepsSeparation (opening_of config).roles
 keeps_separation config none =
@@ -50,11 +74,13 @@ somebody roles found =
     (λ account. decides_is_reached roles.pairs account.assigned Administrator) roles.accounts).0 found in
     (some.1.name, (some.0, some.1, some.2, some.3, (refl, some.4)))
 
-pub has_one : (config : Config) → opening_refusal config ≡ None → (name : List ℕ) × IsAuthorized (opening_of config).roles name Administrator
+pub has_one : (config : Config) → opening_refusal config ≡ None → (name : List ℕ) × IsAuthorized
+    (opening_of config).roles name Administrator
 unfolding opening_refusal
 has_one config none =
     let last = then_some (not (has_administrator (opening_roles config.users))) LastAdministrator in
     let causes = users_causes config.movement [] config.users in
     let of_all = (none_parts _ _ (sym (first_append causes (last ∷ [])) ∙ none)).1 in
     somebody (opening_roles config.users)
-    (was_met (has_administrator (opening_roles config.users)) (not_met _ LastAdministrator (none_parts last None of_all).0))
+    (was_met (has_administrator (opening_roles config.users))
+    (not_met _ LastAdministrator (none_parts last None of_all).0))

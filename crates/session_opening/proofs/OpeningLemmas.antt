@@ -1,5 +1,30 @@
 -- What a session opens with, board by board and user by user.
-use Rattle.std.proofs.Common.{◌≡◌, ℕ, zero, suc, ◌+◌, ◌-◌, ◌<◌, ◌≤◌, List, [], ◌∷◌, ◌++◌, map, length, take, get_or, replicate, refl, sym, ap, ◌∙◌, arith, length-append, length-take-le}
+use Rattle.std.proofs.Common.{
+  ◌≡◌,
+  ℕ,
+  zero,
+  suc,
+  ◌+◌,
+  ◌-◌,
+  ◌<◌,
+  ◌≤◌,
+  List,
+  [],
+  ◌∷◌,
+  ◌++◌,
+  map,
+  length,
+  take,
+  get_or,
+  replicate,
+  refl,
+  sym,
+  ap,
+  ◌∙◌,
+  arith,
+  length-append,
+  length-take-le,
+}
 use Rattle.std.specs.Prelude.{Some, slice_set, slice_get}
 use Rattle.std.proofs.Math.Seq.{set-append_seam}
 use Rattle.std.proofs.lemmas.List.{length-map, length-replicate, map_more, take_more, append_assoc}
@@ -18,7 +43,8 @@ places boards few =
     length-append (map marks_of boards) (replicate (most_boards - length boards) no_marks) ∙ omega (arith, marked, rest)
 
 -- what stands at a place of a list
-pub given_at : {X : Type 0} (xs : List X) (i : ℕ) → i < length xs → (x : X) × (slice_get xs i ≡ Some x) × (get_or xs i x ≡ x)
+pub given_at : {X : Type 0} (xs : List X) (i : ℕ) → i < length xs → (x : X) × (slice_get xs i ≡ Some x) ×
+    (get_or xs i x ≡ x)
 given_at [] i within = absurd (omega arith)
 given_at (x ∷ xs) zero within = (x, refl, refl)
 given_at (x ∷ xs) (suc i) within = given_at xs i (omega (arith, within))

@@ -1,5 +1,34 @@
 -- The first cause not to open a session, and what holds where there is none.
-use Rattle.std.proofs.Common.{◌≡◌, ℕ, ◌+◌, ◌<◌, ◌≤◌, Bool, true, false, zero, suc, List, [], ◌∷◌, ◌++◌, map, length, take, drop, get_or, refl, sym, ap, subst, ◌∙◌, arith, length-take-le, inl, inr}
+use Rattle.std.proofs.Common.{
+  ◌≡◌,
+  ℕ,
+  ◌+◌,
+  ◌<◌,
+  ◌≤◌,
+  Bool,
+  true,
+  false,
+  zero,
+  suc,
+  List,
+  [],
+  ◌∷◌,
+  ◌++◌,
+  map,
+  length,
+  take,
+  drop,
+  get_or,
+  refl,
+  sym,
+  ap,
+  subst,
+  ◌∙◌,
+  arith,
+  length-take-le,
+  inl,
+  inr,
+}
 use Rattle.std.specs.Prelude.{Option, Some, None, not, is_some, nat_le, find, ◌||◌}
 use Rattle.std.specs.Bool.{then_some}
 use Rattle.std.specs.List.{list_any, cons_option}
@@ -19,17 +48,31 @@ use Rattle.session_roles.specs.declared.separation_set.SeparationSet.{Separation
 use Rattle.session_opening.specs.declared.config.Config.{Config}
 use Rattle.session_opening.specs.declared.new_user.NewUser.{NewUser}
 use Rattle.session_opening.specs.declared.opening_refusal.OpeningRefusal.{OpeningRefusal}
-use Rattle.session_opening.specs.declared.opening_refusal.OpeningRefusal.TheVariants.{BadName, UserExists, TooManyUsers, AlreadyAssigned, Separation, LastAdministrator}
+use Rattle.session_opening.specs.declared.opening_refusal.OpeningRefusal.TheVariants.{
+  BadName,
+  UserExists,
+  TooManyUsers,
+  AlreadyAssigned,
+  Separation,
+  LastAdministrator,
+}
 use Rattle.session_state.specs.Accounts.{has_account, has_administrator}
 use Rattle.session_opening.specs.Joining.{MayJoin, JoinInTurn}
 use Rattle.session_opening.specs.NewUser.{account_of, new_seated, repeats, authorized_at_opening}
 use Rattle.session_opening.specs.Opening.{opening_roles, opening_seats}
-use Rattle.session_opening.specs.OpeningRefusal.{account_causes, seat_causes, user_causes, users_causes, opening_refusal}
+use Rattle.session_opening.specs.OpeningRefusal.{
+  account_causes,
+  seat_causes,
+  user_causes,
+  users_causes,
+  opening_refusal,
+}
 use Rattle.session_state.specs.Refusal.{first_cause}
 use Rattle.session_state.specs.Seats.{same_seat, is_taken}
 
 -- the first of two lists is the first of the one or, where that has none, of the other
-pub first_append : {C : Type 0} (xs ys : List (Option C)) → first_cause (xs ++ ys) ≡ option_or (first_cause xs) (first_cause ys)
+pub first_append : {C : Type 0} (xs ys : List (Option C)) → first_cause (xs ++ ys) ≡ option_or (first_cause xs)
+    (first_cause ys)
 first_append [] ys = refl
 first_append (None ∷ xs) ys = first_append xs ys
 first_append (Some cause ∷ xs) ys = refl
@@ -43,11 +86,13 @@ none_parts (Some cause) rest none = absurd cc
 none_parts None rest none = (refl, none)
 
 -- where the first list has a cause, it is the first; where it has none, the first of the other is
-pub found_first : {C : Type 0} (xs ys : List (Option C)) (found : Option C) → found ≡ first_cause xs → is_some found ≡ true → first_cause (xs ++ ys) ≡ found
+pub found_first : {C : Type 0} (xs ys : List (Option C)) (found : Option C) → found ≡ first_cause xs →
+    is_some found ≡ true → first_cause (xs ++ ys) ≡ found
 found_first xs ys None is some = absurd (false≢true some)
 found_first xs ys (Some cause) is some = first_append xs ys ∙ ap (λ found. option_or found (first_cause ys)) (sym is)
 
-pub found_later : {C : Type 0} (xs ys : List (Option C)) (found : Option C) → found ≡ first_cause xs → is_some found ≡ false → first_cause (xs ++ ys) ≡ first_cause ys
+pub found_later : {C : Type 0} (xs ys : List (Option C)) (found : Option C) → found ≡ first_cause xs →
+    is_some found ≡ false → first_cause (xs ++ ys) ≡ first_cause ys
 found_later xs ys (Some cause) is some = absurd (false≢true (sym some))
 found_later xs ys None is some = first_append xs ys ∙ ap (λ found. option_or found (first_cause ys)) (sym is)
 
@@ -57,22 +102,30 @@ causes_on movement users place = users_causes movement (take place users) (drop 
 
 -- the user at a place, and those after it
 pub causes_more : (movement : Section) (users : List NewUser) (place : ℕ) (d : NewUser) → place < length users →
-    causes_on movement users place ≡ user_causes movement (take place users) (get_or users place d) ++ causes_on movement users (place + 1)
+    causes_on movement users place ≡ user_causes movement (take place users) (get_or users place d)
+    ++ causes_on movement users (place + 1)
 causes_more movement users place d within =
     ap (users_causes movement (take place users)) (drop_more users place d within)
-    ∙ ap (λ before. user_causes movement (take place users) (get_or users place d) ++ users_causes movement before (drop (place + 1) users)) (sym (take_more users place d within))
+    ∙ ap (λ before. user_causes movement (take place users) (get_or users place d) ++ users_causes movement before
+    (drop (place + 1) users)) (sym (take_more users place d within))
 
 -- where the users meet no cause, none of them meets one
-none_of_each : (movement : Section) (before users : List NewUser) → first_cause (users_causes movement before users) ≡ None → (k : ℕ) (d : NewUser) → k < length users →
+none_of_each : (movement : Section) (before users : List NewUser) → first_cause (users_causes movement before users) ≡
+    None → (k : ℕ) (d : NewUser) → k < length users →
     first_cause (user_causes movement (before ++ take k users) (get_or users k d)) ≡ None
 none_of_each movement before [] none k d within = absurd (omega arith)
 none_of_each movement before (user ∷ users) none zero d within =
     ap (λ list. first_cause (user_causes movement list user)) (append-nil before)
-    ∙ (none_parts _ _ (sym (first_append (user_causes movement before user) (users_causes movement (before ++ user ∷ []) users)) ∙ none)).0
+    ∙ (none_parts _ _
+    (sym (first_append (user_causes movement before user) (users_causes movement (before ++ user ∷ []) users))
+    ∙ none)).0
 none_of_each movement before (user ∷ users) none (suc k) d within =
-    ap (λ list. first_cause (user_causes movement list (get_or users k d))) (sym (append_assoc before (user ∷ []) (take k users)))
+    ap (λ list. first_cause (user_causes movement list (get_or users k d)))
+    (sym (append_assoc before (user ∷ []) (take k users)))
     ∙ none_of_each movement (before ++ user ∷ []) users
-    (none_parts _ _ (sym (first_append (user_causes movement before user) (users_causes movement (before ++ user ∷ []) users)) ∙ none)).1 k d (omega (arith, within))
+    (none_parts _ _
+    (sym (first_append (user_causes movement before user) (users_causes movement (before ++ user ∷ []) users))
+    ∙ none)).1 k d (omega (arith, within))
 
 pub not_met : {C : Type 0} (met : Bool) (cause : C) → then_some met cause ≡ None → met ≡ false
 not_met true cause none = absurd cc
@@ -93,7 +146,8 @@ above n none = elim (cases_lt n most_users) [
 ]
 
 -- a user of whose account no cause is met may join
-account_joins : (before : List NewUser) (user : NewUser) → first_cause (account_causes before user) ≡ None → MayJoin (opening_roles before) user
+account_joins : (before : List NewUser) (user : NewUser) → first_cause (account_causes before user) ≡ None →
+    MayJoin (opening_roles before) user
 account_joins before user none =
     let a = none_parts (then_some (not (is_user_name user.name)) BadName) _ none in
     let b = none_parts (then_some (has_account (opening_roles before) user.name) UserExists) _ a.1 in
@@ -103,7 +157,8 @@ account_joins before user none =
     record {
       named = was_met (is_user_name user.name) (not_met _ BadName a.0);
       new = not_met _ UserExists b.0;
-      room = subst (λ n. n < most_users) (sym (length-map before account_of)) (above (length before) (not_met _ TooManyUsers c.0));
+      room = subst (λ n. n < most_users) (sym (length-map before account_of))
+          (above (length before) (not_met _ TooManyUsers c.0));
       once = not_met _ AlreadyAssigned d.0;
       apart = no_set _ e.0;
     }
@@ -115,14 +170,20 @@ module _ (config : Config) (none : opening_refusal config ≡ None) where
   unfolding opening_refusal
   of_each k d within =
       let causes = users_causes config.movement [] config.users in
-      let of_users = (none_parts _ _ (sym (first_append causes (then_some (not (has_administrator (opening_roles config.users))) LastAdministrator ∷ [])) ∙ none)).0 in
+      let of_users =
+      (none_parts _ _
+      (sym (first_append causes (then_some (not (has_administrator (opening_roles config.users))) LastAdministrator
+      ∷ [])) ∙ none)).0 in
       none_of_each config.movement [] config.users of_users k d within
 
   account_then_seat : (k : ℕ) (d : NewUser) → k < length config.users →
       (first_cause (account_causes (take k config.users) (get_or config.users k d)) ≡ None)
-      × (first_cause (seat_causes config.movement (take k config.users) (get_or config.users k d) (get_or config.users k d).seat) ≡ None)
+      × (first_cause (seat_causes config.movement (take k config.users) (get_or config.users k d)
+      (get_or config.users k d).seat) ≡ None)
   account_then_seat k d within =
-      none_parts _ _ (sym (first_append (account_causes (take k config.users) (get_or config.users k d)) (seat_causes config.movement (take k config.users) (get_or config.users k d) (get_or config.users k d).seat)) ∙ of_each k d within)
+      none_parts _ _ (sym (first_append (account_causes (take k config.users) (get_or config.users k d))
+      (seat_causes config.movement (take k config.users) (get_or config.users k d) (get_or config.users k d).seat))
+      ∙ of_each k d within)
 
   -- so each user may join those before it
   pub users_join : JoinInTurn config.users
@@ -130,7 +191,8 @@ module _ (config : Config) (none : opening_refusal config ≡ None) where
 
   -- and none of the causes in its seat is met
   pub users_sit : (k : ℕ) (d : NewUser) → k < length config.users →
-      first_cause (seat_causes config.movement (take k config.users) (get_or config.users k d) (get_or config.users k d).seat) ≡ None
+      first_cause (seat_causes config.movement (take k config.users) (get_or config.users k d)
+      (get_or config.users k d).seat) ≡ None
   users_sit k d within = (account_then_seat k d within).1
 
 -- so there are not too many
@@ -139,7 +201,8 @@ users_are_few [] join = omega arith
 users_are_few (user ∷ users) join =
     let all = user ∷ users in
     let last = join (length users) user (omega arith) in
-    let many : length (map account_of (take (length users) all)) ≡ length users = length-map (take (length users) all) account_of ∙ length-take-le (length users) all (omega arith) in
+    let many : length (map account_of (take (length users) all)) ≡ length users = length-map (take (length users) all)
+    account_of ∙ length-take-le (length users) all (omega arith) in
     omega (arith, last.room, many)
 
 -- what is looked for among the accounts is looked for among the users
@@ -147,22 +210,28 @@ any_map : {X Y : Type 0} (p : Y → Bool) (f : X → Y) (xs : List X) → list_a
 any_map p f [] = refl
 any_map p f (x ∷ xs) = ap (λ b. p (f x) || b) (any_map p f xs)
 
-pub account_among : (users : List NewUser) (name : List ℕ) → has_account (opening_roles users) name ≡ list_any (λ user. same_name user.name name) users
+pub account_among : (users : List NewUser) (name : List ℕ) → has_account (opening_roles users) name ≡ list_any
+    (λ user. same_name user.name name) users
 account_among users name = any_map (λ account. same_name account.name name) account_of users
 
-pub administrator_among : (users : List NewUser) → has_administrator (opening_roles users) ≡ list_any (λ user. has (authorized_at_opening user) Administrator) users
-administrator_among users = any_map (λ account. has (reached opening_pairs account.assigned) Administrator) account_of users
+pub administrator_among : (users : List NewUser) → has_administrator (opening_roles users) ≡ list_any
+    (λ user. has (authorized_at_opening user) Administrator) users
+administrator_among users = any_map (λ account. has (reached opening_pairs account.assigned) Administrator) account_of
+    users
 
 -- and what is looked for among the seats
-taken_first : (first : Option Seated) (seats : List Seated) (seat : Seat) → is_taken (cons_option first seats) seat ≡ (is_taken (cons_option first []) seat || is_taken seats seat)
+taken_first : (first : Option Seated) (seats : List Seated) (seat : Seat) → is_taken (cons_option first seats) seat ≡
+    (is_taken (cons_option first []) seat || is_taken seats seat)
 taken_first None seats seat = refl
-taken_first (Some seated) seats seat = ap (λ b. b || is_taken seats seat) (sym (or_false_right (same_seat seated.seat seat)))
+taken_first (Some seated) seats seat = ap (λ b. b || is_taken seats seat)
+    (sym (or_false_right (same_seat seated.seat seat)))
   where
     or_false_right : (b : Bool) → (b || false) ≡ b
     or_false_right true = refl
     or_false_right false = refl
 
-pub taken_among : (users : List NewUser) (seat : Seat) → is_taken (opening_seats users) seat ≡ list_any (λ user. is_taken (opening_seats (user ∷ [])) seat) users
+pub taken_among : (users : List NewUser) (seat : Seat) → is_taken (opening_seats users) seat ≡ list_any
+    (λ user. is_taken (opening_seats (user ∷ [])) seat) users
 taken_among [] seat = refl
 taken_among (user ∷ users) seat =
     taken_first (new_seated user) (opening_seats users) seat

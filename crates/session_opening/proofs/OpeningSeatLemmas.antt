@@ -1,5 +1,28 @@
 -- Users who join in turn have at most one seat each, and each of them has an account.
-use Rattle.std.proofs.Common.{◌≡◌, ℕ, zero, suc, ◌+◌, ◌<◌, ◌≤◌, true, false, List, [], ◌∷◌, ◌++◌, length, take, get_or, refl, sym, ap, subst, ◌∙◌, arith}
+use Rattle.std.proofs.Common.{
+  ◌≡◌,
+  ℕ,
+  zero,
+  suc,
+  ◌+◌,
+  ◌<◌,
+  ◌≤◌,
+  true,
+  false,
+  List,
+  [],
+  ◌∷◌,
+  ◌++◌,
+  length,
+  take,
+  get_or,
+  refl,
+  sym,
+  ap,
+  subst,
+  ◌∙◌,
+  arith,
+}
 use Rattle.std.specs.Prelude.{◌||◌, Option, Some, None}
 use Rattle.std.specs.List.{list_any}
 use Rattle.std.proofs.lemmas.Bool.{both_ways, false≢true, false_from_ne_true}
@@ -22,7 +45,8 @@ use Rattle.session_opening.proofs.OpeningLemmas.{seats_more}
 use Rattle.session_state.proofs.SeatLemmas.{one_more_sits, still_seated}
 
 -- one user more, who sits or doesn't
-module _ (roles : RoleData) (seats : List Seated) (user : NewUser) (are : AreSeated roles seats) (new : has_account roles user.name ≡ false) where
+module _ (roles : RoleData) (seats : List Seated) (user : NewUser) (are : AreSeated roles seats)
+    (new : has_account roles user.name ≡ false) where
   still_there : (name : List ℕ) → has_account roles name ≡ true → has_account (with_user roles user) name ≡ true
   still_there name there =
       list_any-append (λ (account : Account). same_name account.name name) roles.accounts (account_of user ∷ [])
@@ -34,9 +58,11 @@ module _ (roles : RoleData) (seats : List Seated) (user : NewUser) (are : AreSea
       ∙ ap (λ b. b || (same_name user.name user.name || false)) new
       ∙ ap (λ b. b || false) ((same_name_decides user.name user.name).1 refl)
 
-  by_seat : (seat : Option Seat) → AreSeated (with_user roles user) (seats ++ opening_seats ((record user { seat = seat }) ∷ []))
+  by_seat : (seat : Option Seat) → AreSeated (with_user roles user)
+      (seats ++ opening_seats ((record user { seat = seat }) ∷ []))
   by_seat None =
-      subst (AreSeated (with_user roles user)) (sym (append-nil seats)) (still_seated roles (with_user roles user) seats are still_there)
+      subst (AreSeated (with_user roles user)) (sym (append-nil seats)) (still_seated roles (with_user roles user) seats
+      are still_there)
   by_seat (Some seat) =
       one_more_sits (with_user roles user) seats (record { name = user.name; seat = seat })
       (still_seated roles (with_user roles user) seats are still_there) there_now
@@ -48,14 +74,16 @@ module _ (roles : RoleData) (seats : List Seated) (user : NewUser) (are : AreSea
 nobody_seated : AreSeated (opening_roles []) []
 nobody_seated = record { once = distinct_none same_user; users = λ name sits. absurd (false≢true sits) }
 
-seated_so_far : (first : NewUser) (rest : List NewUser) → JoinInTurn (first ∷ rest) → (n : ℕ) → n ≤ length (first ∷ rest) →
+seated_so_far : (first : NewUser) (rest : List NewUser) → JoinInTurn (first ∷ rest) → (n : ℕ) →
+    n ≤ length (first ∷ rest) →
     AreSeated (opening_roles (take n (first ∷ rest))) (opening_seats (take n (first ∷ rest)))
 seated_so_far first rest join zero within = nobody_seated
 seated_so_far first rest join (suc n) within =
     let all : List NewUser = first ∷ rest in
     let below : n < length all = omega (arith, within) in
     let user : NewUser = get_or all n first in
-    let more = user_seated (opening_roles (take n all)) (opening_seats (take n all)) user (seated_so_far first rest join n (omega (arith, within))) (join n first below).new in
+    let more = user_seated (opening_roles (take n all)) (opening_seats (take n all)) user
+    (seated_so_far first rest join n (omega (arith, within))) (join n first below).new in
     let roles : with_user (opening_roles (take n all)) user ≡ opening_roles (take (n + 1) all) =
     ap (λ accounts. record (opening_roles []) { accounts = accounts }) (sym (map_more account_of all n first below)) in
     let next : n + 1 ≡ suc n = omega arith in
@@ -66,5 +94,6 @@ seated_so_far first rest join (suc n) within =
 pub users_seated : (users : List NewUser) → JoinInTurn users → AreSeated (opening_roles users) (opening_seats users)
 users_seated [] join = nobody_seated
 users_seated (first ∷ rest) join =
-    subst (λ users. AreSeated (opening_roles users) (opening_seats users)) (take_all (length (first ∷ rest)) (first ∷ rest) (omega arith))
+    subst (λ users. AreSeated (opening_roles users) (opening_seats users))
+    (take_all (length (first ∷ rest)) (first ∷ rest) (omega arith))
     (seated_so_far first rest join (length (first ∷ rest)) (omega arith))

@@ -18,6 +18,8 @@ same_items (suc n) (suc i) a = same_items n i a
 -- no board has a table, and no cell a result
 pub opening_own : (config : Config) → KeepsOwn (opening_of config)
 opening_own config = record {
-  tables = λ board table is. let never : None ≡ Some table = sym (same_items {A = Option Hands} most_boards (board - 1) None) ∙ is in absurd cc;
-  costs = λ cell outcome play costs placed is. let never : Empty ≡ Confirmed outcome play (Some costs) = sym (same_items most_cells (cell_index cell) Empty) ∙ is in absurd cc;
+  tables = λ board table is. let never : None ≡ Some table = sym (same_items {A = Option Hands} most_boards (board - 1)
+      None) ∙ is in absurd cc;
+  costs = λ cell outcome play costs placed is. let never : Empty ≡ Confirmed outcome play (Some costs) =
+      sym (same_items most_cells (cell_index cell) Empty) ∙ is in absurd cc;
 }

@@ -14,7 +14,18 @@ use Rattle.disclosure_rules.specs.declared.seat.Seat.{Seat}
 use Rattle.session_opening.specs.declared.config.Config.{Config}
 use Rattle.session_opening.specs.declared.new_user.NewUser.{NewUser}
 use Rattle.session_opening.specs.declared.opening_refusal.OpeningRefusal.{OpeningRefusal}
-use Rattle.session_opening.specs.declared.opening_refusal.OpeningRefusal.TheVariants.{BadName, UserExists, TooManyUsers, AlreadyAssigned, Separation, NoSuchPair, WrongDirection, NotContestant, SeatTaken, LastAdministrator}
+use Rattle.session_opening.specs.declared.opening_refusal.OpeningRefusal.TheVariants.{
+  BadName,
+  UserExists,
+  TooManyUsers,
+  AlreadyAssigned,
+  Separation,
+  NoSuchPair,
+  WrongDirection,
+  NotContestant,
+  SeatTaken,
+  LastAdministrator,
+}
 use Rattle.session_state.specs.Accounts.{has_account, has_administrator}
 use Rattle.session_opening.specs.NewUser.{repeats, authorized_at_opening}
 use Rattle.session_opening.specs.Opening.{opening_roles, opening_seats}

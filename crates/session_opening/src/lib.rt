@@ -11,4 +11,3 @@ mod opening_refusal;
 pub use config::Config;
 pub use new_user::NewUser;
 pub use opening_refusal::OpeningRefusal;
-

@@ -1,8 +1,7 @@
 use disclosure_rules::Seat;
 use session_roles::Role;
-use user_names::Digest;
 use table_terms::Items;
-use user_names::Name;
+use user_names::{Digest, Name};
 
 /// A user with whom a session opens.
 #[derive(Drop)]

@@ -17,12 +17,12 @@ use cards::Deal;
 use disclosure_rules::{Boards, LiveCells, Marks, Phase, Public};
 use movement::Movement;
 use rbac::Roles;
-use session_roles::Role;
 use session_commands::room::push_within;
+use session_roles::Role;
 use session_state::{Seated, State};
-use user_names::Digest;
 use std::alloc::{AllocError, Global};
 use table_terms::{Place, Vulnerability};
+use user_names::Digest;
 
 /// What stands in the place of a board that isn't played.
 const NO_MARKS: Marks = Marks {

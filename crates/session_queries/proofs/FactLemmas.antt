@@ -1,5 +1,31 @@
 -- Which facts a section has, and when two facts are one.
-use Rattle.std.proofs.Common.{rules, ◌≡◌, ℕ, zero, suc, ◌+◌, ◌*◌, ◌<◌, ◌≤◌, Bool, true, false, List, [], ◌∷◌, ◌++◌, nat_eq, refl, sym, ap, ◌∙◌, arith, inl, inr, subst}
+use Rattle.std.proofs.Common.{
+  rules,
+  ◌≡◌,
+  ℕ,
+  zero,
+  suc,
+  ◌+◌,
+  ◌*◌,
+  ◌<◌,
+  ◌≤◌,
+  Bool,
+  true,
+  false,
+  List,
+  [],
+  ◌∷◌,
+  ◌++◌,
+  nat_eq,
+  refl,
+  sym,
+  ap,
+  ◌∙◌,
+  arith,
+  inl,
+  inr,
+  subst,
+}
 use Rattle.std.specs.Prelude.{cond, ◌&&◌, ◌||◌, map, filter, nat_le}
 use Rattle.std.specs.List.{flat_map, list_any, range_with_len}
 use Rattle.std.proofs.lemmas.Bool.{cases_Bool, cases_eq, eq-eqb, ne_eqb}
@@ -13,7 +39,17 @@ use Rattle.movement.proofs.ScheduleTests.{scheduled-cell}
 use Rattle.denials.specs.Evidence.{denied_board, denied_table}
 use Rattle.disclosure_rules.specs.declared.fact.Fact.{Fact}
 use Rattle.disclosure_rules.specs.declared.fact.Fact.TheVariants as fact
-use Rattle.session_queries.specs.Facts.{cell_on, cells_of_board, facts_of_cell, facts_of_board, boards, facts, kind_of, same_fact, has_place}
+use Rattle.session_queries.specs.Facts.{
+  cell_on,
+  cells_of_board,
+  facts_of_cell,
+  facts_of_board,
+  boards,
+  facts,
+  kind_of,
+  same_fact,
+  has_place,
+}
 
 -- the fact of a kind, of a board and of a table
 abbrev fact_by : ℕ → ℕ → ℕ → Fact
@@ -56,7 +92,8 @@ abbrev pub has_fact : List Fact → Fact → Bool
 has_fact items asked = list_any (λ item. same_fact item asked) items
 
 -- what is among the items of one element is among those of all
-in_flat : {X Y : Type 0} (p : Y → Bool) (f : X → List Y) (q : X → Bool) → ((x : X) → q x ≡ true → list_any p (f x) ≡ true) →
+in_flat : {X Y : Type 0} (p : Y → Bool) (f : X → List Y) (q : X → Bool) →
+    ((x : X) → q x ≡ true → list_any p (f x) ≡ true) →
     (xs : List X) → list_any q xs ≡ true → list_any p (flat_map f xs) ≡ true
 in_flat p f q each [] there = absurd (cc)
 in_flat p f q each (x ∷ xs) there =
@@ -64,7 +101,8 @@ in_flat p f q each (x ∷ xs) there =
       | inl here ↦ list_any-append p (f x) (flat_map f xs) ∙ ap (λ b. b || list_any p (flat_map f xs)) (each x here)
       | inr other ↦
           list_any-append p (f x) (flat_map f xs)
-          ∙ (ap (λ b. list_any p (f x) || b) (in_flat p f q each xs (sym (ap (λ b. b || list_any q xs) other) ∙ there)) ∙ or_true (list_any p (f x)))
+          ∙ (ap (λ b. list_any p (f x) || b) (in_flat p f q each xs (sym (ap (λ b. b || list_any q xs) other) ∙ there))
+          ∙ or_true (list_any p (f x)))
     ]
   where
     or_true : (b : Bool) → (b || true) ≡ true
@@ -72,7 +110,8 @@ in_flat p f q each (x ∷ xs) there =
     or_true false = refl
 
 -- a number of a range is in it
-in_range : (first count k : ℕ) → first ≤ k → k < first + count → list_any (λ n. nat_eq n k) (range_with_len first count) ≡ true
+in_range : (first count k : ℕ) → first ≤ k → k < first + count → list_any (λ n. nat_eq n k) (range_with_len first count)
+    ≡ true
 in_range first zero k from below = absurd (omega (arith, from, below))
 in_range first (suc count) k from below =
     elim (cases_eq first k) [
@@ -87,16 +126,20 @@ number_is : (a b : ℕ) → nat_eq a b ≡ true → a ≡ b
 number_is a b same = search rules
 
 -- a board of the section is one of its boards
-pub board_there : (section : Section) (board : ℕ) → has_board section board ≡ true → list_any (λ n. nat_eq n board) (boards section) ≡ true
+pub board_there : (section : Section) (board : ℕ) → has_board section board ≡ true → list_any (λ n. nat_eq n board)
+    (boards section) ≡ true
 board_there section board has =
     in_range 1 (boards_of section) board (search rules) (search rules)
 
 -- what is kept and passes is there
-kept_there : {X : Type 0} (p : X → Bool) (b : Bool) (x : X) (rest : List X) → b ≡ true → p x ≡ true → list_any p (cond b (x ∷ rest) rest) ≡ true
-kept_there p b x rest keeps passes = ap (λ c. list_any p (cond c (x ∷ rest) rest)) keeps ∙ ap (λ c. c || list_any p rest) passes
+kept_there : {X : Type 0} (p : X → Bool) (b : Bool) (x : X) (rest : List X) → b ≡ true → p x ≡ true →
+    list_any p (cond b (x ∷ rest) rest) ≡ true
+kept_there p b x rest keeps passes = ap (λ c. list_any p (cond c (x ∷ rest) rest)) keeps
+    ∙ ap (λ c. c || list_any p rest) passes
 
 -- what is among the rest stays there, whether one more is kept or not
-still_there : {X : Type 0} (p : X → Bool) (b : Bool) (x : X) (rest : List X) → list_any p rest ≡ true → list_any p (cond b (x ∷ rest) rest) ≡ true
+still_there : {X : Type 0} (p : X → Bool) (b : Bool) (x : X) (rest : List X) → list_any p rest ≡ true →
+    list_any p (cond b (x ∷ rest) rest) ≡ true
 still_there p true x rest there = ap (λ c. p x || c) there ∙ or_true (p x)
   where
     or_true : (b : Bool) → (b || true) ≡ true
@@ -128,7 +171,9 @@ module _ (section : Section) (cell : Cell) (scheduled : is_scheduled section cel
             (ap (is_scheduled section) own ∙ scheduled) (ap (is_cell cell) own ∙ itself)
         | inr other ↦
             still_there (is_cell cell) (is_scheduled section (cell_on cell.board table)) (cell_on cell.board table) rest
-            (among tables (sym (ap (λ b. b || list_any (λ n. nat_eq n cell.table) tables) (ne_eqb table cell.table other)) ∙ there))
+            (among tables
+            (sym (ap (λ b. b || list_any (λ n. nat_eq n cell.table) tables) (ne_eqb table cell.table other))
+            ∙ there))
       ]
     where
       rest : List Cell
@@ -147,12 +192,14 @@ module _ (section : Section) (cell : Cell) (scheduled : is_scheduled section cel
       (in_range 1 section.tables cell.table range.from_table (omega (arith, range.to_table)))
 
   -- what is a fact of the cell is a fact of its board
-  on_board : (asked : Fact) → has_fact (facts_of_cell cell) asked ≡ true → has_fact (facts_of_board section cell.board) asked ≡ true
+  on_board : (asked : Fact) → has_fact (facts_of_cell cell) asked ≡ true → has_fact (facts_of_board section cell.board)
+      asked ≡ true
   on_board asked own =
       last_of_three (same_fact (fact.Hands cell.board) asked) (same_fact (fact.Analysis cell.board) asked)
       (has_fact (flat_map facts_of_cell (cells_of_board section cell.board)) asked)
       (in_flat (λ item. same_fact item asked) facts_of_cell (is_cell cell)
-      (λ other same. ap (λ c. has_fact (facts_of_cell c) asked) (cell_is cell other same) ∙ own) (cells_of_board section cell.board) cell_there)
+      (λ other same. ap (λ c. has_fact (facts_of_cell c) asked) (cell_is cell other same) ∙ own)
+      (cells_of_board section cell.board) cell_there)
     where
       last_of_three : (a b c : Bool) → c ≡ true → (a || (b || c)) ≡ true
       last_of_three true b c there = refl
@@ -164,13 +211,15 @@ module _ (section : Section) (cell : Cell) (scheduled : is_scheduled section cel
   board_has = search (range.from_board, range.to_board, rules)
 
 -- what is a fact of a board of the section is a fact of the section
-of_section : (section : Section) (board : ℕ) (asked : Fact) → has_board section board ≡ true → has_fact (facts_of_board section board) asked ≡ true →
+of_section : (section : Section) (board : ℕ) (asked : Fact) → has_board section board ≡ true →
+    has_fact (facts_of_board section board) asked ≡ true →
     has_fact (facts section) asked ≡ true
 of_section section board asked has own =
     last_of_three (same_fact fact.Public asked) (same_fact fact.Accounts asked)
     (has_fact (flat_map (facts_of_board section) (boards section)) asked)
     (in_flat (λ item. same_fact item asked) (facts_of_board section) (λ n. nat_eq n board)
-    (λ other same. ap (λ n. has_fact (facts_of_board section n) asked) (number_is other board same) ∙ own) (boards section) (board_there section board has))
+    (λ other same. ap (λ n. has_fact (facts_of_board section n) asked) (number_is other board same) ∙ own)
+    (boards section) (board_there section board has))
   where
     last_of_three : (a b c : Bool) → c ≡ true → (a || (b || c)) ≡ true
     last_of_three true b c there = refl
@@ -178,17 +227,22 @@ of_section section board asked has own =
     last_of_three false false c there = there
 
 -- a fact whose place the section has is one of the section's
-pub fact_there : (section : Section) (asked : Fact) → has_place section asked ≡ true → has_fact (facts section) asked ≡ true
+pub fact_there : (section : Section) (asked : Fact) → has_place section asked ≡ true → has_fact (facts section) asked ≡
+    true
 unfolding same_fact
 fact_there section fact.Public has = refl
 fact_there section fact.Accounts has = refl
 fact_there section (fact.Hands board) has = of_section section board (fact.Hands board) has (search rules)
 fact_there section (fact.Analysis board) has = of_section section board (fact.Analysis board) has (search rules)
 fact_there section (fact.Result cell) has =
-    of_section section cell.board (fact.Result cell) (board_has section cell has) (on_board section cell has (fact.Result cell) (search rules))
+    of_section section cell.board (fact.Result cell) (board_has section cell has)
+    (on_board section cell has (fact.Result cell) (search rules))
 fact_there section (fact.Play cell) has =
-    of_section section cell.board (fact.Play cell) (board_has section cell has) (on_board section cell has (fact.Play cell) (search rules))
+    of_section section cell.board (fact.Play cell) (board_has section cell has)
+    (on_board section cell has (fact.Play cell) (search rules))
 fact_there section (fact.Cost cell) has =
-    of_section section cell.board (fact.Cost cell) (board_has section cell has) (on_board section cell has (fact.Cost cell) (search rules))
+    of_section section cell.board (fact.Cost cell) (board_has section cell has)
+    (on_board section cell has (fact.Cost cell) (search rules))
 fact_there section (fact.Reason cell) has =
-    of_section section cell.board (fact.Reason cell) (board_has section cell has) (on_board section cell has (fact.Reason cell) (search rules))
+    of_section section cell.board (fact.Reason cell) (board_has section cell has)
+    (on_board section cell has (fact.Reason cell) (search rules))

@@ -18,10 +18,12 @@ use Rattle.session_queries.specs.declared.card_costs.CardCosts.{CardCosts}
 use Rattle.session_queries.specs.declared.card_costs.CardCosts.TheVariants.{Pending, NoCards}
 
 -- an analysis has the numbers of its board's hands
-pub analysis_own : (state : SessionState) (board : ℕ) (tricks : TrickTable) → KeepsOwn state → analysis_of state board ≡ Some tricks → IsAnalysisOf state board tricks
+pub analysis_own : (state : SessionState) (board : ℕ) (tricks : TrickTable) → KeepsOwn state → analysis_of state board ≡
+    Some tricks → IsAnalysisOf state board tricks
 analysis_own state board tricks keeps said = by_table (table_at state board) refl said
   where
-    by_table : (found : Option Hands) → table_at state board ≡ found → option_map tricks_of_deal found ≡ Some tricks → IsAnalysisOf state board tricks
+    by_table : (found : Option Hands) → table_at state board ≡ found → option_map tricks_of_deal found ≡ Some tricks →
+        IsAnalysisOf state board tricks
     by_table None is said = absurd cc
     by_table (Some hands) is said = record {
       hands = hands;
@@ -30,7 +32,8 @@ analysis_own state board tricks keeps said = by_table (table_at state board) ref
     }
 
 -- costs are the answer for the board's hands, the contract of the result and the cards as they were played
-pub costs_own : (state : SessionState) (cell : Cell) (counted : CardCosts) → KeepsOwn state → IsPlaced cell → costs_of (cell_at state cell) ≡ Some counted →
+pub costs_own : (state : SessionState) (cell : Cell) (counted : CardCosts) → KeepsOwn state → IsPlaced cell →
+    costs_of (cell_at state cell) ≡ Some counted →
     counted ≢ Pending → counted ≢ NoCards → IsCountOf state cell counted
 costs_own state cell counted keeps placed said not_pending some_cards = by_known (cell_at state cell) refl said
   where
@@ -38,7 +41,8 @@ costs_own state cell counted keeps placed said not_pending some_cards = by_known
     uncounted true is = let same : Pending ≡ counted = cc in not_pending (sym same)
     uncounted false is = let same : NoCards ≡ counted = cc in some_cards (sym same)
 
-    by_known : (known : CellState) → cell_at state cell ≡ known → costs_of known ≡ Some counted → IsCountOf state cell counted
+    by_known : (known : CellState) → cell_at state cell ≡ known → costs_of known ≡ Some counted → IsCountOf state cell
+        counted
     by_known Empty is said = absurd cc
     by_known (Entered outcome play) is said = absurd cc
     by_known (Confirmed outcome play None) is said = absurd (uncounted (has_card play) said)
@@ -53,6 +57,8 @@ costs_own state cell counted keeps placed said not_pending some_cards = by_known
           dealt = own.hands;
           result = ap result_of is ∙ ap (λ outcome. Some (cell_result.Confirmed outcome)) own.contract;
           play = ap play_of is;
-          numbers = sym same ∙ ap (λ cards. found_of (answer_for_play (record { deal = costs.deal; contract = costs.contract; play = cards }))) (sym own.play);
+          numbers = sym same
+              ∙ ap (λ cards. found_of
+              (answer_for_play (record { deal = costs.deal; contract = costs.contract; play = cards }))) (sym own.play);
         }
     by_known (Ruled north_south east_west reason) is said = absurd (uncounted false said)

@@ -25,7 +25,9 @@ module _ (state : SessionState) (keeps : Fact → Bool) (asked : Fact) where
   -- a fact that is left out of the kept ones isn't found, and one that isn't the asked one is passed over
   passed : (item : Fact) (b : Bool) (rest : List Fact) → same_fact item asked ≡ false →
       found (map (said state) (cond b (item ∷ rest) rest)) ≡ found (map (said state) rest)
-  passed item true rest other = ap (λ b. option_map (λ (item : Shown). item.content) (cond b (Some (said state item)) (find (λ (item : Shown). same_fact item.fact asked) (map (said state) rest)))) other
+  passed item true rest other = ap (λ b. option_map (λ (item : Shown). item.content)
+      (cond b (Some (said state item)) (find (λ (item : Shown). same_fact item.fact asked) (map (said state) rest))))
+      other
   passed item false rest other = refl
 
   -- a fact that isn't kept isn't found
@@ -34,20 +36,25 @@ module _ (state : SessionState) (keeps : Fact → Bool) (asked : Fact) where
   not_found (item ∷ items) denied =
       elim (cases_Bool (same_fact item asked)) [
         | inl same ↦
-            ap (λ b. found (map (said state) (cond b (item ∷ filter keeps items) (filter keeps items)))) (ap keeps (same_fact_is item asked same) ∙ denied)
+            ap (λ b. found (map (said state) (cond b (item ∷ filter keeps items) (filter keeps items))))
+            (ap keeps (same_fact_is item asked same) ∙ denied)
             ∙ not_found items denied
         | inr other ↦ passed item (keeps item) (filter keeps items) other ∙ not_found items denied
       ]
 
   -- a fact that is kept is found among facts that have it, with what it says
-  is_found : (items : List Fact) → has_fact items asked ≡ true → keeps asked ≡ true → found (kept items) ≡ Some (content state asked)
+  is_found : (items : List Fact) → has_fact items asked ≡ true → keeps asked ≡ true → found (kept items) ≡ Some
+      (content state asked)
   is_found [] there allowed = absurd (false≢true there)
   is_found (item ∷ items) there allowed =
       elim (cases_Bool (same_fact item asked)) [
         | inl same ↦
             let is : item ≡ asked = same_fact_is item asked same in
-            ap (λ b. found (map (said state) (cond b (item ∷ filter keeps items) (filter keeps items)))) (ap keeps is ∙ allowed)
-            ∙ (ap (λ b. option_map (λ (item : Shown). item.content) (cond b (Some (said state item)) (find (λ (item : Shown). same_fact item.fact asked) (kept items)))) same
+            ap (λ b. found (map (said state) (cond b (item ∷ filter keeps items) (filter keeps items))))
+            (ap keeps is ∙ allowed)
+            ∙ (ap (λ b. option_map (λ (item : Shown). item.content)
+            (cond b (Some (said state item)) (find (λ (item : Shown). same_fact item.fact asked) (kept items))))
+            same
             ∙ ap (λ f. Some (content state f)) is)
         | inr other ↦
             passed item (keeps item) (filter keeps items) other
@@ -60,7 +67,8 @@ module _ (state : SessionState) (viewer : Viewer) (asked : Fact) where
       content_shown (shown state viewer) asked ≡ Some (content state asked)
   unfolding shown content_shown
   content_allowed has none =
-      is_found state (is_allowed state.public viewer) asked (facts state.public.movement) (fact_there state.public.movement asked has)
+      is_found state (is_allowed state.public viewer) asked (facts state.public.movement)
+      (fact_there state.public.movement asked has)
       (ap (λ rule. not (is_some rule)) none)
 
   -- of a forbidden fact nothing is shown

@@ -2,7 +2,15 @@
 use Rattle.disclosure_rules.specs.declared.fact.Fact.{Fact}
 use Rattle.disclosure_rules.specs.declared.fact.Fact.TheVariants as fact
 use Rattle.session_queries.specs.declared.query.Query.{Query}
-use Rattle.session_queries.specs.declared.query.Query.TheVariants.{Status, Board, Traveller, Analysis, Play, Costs, Reason}
+use Rattle.session_queries.specs.declared.query.Query.TheVariants.{
+  Status,
+  Board,
+  Traveller,
+  Analysis,
+  Play,
+  Costs,
+  Reason,
+}
 use Rattle.session_queries.specs.declared.query.Query.TheVariants.{List, Ranking, Accounts}
 use Rattle.session_queries.specs.declared.body.Body.{Body}
 use Rattle.session_queries.specs.declared.body.Body.TheVariants.{NoSuchBoard, NoSuchCell}

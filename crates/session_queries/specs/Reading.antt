@@ -15,7 +15,15 @@ use Rattle.session_state.specs.declared.seated.Seated.{Seated}
 use Rattle.session_queries.specs.declared.card_costs.CardCosts.{CardCosts}
 use Rattle.standings.specs.declared.cell_result.CellResult.{CellResult}
 use Rattle.standings.specs.declared.table_result.TableResult.{TableResult}
-use Rattle.session_queries.specs.Content.{Content, says_public, says_accounts, says_hands, says_analysis, says_result, says_play}
+use Rattle.session_queries.specs.Content.{
+  Content,
+  says_public,
+  says_accounts,
+  says_hands,
+  says_analysis,
+  says_result,
+  says_play,
+}
 use Rattle.session_queries.specs.Content.{says_costs, says_reason}
 use Rattle.session_queries.specs.Facts.{cells_of_board}
 use Rattle.session_queries.specs.Shown.{Shown, content_shown}

@@ -18,4 +18,3 @@ pub use push::push_found;
 pub use query::Query;
 pub use reply::Reply;
 pub use results::{put_results, shown_results};
-

@@ -12,8 +12,8 @@ use crate::known::result_of;
 use crate::push::push_found;
 use disclosure_rules::{Fact, Viewer, decide};
 use movement::Cell;
-use session_state::State;
 use session_commands::room::push_within;
+use session_state::State;
 use standings::TableResult;
 use std::alloc::{AllocError, Global};
 

@@ -6,11 +6,29 @@ use Rattle.std.specs.Bool.{Decides}
 use Rattle.std.proofs.lemmas.Bool.{eqb-true, eq-eqb}
 use Rattle.std.proofs.lemmas.Map.Views.{any-filter_same}
 use Rattle.session_roles.specs.declared.role.Role.{Role}
-use Rattle.session_roles.specs.declared.role.Role.TheVariants.{Member, Spectator, Contestant, Scorer, Director, Administrator}
-use Rattle.session_roles.specs.Role.{roles, role_number, roles_that, same_role, has, IsListed, with_role, without_role, union_of}
+use Rattle.session_roles.specs.declared.role.Role.TheVariants.{
+  Member,
+  Spectator,
+  Contestant,
+  Scorer,
+  Director,
+  Administrator,
+}
+use Rattle.session_roles.specs.Role.{
+  roles,
+  role_number,
+  roles_that,
+  same_role,
+  has,
+  IsListed,
+  with_role,
+  without_role,
+  union_of,
+}
 
 -- a fact about each role, from one for every role
-pub each_role : (P : Role → Type 0) → P Member → P Spectator → P Contestant → P Scorer → P Director → P Administrator → (role : Role) → P role
+pub each_role : (P : Role → Type 0) → P Member → P Spectator → P Contestant → P Scorer → P Director → P Administrator →
+    (role : Role) → P role
 each_role P a b c d e f Member = a
 each_role P a b c d e f Spectator = b
 each_role P a b c d e f Contestant = c
@@ -22,7 +40,8 @@ each_role P a b c d e f Administrator = f
 pub same_number : (a b : Role) → role_number a ≡ role_number b → a ≡ b
 same_number a b e =
     let at : ℕ → Role = λ n. get_or roles n Member in
-    let back : (role : Role) → at (role_number role) ≡ role = each_role (λ role. at (role_number role) ≡ role) refl refl refl refl refl refl in
+    let back : (role : Role) → at (role_number role) ≡ role = each_role (λ role. at (role_number role) ≡ role) refl refl
+    refl refl refl refl in
     sym (back a) ∙ ap at e ∙ back b
 
 pub same_role_true : (a b : Role) → same_role a b ≡ true → a ≡ b
@@ -64,10 +83,12 @@ pub same_sets : (a b : List Role) → IsListed a → IsListed b → ((role : Rol
 same_sets a b listed_a listed_b agree = listed_a ∙ same_roles_that (has a) (has b) agree ∙ sym listed_b
 
 -- what is in a set after each call
-pub has_with_role : (set : List Role) (role other : Role) → has (with_role set role) other ≡ (same_role role other || has set other)
+pub has_with_role : (set : List Role) (role other : Role) → has (with_role set role) other ≡
+    (same_role role other || has set other)
 has_with_role set role = has_roles_that (λ other. same_role role other || has set other)
 
-pub has_without_role : (set : List Role) (role other : Role) → has (without_role set role) other ≡ (not (same_role role other) && has set other)
+pub has_without_role : (set : List Role) (role other : Role) → has (without_role set role) other ≡
+    (not (same_role role other) && has set other)
 has_without_role set role = has_roles_that (λ other. not (same_role role other) && has set other)
 
 pub has_union_of : (a b : List Role) (role : Role) → has (union_of a b) role ≡ (has a role || has b role)
@@ -78,8 +99,10 @@ absent true b gone = sym (gone refl)
 absent false b gone = refl
 
 -- a role that is not there can be taken away
-pub without_role_absent : (set : List Role) (role : Role) → IsListed set → has set role ≡ false → without_role set role ≡ set
+pub without_role_absent : (set : List Role) (role : Role) → IsListed set → has set role ≡ false → without_role set role
+    ≡ set
 without_role_absent set role listed gone =
     same_roles_that (λ other. not (same_role role other) && has set other) (has set)
-    (λ other. absent (same_role role other) (has set other) (λ same. ap (has set) (sym (same_role_true role other same)) ∙ gone))
+    (λ other. absent (same_role role other) (has set other) (λ same. ap (has set) (sym (same_role_true role other same))
+    ∙ gone))
     ∙ sym listed

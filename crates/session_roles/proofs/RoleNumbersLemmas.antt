@@ -8,9 +8,24 @@ use Rattle.small_sets.specs.Numbers.{has_number, with_number, without_number, nu
 use Rattle.small_sets.proofs.NumbersLemmas.{has_with_number, has_without_number, has_number_of_both, set_that}
 use Rattle.session_roles.specs.declared.role.Role.{Role}
 use Rattle.session_roles.specs.declared.role.TheConstants.Role.{COUNT}
-use Rattle.session_roles.specs.Role.{role_number, roles_that, same_role, has, IsListed, with_role, without_role, union_of}
+use Rattle.session_roles.specs.Role.{
+  role_number,
+  roles_that,
+  same_role,
+  has,
+  IsListed,
+  with_role,
+  without_role,
+  union_of,
+}
 use Rattle.session_roles.specs.RoleNumbers.{role_place, roles_of_numbers, numbers_of_roles, numbers_of_roles_of_numbers}
-use Rattle.session_roles.proofs.RoleLemmas.{each_role, same_role_decides, has_roles_that, same_roles_that, listed_roles_that}
+use Rattle.session_roles.proofs.RoleLemmas.{
+  each_role,
+  same_role_decides,
+  has_roles_that,
+  same_roles_that,
+  listed_roles_that,
+}
 
 -- a role's place is a number of the set
 pub place_from : (role : Role) → 1 ≤ role_place role

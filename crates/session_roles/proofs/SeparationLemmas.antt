@@ -15,12 +15,14 @@ before_first test S1 before = absurd (omega arith)
 before_first test S2 before = absurd (omega arith)
 before_first test S3 before = absurd (omega arith)
 
-before_second : (test : SeparationSet → Bool) → test S1 ≡ false → (other : SeparationSet) → set_number other < 1 → test other ≡ false
+before_second : (test : SeparationSet → Bool) → test S1 ≡ false → (other : SeparationSet) → set_number other < 1 →
+    test other ≡ false
 before_second test one S1 before = one
 before_second test one S2 before = absurd (omega arith)
 before_second test one S3 before = absurd (omega arith)
 
-before_third : (test : SeparationSet → Bool) → test S1 ≡ false → test S2 ≡ false → (other : SeparationSet) → set_number other < 2 → test other ≡ false
+before_third : (test : SeparationSet → Bool) → test S1 ≡ false → test S2 ≡ false → (other : SeparationSet) →
+    set_number other < 2 → test other ≡ false
 before_third test one two S1 before = one
 before_third test one two S2 before = two
 before_third test one two S3 before = absurd (omega arith)
@@ -30,25 +32,33 @@ Found : (SeparationSet → Bool) → Option SeparationSet → Type 0
 Found test (Some set) = IsFirstSet test set
 Found test None = (set : SeparationSet) → test set ≡ false
 
-fails_all : (test : SeparationSet → Bool) → test S1 ≡ false → test S2 ≡ false → test S3 ≡ false → (set : SeparationSet) → test set ≡ false
+fails_all : (test : SeparationSet → Bool) → test S1 ≡ false → test S2 ≡ false → test S3 ≡ false →
+    (set : SeparationSet) → test set ≡ false
 fails_all test one two three S1 = one
 fails_all test one two three S2 = two
 fails_all test one two three S3 = three
 
-by_answers : (test : SeparationSet → Bool) (a b c : Bool) → a ≡ test S1 → b ≡ test S2 → c ≡ test S3 → Found test (cond a (Some S1) (cond b (Some S2) (cond c (Some S3) None)))
+by_answers : (test : SeparationSet → Bool) (a b c : Bool) → a ≡ test S1 → b ≡ test S2 → c ≡ test S3 →
+    Found test (cond a (Some S1) (cond b (Some S2) (cond c (Some S3) None)))
 unfolding Found
 by_answers test true b c one two three = record { passes = sym one; before = before_first test }
 by_answers test false true c one two three = record { passes = sym two; before = before_second test (sym one) }
-by_answers test false false true one two three = record { passes = sym three; before = before_third test (sym one) (sym two) }
+by_answers test false false true one two three = record {
+  passes = sym three;
+  before = before_third test (sym one)
+      (sym two);
+}
 by_answers test false false false one two three = fails_all test (sym one) (sym two) (sym three)
 
 found : (test : SeparationSet → Bool) → Found test (find test separation_sets)
 found test = by_answers test (test S1) (test S2) (test S3) refl refl refl
 
-pub first_found : (test : SeparationSet → Bool) (set : SeparationSet) → Some set ≡ find test separation_sets → IsFirstSet test set
+pub first_found : (test : SeparationSet → Bool) (set : SeparationSet) → Some set ≡ find test separation_sets →
+    IsFirstSet test set
 unfolding Found
 first_found test set is = subst (Found test) (sym is) (found test)
 
-pub none_found : (test : SeparationSet → Bool) → None ≡ find test separation_sets → (set : SeparationSet) → test set ≡ false
+pub none_found : (test : SeparationSet → Bool) → None ≡ find test separation_sets → (set : SeparationSet) →
+    test set ≡ false
 unfolding Found
 none_found test is = subst (Found test) (sym is) (found test)

@@ -2,9 +2,35 @@
 use Rattle.std.specs.Prelude.{ℕ, Bool, ◌&&◌, nat_eq, List, [], ◌∷◌}
 use Rattle.std.specs.List.{list_any}
 use Rattle.session_roles.specs.declared.role.Role.{Role}
-use Rattle.session_roles.specs.declared.role.Role.TheVariants.{Member, Spectator, Contestant, Scorer, Director, Administrator}
+use Rattle.session_roles.specs.declared.role.Role.TheVariants.{
+  Member,
+  Spectator,
+  Contestant,
+  Scorer,
+  Director,
+  Administrator,
+}
 use Rattle.session_roles.specs.declared.operation.Operation.{Operation}
-use Rattle.session_roles.specs.declared.operation.Operation.TheVariants.{Enter, Confirm, Correct, Rule, Void, Hold, Release, Seat, Unseat, NextRound, Close, Finalise, Audit, AddUser, Assign, Deassign, AddInheritance, DeleteInheritance}
+use Rattle.session_roles.specs.declared.operation.Operation.TheVariants.{
+  Enter,
+  Confirm,
+  Correct,
+  Rule,
+  Void,
+  Hold,
+  Release,
+  Seat,
+  Unseat,
+  NextRound,
+  Close,
+  Finalise,
+  Audit,
+  AddUser,
+  Assign,
+  Deassign,
+  AddInheritance,
+  DeleteInheritance,
+}
 use Rattle.session_roles.specs.Role.{roles, has}
 
 -- an operation's place in their order, counted from 0

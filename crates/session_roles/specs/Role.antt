@@ -2,7 +2,14 @@
 use Rattle.std.specs.Prelude.{◌≡◌, ℕ, Bool, ◌||◌, ◌&&◌, not, nat_eq, List, [], ◌∷◌, filter, codes}
 use Rattle.std.specs.List.{list_any}
 use Rattle.session_roles.specs.declared.role.Role.{Role}
-use Rattle.session_roles.specs.declared.role.Role.TheVariants.{Member, Spectator, Contestant, Scorer, Director, Administrator}
+use Rattle.session_roles.specs.declared.role.Role.TheVariants.{
+  Member,
+  Spectator,
+  Contestant,
+  Scorer,
+  Director,
+  Administrator,
+}
 
 -- the roles in their order
 abbrev pub roles : List Role

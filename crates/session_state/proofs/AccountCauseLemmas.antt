@@ -1,4 +1,5 @@
--- What holds where nothing hinders a command on users, roles or the role hierarchy: no cause of its own refuses the change.
+-- What holds where nothing hinders a command on users, roles or the role hierarchy: no cause of its own refuses the
+-- change.
 use Rattle.std.proofs.Common.{◌≡◌, ℕ, ◌<◌, true, List, [], ◌∷◌, length, inl, inr, refl, sym, ◌∙◌, arith}
 use Rattle.std.specs.Prelude.{Option, Some, None, option_map, nat_le, not}
 use Rattle.std.specs.Bool.{Decides, then_some}
@@ -18,7 +19,13 @@ use Rattle.rbac.specs.declared.delete_inheritance_error.DeleteInheritanceError.{
 use Rattle.rbac.specs.declared.delete_inheritance_error.DeleteInheritanceError.TheVariants as deletion_error
 use Rattle.rbac.specs.Account.{most_users, is_user_name, HasAccount, IsAssigned, same_name}
 use Rattle.rbac.specs.Inheritance.{reaches, pair_of}
-use Rattle.rbac.specs.Refusals.{RefusesUser, RefusesAssignment, RefusesDeassignment, RefusesInheritance, RefusesDeletion}
+use Rattle.rbac.specs.Refusals.{
+  RefusesUser,
+  RefusesAssignment,
+  RefusesDeassignment,
+  RefusesInheritance,
+  RefusesDeletion,
+}
 use Rattle.rbac.specs.Review.{is_broken}
 use Rattle.session_roles.specs.Role.{has}
 use Rattle.rbac.specs.RoleData.{RoleData, assign_user, deassign_user, add_inheritance, delete_inheritance}
@@ -28,10 +35,26 @@ use Rattle.rbac.proofs.ListLemmas.{decides_any}
 use Rattle.rbac.proofs.RefusalLemmas.{decides_there}
 use Rattle.rbac.proofs.ReviewLemmas.{decides_is_broken, either_way}
 use Rattle.session_roles.proofs.SeparationLemmas.{none_found}
-use Rattle.session_commands.specs.declared.command.Command.TheVariants.{AddUser, Assign, Deassign, AddInheritance, DeleteInheritance}
+use Rattle.session_commands.specs.declared.command.Command.TheVariants.{
+  AddUser,
+  Assign,
+  Deassign,
+  AddInheritance,
+  DeleteInheritance,
+}
 use Rattle.user_names.specs.declared.digest.Digest.{Digest}
 use Rattle.session_commands.specs.declared.refusal.Refusal.{Refusal}
-use Rattle.session_commands.specs.declared.refusal.Refusal.TheVariants.{BadName, UserExists, TooManyUsers, AlreadyAssigned, Separation, NotAssigned, Cycle, AlreadyThere, NotThere}
+use Rattle.session_commands.specs.declared.refusal.Refusal.TheVariants.{
+  BadName,
+  UserExists,
+  TooManyUsers,
+  AlreadyAssigned,
+  Separation,
+  NotAssigned,
+  Cycle,
+  AlreadyThere,
+  NotThere,
+}
 use Rattle.session_state.specs.Accounts.{has_account, is_assigned, first_broken, has_pair}
 use Rattle.session_state.specs.Refusal.{first_cause, hindrance_of, needed_causes}
 use Rattle.session_state.specs.SessionState.{SessionState}
@@ -53,23 +76,30 @@ none_named (Some set) none = absurd cc
 
 decides_account : (roles : RoleData) (name : List ℕ) → Decides (has_account roles name) (HasAccount roles.accounts name)
 decides_account roles name =
-    decides_any (λ account. same_name account.name name) (λ account. account.name ≡ name) (λ account. same_name_decides account.name name) roles.accounts
+    decides_any (λ account. same_name account.name name) (λ account. account.name ≡ name)
+    (λ account. same_name_decides account.name name) roles.accounts
 
-decides_assigned : (roles : RoleData) (name : List ℕ) (role : Role) → Decides (is_assigned roles name role) (IsAssigned roles.accounts name role)
+decides_assigned : (roles : RoleData) (name : List ℕ) (role : Role) → Decides (is_assigned roles name role)
+    (IsAssigned roles.accounts name role)
 decides_assigned roles name role =
     decides_any _ (λ account. (account.name ≡ name) × (has account.assigned role ≡ true))
     (λ account. Decides-and _ _ (same_name_decides account.name name) (λ same. same, λ same. same)) roles.accounts
 
 -- a user is added
-module _ (state : SessionState) (name : List ℕ) (digest : Digest) (unhindered : hindrance_of state (AddUser name digest) ≡ None) where
-  add_user_parts : (then_some (not (is_user_name name)) BadName ≡ None) × ((then_some (has_account state.roles name) UserExists ≡ None) × (then_some (nat_le most_users (length state.roles.accounts)) TooManyUsers ≡ None))
+module _ (state : SessionState) (name : List ℕ) (digest : Digest) (unhindered : hindrance_of state (AddUser name digest)
+    ≡ None) where
+  add_user_parts : (then_some (not (is_user_name name)) BadName ≡ None) ×
+      ((then_some (has_account state.roles name) UserExists ≡ None) ×
+      (then_some (nat_le most_users (length state.roles.accounts)) TooManyUsers ≡ None))
   add_user_parts = three_unmet _ _ _ (own_unhindered state (AddUser name digest) unhindered)
 
   pub room_for_user : length state.roles.accounts < most_users
   room_for_user =
       elim (cases_lt (length state.roles.accounts) most_users) [
         | inl below ↦ below
-        | inr full ↦ absurd (false≢true (sym (not_met (nat_le most_users (length state.roles.accounts)) TooManyUsers add_user_parts.1.1) ∙ le-leb most_users (length state.roles.accounts) full))
+        | inr full ↦ absurd
+            (false≢true (sym (not_met (nat_le most_users (length state.roles.accounts)) TooManyUsers add_user_parts.1.1)
+            ∙ le-leb most_users (length state.roles.accounts) full))
       ]
 
   pub user_is_added : (cause : AddUserError) → ¬ RefusesUser state.roles name cause
@@ -79,8 +109,10 @@ module _ (state : SessionState) (name : List ℕ) (digest : Digest) (unhindered 
   user_is_added add_user_error.TooManyUsers full = absurd (omega (arith, room_for_user, full))
 
 -- a role is assigned
-module _ (state : SessionState) (name : List ℕ) (role : Role) (unhindered : hindrance_of state (Assign name role) ≡ None) where
-  assign_parts : (then_some (is_assigned state.roles name role) AlreadyAssigned ≡ None) × (option_map Separation (first_broken (assign_user state.roles name role)) ≡ None)
+module _ (state : SessionState) (name : List ℕ) (role : Role) (unhindered : hindrance_of state (Assign name role) ≡
+    None) where
+  assign_parts : (then_some (is_assigned state.roles name role) AlreadyAssigned ≡ None) ×
+      (option_map Separation (first_broken (assign_user state.roles name role)) ≡ None)
   assign_parts = two_unmet _ _ (own_unhindered state (Assign name role) unhindered)
 
   pub role_is_assigned : (cause : AssignError) → ¬ RefusesAssignment state.roles name role cause
@@ -90,22 +122,27 @@ module _ (state : SessionState) (name : List ℕ) (role : Role) (unhindered : hi
       both_ways _ (not_met _ AlreadyAssigned assign_parts.0) ((decides_assigned state.roles name role).1 assigned)
   role_is_assigned (assign_error.Separation set) broken =
       let after : RoleData = assign_user state.roles name role in
-      both_ways _ (none_found (is_broken after) (none_named (first_broken after) assign_parts.1) set) ((decides_is_broken after set).1 broken)
+      both_ways _ (none_found (is_broken after) (none_named (first_broken after) assign_parts.1) set)
+      ((decides_is_broken after set).1 broken)
 
 -- an assigned role is taken away
-module _ (state : SessionState) (name : List ℕ) (role : Role) (unhindered : hindrance_of state (Deassign name role) ≡ None) where
+module _ (state : SessionState) (name : List ℕ) (role : Role) (unhindered : hindrance_of state (Deassign name role) ≡
+    None) where
   pub role_is_deassigned : (cause : DeassignError) → ¬ RefusesDeassignment state.roles name role cause
   role_is_deassigned deassign_error.NoSuchUser none =
       none ((decides_account state.roles name).0 (was_not _ (user_unhindered state (Deassign name role) unhindered)))
   role_is_deassigned deassign_error.NotAssigned none =
-      let met = first_unmet (then_some (not (is_assigned state.roles name role)) NotAssigned) (needed_causes state (deassign_user state.roles name role))
+      let met = first_unmet (then_some (not (is_assigned state.roles name role)) NotAssigned)
+      (needed_causes state (deassign_user state.roles name role))
       (own_unhindered state (Deassign name role) unhindered) in
       none ((decides_assigned state.roles name role).0 (was_not _ (not_met _ NotAssigned met)))
 
 -- an inheritance pair is added
-module _ (state : SessionState) (senior junior : Role) (unhindered : hindrance_of state (AddInheritance senior junior) ≡ None) where
+module _ (state : SessionState) (senior junior : Role) (unhindered : hindrance_of state (AddInheritance senior junior) ≡
+    None) where
   inheritance_parts : (then_some (reaches state.roles.pairs junior senior) Cycle ≡ None)
-      × ((then_some (has_pair state.roles senior junior) AlreadyThere ≡ None) × (option_map Separation (first_broken (add_inheritance state.roles senior junior)) ≡ None))
+      × ((then_some (has_pair state.roles senior junior) AlreadyThere ≡ None) ×
+      (option_map Separation (first_broken (add_inheritance state.roles senior junior)) ≡ None))
   inheritance_parts = three_unmet _ _ _ (own_unhindered state (AddInheritance senior junior) unhindered)
 
   pub pair_is_added : (cause : AddInheritanceError) → ¬ RefusesInheritance state.roles senior junior cause
@@ -113,16 +150,20 @@ module _ (state : SessionState) (senior junior : Role) (unhindered : hindrance_o
       both_ways _ (not_met _ Cycle inheritance_parts.0) ((decides_reaches state.roles.pairs junior senior).1 chain)
   pair_is_added inheritance_error.AlreadyThere there =
       both_ways _ (not_met _ AlreadyThere inheritance_parts.1.0)
-      (sym (either_way state.roles.pairs (pair_of senior junior)) ∙ (decides_there state.roles.pairs (pair_of senior junior)).1 there)
+      (sym (either_way state.roles.pairs (pair_of senior junior))
+      ∙ (decides_there state.roles.pairs (pair_of senior junior)).1 there)
   pair_is_added (inheritance_error.Separation set) broken =
       let after : RoleData = add_inheritance state.roles senior junior in
-      both_ways _ (none_found (is_broken after) (none_named (first_broken after) inheritance_parts.1.1) set) ((decides_is_broken after set).1 broken)
+      both_ways _ (none_found (is_broken after) (none_named (first_broken after) inheritance_parts.1.1) set)
+      ((decides_is_broken after set).1 broken)
 
 -- an inheritance pair is deleted
-module _ (state : SessionState) (senior junior : Role) (unhindered : hindrance_of state (DeleteInheritance senior junior) ≡ None) where
+module _ (state : SessionState) (senior junior : Role)
+    (unhindered : hindrance_of state (DeleteInheritance senior junior) ≡ None) where
   pub pair_is_deleted : (cause : DeleteInheritanceError) → ¬ RefusesDeletion state.roles senior junior cause
   pair_is_deleted deletion_error.NotThere none =
-      let met = first_unmet (then_some (not (has_pair state.roles senior junior)) NotThere) (needed_causes state (delete_inheritance state.roles senior junior))
+      let met = first_unmet (then_some (not (has_pair state.roles senior junior)) NotThere)
+      (needed_causes state (delete_inheritance state.roles senior junior))
       (own_unhindered state (DeleteInheritance senior junior) unhindered) in
       none ((decides_there state.roles.pairs (pair_of senior junior)).0
       (either_way state.roles.pairs (pair_of senior junior) ∙ was_not _ (not_met _ NotThere met)))

@@ -17,7 +17,8 @@ is_some-find : {A : Type 0} (p : A → Bool) (xs : List A) → is_some (find p x
 is_some-find p [] = refl
 is_some-find {A} p (x ∷ xs) = by_test (p x) (is_some-find p xs)
   where
-    by_test : (b : Bool) → is_some (find p xs) ≡ list_any p xs → is_some (cond b (Some x) (find p xs)) ≡ (b || list_any p xs)
+    by_test : (b : Bool) → is_some (find p xs) ≡ list_any p xs → is_some (cond b (Some x) (find p xs)) ≡
+        (b || list_any p xs)
     by_test true rest = refl
     by_test false rest = rest
 
@@ -25,6 +26,7 @@ is_some-find {A} p (x ∷ xs) = by_test (p x) (is_some-find p xs)
 pub found_account : (roles : RoleData) (name : List ℕ) → is_some (authorized_roles roles name) ≡ has_account roles name
 unfolding assigned_roles
 found_account roles name =
-    is_some-map (reached roles.pairs) (option_map (λ account. account.assigned) (find (λ account. same_name account.name name) roles.accounts))
+    is_some-map (reached roles.pairs) (option_map (λ account. account.assigned)
+    (find (λ account. same_name account.name name) roles.accounts))
     ∙ is_some-map (λ account. account.assigned) (find (λ account. same_name account.name name) roles.accounts)
     ∙ is_some-find (λ account. same_name account.name name) roles.accounts

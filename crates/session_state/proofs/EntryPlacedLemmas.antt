@@ -6,7 +6,26 @@ use Rattle.session_commands.specs.declared.cell_state.CellState.{CellState}
 use Rattle.session_commands.specs.declared.cell_state.CellState.TheVariants.{Empty, Entered, Confirmed, Ruled}
 use Rattle.session_commands.specs.declared.command.Command.{Command}
 use Rattle.session_commands.specs.declared.command.Command.TheVariants as command
-use Rattle.session_commands.specs.declared.command.Command.TheVariants.{Enter, Confirm, Correct, Rule, Void, Hold, Release, Unseat, NextRound, Close, Finalise, AddUser, Assign, Deassign, AddInheritance, DeleteInheritance, Solved, Analysed}
+use Rattle.session_commands.specs.declared.command.Command.TheVariants.{
+  Enter,
+  Confirm,
+  Correct,
+  Rule,
+  Void,
+  Hold,
+  Release,
+  Unseat,
+  NextRound,
+  Close,
+  Finalise,
+  AddUser,
+  Assign,
+  Deassign,
+  AddInheritance,
+  DeleteInheritance,
+  Solved,
+  Analysed,
+}
 use Rattle.session_commands.specs.declared.entry.Entry.{Entry}
 use Rattle.session_commands.specs.declared.refusal.Refusal.{Refusal}
 use Rattle.session_state.specs.Apply.{apply, effect, confirmed}
@@ -29,7 +48,8 @@ module _ (state : SessionState) (are : ArePlaced state) where
 
   effect_placed : (command : Command) → hindrance_of state command ≡ None → ArePlaced (effect state command)
   effect_placed (Enter table board outcome play) unhindered = are
-  effect_placed (Confirm table board outcome) unhindered = confirmed_placed _ (cell_at state (record { table = table; board = board }))
+  effect_placed (Confirm table board outcome) unhindered = confirmed_placed _
+      (cell_at state (record { table = table; board = board }))
   effect_placed (Correct table board outcome play) unhindered = are
   effect_placed (Rule table board north_south east_west reason) unhindered = are
   effect_placed (Void table board) unhindered = are
@@ -52,6 +72,7 @@ pub entry_placed : (state : SessionState) (entry : Entry) → AreSeatsOf state.p
     AreSeatsOf (apply state entry).public.movement (apply state entry).seats
 entry_placed state entry are = by_hindrance (hindrance_of state entry.command) refl
   where
-    by_hindrance : (found : Option Refusal) → hindrance_of state entry.command ≡ found → ArePlaced (if is_some found then state else effect state entry.command)
+    by_hindrance : (found : Option Refusal) → hindrance_of state entry.command ≡ found →
+        ArePlaced (if is_some found then state else effect state entry.command)
     by_hindrance (Some cause) found = are
     by_hindrance None found = effect_placed state are entry.command found

@@ -11,7 +11,16 @@ use Rattle.disclosure_rules.specs.Seating.{some_that}
 use Rattle.session_commands.specs.declared.command.Command.{Command}
 use Rattle.session_commands.specs.declared.command.Command.TheVariants.{Enter, NextRound}
 use Rattle.session_commands.specs.declared.refusal.Refusal.{Refusal}
-use Rattle.session_commands.specs.declared.refusal.Refusal.TheVariants.{NoSuchUser, NoSuchCell, NoSuchBoard, WrongPhase, RoundNotStarted, BadResult, AlreadyLive, NoMoreRounds}
+use Rattle.session_commands.specs.declared.refusal.Refusal.TheVariants.{
+  NoSuchUser,
+  NoSuchCell,
+  NoSuchBoard,
+  WrongPhase,
+  RoundNotStarted,
+  BadResult,
+  AlreadyLive,
+  NoMoreRounds,
+}
 use Rattle.session_state.specs.Accounts.{has_account}
 use Rattle.session_commands.specs.CellState.{has_result}
 use Rattle.session_commands.specs.Command.{phases_of, subject_user, subject_cell, subject_board, is_among}
@@ -25,10 +34,12 @@ rest_none (Some cause) rest none = absurd cc
 rest_none None rest none = (refl, none)
 
 -- where none of a list of causes is met, neither is the first, nor one of the others
-pub first_unmet : (cause : Option Refusal) (causes : List (Option Refusal)) → first_cause (cause ∷ causes) ≡ None → cause ≡ None
+pub first_unmet : (cause : Option Refusal) (causes : List (Option Refusal)) → first_cause (cause ∷ causes) ≡ None →
+    cause ≡ None
 first_unmet cause causes none = (rest_none cause (first_cause causes) none).0
 
-pub rest_unmet : (cause : Option Refusal) (causes : List (Option Refusal)) → first_cause (cause ∷ causes) ≡ None → first_cause causes ≡ None
+pub rest_unmet : (cause : Option Refusal) (causes : List (Option Refusal)) → first_cause (cause ∷ causes) ≡ None →
+    first_cause causes ≡ None
 rest_unmet cause causes none = (rest_none cause (first_cause causes) none).1
 
 -- a cause that isn't met
@@ -36,17 +47,20 @@ pub not_met : (met : Bool) (cause : Refusal) → then_some met cause ≡ None �
 not_met true cause none = absurd cc
 not_met false cause none = refl
 
--- a command that nothing hinders: the user that it is about has an account, the cell is scheduled, and none of its own causes
+-- a command that nothing hinders: the user that it is about has an account, the cell is scheduled, and none of its own
+-- causes
 -- is met
 module _ (state : SessionState) (command : Command) (unhindered : hindrance_of state command ≡ None) where
   stranger : Option Refusal
   stranger = then_some (some_that (subject_user command) (λ name. not (has_account state.roles name))) NoSuchUser
 
   no_cell : Option Refusal
-  no_cell = then_some (some_that (subject_cell command) (λ cell. not (is_scheduled state.public.movement cell))) NoSuchCell
+  no_cell = then_some (some_that (subject_cell command) (λ cell. not (is_scheduled state.public.movement cell)))
+      NoSuchCell
 
   no_board : Option Refusal
-  no_board = then_some (some_that (subject_board command) (λ board. not (has_board state.public.movement board))) NoSuchBoard
+  no_board = then_some (some_that (subject_board command) (λ board. not (has_board state.public.movement board)))
+      NoSuchBoard
 
   other_phase : Option Refusal
   other_phase = then_some (not (is_among (phases_of command) state.public.phase)) WrongPhase
@@ -57,7 +71,8 @@ module _ (state : SessionState) (command : Command) (unhindered : hindrance_of s
   pub user_unhindered : some_that (subject_user command) (λ name. not (has_account state.roles name)) ≡ false
   unfolding hindrance_of stranger no_cell no_board other_phase too_early
   user_unhindered =
-      not_met _ NoSuchUser (first_unmet stranger (no_cell ∷ no_board ∷ other_phase ∷ too_early ∷ own_causes state command) unhindered)
+      not_met _ NoSuchUser (first_unmet stranger (no_cell ∷ no_board ∷ other_phase ∷ too_early ∷ own_causes state
+      command) unhindered)
 
   pub cell_unhindered : some_that (subject_cell command) (λ cell. not (is_scheduled state.public.movement cell)) ≡ false
   unfolding hindrance_of stranger no_cell no_board other_phase too_early
@@ -76,19 +91,23 @@ module _ (state : SessionState) (command : Command) (unhindered : hindrance_of s
       (rest_unmet stranger (no_cell ∷ no_board ∷ other_phase ∷ too_early ∷ own_causes state command) unhindered))))
 
 -- what is entered without a hindrance finds no result
-pub entry_is_free : (state : SessionState) (table board : ℕ) (outcome : Outcome) (play : List Card) → hindrance_of state (Enter table board outcome play) ≡ None →
+pub entry_is_free : (state : SessionState) (table board : ℕ) (outcome : Outcome) (play : List Card) → hindrance_of state
+    (Enter table board outcome play) ≡ None →
     has_result (cell_at state (record { table = table; board = board })) ≡ false
 entry_is_free state table board outcome play unhindered =
     let free = has_result (cell_at state (record { table = table; board = board })) in
     not_met free AlreadyLive
     (rest_none (then_some free AlreadyLive) None
-    (rest_unmet (then_some (is_bad_result outcome play) BadResult) (then_some free AlreadyLive ∷ []) (own_unhindered state (Enter table board outcome play) unhindered))).0
+    (rest_unmet (then_some (is_bad_result outcome play) BadResult) (then_some free AlreadyLive ∷ [])
+    (own_unhindered state (Enter table board outcome play) unhindered))).0
 
 -- a round that is started without a hindrance is one of the movement
-pub round_is_played : (state : SessionState) → hindrance_of state NextRound ≡ None → state.public.round < state.public.movement.rounds
+pub round_is_played : (state : SessionState) → hindrance_of state NextRound ≡ None → state.public.round <
+    state.public.movement.rounds
 round_is_played state unhindered =
     let last = not_met (nat_le state.public.movement.rounds state.public.round) NoMoreRounds
-    (rest_none (then_some (nat_le state.public.movement.rounds state.public.round) NoMoreRounds) None (own_unhindered state NextRound unhindered)).0 in
+    (rest_none (then_some (nat_le state.public.movement.rounds state.public.round) NoMoreRounds) None
+    (own_unhindered state NextRound unhindered)).0 in
     elim (cases_lt state.public.round state.public.movement.rounds) [
       | inl below ↦ below
       | inr above ↦ absurd (false≢true (sym last ∙ le-leb state.public.movement.rounds state.public.round above))

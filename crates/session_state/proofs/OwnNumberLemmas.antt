@@ -1,5 +1,25 @@
 -- What the solver tells is of its own, and what is kept of it stays so.
-use Rattle.std.proofs.Common.{◌≡◌, ℕ, zero, suc, ◌-◌, Bool, true, false, List, [], ◌∷◌, get_or, inl, inr, refl, sym, ap, ◌∙◌, subst}
+use Rattle.std.proofs.Common.{
+  ◌≡◌,
+  ℕ,
+  zero,
+  suc,
+  ◌-◌,
+  Bool,
+  true,
+  false,
+  List,
+  [],
+  ◌∷◌,
+  get_or,
+  inl,
+  inr,
+  refl,
+  sym,
+  ap,
+  ◌∙◌,
+  subst,
+}
 use Rattle.std.specs.Prelude.{◌⊎◌, Option, Some, None, is_some, not, ◌&&◌, slice_get, slice_set, if◌then◌else◌}
 use Rattle.std.specs.Bool.{then_some, Decides}
 use Rattle.std.specs.Cmp.Lexicographic.{pointwise_decides}
@@ -21,18 +41,58 @@ use Rattle.scoring.specs.declared.outcome.Outcome.TheVariants.{PassedOut, Played
 use Rattle.session_state.proofs.scoring_lemmas.OutcomeLemmas.{same_outcome_decides}
 use Rattle.solver_results.specs.PlayAnswer.{PlayedDeal}
 use Rattle.session_state.specs.Apply.{apply, effect, confirmed}
-use Rattle.session_commands.specs.CellState.{has_result, is_contract_of, same_play, is_played_as, is_counted, with_costs}
+use Rattle.session_commands.specs.CellState.{
+  has_result,
+  is_contract_of,
+  same_play,
+  is_played_as,
+  is_counted,
+  with_costs,
+}
 use Rattle.session_state.specs.OwnNumbers.{IsHandsOf, IsCostsOf, IsCounting, TellsOwn, KeepsOwn}
 use Rattle.session_state.specs.Refusal.{first_cause, hindrance_of}
-use Rattle.session_state.specs.SessionState.{SessionState, cell_at, table_at, same_hands, is_dealt, cell_index, IsPlaced}
+use Rattle.session_state.specs.SessionState.{
+  SessionState,
+  cell_at,
+  table_at,
+  same_hands,
+  is_dealt,
+  cell_index,
+  IsPlaced,
+}
 use Rattle.session_commands.specs.declared.cell_state.CellState.{CellState}
 use Rattle.session_commands.specs.declared.cell_state.CellState.TheVariants.{Empty, Entered, Confirmed, Ruled}
 use Rattle.session_commands.specs.declared.command.Command.{Command}
-use Rattle.session_commands.specs.declared.command.Command.TheVariants.{Enter, Confirm, Correct, Rule, Void, Hold, Release, Seat, Unseat, NextRound, Close, Finalise, AddUser, Assign, Deassign, AddInheritance, DeleteInheritance, Solved, Analysed}
+use Rattle.session_commands.specs.declared.command.Command.TheVariants.{
+  Enter,
+  Confirm,
+  Correct,
+  Rule,
+  Void,
+  Hold,
+  Release,
+  Seat,
+  Unseat,
+  NextRound,
+  Close,
+  Finalise,
+  AddUser,
+  Assign,
+  Deassign,
+  AddInheritance,
+  DeleteInheritance,
+  Solved,
+  Analysed,
+}
 use Rattle.user_names.specs.declared.digest.Digest.{Digest}
 use Rattle.session_commands.specs.declared.entry.Entry.{Entry}
 use Rattle.session_commands.specs.declared.refusal.Refusal.{Refusal}
-use Rattle.session_commands.specs.declared.refusal.Refusal.TheVariants.{NotLive, StrangeDeal, StrangePlay, AlreadySolved}
+use Rattle.session_commands.specs.declared.refusal.Refusal.TheVariants.{
+  NotLive,
+  StrangeDeal,
+  StrangePlay,
+  AlreadySolved,
+}
 use Rattle.session_state.specs.declared.seated.Seated.{Seated}
 use Rattle.session_state.proofs.HindranceLemmas.{rest_none, not_met, cell_unhindered, own_unhindered}
 use Rattle.session_state.proofs.LiveLemmas.{own_place}
@@ -66,9 +126,11 @@ same_card_decides a b = ((λ same. same_number a b (eqb-true _ _ same)), (λ one
 same_play_are : (a b : List Card) → same_play a b ≡ true → a ≡ b
 same_play_are a b same = (pointwise_decides same_card_decides a b).0 same
 
-own_contract : (outcome : Outcome) (contract : Contract) → is_contract_of outcome contract ≡ true → (tricks : ℕ) × (outcome ≡ Played contract tricks)
+own_contract : (outcome : Outcome) (contract : Contract) → is_contract_of outcome contract ≡ true → (tricks : ℕ) ×
+    (outcome ≡ Played contract tricks)
 own_contract PassedOut contract is = absurd (false≢true is)
-own_contract (Played own tricks) contract is = (tricks, (same_outcome_decides (Played own tricks) (Played contract tricks)).0 is)
+own_contract (Played own tricks) contract is =
+    (tricks, (same_outcome_decides (Played own tricks) (Played contract tricks)).0 is)
 
 none_there : (found : Option Hands) → is_some found ≡ false → found ≡ None
 none_there None none = refl
@@ -87,8 +149,11 @@ solved_own state board table unhindered =
     )
 
 -- a cell that has this contract and play, and whose cards are still to be counted, is confirmed without costs
-counting : (known : CellState) (costs : PlayedDeal) → is_played_as known costs.contract costs.play ≡ true → is_counted known ≡ false →
-    (outcome : Outcome) × ((play : List Card) × ((known ≡ Confirmed outcome play None) × ((is_contract_of outcome costs.contract && same_play play costs.play) ≡ true)))
+counting : (known : CellState) (costs : PlayedDeal) → is_played_as known costs.contract costs.play ≡ true →
+    is_counted known ≡ false →
+    (outcome : Outcome) ×
+    ((play : List Card) × ((known ≡ Confirmed outcome play None) ×
+    ((is_contract_of outcome costs.contract && same_play play costs.play) ≡ true)))
 counting Empty costs played free = absurd (false≢true played)
 counting (Entered outcome play) costs played free = absurd (false≢true played)
 counting (Confirmed outcome play None) costs played free = (outcome, (play, (refl, played)))
@@ -96,14 +161,17 @@ counting (Confirmed outcome play (Some old)) costs played free = absurd (false�
 counting (Ruled north_south east_west reason) costs played free = absurd (false≢true played)
 
 -- costs that nothing hinders are of the cell's own
-analysed_own : (state : SessionState) (table board : ℕ) (costs : PlayedDeal) → hindrance_of state (Analysed table board costs) ≡ None →
+analysed_own : (state : SessionState) (table board : ℕ) (costs : PlayedDeal) → hindrance_of state
+    (Analysed table board costs) ≡ None →
     IsCounting state (record { table = table; board = board }) costs
 analysed_own state table board costs unhindered =
     let known = cell_at state (record { table = table; board = board }) in
     let dead = then_some (not (has_result known)) NotLive in
-    let strange = then_some (not (is_dealt state board costs.deal && is_played_as known costs.contract costs.play)) StrangePlay in
+    let strange = then_some (not (is_dealt state board costs.deal && is_played_as known costs.contract costs.play))
+    StrangePlay in
     let solved = then_some (is_counted known) AlreadySolved in
-    let first = rest_none dead (first_cause (strange ∷ solved ∷ [])) (own_unhindered state (Analysed table board costs) unhindered) in
+    let first = rest_none dead (first_cause (strange ∷ solved ∷ [])) (own_unhindered state (Analysed table board costs)
+    unhindered) in
     let second = rest_none strange (first_cause (solved ∷ [])) first.1 in
     let third = rest_none solved None second.1 in
     let own = both _ _ (was_not _ (not_met _ StrangePlay second.0)) in
@@ -126,11 +194,13 @@ analysed_own state table board costs unhindered =
 pub told_own : (state : SessionState) (command : Command) → hindrance_of state command ≡ None → TellsOwn state command
 told_own state command unhindered = record {
   solved = λ board table is. solved_own state board table (sym (ap (hindrance_of state) is) ∙ unhindered);
-  analysed = λ table board costs is. analysed_own state table board costs (sym (ap (hindrance_of state) is) ∙ unhindered);
+  analysed = λ table board costs is. analysed_own state table board costs (sym (ap (hindrance_of state) is)
+      ∙ unhindered);
 }
 
 -- what is read of a list with one item set is that item, in its place, or was there before
-one_set : {A : Type 0} (xs : List A) (i k : ℕ) (x none y : A) → get_or (slice_set xs i x) k none ≡ y → ((x ≡ y) × (k ≡ i)) ⊎ (get_or xs k none ≡ y)
+one_set : {A : Type 0} (xs : List A) (i k : ℕ) (x none y : A) → get_or (slice_set xs i x) k none ≡ y →
+    ((x ≡ y) × (k ≡ i)) ⊎ (get_or xs k none ≡ y)
 one_set [] i k x none y is = inr is
 one_set (first ∷ xs) zero zero x none y is = inl (is, refl)
 one_set (first ∷ xs) zero (suc k) x none y is = inr is
@@ -151,7 +221,8 @@ costs_in (Ruled north_south east_west reason) = None
 -- what is known of a cell with its board's hands: costs, if there are any, are its own
 abbrev AreOwn : List Hands → ℕ → CellState → Type 0
 AreOwn deals board known =
-    (outcome : Outcome) (play : List Card) (costs : PlayedDeal) → known ≡ Confirmed outcome play (Some costs) → IsCostsOf deals board outcome play costs
+    (outcome : Outcome) (play : List Card) (costs : PlayedDeal) → known ≡ Confirmed outcome play (Some costs) →
+    IsCostsOf deals board outcome play costs
 
 costless : (deals : List Hands) (board : ℕ) (known : CellState) → costs_in known ≡ None → AreOwn deals board known
 costless deals board known none outcome play costs is =
@@ -175,9 +246,11 @@ module _ (state : SessionState) (keeps : KeepsOwn state) where
   with_known own known public placed_own are_own = record {
     tables = keeps.tables;
     costs = λ cell outcome play costs placed_cell is.
-        elim (one_set state.cells (cell_index own) (cell_index cell) known Empty (Confirmed outcome play (Some costs)) is) [
+        elim (one_set state.cells (cell_index own) (cell_index cell) known Empty (Confirmed outcome play (Some costs))
+        is) [
           | inl set ↦
-              subst (λ board. IsCostsOf state.deals board outcome play costs) (sym (own_place own cell placed_own placed_cell set.1).0)
+              subst (λ board. IsCostsOf state.deals board outcome play costs)
+              (sym (own_place own cell placed_own placed_cell set.1).0)
               (are_own outcome play costs set.0)
           | inr other ↦ keeps.costs cell outcome play costs placed_cell other
         ];
@@ -186,7 +259,8 @@ module _ (state : SessionState) (keeps : KeepsOwn state) where
   with_confirmed : (own : Cell) (known : CellState) → IsPlaced own → KeepsOwn (confirmed state own known)
   with_confirmed own Empty placed_own = keeps
   with_confirmed own (Entered outcome play) placed_own =
-      with_known own (Confirmed outcome play None) _ placed_own (costless state.deals own.board (Confirmed outcome play None) refl)
+      with_known own (Confirmed outcome play None) _ placed_own
+      (costless state.deals own.board (Confirmed outcome play None) refl)
   with_confirmed own (Confirmed outcome play costs) placed_own = keeps
   with_confirmed own (Ruled north_south east_west reason) placed_own = keeps
 
@@ -201,26 +275,35 @@ module _ (state : SessionState) (keeps : KeepsOwn state) where
     costs = keeps.costs;
   }
 
-  counted : (own : Cell) (costs : PlayedDeal) → IsCounting state own costs → AreOwn state.deals own.board (with_costs (cell_at state own) costs)
+  counted : (own : Cell) (costs : PlayedDeal) → IsCounting state own costs → AreOwn state.deals own.board
+      (with_costs (cell_at state own) costs)
   counted own costs found outcome play other is =
-      let same : Confirmed found.outcome found.play (Some costs) ≡ Confirmed outcome play (Some other) = sym (ap (λ known. with_costs known costs) found.known) ∙ is in
+      let same : Confirmed found.outcome found.play (Some costs) ≡ Confirmed outcome play (Some other) =
+      sym (ap (λ known. with_costs known costs) found.known) ∙ is in
       let outcome_is : found.outcome ≡ outcome = cc in
       let play_is : found.play ≡ play = cc in
       let costs_is : costs ≡ other = cc in
       subst (λ (told : Outcome × (List Card × PlayedDeal)). IsCostsOf state.deals own.board told.0 told.1.0 told.1.1)
       (λ i. (outcome_is i, (play_is i, costs_is i))) found.own
 
-  effect_keeps : IsSection state.public.movement → (command : Command) → hindrance_of state command ≡ None → KeepsOwn (effect state command)
+  effect_keeps : IsSection state.public.movement → (command : Command) → hindrance_of state command ≡ None →
+      KeepsOwn (effect state command)
   effect_keeps is_section (Enter table board outcome play) unhindered =
-      with_known _ _ _ (scheduled_placed state _ is_section (cell_unhindered state (Enter table board outcome play) unhindered)) (costless _ _ (Entered outcome play) refl)
+      with_known _ _ _ (scheduled_placed state _ is_section (cell_unhindered state (Enter table board outcome play)
+      unhindered)) (costless _ _ (Entered outcome play) refl)
   effect_keeps is_section (Confirm table board outcome) unhindered =
-      with_confirmed _ _ (scheduled_placed state _ is_section (cell_unhindered state (Confirm table board outcome) unhindered))
+      with_confirmed _ _ (scheduled_placed state _ is_section (cell_unhindered state (Confirm table board outcome)
+      unhindered))
   effect_keeps is_section (Correct table board outcome play) unhindered =
-      with_known _ _ _ (scheduled_placed state _ is_section (cell_unhindered state (Correct table board outcome play) unhindered)) (costless _ _ (Confirmed outcome play None) refl)
+      with_known _ _ _ (scheduled_placed state _ is_section (cell_unhindered state (Correct table board outcome play)
+      unhindered)) (costless _ _ (Confirmed outcome play None) refl)
   effect_keeps is_section (Rule table board north_south east_west reason) unhindered =
-      with_known _ _ _ (scheduled_placed state _ is_section (cell_unhindered state (Rule table board north_south east_west reason) unhindered)) (costless _ _ (Ruled north_south east_west reason) refl)
+      with_known _ _ _
+      (scheduled_placed state _ is_section (cell_unhindered state (Rule table board north_south east_west reason)
+      unhindered)) (costless _ _ (Ruled north_south east_west reason) refl)
   effect_keeps is_section (Void table board) unhindered =
-      with_known _ _ _ (scheduled_placed state _ is_section (cell_unhindered state (Void table board) unhindered)) (costless _ _ Empty refl)
+      with_known _ _ _ (scheduled_placed state _ is_section (cell_unhindered state (Void table board) unhindered))
+      (costless _ _ Empty refl)
   effect_keeps is_section (Hold board) unhindered = unchanged _ _ _ _
   effect_keeps is_section (Release board) unhindered = unchanged _ _ _ _
   effect_keeps is_section (Seat name pair place) unhindered = unchanged _ _ _ _
@@ -233,15 +316,19 @@ module _ (state : SessionState) (keeps : KeepsOwn state) where
   effect_keeps is_section (Deassign name role) unhindered = unchanged _ _ _ _
   effect_keeps is_section (AddInheritance senior junior) unhindered = unchanged _ _ _ _
   effect_keeps is_section (DeleteInheritance senior junior) unhindered = unchanged _ _ _ _
-  effect_keeps is_section (Solved board table) unhindered = with_table board table (solved_own state board table unhindered).0
+  effect_keeps is_section (Solved board table) unhindered = with_table board table
+      (solved_own state board table unhindered).0
   effect_keeps is_section (Analysed table board costs) unhindered =
-      with_known _ _ _ (scheduled_placed state _ is_section (cell_unhindered state (Analysed table board costs) unhindered))
+      with_known _ _ _ (scheduled_placed state _ is_section (cell_unhindered state (Analysed table board costs)
+      unhindered))
       (counted _ costs (analysed_own state table board costs unhindered))
 
 -- each entry keeps them
-pub entry_keeps : (state : SessionState) (entry : Entry) → IsSection state.public.movement → KeepsOwn state → KeepsOwn (apply state entry)
+pub entry_keeps : (state : SessionState) (entry : Entry) → IsSection state.public.movement → KeepsOwn state →
+    KeepsOwn (apply state entry)
 entry_keeps state entry is_section keeps = by_hindrance (hindrance_of state entry.command) refl
   where
-    by_hindrance : (found : Option Refusal) → hindrance_of state entry.command ≡ found → KeepsOwn (if is_some found then state else effect state entry.command)
+    by_hindrance : (found : Option Refusal) → hindrance_of state entry.command ≡ found →
+        KeepsOwn (if is_some found then state else effect state entry.command)
     by_hindrance (Some cause) found = keeps
     by_hindrance None found = effect_keeps state keeps is_section entry.command found

@@ -15,14 +15,46 @@ use Rattle.disclosure_rules.specs.declared.phase.Phase.{Phase}
 use Rattle.session_commands.specs.declared.cell_state.CellState.{CellState}
 use Rattle.session_commands.specs.declared.cell_state.CellState.TheVariants.{Empty, Entered, Confirmed, Ruled}
 use Rattle.session_commands.specs.declared.command.Command.{Command}
-use Rattle.session_commands.specs.declared.command.Command.TheVariants.{Enter, Confirm, Correct, Rule, Void, Hold, Release, Seat, Unseat, NextRound, Close, Finalise, AddUser, Assign, Deassign, AddInheritance, DeleteInheritance, Solved, Analysed}
+use Rattle.session_commands.specs.declared.command.Command.TheVariants.{
+  Enter,
+  Confirm,
+  Correct,
+  Rule,
+  Void,
+  Hold,
+  Release,
+  Seat,
+  Unseat,
+  NextRound,
+  Close,
+  Finalise,
+  AddUser,
+  Assign,
+  Deassign,
+  AddInheritance,
+  DeleteInheritance,
+  Solved,
+  Analysed,
+}
 use Rattle.user_names.specs.declared.digest.Digest.{Digest}
 use Rattle.session_commands.specs.declared.entry.Entry.{Entry}
 use Rattle.session_commands.specs.declared.refusal.Refusal.{Refusal}
 use Rattle.session_state.specs.declared.seated.Seated.{Seated}
 use Rattle.session_state.specs.Apply.{apply, effect, confirmed}
 use Rattle.session_commands.specs.Command.{subject_cell}
-use Rattle.session_state.specs.Parts.{Part, Results, HeldBoards, Seats, Rounds, Phases, Accounts, Hierarchy, Tables, part_of, IsSameBut}
+use Rattle.session_state.specs.Parts.{
+  Part,
+  Results,
+  HeldBoards,
+  Seats,
+  Rounds,
+  Phases,
+  Accounts,
+  Hierarchy,
+  Tables,
+  part_of,
+  IsSameBut,
+}
 use Rattle.session_state.specs.Refusal.{hindrance_of}
 use Rattle.session_state.specs.SessionState.{SessionState, cell_at, with_cell, cell_index, IsPlaced}
 use Rattle.session_state.proofs.HindranceLemmas.{cell_unhindered}
@@ -48,7 +80,8 @@ module _ (state : SessionState) where
     tables = λ _. refl;
   }
 
-  same_but_cells : (cells : List CellState) (live : List (List ℕ)) → IsSameBut Results state (record state { cells = cells; public = record state.public { live = live } })
+  same_but_cells : (cells : List CellState) (live : List (List ℕ)) → IsSameBut Results state
+      (record state { cells = cells; public = record state.public { live = live } })
   same_but_cells cells live = record {
     movement = refl;
     marks = refl;
@@ -65,7 +98,8 @@ module _ (state : SessionState) where
     tables = λ _. refl;
   }
 
-  same_but_held : (held : List ℕ) → IsSameBut HeldBoards state (record state { public = record state.public { held = held } })
+  same_but_held : (held : List ℕ) → IsSameBut HeldBoards state
+      (record state { public = record state.public { held = held } })
   same_but_held held = record {
     movement = refl;
     marks = refl;
@@ -99,7 +133,8 @@ module _ (state : SessionState) where
     tables = λ _. refl;
   }
 
-  same_but_round : (round : ℕ) → IsSameBut Rounds state (record state { public = record state.public { round = round } })
+  same_but_round : (round : ℕ) → IsSameBut Rounds state
+      (record state { public = record state.public { round = round } })
   same_but_round round = record {
     movement = refl;
     marks = refl;
@@ -116,7 +151,8 @@ module _ (state : SessionState) where
     tables = λ _. refl;
   }
 
-  same_but_phase : (phase : Phase) → IsSameBut Phases state (record state { public = record state.public { phase = phase } })
+  same_but_phase : (phase : Phase) → IsSameBut Phases state
+      (record state { public = record state.public { phase = phase } })
   same_but_phase phase = record {
     movement = refl;
     marks = refl;
@@ -133,7 +169,8 @@ module _ (state : SessionState) where
     tables = λ _. refl;
   }
 
-  same_but_accounts : (accounts : List Account) (digests : List Digest) → IsSameBut Accounts state (record state { roles = record state.roles { accounts = accounts }; digests = digests })
+  same_but_accounts : (accounts : List Account) (digests : List Digest) → IsSameBut Accounts state
+      (record state { roles = record state.roles { accounts = accounts }; digests = digests })
   same_but_accounts accounts digests = record {
     movement = refl;
     marks = refl;
@@ -150,7 +187,8 @@ module _ (state : SessionState) where
     tables = λ _. refl;
   }
 
-  same_but_pairs : (pairs : List Inheritance) → IsSameBut Hierarchy state (record state { roles = record state.roles { pairs = pairs } })
+  same_but_pairs : (pairs : List Inheritance) → IsSameBut Hierarchy state
+      (record state { roles = record state.roles { pairs = pairs } })
   same_but_pairs pairs = record {
     movement = refl;
     marks = refl;
@@ -215,14 +253,17 @@ module _ (state : SessionState) where
 pub entry_part : (state : SessionState) (entry : Entry) → IsSameBut (part_of entry.command) state (apply state entry)
 entry_part state entry = by_hindrance (is_some (hindrance_of state entry.command))
   where
-    by_hindrance : (b : Bool) → IsSameBut (part_of entry.command) state (if b then state else effect state entry.command)
+    by_hindrance : (b : Bool) → IsSameBut (part_of entry.command) state
+        (if b then state else effect state entry.command)
     by_hindrance true = same state (part_of entry.command)
     by_hindrance false = effect_part state entry.command
 
 -- another cell keeps what is known of it
-module _ (state : SessionState) (own cell : Cell) (placed_own : IsPlaced own) (placed_cell : IsPlaced cell) (other : own ≢ cell) where
+module _ (state : SessionState) (own cell : Cell) (placed_own : IsPlaced own) (placed_cell : IsPlaced cell)
+    (other : own ≢ cell) where
   apart : cell_index cell ≢ cell_index own
-  apart same = let both = own_place own cell placed_own placed_cell same in other (λ i. record { table = sym both.1 i; board = sym both.0 i })
+  apart same = let both = own_place own cell placed_own placed_cell same in
+      other (λ i. record { table = sym both.1 i; board = sym both.0 i })
 
   kept_elsewhere : (known : CellState) → cell_at (with_cell state own known) cell ≡ cell_at state cell
   kept_elsewhere known = known_elsewhere state.cells own cell known apart
@@ -241,24 +282,34 @@ not_false true none = refl
 not_false false none = absurd (false≢true (sym none))
 
 -- a place is kept for a scheduled cell
-pub scheduled_placed : (state : SessionState) (own : Cell) → IsSection state.public.movement → not (is_scheduled state.public.movement own) ≡ false → IsPlaced own
+pub scheduled_placed : (state : SessionState) (own : Cell) → IsSection state.public.movement →
+    not (is_scheduled state.public.movement own) ≡ false → IsPlaced own
 scheduled_placed state own is_section scheduled =
-    placed state.public.movement own is_section (cell_in_range state.public.movement own (scheduled-cell state.public.movement own (not_false _ scheduled)))
+    placed state.public.movement own is_section (cell_in_range state.public.movement own
+    (scheduled-cell state.public.movement own (not_false _ scheduled)))
 
-effect_elsewhere : (state : SessionState) (command : Command) (cell : Cell) → IsSection state.public.movement → IsPlaced cell → hindrance_of state command ≡ None →
+effect_elsewhere : (state : SessionState) (command : Command) (cell : Cell) → IsSection state.public.movement →
+    IsPlaced cell → hindrance_of state command ≡ None →
     subject_cell command ≢ Some cell → cell_at (effect state command) cell ≡ cell_at state cell
-effect_elsewhere state command cell is_section placed_cell unhindered other = by_command command (cell_unhindered state command unhindered) other
+effect_elsewhere state command cell is_section placed_cell unhindered other = by_command command
+    (cell_unhindered state command unhindered) other
   where
     own_placed : (own : Cell) → not (is_scheduled state.public.movement own) ≡ false → IsPlaced own
     own_placed own scheduled = scheduled_placed state own is_section scheduled
 
-    by_command : (command : Command) → some_that (subject_cell command) (λ own. not (is_scheduled state.public.movement own)) ≡ false →
+    by_command : (command : Command) → some_that (subject_cell command)
+        (λ own. not (is_scheduled state.public.movement own)) ≡ false →
         subject_cell command ≢ Some cell → cell_at (effect state command) cell ≡ cell_at state cell
-    by_command (Enter table board outcome play) there other = kept_elsewhere state _ cell (own_placed _ there) placed_cell (no_other _ other) _
-    by_command (Confirm table board outcome) there other = kept_confirmed state _ cell (own_placed _ there) placed_cell (no_other _ other) _
-    by_command (Correct table board outcome play) there other = kept_elsewhere state _ cell (own_placed _ there) placed_cell (no_other _ other) _
-    by_command (Rule table board north_south east_west reason) there other = kept_elsewhere state _ cell (own_placed _ there) placed_cell (no_other _ other) _
-    by_command (Void table board) there other = kept_elsewhere state _ cell (own_placed _ there) placed_cell (no_other _ other) _
+    by_command (Enter table board outcome play) there other = kept_elsewhere state _ cell (own_placed _ there)
+        placed_cell (no_other _ other) _
+    by_command (Confirm table board outcome) there other = kept_confirmed state _ cell (own_placed _ there) placed_cell
+        (no_other _ other) _
+    by_command (Correct table board outcome play) there other = kept_elsewhere state _ cell (own_placed _ there)
+        placed_cell (no_other _ other) _
+    by_command (Rule table board north_south east_west reason) there other = kept_elsewhere state _ cell
+        (own_placed _ there) placed_cell (no_other _ other) _
+    by_command (Void table board) there other = kept_elsewhere state _ cell (own_placed _ there) placed_cell
+        (no_other _ other) _
     by_command (Hold board) there other = refl
     by_command (Release board) there other = refl
     by_command (Seat name pair place) there other = refl
@@ -272,13 +323,16 @@ effect_elsewhere state command cell is_section placed_cell unhindered other = by
     by_command (AddInheritance senior junior) there other = refl
     by_command (DeleteInheritance senior junior) there other = refl
     by_command (Solved board table) there other = refl
-    by_command (Analysed table board costs) there other = kept_elsewhere state _ cell (own_placed _ there) placed_cell (no_other _ other) _
+    by_command (Analysed table board costs) there other = kept_elsewhere state _ cell (own_placed _ there) placed_cell
+        (no_other _ other) _
 
 -- an entry changes what is known of its own cell alone
-pub entry_elsewhere : (state : SessionState) (entry : Entry) (cell : Cell) → IsSection state.public.movement → IsPlaced cell →
+pub entry_elsewhere : (state : SessionState) (entry : Entry) (cell : Cell) → IsSection state.public.movement →
+    IsPlaced cell →
     subject_cell entry.command ≢ Some cell → cell_at (apply state entry) cell ≡ cell_at state cell
 entry_elsewhere state entry cell is_section placed_cell other = by_hindrance (hindrance_of state entry.command) refl
   where
-    by_hindrance : (found : Option Refusal) → hindrance_of state entry.command ≡ found → cell_at (if is_some found then state else effect state entry.command) cell ≡ cell_at state cell
+    by_hindrance : (found : Option Refusal) → hindrance_of state entry.command ≡ found →
+        cell_at (if is_some found then state else effect state entry.command) cell ≡ cell_at state cell
     by_hindrance (Some cause) found = refl
     by_hindrance None found = effect_elsewhere state entry.command cell is_section placed_cell found other

@@ -39,8 +39,10 @@ one_more_placed section seats seated are own free = record {
 }
 
 -- one user leaves a seat
-pub one_less_placed : (section : Section) (seats : List Seated) (name : List ℕ) → AreSeatsOf section seats → AreSeatsOf section (without_seat seats name)
+pub one_less_placed : (section : Section) (seats : List Seated) (name : List ℕ) → AreSeatsOf section seats →
+    AreSeatsOf section (without_seat seats name)
 one_less_placed section seats name are = record {
   apart = distinct_filter share_seat (λ (seated : Seated). not (same_name seated.name name)) seats are.apart;
-  own = All-filter (λ (seated : Seated). not (same_name seated.name name)) (λ (seated : Seated). IsSeatOf section seated.seat) seats are.own;
+  own = All-filter (λ (seated : Seated). not (same_name seated.name name))
+      (λ (seated : Seated). IsSeatOf section seated.seat) seats are.own;
 }

@@ -15,8 +15,10 @@ pub found_scheduled : (section : Section) (table board : ℕ) (found : Option Ce
     IfSome found (λ cell. cell ≡ record { table = table; board = board }) → IfSome found (IsCell section) →
     IfNone found (¬ IsCell section (record { table = table; board = board })) →
     is_some found ≡ is_scheduled section (record { table = table; board = board })
-found_scheduled section table board (Some cell) own is_cell none = sym (cell-scheduled section _ (subst (IsCell section) own is_cell))
-found_scheduled section table board None own is_cell none = sym (false_from_ne_true _ (λ test. none (scheduled-cell section _ test)))
+found_scheduled section table board (Some cell) own is_cell none =
+    sym (cell-scheduled section _ (subst (IsCell section) own is_cell))
+found_scheduled section table board None own is_cell none =
+    sym (false_from_ne_true _ (λ test. none (scheduled-cell section _ test)))
 
 -- a cell of a section has a place
 pub placed : (section : Section) (cell : Cell) → IsSection section → IsCellInRange section cell → IsPlaced cell
@@ -25,8 +27,15 @@ placed section cell is_section range =
     let boards = is_section.not_too_many_boards in
     let to_table = range.to_table in
     let to_board = range.to_board in
-    record { from_table = range.from_table; to_table = omega arith; from_board = range.from_board; to_board = omega arith }
+    record {
+      from_table = range.from_table;
+      to_table = omega arith;
+      from_board = range.from_board;
+      to_board =
+          omega arith;
+    }
 
-pub placed_found : (section : Section) (found : Option Cell) → IsSection section → IfSome found (IsCellInRange section) → IfSome found IsPlaced
+pub placed_found : (section : Section) (found : Option Cell) → IsSection section → IfSome found
+    (IsCellInRange section) → IfSome found IsPlaced
 placed_found section (Some cell) is_section range = placed section cell is_section range
 placed_found section None is_section range = tt

@@ -7,7 +7,13 @@ use Rattle.table_terms.specs.declared.place.Place.{Place}
 use Rattle.session_roles.specs.declared.role.Role.TheVariants.{Contestant}
 use Rattle.session_commands.specs.declared.command.Command.TheVariants as command
 use Rattle.session_commands.specs.declared.refusal.Refusal.{Refusal}
-use Rattle.session_commands.specs.declared.refusal.Refusal.TheVariants.{NoSuchPair, WrongDirection, NotContestant, AlreadySeated, SeatTaken}
+use Rattle.session_commands.specs.declared.refusal.Refusal.TheVariants.{
+  NoSuchPair,
+  WrongDirection,
+  NotContestant,
+  AlreadySeated,
+  SeatTaken,
+}
 use Rattle.session_state.specs.Accounts.{has_account, is_authorized_for}
 use Rattle.session_state.specs.Refusal.{hindrance_of}
 use Rattle.session_state.specs.Seats.{is_pair, is_of_side, has_seat, is_taken, AreSeated, AreSeatsOf}
@@ -21,9 +27,11 @@ was_not true none = refl
 was_not false none = absurd cc
 
 -- who is seated without a hindrance has an account and no seat yet
-module _ (state : SessionState) (name : List ℕ) (pair : Pair) (place : Place) (unhindered : hindrance_of state (command.Seat name pair place) ≡ None) where
+module _ (state : SessionState) (name : List ℕ) (pair : Pair) (place : Place)
+    (unhindered : hindrance_of state (command.Seat name pair place) ≡ None) where
   pub seats_a_user : has_account state.roles name ≡ true
-  seats_a_user = was_not (has_account state.roles name) (user_unhindered state (command.Seat name pair place) unhindered)
+  seats_a_user = was_not (has_account state.roles name) (user_unhindered state (command.Seat name pair place)
+      unhindered)
 
   no_pair : Option Refusal
   no_pair = then_some (not (is_pair state.public.movement pair)) NoSuchPair
@@ -51,9 +59,11 @@ module _ (state : SessionState) (name : List ℕ) (pair : Pair) (place : Place) 
       (own_unhindered state (command.Seat name pair place) unhindered)))))
 
   -- so users still have one seat each
-  pub seats_still_apart : AreSeated state.roles state.seats → AreSeated state.roles (state.seats ++ record { name = name; seat = record { pair = pair; place = place } } ∷ [])
+  pub seats_still_apart : AreSeated state.roles state.seats → AreSeated state.roles
+      (state.seats ++ record { name = name; seat = record { pair = pair; place = place } } ∷ [])
   seats_still_apart are =
-      one_more_sits state.roles state.seats (record { name = name; seat = record { pair = pair; place = place } }) are seats_a_user seats_nobody_twice
+      one_more_sits state.roles state.seats (record { name = name; seat = record { pair = pair; place = place } }) are
+      seats_a_user seats_nobody_twice
 
   pub seats_at_a_pair : is_pair state.public.movement pair ≡ true
   unfolding no_pair other_direction no_contestant seated_already seat_taken
@@ -85,7 +95,9 @@ module _ (state : SessionState) (name : List ℕ) (pair : Pair) (place : Place) 
 
   -- so a seat still has at most one user, and is one of the movement's
   pub seats_still_placed : AreSeatsOf state.public.movement state.seats →
-      AreSeatsOf state.public.movement (state.seats ++ record { name = name; seat = record { pair = pair; place = place } } ∷ [])
+      AreSeatsOf state.public.movement
+      (state.seats ++ record { name = name; seat = record { pair = pair; place = place } } ∷ [])
   seats_still_placed are =
-      one_more_placed state.public.movement state.seats (record { name = name; seat = record { pair = pair; place = place } }) are
+      one_more_placed state.public.movement state.seats
+      (record { name = name; seat = record { pair = pair; place = place } }) are
       (record { pair = seats_at_a_pair; place = seats_on_its_side }) seats_on_a_free_seat

@@ -1,7 +1,15 @@
 -- The parts of a state, and which of them a command is about. One line for each command, in the order of the commands.
 use Rattle.std.specs.Prelude.{◌≡◌, ◌≢◌}
 use Rattle.session_commands.specs.declared.command.Command.{Command}
-use Rattle.session_commands.specs.declared.command.Command.TheVariants.{Enter, Confirm, Correct, Rule, Void, Hold, Release}
+use Rattle.session_commands.specs.declared.command.Command.TheVariants.{
+  Enter,
+  Confirm,
+  Correct,
+  Rule,
+  Void,
+  Hold,
+  Release,
+}
 use Rattle.session_commands.specs.declared.command.Command.TheVariants.{Seat, Unseat, NextRound, Close, Finalise}
 use Rattle.session_commands.specs.declared.command.Command.TheVariants.{AddUser, Assign, Deassign, AddInheritance}
 use Rattle.session_commands.specs.declared.command.Command.TheVariants.{DeleteInheritance, Solved, Analysed}

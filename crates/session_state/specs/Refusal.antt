@@ -22,26 +22,78 @@ use Rattle.small_sets.specs.Numbers.{has_number}
 use Rattle.disclosure_rules.specs.Seating.{some_that, is_complete}
 use Rattle.disclosure_rules.specs.declared.public.Public.{Public}
 use Rattle.session_commands.specs.declared.command.Command.{Command}
-use Rattle.session_commands.specs.declared.command.Command.TheVariants.{Enter, Confirm, Correct, Rule, Void, Hold, Release}
+use Rattle.session_commands.specs.declared.command.Command.TheVariants.{
+  Enter,
+  Confirm,
+  Correct,
+  Rule,
+  Void,
+  Hold,
+  Release,
+}
 use Rattle.session_commands.specs.declared.command.Command.TheVariants.{Seat, Unseat, NextRound, Close, Finalise}
 use Rattle.session_commands.specs.declared.command.Command.TheVariants.{AddUser, Assign, Deassign, AddInheritance}
 use Rattle.session_commands.specs.declared.command.Command.TheVariants.{DeleteInheritance, Solved, Analysed}
 use Rattle.session_commands.specs.declared.refusal.Refusal.{Refusal}
-use Rattle.session_commands.specs.declared.refusal.Refusal.TheVariants.{NotPermitted, NoSuchUser, NoSuchCell, NoSuchBoard}
-use Rattle.session_commands.specs.declared.refusal.Refusal.TheVariants.{WrongPhase, RoundNotStarted, BadResult, AlreadyLive}
+use Rattle.session_commands.specs.declared.refusal.Refusal.TheVariants.{
+  NotPermitted,
+  NoSuchUser,
+  NoSuchCell,
+  NoSuchBoard,
+}
+use Rattle.session_commands.specs.declared.refusal.Refusal.TheVariants.{
+  WrongPhase,
+  RoundNotStarted,
+  BadResult,
+  AlreadyLive,
+}
 use Rattle.session_commands.specs.declared.refusal.Refusal.TheVariants.{NothingEntered, Mismatch, NotLive, BadRuling}
-use Rattle.session_commands.specs.declared.refusal.Refusal.TheVariants.{AlreadyHeld, NotHeld, NoSuchPair, WrongDirection}
-use Rattle.session_commands.specs.declared.refusal.Refusal.TheVariants.{NotContestant, AlreadySeated, SeatTaken, NotSeated}
+use Rattle.session_commands.specs.declared.refusal.Refusal.TheVariants.{
+  AlreadyHeld,
+  NotHeld,
+  NoSuchPair,
+  WrongDirection,
+}
+use Rattle.session_commands.specs.declared.refusal.Refusal.TheVariants.{
+  NotContestant,
+  AlreadySeated,
+  SeatTaken,
+  NotSeated,
+}
 use Rattle.session_commands.specs.declared.refusal.Refusal.TheVariants.{NoMoreRounds, NotAllLive, BadName, UserExists}
 use Rattle.session_commands.specs.declared.refusal.Refusal.TheVariants.{TooManyUsers, AlreadyAssigned, Separation}
-use Rattle.session_commands.specs.declared.refusal.Refusal.TheVariants.{NotAssigned, StillSeated, LastAdministrator, Cycle}
-use Rattle.session_commands.specs.declared.refusal.Refusal.TheVariants.{AlreadyThere, NotThere, StrangeDeal, AlreadySolved, StrangePlay}
+use Rattle.session_commands.specs.declared.refusal.Refusal.TheVariants.{
+  NotAssigned,
+  StillSeated,
+  LastAdministrator,
+  Cycle,
+}
+use Rattle.session_commands.specs.declared.refusal.Refusal.TheVariants.{
+  AlreadyThere,
+  NotThere,
+  StrangeDeal,
+  AlreadySolved,
+  StrangePlay,
+}
 use Rattle.session_commands.specs.declared.refusal.Refusal.TheVariants.{JournalFull}
-use Rattle.session_state.specs.Accounts.{has_account, is_assigned, is_authorized_for, has_administrator, seats_a_stranger}
+use Rattle.session_state.specs.Accounts.{
+  has_account,
+  is_assigned,
+  is_authorized_for,
+  has_administrator,
+  seats_a_stranger,
+}
 use Rattle.session_state.specs.declared.acceptance.TheConstants.{MOST_ENTRIES}
 use Rattle.session_state.specs.Accounts.{first_broken, has_pair}
 use Rattle.session_commands.specs.CellState.{has_result, is_empty, is_entered_otherwise, is_played_as, is_counted}
-use Rattle.session_commands.specs.Command.{operation_of, is_solvers, phases_of, subject_user, subject_cell, subject_board}
+use Rattle.session_commands.specs.Command.{
+  operation_of,
+  is_solvers,
+  phases_of,
+  subject_user,
+  subject_cell,
+  subject_board,
+}
 use Rattle.session_commands.specs.Command.{is_among}
 use Rattle.session_commands.specs.Refusal.{spoiled}
 use Rattle.session_commands.specs.declared.actor.Actor.{Actor}

@@ -1,5 +1,22 @@
 -- The state of a session, as plain lists.
-use Rattle.std.specs.Prelude.{◌≡◌, ◌≤◌, ℕ, ◌+◌, ◌-◌, ◌*◌, Bool, ◌&&◌, nat_eq, Option, None, List, slice_get, slice_index_or, slice_set, refl}
+use Rattle.std.specs.Prelude.{
+  ◌≡◌,
+  ◌≤◌,
+  ℕ,
+  ◌+◌,
+  ◌-◌,
+  ◌*◌,
+  Bool,
+  ◌&&◌,
+  nat_eq,
+  Option,
+  None,
+  List,
+  slice_get,
+  slice_index_or,
+  slice_set,
+  refl,
+}
 use Rattle.std.specs.List.{find}
 use Rattle.std.specs.Option.{option_map}
 use Rattle.std.specs.Cmp.Lexicographic.{pointwise}

@@ -10,9 +10,6 @@ mod state;
 
 pub use causes::first_cause;
 pub use causes::seats::{is_of_side, is_pair};
-
 pub use schedule::has_cell;
 pub use seated::Seated;
-
 pub use state::State;
-

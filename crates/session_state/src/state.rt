@@ -22,15 +22,15 @@ mod solved;
 
 use crate::acceptance::{hindrance, refusal};
 use crate::seated::Seated;
+use cards::Deal;
 use disclosure_rules::{Fact, Marks, Public, Rule, Seat, Viewer, decide};
 use movement::{Cell, Movement};
 use rbac::{Account, Roles};
-use session_commands::room::{filled, with_room};
-use cards::Deal;
 use scoring::Outcome;
+use session_commands::room::{filled, with_room};
 use session_commands::{Actor, CellState, Command, Entry, Refusal};
-use solver_results::{DdTable, Play, PlayCosts};
 use session_roles::{Operation, RoleSet};
+use solver_results::{DdTable, Play, PlayCosts};
 use std::alloc::{AllocError, Global};
 use std::marker::Model;
 use user_names::{Digest, Name};

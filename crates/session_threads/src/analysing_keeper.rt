@@ -3,16 +3,16 @@
 use crate::job_queue::JobQueue;
 use desks::DeskKeeper;
 use displays::Server;
+use movement::Cell;
 use published_view::{NoEntry, QueryFault};
 use session_book::Answer;
+use session_commands::Command;
 use session_keeper::{AuditReceipt, BatchReceipt, CommandKeeper, Keeper};
 use session_queries::{Query, Reply};
-use movement::Cell;
-use session_commands::Command;
 use solver_results::{DdTable, PlayCosts};
-use user_names::{Digest, Name};
 use std::alloc::{AllocError, Global};
 use std::sync::Wait;
+use user_names::{Digest, Name};
 
 /// A desk and a display that keep a session, and the queue of jobs, if anybody solves: what a confirmed or a corrected
 /// result leaves to find is queued before the batch is answered.

@@ -1,5 +1,32 @@
 -- What a word's operations do to the set of numbers that it stands for, for any width and any most.
-use Rattle.std.proofs.Common.{◌≡◌, ◌⊎◌, ℕ, zero, suc, min, max, ◌+◌, ◌-◌, ◌*◌, ◌^◌, ◌%◌, ◌<◌, ◌≤◌, false, [], nat_eq, bit_or, bit_and, refl, sym, ap, ◌∙◌, arith, inl, inr}
+use Rattle.std.proofs.Common.{
+  ◌≡◌,
+  ◌⊎◌,
+  ℕ,
+  zero,
+  suc,
+  min,
+  max,
+  ◌+◌,
+  ◌-◌,
+  ◌*◌,
+  ◌^◌,
+  ◌%◌,
+  ◌<◌,
+  ◌≤◌,
+  false,
+  [],
+  nat_eq,
+  bit_or,
+  bit_and,
+  refl,
+  sym,
+  ap,
+  ◌∙◌,
+  arith,
+  inl,
+  inr,
+}
 use Rattle.std.specs.Prelude.{◌||◌, ◌&&◌, not, filter}
 use Rattle.std.specs.List.{range_with_len}
 use Rattle.std.specs.Cmp.Lexicographic.{pointwise, pointwise_decides}
@@ -8,7 +35,19 @@ use mir.Val.{bits}
 use Rattle.std.proofs.lemmas.Bool.{eqb-true, eq-eqb, ne_eqb, cases_eq, cases_lt}
 use Rattle.std.proofs.lemmas.Bool.Decides.{same_from_decides, Decides-eqb, Decides-like}
 use Rattle.std.proofs.lemmas.Nat.{or_lt, one_shl, and_le_l}
-use Rattle.std.proofs.lemmas.Nat.Bits.{bit_at-lt, bit_at-zero, bit_at_and, bit_at_or, bit_at_not, bit_at_above, bit_at_set_same, bit_at_set_other, bit_at_clear_same, bit_at_clear_other, same_from_bits}
+use Rattle.std.proofs.lemmas.Nat.Bits.{
+  bit_at-lt,
+  bit_at-zero,
+  bit_at_and,
+  bit_at_or,
+  bit_at_not,
+  bit_at_above,
+  bit_at_set_same,
+  bit_at_set_other,
+  bit_at_clear_same,
+  bit_at_clear_other,
+  same_from_bits,
+}
 use Rattle.std.proofs.Math.Pow.{pow-lt}
 use Rattle.small_sets.specs.Numbers.{has_number, with_number, without_number, numbers_of_both, IsSetUpTo, AreAmong}
 use Rattle.small_sets.specs.NumberBits.{has_bit, numbers_of_bits, bits_of_numbers, bits_of_numbers_of_bits}
@@ -108,7 +147,8 @@ unfolding numbers_of_bits
 numbers_of_bits-or most a b = same_numbers_that most _ _ (λ n low high.
     ap (λ x. nat_eq x 1) (bit_at_or a b (n - 1))
     ∙ larger_flag _ _ (bit_at-lt a (n - 1)) (bit_at-lt b (n - 1))
-    ∙ (λ i. sym (has_number-numbers_that most (has_bit a) n low high) i || sym (has_number-numbers_that most (has_bit b) n low high) i))
+    ∙ (λ i. sym (has_number-numbers_that most (has_bit a) n low high) i || sym
+    (has_number-numbers_that most (has_bit b) n low high) i))
 
 -- a word keeps to the bits of the set, whatever is done to it
 pub set_below : (w : Width) (most word k : ℕ) → most ≤ bits w → 1 ≤ k → k ≤ most → word < 2 ^ most →
@@ -124,9 +164,11 @@ clear_below most word mask below = let less = and_le_l word mask in omega (arith
 pub same_words : (most a b : ℕ) → a < 2 ^ most → b < 2 ^ most →
     nat_eq a b ≡ pointwise nat_eq (numbers_of_bits most a) (numbers_of_bits most b)
 same_words most a b below_a below_b =
-    same_from_decides (nat_eq a b) (pointwise nat_eq (numbers_of_bits most a) (numbers_of_bits most b)) (Decides-eqb a b)
+    same_from_decides (nat_eq a b) (pointwise nat_eq (numbers_of_bits most a) (numbers_of_bits most b))
+    (Decides-eqb a b)
     (Decides-like _
-    (λ same. sym (bits_of_numbers_of_bits most a below_a) ∙ ap bits_of_numbers same ∙ bits_of_numbers_of_bits most b below_b)
+    (λ same. sym (bits_of_numbers_of_bits most a below_a) ∙ ap bits_of_numbers same ∙ bits_of_numbers_of_bits most b
+    below_b)
     (λ same. ap (numbers_of_bits most) same)
     (pointwise_decides Decides-eqb (numbers_of_bits most a) (numbers_of_bits most b)))
 
@@ -138,7 +180,8 @@ among_from_bits w most a b wide small none k held =
     let one : bit_at a (k - 1) ≡ 1 = eqb-true _ _ (sym (has_number-numbers_of_bits most a k range.0 range.1) ∙ held) in
     let clear : min (bit_at a (k - 1)) (bit_at (bit_not w b) (k - 1)) ≡ 0 =
     sym (bit_at_and a (bit_not w b) (k - 1)) ∙ ap (λ n. bit_at n (k - 1)) none ∙ bit_at-zero (k - 1) in
-    let other : bit_at (bit_not w b) (k - 1) ≡ 1 - bit_at b (k - 1) = bit_at_not w b (k - 1) small (omega (arith, range.0, range.1)) in
+    let other : bit_at (bit_not w b) (k - 1) ≡ 1 - bit_at b (k - 1) = bit_at_not w b (k - 1) small
+    (omega (arith, range.0, range.1)) in
     let also : bit_at b (k - 1) ≡ 1 = omega (arith, bit_at-lt b (k - 1)) in
     has_number-numbers_of_bits most b k range.0 range.1 ∙ eq-eqb _ _ also
 
@@ -160,7 +203,8 @@ bits_from_among w most a b wide below small among =
                 | inl one ↦
                     let here = ap (λ k. nat_eq (bit_at a k) 1) (last t) ∙ eq-eqb _ _ one in
                     let held = has_number-numbers_of_bits most a (t + 1) (omega arith) (omega arith) ∙ here in
-                    let there = sym (has_number-numbers_of_bits most b (t + 1) (omega arith) (omega arith)) ∙ among (t + 1) held in
+                    let there = sym (has_number-numbers_of_bits most b (t + 1) (omega arith) (omega arith)) ∙ among
+                    (t + 1) held in
                     let also : bit_at b t ≡ 1 = eqb-true _ _ (sym (ap (λ k. nat_eq (bit_at b k) 1) (last t)) ∙ there) in
                     let other : bit_at (bit_not w b) t ≡ 1 - bit_at b t = bit_at_not w b t small (omega arith) in
                     omega arith

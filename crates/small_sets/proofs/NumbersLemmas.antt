@@ -1,5 +1,28 @@
 -- Sets of small numbers: what is in them after each call, for any most.
-use Rattle.std.proofs.Common.{◌≡◌, ◌⊎◌, ℕ, zero, suc, ◌+◌, ◌<◌, ◌≤◌, Bool, true, false, cond, List, ◌∷◌, nat_eq, refl, sym, ap, ◌∙◌, arith, inl, inr}
+use Rattle.std.proofs.Common.{
+  ◌≡◌,
+  ◌⊎◌,
+  ℕ,
+  zero,
+  suc,
+  ◌+◌,
+  ◌<◌,
+  ◌≤◌,
+  Bool,
+  true,
+  false,
+  cond,
+  List,
+  ◌∷◌,
+  nat_eq,
+  refl,
+  sym,
+  ap,
+  ◌∙◌,
+  arith,
+  inl,
+  inr,
+}
 use Rattle.std.specs.Prelude.{filter, ◌||◌, ◌&&◌, not}
 use Rattle.std.specs.List.{range_with_len}
 use Rattle.std.proofs.lemmas.Bool.{eqb-true, eq-eqb, ne_eqb, cases_eq, cases_lt, false≢true, or_right, or_left}

@@ -1,5 +1,28 @@
 -- What the model of a set of numbers rests on: a word gives the set of its bits, and the set gives the word back.
-use Rattle.std.proofs.Common.{◌≡◌, ℕ, zero, suc, ◌+◌, ◌-◌, ◌*◌, ◌^◌, ◌%◌, ◌<◌, Bool, cond, List, [], ◌∷◌, ◌++◌, sum_by, nat_eq, sym, ap, ◌∙◌, arith}
+use Rattle.std.proofs.Common.{
+  ◌≡◌,
+  ℕ,
+  zero,
+  suc,
+  ◌+◌,
+  ◌-◌,
+  ◌*◌,
+  ◌^◌,
+  ◌%◌,
+  ◌<◌,
+  Bool,
+  cond,
+  List,
+  [],
+  ◌∷◌,
+  ◌++◌,
+  sum_by,
+  nat_eq,
+  sym,
+  ap,
+  ◌∙◌,
+  arith,
+}
 use Rattle.std.specs.Prelude.{filter}
 use Rattle.std.specs.List.{range_with_len}
 use Rattle.std.specs.Int.{bit_at}
@@ -52,7 +75,8 @@ digit_weight (suc (suc x)) n small = absurd (omega arith)
 -- one digit more of a remainder
 next_digit : (n bits : ℕ) → bits % 2 ^ n + bit_at bits n * 2 ^ n ≡ bits % 2 ^ suc n
 next_digit n bits =
-    add_comm _ _ ∙ sym (mod-mul bits (omega arith) (pow_pos n)) ∙ ap (λ x. bits % x) (mul_comm 2 (2 ^ n) ∙ sym (pow-suc 2 n))
+    add_comm _ _ ∙ sym (mod-mul bits (omega arith) (pow_pos n)) ∙ ap (λ x. bits % x)
+    (mul_comm 2 (2 ^ n) ∙ sym (pow-suc 2 n))
 
 -- the weights of the bits from the lowest on sum to the remainder
 sum_of_bits : (n bits : ℕ) → sum_by (λ k. 2 ^ (k - 1)) (numbers_that n (has_bit bits)) ≡ bits % 2 ^ n

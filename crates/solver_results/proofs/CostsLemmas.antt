@@ -1,5 +1,22 @@
 -- The costs' places, filled with numbers.
-use Rattle.std.proofs.Common.{◌≡◌, ℕ, ◌+◌, ◌-◌, ◌≤◌, List, ◌++◌, length, drop, replicate, refl, ap, ◌∙◌, arith, length-append, length-drop}
+use Rattle.std.proofs.Common.{
+  ◌≡◌,
+  ℕ,
+  ◌+◌,
+  ◌-◌,
+  ◌≤◌,
+  List,
+  ◌++◌,
+  length,
+  drop,
+  replicate,
+  refl,
+  ap,
+  ◌∙◌,
+  arith,
+  length-append,
+  length-drop,
+}
 use Rattle.std.proofs.Math.Seq.{drop-append_seam}
 use Rattle.std.proofs.lemmas.List.{drop-replicate}
 use Rattle.solver_results.specs.CostPlaces.{IsCosts}

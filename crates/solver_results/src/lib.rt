@@ -13,4 +13,3 @@ pub use dd_table::{DdTable, DeclarerTricks};
 pub use play::Play;
 pub use play_answer::PlayAnswer;
 pub use play_costs::PlayCosts;
-

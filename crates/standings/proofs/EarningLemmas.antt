@@ -15,14 +15,20 @@ use Rattle.standings.proofs.TravellerLemmas.{score_is_listed}
 use Rattle.standings.proofs.UnitsLemmas.{units_within_top}
 
 -- what the two sides earn by a result that was played adds up to the top
-pub sides_share : (vulnerability : Vulnerability) (results : List TableResult) (found : TableResult) (outcome : Outcome) → Contains results found → found.result ≡ Confirmed outcome →
-    earned_north_south vulnerability (scores_of vulnerability results) found.result + earned_east_west vulnerability (scores_of vulnerability results) found.result
+pub sides_share : (vulnerability : Vulnerability) (results : List TableResult) (found : TableResult)
+    (outcome : Outcome) → Contains results found → found.result ≡ Confirmed outcome →
+    earned_north_south vulnerability (scores_of vulnerability results) found.result + earned_east_west vulnerability
+    (scores_of vulnerability results) found.result
     ≡ 100 * top_of (scores_of vulnerability results)
 sides_share vulnerability results found outcome listed played =
-    subst (λ (result : CellResult). earned_north_south vulnerability (scores_of vulnerability results) result + earned_east_west vulnerability (scores_of vulnerability results) result ≡ 100 * top_of (scores_of vulnerability results))
+    subst (λ (result : CellResult). earned_north_south vulnerability (scores_of vulnerability results) result +
+    earned_east_west vulnerability (scores_of vulnerability results) result ≡ 100 * top_of
+    (scores_of vulnerability results))
     (sym played)
-    (add_up (units_of_score (scores_of vulnerability results) (ns_score_of outcome vulnerability)) (top_of (scores_of vulnerability results))
-    (units_within_top (scores_of vulnerability results) (ns_score_of outcome vulnerability) (score_is_listed vulnerability results found outcome listed played)))
+    (add_up (units_of_score (scores_of vulnerability results) (ns_score_of outcome vulnerability))
+    (top_of (scores_of vulnerability results))
+    (units_within_top (scores_of vulnerability results) (ns_score_of outcome vulnerability)
+    (score_is_listed vulnerability results found outcome listed played)))
   where
     add_up : (units top : ℕ) → units ≤ top → 100 * units + (100 * top - 100 * units) ≡ 100 * top
     add_up units top within = omega arith

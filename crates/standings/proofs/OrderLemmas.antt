@@ -15,22 +15,27 @@ higher_decides : (a b : Standing) → Decides (has_higher_percentage a b) (HasHi
 higher_decides a b =
     Decides-and (nat_lt 0 a.tops) (nat_eq b.tops 0 || nat_lt (b.earned * a.tops) (a.earned * b.tops))
     (Decides-ltb 0 a.tops)
-    (Decides-or (nat_eq b.tops 0) (nat_lt (b.earned * a.tops) (a.earned * b.tops)) (Decides-eqb b.tops 0) (Decides-ltb (b.earned * a.tops) (a.earned * b.tops)))
+    (Decides-or (nat_eq b.tops 0) (nat_lt (b.earned * a.tops) (a.earned * b.tops)) (Decides-eqb b.tops 0)
+    (Decides-ltb (b.earned * a.tops) (a.earned * b.tops)))
 
 -- how two compare, by whether the one comes before, and if not whether neither does
 abbrev compared : Bool → Bool → Ordering
 compared before tied = cond before Less (cond tied Equal Greater)
 
-by_percentage : (a b : Standing) (higher lower : Bool) → Decides higher (HasHigherPercentage a b) → Decides lower (HasHigherPercentage b a) →
-    MatchOrdering (compared higher (not lower)) (IsBefore ByPercentage a b) (IsTied ByPercentage a b) (IsBefore ByPercentage b a)
+by_percentage : (a b : Standing) (higher lower : Bool) → Decides higher (HasHigherPercentage a b) → Decides lower
+    (HasHigherPercentage b a) →
+    MatchOrdering (compared higher (not lower)) (IsBefore ByPercentage a b) (IsTied ByPercentage a b)
+    (IsBefore ByPercentage b a)
 by_percentage a b true lower h l = h.0 refl
 by_percentage a b false true h l = l.0 refl
 by_percentage a b false false h l = (not_from_Decides false h refl, not_from_Decides false l refl)
 
 -- five comparisons in turn, as one
 in_turn : (higher lower s1 s2 n1 n2 t1 t2 e1 e2 : Bool) →
-    ordering_then (ordering_then (ordering_then (ordering_then (compared higher (not lower)) (compared s1 s2)) (compared n1 n2)) (compared t1 t2)) (compared e1 e2)
-    ≡ compared (higher || (not lower && (s1 || (s2 && (n1 || (n2 && (t1 || (t2 && e1)))))))) (not lower && (s2 && (n2 && (t2 && e2))))
+    ordering_then (ordering_then (ordering_then (ordering_then (compared higher (not lower)) (compared s1 s2))
+    (compared n1 n2)) (compared t1 t2)) (compared e1 e2)
+    ≡ compared (higher || (not lower && (s1 || (s2 && (n1 || (n2 && (t1 || (t2 && e1))))))))
+    (not lower && (s2 && (n2 && (t2 && e2))))
 in_turn true lower s1 s2 n1 n2 t1 t2 e1 e2 = refl
 in_turn false true s1 s2 n1 n2 t1 t2 e1 e2 = refl
 in_turn false false true s2 n1 n2 t1 t2 e1 e2 = refl
@@ -60,7 +65,8 @@ ranks_decides a b =
     let t2 = nat_eq a.tops b.tops in
     let e1 = nat_lt a.earned b.earned in
     let e2 = nat_eq a.earned b.earned in
-    let ranks = ranks_from_comparisons a b (compared higher (not lower)) _ _ _ _ (by_percentage a b higher lower (higher_decides a b) (higher_decides b a)) refl refl refl refl in
+    let ranks = ranks_from_comparisons a b (compared higher (not lower)) _ _ _ _
+    (by_percentage a b higher lower (higher_decides a b) (higher_decides b a)) refl refl refl refl in
     let less = less_from_ranks a b _ ranks in
     let turned = in_turn higher lower s1 s2 n1 n2 t1 t2 e1 e2 in
     let test = less_from_true (ranks_before a b) (not lower && (s2 && (n2 && (t2 && e2)))) in

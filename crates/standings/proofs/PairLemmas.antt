@@ -1,5 +1,24 @@
 -- The pairs of a cell are those that sit at its table in its round.
-use Rattle.std.proofs.Common.{◌≡◌, ℕ, suc, Bool, true, false, List, [], ◌∷◌, Any, Contains, refl, sym, ap, ◌∙◌, arith, inl, inr}
+use Rattle.std.proofs.Common.{
+  ◌≡◌,
+  ℕ,
+  suc,
+  Bool,
+  true,
+  false,
+  List,
+  [],
+  ◌∷◌,
+  Any,
+  Contains,
+  refl,
+  sym,
+  ap,
+  ◌∙◌,
+  arith,
+  inl,
+  inr,
+}
 use Rattle.std.specs.Prelude.{Some, None, cond, find, ◌||◌}
 use Rattle.std.specs.List.{list_any}
 use Rattle.std.proofs.lemmas.Bool.{cases_Bool, false≢true}
@@ -26,7 +45,13 @@ found : {X : Type 0} (p : X → Bool) (xs : List X) → list_any p xs ≡ true �
 found p [] some = absurd (false≢true some)
 found p (x ∷ xs) some =
     elim (cases_Bool (p x)) [
-      | inl passes ↦ record { it = x; is = ap (λ b. cond b (Some x) (find p xs)) passes; listed = (0, omega arith, refl); passes = passes }
+      | inl passes ↦ record {
+        it = x;
+        is = ap (λ b. cond b (Some x) (find p xs)) passes;
+        listed =
+            (0, omega arith, refl);
+        passes = passes;
+      }
       | inr fails ↦ later fails (found p xs (sym (ap (λ b. b || list_any p xs) fails) ∙ some))
     ]
   where
@@ -44,7 +69,8 @@ none_found p [] none = refl
 none_found p (x ∷ xs) none =
     elim (cases_Bool (p x)) [
       | inl passes ↦ absurd (false≢true (sym none ∙ ap (λ b. b || list_any p xs) passes))
-      | inr fails ↦ ap (λ b. cond b (Some x) (find p xs)) fails ∙ none_found p xs (sym (ap (λ b. b || list_any p xs) fails) ∙ none)
+      | inr fails ↦ ap (λ b. cond b (Some x) (find p xs)) fails ∙ none_found p xs
+          (sym (ap (λ b. b || list_any p xs) fails) ∙ none)
     ]
 
 -- a row of a cell that is found is in the movement, and has the cell
@@ -60,23 +86,31 @@ row_of section cell scheduled =
     record { row = own.it; is = own.is; listed = own.listed; has = stands-has section cell own.it own.passes }
 
 -- the East-West pair of a cell is the one at its table in its round
-pub east_west_at : (section : Section) (cell : Cell) (round : ℕ) (pair : Pair) → IsSection section → IsCell section cell →
+pub east_west_at : (section : Section) (cell : Cell) (round : ℕ) (pair : Pair) → IsSection section →
+    IsCell section cell →
     Any (λ row. HasCell section row cell × (row.round ≡ round)) (rows section) →
-    Any (λ row. IsAt row cell.table round × (row.east_west ≡ pair)) (rows section) → pair ≡ east_west_by (row_of_cell section cell)
-east_west_at section cell round pair is_section is_cell (k, played, below, here, (has, in_round)) (j, row, within, there, (at, seated)) =
+    Any (λ row. IsAt row cell.table round × (row.east_west ≡ pair)) (rows section) → pair ≡ east_west_by
+    (row_of_cell section cell)
+east_west_at section cell round pair is_section is_cell (k, played, below, here, (has, in_round))
+    (j, row, within, there, (at, seated)) =
     let own = row_of section cell (cell-scheduled section cell is_cell) in
-    let first : own.row ≡ played = same_cell section own.row played cell is_section own.listed (k, below, here) own.has has in
-    let second : played ≡ row = same_at_table section played row is_section (k, below, here) (j, within, there) (has.table ∙ sym at.table) (in_round ∙ sym at.round) in
+    let first : own.row ≡ played = same_cell section own.row played cell is_section own.listed (k, below, here) own.has
+    has in
+    let second : played ≡ row = same_at_table section played row is_section (k, below, here) (j, within, there)
+    (has.table ∙ sym at.table) (in_round ∙ sym at.round) in
     sym (ap east_west_by own.is ∙ (ap (λ (r : Row). r.east_west) (first ∙ second) ∙ seated))
 
 -- the North-South pair of a cell has the table's number
-pub north_south_at : (section : Section) (cell : Cell) → ◌≡◌ {A = Pair} (record { side = NorthSouth; number = cell.table }) (north_south_by cell (row_of_cell section cell))
+pub north_south_at : (section : Section) (cell : Cell) → ◌≡◌ {A = Pair}
+    (record { side = NorthSouth; number = cell.table }) (north_south_by cell (row_of_cell section cell))
 north_south_at section cell =
     elim (cases_Bool (is_scheduled section cell)) [
       | inl scheduled ↦ by_row (row_of section cell scheduled)
       | inr fails ↦ sym (ap (north_south_by cell) (none_found (stands_in section cell) (rows section) fails))
     ]
   where
-    by_row : IsRowOf section cell → ◌≡◌ {A = Pair} (record { side = NorthSouth; number = cell.table }) (north_south_by cell (row_of_cell section cell))
+    by_row : IsRowOf section cell → ◌≡◌ {A = Pair} (record { side = NorthSouth; number = cell.table })
+        (north_south_by cell (row_of_cell section cell))
     by_row own =
-        sym (ap (north_south_by cell) own.is ∙ ((in_range section own.row own.listed).north_south ∙ (λ i. record { side = NorthSouth; number = own.has.table i })))
+        sym (ap (north_south_by cell) own.is ∙ ((in_range section own.row own.listed).north_south
+        ∙ (λ i. record { side = NorthSouth; number = own.has.table i })))

@@ -1,5 +1,30 @@
 -- Standings that are put in their places one by one stand in their order, each once.
-use Rattle.std.proofs.Common.{◌≡◌, ℕ, zero, suc, ◌+◌, ◌-◌, ◌<◌, ◌≤◌, Bool, true, false, List, [], ◌∷◌, ◌++◌, length, drop, get_or, refl, sym, ap, ◌∙◌, subst, arith}
+use Rattle.std.proofs.Common.{
+  ◌≡◌,
+  ℕ,
+  zero,
+  suc,
+  ◌+◌,
+  ◌-◌,
+  ◌<◌,
+  ◌≤◌,
+  Bool,
+  true,
+  false,
+  List,
+  [],
+  ◌∷◌,
+  ◌++◌,
+  length,
+  drop,
+  get_or,
+  refl,
+  sym,
+  ap,
+  ◌∙◌,
+  subst,
+  arith,
+}
 use Rattle.std.specs.Prelude.{if◌then◌else◌, All, map}
 use Rattle.std.specs.List.{AllPairs, insert, range_with_len}
 use Rattle.std.specs.List.Sorted.{IsPermutation}
@@ -7,7 +32,13 @@ use Rattle.std.proofs.lemmas.Bool.{false_from_ne_true}
 use Rattle.std.proofs.lemmas.List.{drop_more, get_or_default}
 use Rattle.std.proofs.lemmas.List.Elements.{All-nil, All-cons}
 use Rattle.std.proofs.lemmas.List.Kept.{AllPairs-cons}
-use Rattle.std.proofs.lemmas.List.Sorted.{IsPermutation-refl, IsPermutation-cons, IsPermutation-trans, IsPermutation-swap, All-permutation}
+use Rattle.std.proofs.lemmas.List.Sorted.{
+  IsPermutation-refl,
+  IsPermutation-cons,
+  IsPermutation-trans,
+  IsPermutation-swap,
+  All-permutation,
+}
 use Rattle.std.proofs.lemmas.Bool.Decides.{not_from_Decides}
 use Rattle.table_terms.specs.declared.pair.Pair.{Pair}
 use Rattle.table_terms.specs.declared.side.Side.{Side}
@@ -24,20 +55,25 @@ use Rattle.standings.proofs.OrderLemmas.{ranks_decides}
 exchanged : (a b : Standing) (rest : List Standing) → IsPermutation (a ∷ (b ∷ rest)) (b ∷ (a ∷ rest))
 exchanged a b rest = IsPermutation-swap _ _ 0 1 (omega arith) (omega arith) refl
 
-pub placed-permutation : (standing : Standing) (others : List Standing) → IsPermutation (standing ∷ others) (placed standing others)
+pub placed-permutation : (standing : Standing) (others : List Standing) → IsPermutation (standing ∷ others)
+    (placed standing others)
 placed-permutation standing [] = IsPermutation-refl (standing ∷ [])
-placed-permutation standing (other ∷ others) = by_test (ranks_before standing other) (placed-permutation standing others)
+placed-permutation standing (other ∷ others) = by_test (ranks_before standing other)
+    (placed-permutation standing others)
   where
     by_test : (first : Bool) → IsPermutation (standing ∷ others) (placed standing others) →
-        IsPermutation (standing ∷ (other ∷ others)) (if first then standing ∷ (other ∷ others) else other ∷ placed standing others)
+        IsPermutation (standing ∷ (other ∷ others)) (if first then standing ∷ (other ∷ others) else other ∷ placed
+        standing others)
     by_test true later = IsPermutation-refl (standing ∷ (other ∷ others))
-    by_test false later = IsPermutation-trans _ _ _ (exchanged standing other others) (IsPermutation-cons other _ _ later)
+    by_test false later = IsPermutation-trans _ _ _ (exchanged standing other others)
+        (IsPermutation-cons other _ _ later)
 
 pub ranked-permutation : (standings : List Standing) → IsPermutation standings (ranked standings)
 unfolding ranked
 ranked-permutation [] = IsPermutation-refl []
 ranked-permutation (standing ∷ standings) =
-    IsPermutation-trans _ _ _ (IsPermutation-cons standing _ _ (ranked-permutation standings)) (placed-permutation standing (ranked standings))
+    IsPermutation-trans _ _ _ (IsPermutation-cons standing _ _ (ranked-permutation standings))
+    (placed-permutation standing (ranked standings))
 
 -- ---- in their order
 
@@ -46,16 +82,21 @@ abbrev pub StaysBehind : Standing → Standing → Type 0
 StaysBehind earlier later = ¬ RanksBefore later earlier
 
 -- what stays behind the first of some standings stays behind one that ranks before that one
-all_behind : (standing other : Standing) (others : List Standing) → RanksBefore standing other → All (StaysBehind other) others → All (StaysBehind standing) others
-all_behind standing other others before behind k d below ranks = behind k d below (ranks-trans _ standing other ranks before)
+all_behind : (standing other : Standing) (others : List Standing) → RanksBefore standing other → All (StaysBehind other)
+    others → All (StaysBehind standing) others
+all_behind standing other others before behind k d below ranks = behind k d below
+    (ranks-trans _ standing other ranks before)
 
-abbrev tail_pairs : (other : Standing) (others : List Standing) → AllPairs StaysBehind (other ∷ others) → AllPairs StaysBehind others
+abbrev tail_pairs : (other : Standing) (others : List Standing) → AllPairs StaysBehind (other ∷ others) →
+    AllPairs StaysBehind others
 tail_pairs other others pairs i j d sooner below = pairs (suc i) (suc j) d (omega arith) (omega arith)
 
-abbrev head_pairs : (other : Standing) (others : List Standing) → AllPairs StaysBehind (other ∷ others) → All (StaysBehind other) others
+abbrev head_pairs : (other : Standing) (others : List Standing) → AllPairs StaysBehind (other ∷ others) →
+    All (StaysBehind other) others
 head_pairs other others pairs k d below = pairs 0 (suc k) d (omega arith) (omega arith)
 
-pub placed-in_order : (standing : Standing) (others : List Standing) → AllPairs StaysBehind others → AllPairs StaysBehind (placed standing others)
+pub placed-in_order : (standing : Standing) (others : List Standing) → AllPairs StaysBehind others →
+    AllPairs StaysBehind (placed standing others)
 placed-in_order standing [] pairs = AllPairs-cons StaysBehind standing [] (All-nil _) pairs
 placed-in_order standing (other ∷ others) pairs =
     by_test (ranks_before standing other) refl (placed-in_order standing others (tail_pairs other others pairs))
@@ -67,11 +108,14 @@ placed-in_order standing (other ∷ others) pairs =
         AllPairs StaysBehind (if first then standing ∷ (other ∷ others) else other ∷ placed standing others)
     by_test true is later =
         let before = (ranks_decides standing other).0 is in
-        AllPairs-cons StaysBehind standing (other ∷ others) (All-cons (StaysBehind standing) other others (ranks-asym standing other before) (all_behind standing other others before behind)) pairs
+        AllPairs-cons StaysBehind standing (other ∷ others) (All-cons (StaysBehind standing) other others
+        (ranks-asym standing other before) (all_behind standing other others before behind)) pairs
     by_test false is later =
         AllPairs-cons StaysBehind other (placed standing others)
-        (All-permutation (StaysBehind other) (standing ∷ others) (placed standing others) (placed-permutation standing others)
-        (All-cons (StaysBehind other) standing others (not_from_Decides (ranks_before standing other) (ranks_decides standing other) is) behind))
+        (All-permutation (StaysBehind other) (standing ∷ others) (placed standing others)
+        (placed-permutation standing others)
+        (All-cons (StaysBehind other) standing others (not_from_Decides (ranks_before standing other)
+        (ranks_decides standing other) is) behind))
         later
 
 pub ranked-in_order : (standings : List Standing) → AllPairs StaysBehind (ranked standings)
@@ -92,23 +136,30 @@ placed_at standing (other ∷ others) zero within passed next =
     sym (ap (λ first. if first then standing ∷ (other ∷ others) else other ∷ placed standing others)
     ((ranks_decides standing other).1 (next other (omega arith))))
 placed_at standing (other ∷ others) (suc place) within passed next =
-    ap (λ rest. other ∷ rest) (placed_at standing others place (omega arith) (λ k d below. passed (suc k) d (omega arith)) (λ d below. next d (omega arith)))
+    ap (λ rest. other ∷ rest) (placed_at standing others place (omega arith)
+    (λ k d below. passed (suc k) d (omega arith)) (λ d below. next d (omega arith)))
     ∙ sym (ap (λ first. if first then standing ∷ (other ∷ others) else other ∷ placed standing others)
     (false_from_ne_true _ (λ test. passed 0 other (omega arith) ((ranks_decides standing other).0 test))))
 
 -- where a standing ranks before the one at a place, it does so whatever stands past the end
 pub ranks_here : (standing : Standing) (others : List Standing) (place : ℕ) (d e : Standing) → place < length others →
     RanksBefore standing (get_or others place d) → RanksBefore standing (get_or others place e)
-ranks_here standing others place d e below ranks = subst (RanksBefore standing) (get_or_default others place d e below) ranks
+ranks_here standing others place d e below ranks = subst (RanksBefore standing) (get_or_default others place d e below)
+    ranks
 
 -- a pair more of a side
 pub side_more : (earnings : List Earning) (side : Side) (tables before : ℕ) (others : List Pair) → before < tables →
-    placed (standing_of earnings (pair_on side (tables - before))) (ranked (map (standing_of earnings) (map (pair_on side) (range_with_len (tables - before + 1) before) ++ others)))
-    ≡ ranked (map (standing_of earnings) (map (pair_on side) (range_with_len (tables - (before + 1) + 1) (before + 1)) ++ others))
+    placed (standing_of earnings (pair_on side (tables - before)))
+    (ranked (map (standing_of earnings) (map (pair_on side) (range_with_len (tables - before + 1) before)
+    ++ others)))
+    ≡ ranked (map (standing_of earnings) (map (pair_on side) (range_with_len (tables - (before + 1) + 1) (before + 1))
+    ++ others))
 unfolding ranked
 side_more earnings side tables before others below =
-    sym (ap (λ n. ranked (map (standing_of earnings) (map (pair_on side) (range_with_len n (before + 1)) ++ others))) first
-    ∙ ap (λ n. ranked (map (standing_of earnings) (map (pair_on side) (range_with_len (tables - before) n) ++ others))) more)
+    sym (ap (λ n. ranked (map (standing_of earnings) (map (pair_on side) (range_with_len n (before + 1)) ++ others)))
+    first
+    ∙ ap (λ n. ranked (map (standing_of earnings) (map (pair_on side) (range_with_len (tables - before) n) ++ others)))
+    more)
   where
     first : tables - (before + 1) + 1 ≡ tables - before
     first = omega arith
@@ -135,7 +186,8 @@ end_ranked standings =
 
 pub one_ranked : (standings : List Standing) (taken : ℕ) (standing : Standing) → taken < length standings →
     standing ≡ get_or standings (length standings - 1 - taken) standing →
-    placed standing (ranked (drop (length standings - taken) standings)) ≡ ranked (drop (length standings - (taken + 1)) standings)
+    placed standing (ranked (drop (length standings - taken) standings)) ≡ ranked
+    (drop (length standings - (taken + 1)) standings)
 unfolding ranked
 one_ranked standings taken standing below is =
     let place : length standings - 1 - taken ≡ length standings - (taken + 1) = omega arith in

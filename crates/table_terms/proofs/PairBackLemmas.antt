@@ -11,7 +11,8 @@ use Rattle.table_terms.specs.Pair.{pair_text}
 use Rattle.table_terms.specs.PairReading.{ReadsPair}
 
 -- a side and a number are written in one way
-same_side : (one other : Side) (m n : ℕ) → m ≤ 255 → n ≤ 255 → side_text one ++ decimal m ≡ side_text other ++ decimal n → (one ≡ other) × (m ≡ n)
+same_side : (one other : Side) (m n : ℕ) → m ≤ 255 → n ≤ 255 → side_text one ++ decimal m ≡ side_text other
+    ++ decimal n → (one ≡ other) × (m ≡ n)
 same_side NorthSouth NorthSouth m n small also_small e =
     let digits : decimal m ≡ decimal n = cc in (refl, decimal_injective m n (omega arith) (omega arith) digits)
 same_side NorthSouth EastWest m n small also_small e = let first : ◌≡◌ {A = ℕ} 78 69 = cc in absurd (omega arith)
@@ -19,7 +20,8 @@ same_side EastWest NorthSouth m n small also_small e = let first : ◌≡◌ {A 
 same_side EastWest EastWest m n small also_small e =
     let digits : decimal m ≡ decimal n = cc in (refl, decimal_injective m n (omega arith) (omega arith) digits)
 
-pub pair_back : (pair : Pair) (read : Result Pair NotAPair) → 1 ≤ pair.number → pair.number ≤ 255 → ReadsPair (pair_text pair) read → read ≡ Ok pair
+pub pair_back : (pair : Pair) (read : Result Pair NotAPair) → 1 ≤ pair.number → pair.number ≤ 255 →
+    ReadsPair (pair_text pair) read → read ≡ Ok pair
 pair_back pair (Ok other) least most h =
     let same = same_side other.side pair.side other.number pair.number h.0.most most h.0.written in
     ap Ok (λ i. record { side = same.0 i; number = same.1 i })

@@ -27,5 +27,6 @@ name_of text = record { bytes = in_places text; len = length text }
 pub name_of-text_of : (name : Inside) → IsNameInPlaces name → name_of (text_of name) ≡ name
 name_of-text_of name kept =
     let len = length-take-le name.len name.bytes (subst (λ n. name.len ≤ n) (sym kept.places) kept.short) in
-    let bytes = ap (λ n. take name.len name.bytes ++ replicate (MOST - n) 0) len ∙ ap (λ rest. take name.len name.bytes ++ rest) (sym kept.rest) ∙ take-append-drop name.len name.bytes in
+    let bytes = ap (λ n. take name.len name.bytes ++ replicate (MOST - n) 0) len ∙ ap (λ rest. take name.len name.bytes
+    ++ rest) (sym kept.rest) ∙ take-append-drop name.len name.bytes in
     λ i. record { bytes = bytes i; len = len i }

@@ -10,7 +10,18 @@ use Rattle.wire.specs.Grammar.{IsOf}
 use Rattle.wire.specs.Audit.{from_1_to, counted, first_row, most_rows, audit_range, auditing, an_audit, audit_of}
 use Rattle.json_fields.specs.Field.{number}
 use Rattle.json_fields.specs.Form.{applied, has_only, formed, HasForm}
-use Rattle.json_fields.proofs.FormLemmas.{Agrees, AgreesForm, form_agrees, with_agrees, formed_read, formed_reads, kept, both_true, is_most, most_is}
+use Rattle.json_fields.proofs.FormLemmas.{
+  Agrees,
+  AgreesForm,
+  form_agrees,
+  with_agrees,
+  formed_read,
+  formed_reads,
+  kept,
+  both_true,
+  is_most,
+  most_is,
+}
 use Rattle.wire.proofs.SourceLemmas.{said_agrees}
 
 -- ---- numbers from 1 to a limit
@@ -31,7 +42,12 @@ count_reads limit o n is least within =
 
 counted_agrees : (name : List ℕ) (limit : ℕ) → Agrees (counted name limit)
 counted_agrees name limit = record {
-  read = λ o n h. let parts = count_read limit (number o) n h in record { is = parts.0; least = parts.1; within = parts.2 };
+  read = λ o n h. let parts = count_read limit (number o) n h in record {
+    is = parts.0;
+    least = parts.1;
+    within =
+        parts.2;
+  };
   reads = λ o n is. count_reads limit (number o) n is.is is.least is.within;
 }
 
@@ -82,5 +98,6 @@ module _ (source : Source) (rows d : Data) where
   unfolding audit_of
   audited user range has listed named =
       ap (λ b. cond b (applied (applied (Some an_audit) name) (formed [] audit_range rows)) None) listed
-      ∙ ap (λ o. applied (applied (Some an_audit) o) (formed [] audit_range rows)) ((said_agrees source).reads _ user named)
+      ∙ ap (λ o. applied (applied (Some an_audit) o) (formed [] audit_range rows))
+      ((said_agrees source).reads _ user named)
       ∙ ap (applied (Some (an_audit user))) (formed_reads [] audit_range range_agrees rows range has)

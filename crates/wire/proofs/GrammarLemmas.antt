@@ -1,11 +1,46 @@
 -- What is read is what the grammar says.
-use Rattle.std.proofs.Common.{◌≡◌, ◌∙◌, ◌⊎◌, ℕ, ◌==◌, ◌≤◌, List, length, nat_le, Bool, true, false, is_some, Option, Some, None, Result, Ok, Err, IfOk, IfErr, refl, sym, ap, subst, inl, inr, arith}
+use Rattle.std.proofs.Common.{
+  ◌≡◌,
+  ◌∙◌,
+  ◌⊎◌,
+  ℕ,
+  ◌==◌,
+  ◌≤◌,
+  List,
+  length,
+  nat_le,
+  Bool,
+  true,
+  false,
+  is_some,
+  Option,
+  Some,
+  None,
+  Result,
+  Ok,
+  Err,
+  IfOk,
+  IfErr,
+  refl,
+  sym,
+  ap,
+  subst,
+  inl,
+  inr,
+  arith,
+}
 use Rattle.std.specs.Str.Lossy.{utf8_valid_len}
 use Rattle.serde_json.specs.Data.{Data}
 use Rattle.serde_json.specs.Read.{read}
 use Rattle.serde_json.specs.Find.{as_object}
 use Rattle.json_fields.specs.declared.request_fault.RequestFault.{RequestFault}
-use Rattle.json_fields.specs.declared.request_fault.RequestFault.TheVariants.{TooLong, Malformed, UnknownRequest, BadField, OutOfMemory}
+use Rattle.json_fields.specs.declared.request_fault.RequestFault.TheVariants.{
+  TooLong,
+  Malformed,
+  UnknownRequest,
+  BadField,
+  OutOfMemory,
+}
 use Rattle.json_fields.specs.Reading.{Fails, Gives}
 use Rattle.json_fields.proofs.FormLemmas.{is_most}
 use Rattle.wire.specs.declared.request.Request.{Request}
@@ -15,9 +50,27 @@ use Rattle.wire.specs.declared.request.UserRequest.TheVariants as wanting
 use Rattle.wire.specs.declared.request.ScriptRequest.{ScriptRequest}
 use Rattle.wire.specs.declared.source.Source.{Source}
 use Rattle.wire.specs.declared.source.Source.TheVariants.{Script, Connection}
-use Rattle.wire.specs.Request.{most_message_bytes, meaning, said_request, said_of, script_meaning, wanted_of, connection_meaning}
+use Rattle.wire.specs.Request.{
+  most_message_bytes,
+  meaning,
+  said_request,
+  said_of,
+  script_meaning,
+  wanted_of,
+  connection_meaning,
+}
 use Rattle.wire.specs.Grammar.{IsMessage, Makes, Says, SaysNone}
-use Rattle.wire.proofs.LineLemmas.{long_line, malformed_line, too_long_line, unknown_line, bad_line, query_line, batch_line, audit_line, greeting_line}
+use Rattle.wire.proofs.LineLemmas.{
+  long_line,
+  malformed_line,
+  too_long_line,
+  unknown_line,
+  bad_line,
+  query_line,
+  batch_line,
+  audit_line,
+  greeting_line,
+}
 
 -- the bytes are a message, or else nothing of them is read
 abbrev IsMessageOrNone : Source → List ℕ → Type 0
@@ -54,9 +107,12 @@ message_or_none source line = by_length (nat_le (length line) most_message_bytes
 -- a request that a message is, is made by its members
 makes : (source : Source) (line : List ℕ) (d : Data) → IsMessage line d → (user : Option (List ℕ)) (b : RequestBody)
     → meaning source line ≡ Ok (record { user = user; body = b }) → Makes source d user b
-makes source line d message user (body.OfUser (wanting.Query query since)) is = (query_line source line d message user query since).0 is
-makes source line d message user (body.OfUser (wanting.Batch commands)) is = (batch_line source line d message user commands).0 is
-makes source line d message user (body.OfUser (wanting.Audit range)) is = (audit_line source line d message user range).0 is
+makes source line d message user (body.OfUser (wanting.Query query since)) is =
+    (query_line source line d message user query since).0 is
+makes source line d message user (body.OfUser (wanting.Batch commands)) is =
+    (batch_line source line d message user commands).0 is
+makes source line d message user (body.OfUser (wanting.Audit range)) is =
+    (audit_line source line d message user range).0 is
 makes source line d message user (body.Hello name token) is = (greeting_line source line d message user name token).0 is
 
 says : (source : Source) (line : List ℕ) (y : Request) → meaning source line ≡ Ok y → IsMessageOrNone source line
@@ -108,10 +164,14 @@ said_none source line (Err fault) given = by fault given
 -- what an object's members make it, is read of it
 meant : (source : Source) (line : List ℕ) (d : Data) → IsMessage line d → (user : Option (List ℕ)) (b : RequestBody)
     → Makes source d user b → meaning source line ≡ Ok (record { user = user; body = b })
-meant source line d message user (body.OfUser (wanting.Query query since)) made = (query_line source line d message user query since).1 made
-meant source line d message user (body.OfUser (wanting.Batch commands)) made = (batch_line source line d message user commands).1 made
-meant source line d message user (body.OfUser (wanting.Audit range)) made = (audit_line source line d message user range).1 made
-meant source line d message user (body.Hello name token) made = (greeting_line source line d message user name token).1 made
+meant source line d message user (body.OfUser (wanting.Query query since)) made =
+    (query_line source line d message user query since).1 made
+meant source line d message user (body.OfUser (wanting.Batch commands)) made =
+    (batch_line source line d message user commands).1 made
+meant source line d message user (body.OfUser (wanting.Audit range)) made =
+    (audit_line source line d message user range).1 made
+meant source line d message user (body.Hello name token) made = (greeting_line source line d message user name token).1
+    made
 
 read_as : (source : Source) (line : List ℕ) (y : Request) → Says source line y → meaning source line ≡ Ok y
 read_as source line y says = meant source line says.said says.is y.user y.body says.makes
@@ -134,7 +194,8 @@ refused_as source line OutOfMemory none = tt
 
 -- the same of what comes of a request
 passed_on : {A : Type 0} (then : Result Request RequestFault → Result A RequestFault)
-    → ((fault : RequestFault) → then (Err fault) ≡ Err fault) → (fault : RequestFault) (meant : Result Request RequestFault)
+    → ((fault : RequestFault) → then (Err fault) ≡ Err fault) → (fault : RequestFault)
+    (meant : Result Request RequestFault)
     → Fails fault meant → Fails fault (then meant)
 passed_on then passes TooLong meant is = ap then is ∙ passes TooLong
 passed_on then passes Malformed meant is = ap then is ∙ passes Malformed
@@ -147,7 +208,8 @@ pub script_said : (line : List ℕ) (y : Request) (answer : Result ScriptRequest
 unfolding script_meaning
 script_said line y answer says given = subst (Gives answer) (sym (ap said_of (read_as Script line y says))) given
 
-pub script_none : (line : List ℕ) (fault : RequestFault) → SaysNone fault Script line → Fails fault (script_meaning line)
+pub script_none : (line : List ℕ) (fault : RequestFault) → SaysNone fault Script line →
+    Fails fault (script_meaning line)
 unfolding script_meaning
 script_none line fault none =
     passed_on said_of (λ fault. refl) fault (meaning Script line) (refused_as Script line fault none)

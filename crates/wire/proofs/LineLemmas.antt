@@ -1,5 +1,39 @@
 -- What a message says, by the text and by the object that it is.
-use Rattle.std.proofs.Common.{◌≡◌, ◌≢◌, ◌↔◌, ℕ, ◌+◌, ◌≤◌, ◌<◌, List, take, ◌==◌, nat_le, length, Bool, true, false, cond, ◌&&◌, is_some, Option, Some, None, Result, Ok, Err, IfOk, IfErr, IsUtf8, refl, subst, sym, ap, ◌∙◌, arith}
+use Rattle.std.proofs.Common.{
+  ◌≡◌,
+  ◌≢◌,
+  ◌↔◌,
+  ℕ,
+  ◌+◌,
+  ◌≤◌,
+  ◌<◌,
+  List,
+  take,
+  ◌==◌,
+  nat_le,
+  length,
+  Bool,
+  true,
+  false,
+  cond,
+  ◌&&◌,
+  is_some,
+  Option,
+  Some,
+  None,
+  Result,
+  Ok,
+  Err,
+  IfOk,
+  IfErr,
+  IsUtf8,
+  refl,
+  subst,
+  sym,
+  ap,
+  ◌∙◌,
+  arith,
+}
 use Rattle.std.specs.Str.Lossy.{utf8_valid_len}
 use Rattle.std.proofs.lemmas.List.{take_all, length-take-le}
 use Rattle.std.proofs.lemmas.Str.{utf8_valid_len-IsUtf8}
@@ -18,13 +52,43 @@ use Rattle.wire.specs.declared.request.UserRequest.TheVariants as wanting
 use Rattle.wire.specs.declared.source.Source.{Source}
 use Rattle.wire.specs.declared.source.Source.TheVariants.{Script, Connection}
 use Rattle.json_fields.specs.declared.request_fault.RequestFault.{RequestFault}
-use Rattle.json_fields.specs.declared.request_fault.RequestFault.TheVariants.{TooLong, Malformed, UnknownRequest, BadField, OutOfMemory}
+use Rattle.json_fields.specs.declared.request_fault.RequestFault.TheVariants.{
+  TooLong,
+  Malformed,
+  UnknownRequest,
+  BadField,
+  OutOfMemory,
+}
 use Rattle.json_fields.specs.Reading.{Gives}
 use Rattle.wire.specs.Audit.{an_audit}
-use Rattle.wire.specs.Request.{most_message_bytes, is_message_text, a_query, a_batch, request_of, object_of, text_meaning, bytes_meaning, meaning, said_of, script_meaning, HasFewIn, IsSaid}
+use Rattle.wire.specs.Request.{
+  most_message_bytes,
+  is_message_text,
+  a_query,
+  a_batch,
+  request_of,
+  object_of,
+  text_meaning,
+  bytes_meaning,
+  meaning,
+  said_of,
+  script_meaning,
+  HasFewIn,
+  IsSaid,
+}
 use Rattle.json_fields.specs.Object.{IsObject}
 use Rattle.wire.specs.Grammar.{IsMessage, IsUnknownRequest, IsQuery, IsBatch, IsAudit, IsGreeting, IsNoRequest}
-use Rattle.wire.proofs.RequestLemmas.{query_object, batch_object, audit_object, greeting_object, few_in_request, user_in_script, no_user_on_connection, object_fault, unknown_object}
+use Rattle.wire.proofs.RequestLemmas.{
+  query_object,
+  batch_object,
+  audit_object,
+  greeting_object,
+  few_in_request,
+  user_in_script,
+  no_user_on_connection,
+  object_fault,
+  unknown_object,
+}
 
 same_number : (m n : ℕ) → m ≡ n → (m == n) ≡ true
 same_number m n h = grind arith
@@ -32,7 +96,8 @@ same_number m n h = grind arith
 text_line : (source : Source) (line : List ℕ) → IsUtf8 line → text_meaning source line ≡ bytes_meaning source line
 unfolding bytes_meaning
 text_line source line utf8 =
-    sym (ap (λ b. cond b (text_meaning source line) (Err Malformed)) (same_number _ _ (utf8_valid_len-IsUtf8 line utf8)))
+    sym (ap (λ b. cond b (text_meaning source line) (Err Malformed))
+    (same_number _ _ (utf8_valid_len-IsUtf8 line utf8)))
 
 pub gives_line : (source : Source) (line text : List ℕ) (answer : Result Request RequestFault) → text ≡ line
     → IsUtf8 line → Gives answer (text_meaning source text) → Gives answer (bytes_meaning source line)
@@ -61,11 +126,13 @@ gives_short source line answer short given = subst (Gives answer) (sym (short_li
 
 -- ---- bytes for which memory is asked
 
-pub memory_for : {A : Type 0} {P : Type 0} (answer : Result A RequestFault) → P → IfErr answer (λ fault. fault ≡ OutOfMemory → P)
+pub memory_for : {A : Type 0} {P : Type 0} (answer : Result A RequestFault) → P → IfErr answer
+    (λ fault. fault ≡ OutOfMemory → P)
 memory_for (Ok x) holds = tt
 memory_for (Err fault) holds = λ same. holds
 
-pub memory_never : {A : Type 0} (P : Type 0) (answer : Result A RequestFault) → IfErr answer (λ fault. fault ≢ OutOfMemory)
+pub memory_never : {A : Type 0} (P : Type 0) (answer : Result A RequestFault) → IfErr answer
+    (λ fault. fault ≢ OutOfMemory)
     → IfErr answer (λ fault. fault ≡ OutOfMemory → P)
 memory_never P (Ok x) never = tt
 memory_never P (Err fault) never = λ same. absurd (never same)
@@ -88,12 +155,14 @@ text_of_request source line true true y h = refl
 text_of_request source line true false y h = absurd (cc)
 text_of_request source line false utf8 y h = absurd (cc)
 
-request_is_text : (source : Source) (line : List ℕ) (y : Request) → meaning source line ≡ Ok y → is_message_text line ≡ true
+request_is_text : (source : Source) (line : List ℕ) (y : Request) → meaning source line ≡ Ok y → is_message_text line ≡
+    true
 unfolding meaning bytes_meaning
 request_is_text source line y h =
     text_of_request source line (nat_le (length line) most_message_bytes) (utf8_valid_len line == length line) y h
 
-text_of_said : (line : List ℕ) (meant : Result Request RequestFault) (said : ScriptRequest) → meaning Script line ≡ meant
+text_of_said : (line : List ℕ) (meant : Result Request RequestFault) (said : ScriptRequest) → meaning Script line ≡
+    meant
     → said_of meant ≡ Ok said → is_message_text line ≡ true
 text_of_said line (Ok y) said is h = request_is_text Script line y is
 text_of_said line (Err fault) said is h = absurd (cc)
@@ -105,32 +174,35 @@ said_is_text line said h = text_of_said line (meaning Script line) said refl h
 -- ---- what is read, is read of an object
 
 -- what holds of all requests that objects are, holds of all requests that messages are
-module _ (source : Source) (P : Request → Type 0) (all : (d : Data) (y : Request) → request_of source d ≡ Ok y → P y) where
-  holds_in_object : (d : Data) (is_object : Bool) (y : Request)
-      → cond is_object (request_of source d) (Err Malformed) ≡ Ok y → P y
-  holds_in_object d true y h = all d y h
-  holds_in_object d false y h = absurd (cc)
+module _ (source : Source) (P : Request → Type 0) (all : (d : Data) (y : Request) → request_of source d ≡ Ok y → P y)
+  where
+    holds_in_object : (d : Data) (is_object : Bool) (y : Request)
+        → cond is_object (request_of source d) (Err Malformed) ≡ Ok y → P y
+    holds_in_object d true y h = all d y h
+    holds_in_object d false y h = absurd (cc)
 
-  holds_in_text : (is_text : Bool) (found : Option Data) (y : Request)
-      → cond is_text (object_of source found) (Err Malformed) ≡ Ok y → P y
-  holds_in_text true (Some d) y h = holds_in_object d (is_some (as_object d)) y h
-  holds_in_text true None y h = absurd (cc)
-  holds_in_text false found y h = absurd (cc)
+    holds_in_text : (is_text : Bool) (found : Option Data) (y : Request)
+        → cond is_text (object_of source found) (Err Malformed) ≡ Ok y → P y
+    holds_in_text true (Some d) y h = holds_in_object d (is_some (as_object d)) y h
+    holds_in_text true None y h = absurd (cc)
+    holds_in_text false found y h = absurd (cc)
 
-  holds_in_bytes : (line : List ℕ) (is_short : Bool) (y : Request)
-      → cond is_short (bytes_meaning source line) (Err TooLong) ≡ Ok y → P y
-  unfolding bytes_meaning text_meaning
-  holds_in_bytes line true y h = holds_in_text (utf8_valid_len line == length line) (read line) y h
-  holds_in_bytes line false y h = absurd (cc)
+    holds_in_bytes : (line : List ℕ) (is_short : Bool) (y : Request)
+        → cond is_short (bytes_meaning source line) (Err TooLong) ≡ Ok y → P y
+    unfolding bytes_meaning text_meaning
+    holds_in_bytes line true y h = holds_in_text (utf8_valid_len line == length line) (read line) y h
+    holds_in_bytes line false y h = absurd (cc)
 
-  holds_in_line : (line : List ℕ) (y : Request) → meaning source line ≡ Ok y → P y
-  unfolding meaning
-  holds_in_line line y h = holds_in_bytes line (nat_le (length line) most_message_bytes) y h
+    holds_in_line : (line : List ℕ) (y : Request) → meaning source line ≡ Ok y → P y
+    unfolding meaning
+    holds_in_line line y h = holds_in_bytes line (nat_le (length line) most_message_bytes) y h
 
 -- a batch that is read has at most 64 commands
-pub few_given : (source : Source) (line : List ℕ) (answer : Result Request RequestFault) → Gives answer (meaning source line)
+pub few_given : (source : Source) (line : List ℕ) (answer : Result Request RequestFault) → Gives answer
+    (meaning source line)
     → IfOk answer (λ request. HasFewIn request.body)
-few_given source line (Ok y) given = holds_in_line source (λ request. HasFewIn request.body) (few_in_request source) line y given
+few_given source line (Ok y) given = holds_in_line source (λ request. HasFewIn request.body) (few_in_request source)
+    line y given
 few_given source line (Err fault) given = tt
 
 pub said_line : (line : List ℕ) (y : Request) → meaning Script line ≡ Ok y → IsSaid y
@@ -141,7 +213,8 @@ unsaid_line line y h = holds_in_line Connection (λ request. request.user ≡ No
 
 -- ---- laws
 
-of_object : (source : Source) (line : List ℕ) (d : Data) → IsObject line d → bytes_meaning source line ≡ request_of source d
+of_object : (source : Source) (line : List ℕ) (d : Data) → IsObject line d → bytes_meaning source line ≡ request_of
+    source d
 unfolding bytes_meaning text_meaning
 of_object source line d object =
     ap (λ b. cond b (object_of source (read line)) (Err Malformed)) object.utf8
@@ -180,7 +253,8 @@ module _ (source : Source) where
       in_object d true h = (object_fault source d TooLong h).not_long refl
       in_object d false h = absurd (cc)
 
-      in_text : (is_text : Bool) (found : Option Data) → cond is_text (object_of source found) (Err Malformed) ≡ Err TooLong → ⊥
+      in_text : (is_text : Bool) (found : Option Data) → cond is_text (object_of source found) (Err Malformed) ≡ Err
+          TooLong → ⊥
       in_text true (Some d) h = in_object d (is_some (as_object d)) h
       in_text true None h = absurd (cc)
       in_text false found h = absurd (cc)
@@ -210,40 +284,51 @@ module _ (source : Source) where
       → (meaning source line ≡ Err Malformed) ↔ ((length line ≤ most_message_bytes) × ((d : Data) → ¬ IsObject line d))
   malformed_line line = (
     λ h.
-        let short = malformed_short line h in
-        (short, λ d object. (object_fault source d Malformed (sym (of_object source line d object) ∙ sym (short_line source line short) ∙ h)).read_well refl),
+        let short = malformed_short line h in (
+          short,
+          λ d object. (object_fault source d Malformed (sym (of_object source line d object)
+              ∙ sym (short_line source line short) ∙ h)).read_well refl,
+        ),
     λ both. short_line source line both.0 ∙ malformed_bytes line both.1,
   )
 
 module _ (source : Source) (line : List ℕ) (d : Data) (message : IsMessage line d) where
   pub unknown_line : (meaning source line ≡ Err UnknownRequest) ↔ IsUnknownRequest source d
   unknown_line =
-      subst (λ said. (said ≡ Err UnknownRequest) ↔ IsUnknownRequest source d) (sym (of_message source line d message)) (unknown_object source d)
+      subst (λ said. (said ≡ Err UnknownRequest) ↔ IsUnknownRequest source d) (sym (of_message source line d message))
+      (unknown_object source d)
 
   pub query_line : (user : Option (List ℕ)) (query : Query) (since : ℕ)
       → (meaning source line ≡ Ok (a_query user since query)) ↔ IsQuery source d user query since
   query_line user query since =
-      subst (λ said. (said ≡ Ok (a_query user since query)) ↔ IsQuery source d user query since) (sym (of_message source line d message)) (query_object source d user query since)
+      subst (λ said. (said ≡ Ok (a_query user since query)) ↔ IsQuery source d user query since)
+      (sym (of_message source line d message)) (query_object source d user query since)
 
   pub batch_line : (user : Option (List ℕ)) (commands : List Command)
       → (meaning source line ≡ Ok (a_batch user commands)) ↔ IsBatch source d user commands
   batch_line user commands =
-      subst (λ said. (said ≡ Ok (a_batch user commands)) ↔ IsBatch source d user commands) (sym (of_message source line d message)) (batch_object source d user commands)
+      subst (λ said. (said ≡ Ok (a_batch user commands)) ↔ IsBatch source d user commands)
+      (sym (of_message source line d message)) (batch_object source d user commands)
 
   pub audit_line : (user : Option (List ℕ)) (range : AuditRange)
       → (meaning source line ≡ Ok (an_audit user range)) ↔ IsAudit source d user range
   audit_line user range =
-      subst (λ said. (said ≡ Ok (an_audit user range)) ↔ IsAudit source d user range) (sym (of_message source line d message)) (audit_object source d user range)
+      subst (λ said. (said ≡ Ok (an_audit user range)) ↔ IsAudit source d user range)
+      (sym (of_message source line d message)) (audit_object source d user range)
 
   pub greeting_line : (user : Option (List ℕ)) (name token : List ℕ)
-      → (meaning source line ≡ Ok (record { user = user; body = body.Hello name token })) ↔ IsGreeting source d user name token
+      → (meaning source line ≡ Ok (record { user = user; body = body.Hello name token })) ↔ IsGreeting source d user
+      name token
   greeting_line user name token =
-      subst (λ said. (said ≡ Ok (record { user = user; body = body.Hello name token })) ↔ IsGreeting source d user name token) (sym (of_message source line d message)) (greeting_object source d user name token)
+      subst (λ said. (said ≡ Ok (record { user = user; body = body.Hello name token })) ↔ IsGreeting source d user name
+      token) (sym (of_message source line d message)) (greeting_object source d user name token)
 
   no_body : (user : Option (List ℕ)) (b : RequestBody) → meaning source line ≡ Ok (record { user = user; body = b })
       → IsNoRequest source d → ⊥
-  no_body user (body.OfUser (wanting.Query query since)) is none = none.no_query user query since ((query_line user query since).0 is)
-  no_body user (body.OfUser (wanting.Batch commands)) is none = none.no_batch user commands ((batch_line user commands).0 is)
+  no_body user (body.OfUser (wanting.Query query since)) is none = none.no_query user query since
+      ((query_line user query since).0 is)
+  no_body user (body.OfUser (wanting.Batch commands)) is none = none.no_batch user commands
+      ((batch_line user commands).0 is)
   no_body user (body.OfUser (wanting.Audit range)) is none = none.no_audit user range ((audit_line user range).0 is)
   no_body user (body.Hello name token) is none = none.no_greeting user name token ((greeting_line user name token).0 is)
 
@@ -264,10 +349,14 @@ module _ (source : Source) (line : List ℕ) (d : Data) (message : IsMessage lin
     λ bad. (
       λ unknown. let h : meaning source line ≡ Err UnknownRequest = unknown_line.1 unknown in cc,
       record {
-        no_query = λ user query since q. let h : meaning source line ≡ Ok (a_query user since query) = (query_line user query since).1 q in cc;
-        no_batch = λ user commands b. let h : meaning source line ≡ Ok (a_batch user commands) = (batch_line user commands).1 b in cc;
-        no_audit = λ user range a. let h : meaning source line ≡ Ok (an_audit user range) = (audit_line user range).1 a in cc;
-        no_greeting = λ user name token g. let h : meaning source line ≡ Ok (record { user = user; body = body.Hello name token }) = (greeting_line user name token).1 g in cc;
+        no_query = λ user query since q. let h : meaning source line ≡ Ok (a_query user since query) =
+            (query_line user query since).1 q in cc;
+        no_batch = λ user commands b. let h : meaning source line ≡ Ok (a_batch user commands) =
+            (batch_line user commands).1 b in cc;
+        no_audit = λ user range a. let h : meaning source line ≡ Ok (an_audit user range) = (audit_line user range).1 a
+            in cc;
+        no_greeting = λ user name token g. let h : meaning source line ≡ Ok
+            (record { user = user; body = body.Hello name token }) = (greeting_line user name token).1 g in cc;
       },
     ),
     λ both. only_bad (meaning source line) refl both.0 both.1,

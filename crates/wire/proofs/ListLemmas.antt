@@ -1,12 +1,38 @@
 -- What a list of boards is, by its members.
-use Rattle.std.proofs.Common.{◌≡◌, ℕ, Bool, true, false, cond, Option, option_map, Some, None, Ok, Err, IsSome, IsSomeAnd, refl, ap, subst, sym, ◌∙◌}
+use Rattle.std.proofs.Common.{
+  ◌≡◌,
+  ℕ,
+  Bool,
+  true,
+  false,
+  cond,
+  Option,
+  option_map,
+  Some,
+  None,
+  Ok,
+  Err,
+  IsSome,
+  IsSomeAnd,
+  refl,
+  ap,
+  subst,
+  sym,
+  ◌∙◌,
+}
 use Rattle.query_filter.specs.Formula.{Formula}
 use Rattle.session_queries.specs.declared.query.Query.{Query}
 use Rattle.session_queries.specs.declared.query.Query.TheVariants as query
 use Rattle.json_fields.specs.Form.{applied}
 use Rattle.json_fields.specs.Reading.{wanted, Gives}
 use Rattle.json_fields.specs.declared.request_fault.RequestFault.{RequestFault}
-use Rattle.json_fields.specs.declared.request_fault.RequestFault.TheVariants.{TooLong, Malformed, UnknownRequest, BadField, OutOfMemory}
+use Rattle.json_fields.specs.declared.request_fault.RequestFault.TheVariants.{
+  TooLong,
+  Malformed,
+  UnknownRequest,
+  BadField,
+  OutOfMemory,
+}
 use Rattle.wire.specs.Query.{IsFiltered}
 
 -- the list that is made of its members, where no other stands beside them
@@ -30,7 +56,8 @@ pub list_made : (alone : Bool) (by : Option (Option Formula)) (start most : Opti
     → alone ≡ true → start ≡ Some n → most ≡ Some k → wanted by ≡ Ok f
     → wanted (made alone by start most) ≡ Ok (query.List f n k)
 list_made alone by start most f n k is first last h =
-    ap wanted (made_numbers alone by start most n k is first last ∙ ap (λ o. made true o (Some n) (Some k)) (read_ok by f h))
+    ap wanted (made_numbers alone by start most n k is first last ∙ ap (λ o. made true o (Some n) (Some k))
+    (read_ok by f h))
 
 no_filter : (alone : Bool) (start most : Option ℕ) → made alone None start most ≡ None
 no_filter true start most = refl

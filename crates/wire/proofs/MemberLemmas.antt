@@ -1,12 +1,48 @@
 -- What is read of a list's members is what it is, and the other way round.
-use Rattle.std.proofs.Common.{◌≡◌, ℕ, ◌≤◌, nat_le, ◌&&◌, cond, Option, Some, None, option_map, option_and_then, refl, sym, ap, ◌∙◌, arith}
+use Rattle.std.proofs.Common.{
+  ◌≡◌,
+  ℕ,
+  ◌≤◌,
+  nat_le,
+  ◌&&◌,
+  cond,
+  Option,
+  Some,
+  None,
+  option_map,
+  option_and_then,
+  refl,
+  sym,
+  ap,
+  ◌∙◌,
+  arith,
+}
 use Rattle.serde_json.specs.Data.{Data}
 use Rattle.query_filter.specs.Formula.{Formula}
 use Rattle.json_fields.specs.Filter.{filter_of}
 use Rattle.json_fields.specs.Form.{Member}
-use Rattle.json_fields.proofs.FormLemmas.{Agrees, numbered_agrees, kept, both_true, is_most, most_is, means_read, means_reads}
+use Rattle.json_fields.proofs.FormLemmas.{
+  Agrees,
+  numbered_agrees,
+  kept,
+  both_true,
+  is_most,
+  most_is,
+  means_read,
+  means_reads,
+}
 use Rattle.wire.specs.Optional.{read_or, IsOr, optional}
-use Rattle.wire.specs.List.{filter_at, IsFilter, filter_asked, filter, from, most_listed, limit_numbered, limit_asked, limit}
+use Rattle.wire.specs.List.{
+  filter_at,
+  IsFilter,
+  filter_asked,
+  filter,
+  from,
+  most_listed,
+  limit_numbered,
+  limit_asked,
+  limit,
+}
 
 -- ---- members that may be left out
 
@@ -70,7 +106,8 @@ limit_asked_agrees = record {
       let found = means_read limit_numbered o n h in
       let range = limit_is found.0 n found.2 in
       record { is = found.1 ∙ ap Some range.0; least = range.1; most = range.2 };
-  reads = λ o n is. means_reads limit_numbered o n n is.is (let most = is.most in omega arith) (limit_back n is.least is.most);
+  reads = λ o n is. means_reads limit_numbered o n n is.is (let most = is.most in omega arith)
+      (limit_back n is.least is.most);
 }
 
 pub limit_agrees : Agrees limit

@@ -1,5 +1,39 @@
 -- A query, a batch, an audit and a greeting are read from their members, and what has such members is read as they are.
-use Rattle.std.proofs.Common.{◌≡◌, ◌≢◌, ◌⊎◌, ◌↔◌, ℕ, ◌≤◌, List, [], ◌∷◌, length, nat_le, Bool, true, false, cond, is_some, IsSome, All, codes, Option, Some, None, option_and_then, Ok, Err, refl, sym, ap, subst, ◌∙◌, inl, inr, arith}
+use Rattle.std.proofs.Common.{
+  ◌≡◌,
+  ◌≢◌,
+  ◌⊎◌,
+  ◌↔◌,
+  ℕ,
+  ◌≤◌,
+  List,
+  [],
+  ◌∷◌,
+  length,
+  nat_le,
+  Bool,
+  true,
+  false,
+  cond,
+  is_some,
+  IsSome,
+  All,
+  codes,
+  Option,
+  Some,
+  None,
+  option_and_then,
+  Ok,
+  Err,
+  refl,
+  sym,
+  ap,
+  subst,
+  ◌∙◌,
+  inl,
+  inr,
+  arith,
+}
 use Rattle.std.specs.Prelude.{count_by}
 use Rattle.serde_json.specs.Data.{Data, Items}
 use Rattle.serde_json.specs.Find.{get, as_str, as_array}
@@ -12,7 +46,13 @@ use Rattle.wire.specs.declared.request.UserRequest.TheVariants as wanting
 use Rattle.wire.specs.declared.source.Source.{Source}
 use Rattle.wire.specs.declared.source.Source.TheVariants.{Script, Connection}
 use Rattle.json_fields.specs.declared.request_fault.RequestFault.{RequestFault}
-use Rattle.json_fields.specs.declared.request_fault.RequestFault.TheVariants.{TooLong, Malformed, UnknownRequest, BadField, OutOfMemory}
+use Rattle.json_fields.specs.declared.request_fault.RequestFault.TheVariants.{
+  TooLong,
+  Malformed,
+  UnknownRequest,
+  BadField,
+  OutOfMemory,
+}
 use Rattle.json_fields.specs.Reading.{wanted}
 use Rattle.wire.specs.declared.audit_range.AuditRange.{AuditRange}
 use Rattle.json_fields.specs.Form.{applied, has_only, words, formed, HasForm, HasFormOf, item_count, AreEach}
@@ -22,13 +62,42 @@ use Rattle.command_object.specs.Command.{command_of, has_unknown, commands_in, I
 use Rattle.wire.specs.Query.{queries, asking, query_called}
 use Rattle.wire.specs.Audit.{audit_range, auditing, an_audit, audit_of}
 use Rattle.wire.specs.Greeting.{a_greeting, greeting}
-use Rattle.wire.specs.Request.{a_query, query_of, query_by, doing, few_commands_in, a_batch, batch_of, batch_by, greeting_by, one_of, request_of, HasFewIn, IsNoGreeting, IsSaid}
+use Rattle.wire.specs.Request.{
+  a_query,
+  query_of,
+  query_by,
+  doing,
+  few_commands_in,
+  a_batch,
+  batch_of,
+  batch_by,
+  greeting_by,
+  one_of,
+  request_of,
+  HasFewIn,
+  IsNoGreeting,
+  IsSaid,
+}
 use Rattle.session_book.specs.Run.{most_commands}
 use Rattle.wire.specs.Source.{said_user}
 use Rattle.wire.specs.Grammar.{IsOf, IsUnknownRequest, IsQuery, IsBatch, IsAudit, IsGreeting}
 use Rattle.wire.proofs.AuditLemmas.{audits, audited}
 use Rattle.wire.proofs.SourceLemmas.{said_agrees, said_in_script, unsaid_on_connection}
-use Rattle.json_fields.proofs.FormLemmas.{AgreesForm, form_agrees, with_agrees, called_agrees, written_agrees, formed_read, formed_reads, kept, is_most, most_is, each_read, each_reads, each_count}
+use Rattle.json_fields.proofs.FormLemmas.{
+  AgreesForm,
+  form_agrees,
+  with_agrees,
+  called_agrees,
+  written_agrees,
+  formed_read,
+  formed_reads,
+  kept,
+  is_most,
+  most_is,
+  each_read,
+  each_reads,
+  each_count,
+}
 use Rattle.json_fields.proofs.MemberLemmas.{since_agrees}
 use Rattle.json_fields.proofs.TableLemmas.{is_among, is_word, none_among, among_none, by_word_read, by_word_reads}
 use Rattle.command_object.proofs.TableLemmas.{command_read, command_reads, all_known}
@@ -106,8 +175,10 @@ asked : (source : Source) (word : List ℕ) (d : Data) (name : Option (List ℕ)
     → query_of source word d ≡ Some (a_query name version query)
 unfolding query_of
 asked source word d name query version has named from =
-    ap (λ o. applied (applied (applied (Some a_query) o) (since.value (get since.name d))) (query_called word d)) ((said_agrees source).reads _ name named)
-    ∙ ap (λ o. applied (applied (Some (a_query name)) o) (query_called word d)) (since_agrees.reads (get since.name d) version from)
+    ap (λ o. applied (applied (applied (Some a_query) o) (since.value (get since.name d))) (query_called word d))
+    ((said_agrees source).reads _ name named)
+    ∙ ap (λ o. applied (applied (Some (a_query name)) o) (query_called word d))
+    (since_agrees.reads (get since.name d) version from)
     ∙ ap (applied (Some (a_query name version))) (by_word_reads asking queries queries_agree refl word d query has)
 
 -- ---- batches
@@ -125,7 +196,8 @@ record Wants (source : Source) (ds : Items) (d : Data) (y : Request) : Type 0 wh
 wants : (source : Source) (ds : Items) (d : Data) (y : Request) → batch_of source ds d ≡ Some y → Wants source ds d y
 unfolding batch_of
 wants source ds d y h =
-    let listed = kept (has_only doing d) (applied (applied (Some a_batch) (whose_of source d)) (few_commands_in ds)) y h in
+    let listed = kept (has_only doing d) (applied (applied (Some a_batch) (whose_of source d)) (few_commands_in ds)) y h
+    in
     let parts = two a_batch (whose_of source d) (few_commands_in ds) y listed.1 in
     let counted = kept (nat_le (item_count ds) most_commands) (commands_in ds) parts.1 parts.3 in
     let all = each_read command_of IsCommand command_read ds parts.1 counted.1 in
@@ -136,7 +208,8 @@ wants source ds d y h =
       listed = listed.0;
       named = (said_agrees source).read _ parts.0 parts.2;
       each = all;
-      few = subst (λ n. n ≤ most_commands) (each_count IsCommand ds parts.1 all) (is_most (item_count ds) most_commands counted.0);
+      few = subst (λ n. n ≤ most_commands) (each_count IsCommand ds parts.1 all)
+          (is_most (item_count ds) most_commands counted.0);
     }
 
 wanted_batch : (source : Source) (ds : Items) (d : Data) (name : Option (List ℕ)) (list : List Command)
@@ -146,7 +219,8 @@ unfolding batch_of
 wanted_batch source ds d name list listed named all few =
     ap (λ b. cond b (applied (applied (Some a_batch) (whose_of source d)) (few_commands_in ds)) None) listed
     ∙ ap (λ o. applied (applied (Some a_batch) o) (few_commands_in ds)) ((said_agrees source).reads _ name named)
-    ∙ ap (λ b. applied (Some (a_batch name)) (cond b (commands_in ds) None)) (most_is (item_count ds) most_commands (subst (λ n. n ≤ most_commands) (sym (each_count IsCommand ds list all)) few))
+    ∙ ap (λ b. applied (Some (a_batch name)) (cond b (commands_in ds) None)) (most_is (item_count ds) most_commands
+    (subst (λ n. n ≤ most_commands) (sym (each_count IsCommand ds list all)) few))
     ∙ ap (applied (Some (a_batch name))) (each_reads command_of IsCommand command_reads ds list all)
 
 -- ---- greetings
@@ -198,7 +272,12 @@ query_made source ask None d y is h = absurd (cc)
 query_made source ask (Some word) d y is h =
     let read = read_where (is_among (words queries) word) (query_of source word d) UnknownRequest y h in
     let parts = asks source word d y read.1 in
-    subst (MakesRequest source (Some ask) None None None d) parts.makes (refl, (word, is, parts.asked), parts.named, parts.from)
+    subst (MakesRequest source (Some ask) None None None d) parts.makes (
+      refl,
+      (word, is, parts.asked),
+      parts.named,
+      parts.from,
+    )
 
 batch_made : (source : Source) (list : Data) (o : Option Items) (d : Data) (y : Request) → as_array list ≡ o
     → batch_by source o d ≡ Ok y → MakesRequest source None (Some list) None None d y
@@ -206,13 +285,24 @@ batch_made source list None d y is h = absurd (cc)
 batch_made source list (Some ds) d y is h =
     let read = read_unless (has_unknown ds) (batch_of source ds d) UnknownRequest y h in
     let parts = wants source ds d y read.1 in
-    subst (MakesRequest source None (Some list) None None d) parts.makes (refl, (ds, is, parts.each), parts.few, parts.listed, parts.named)
+    subst (MakesRequest source None (Some list) None None d) parts.makes (
+      refl,
+      (ds, is, parts.each),
+      parts.few,
+      parts.listed,
+      parts.named,
+    )
 
 audit_made : (source : Source) (rows d : Data) (y : Request) → wanted (audit_of source rows d) ≡ Ok y
     → MakesRequest source None None (Some rows) None d y
 audit_made source rows d y h =
     let parts = audits source rows d y (wanted_read (audit_of source rows d) y h) in
-    subst (MakesRequest source None None (Some rows) None d) parts.makes (refl, (rows, refl, parts.has), parts.listed, parts.named)
+    subst (MakesRequest source None None (Some rows) None d) parts.makes (
+      refl,
+      (rows, refl, parts.has),
+      parts.listed,
+      parts.named,
+    )
 
 greeting_made : (source : Source) (hello d : Data) (y : Request) → greeting_by source d ≡ Ok y
     → MakesRequest source None None None (Some hello) d y
@@ -325,35 +415,64 @@ module _ (source : Source) (d : Data) where
       → (request_of source d ≡ Ok (a_query name version query)) ↔ IsQuery source d name query version
   unfolding request_of
   query_object name query version = (
-    λ h. let m = made source ask_member do_member audit_member hello_member d (a_query name version query) h in record { one = m.0; asked = m.1; user = m.2; since = m.3 },
-    λ q. query_said source ask_member do_member audit_member hello_member d name query version (q.one, q.asked, q.user, q.since),
+    λ h. let m = made source ask_member do_member audit_member hello_member d (a_query name version query) h in
+        record { one = m.0; asked = m.1; user = m.2; since = m.3 },
+    λ q. query_said source ask_member do_member audit_member hello_member d name query version (
+      q.one,
+      q.asked,
+      q.user,
+      q.since,
+    ),
   )
 
   pub batch_object : (name : Option (List ℕ)) (xs : List Command)
       → (request_of source d ≡ Ok (a_batch name xs)) ↔ IsBatch source d name xs
   unfolding request_of
   batch_object name xs = (
-    λ h. let m = made source ask_member do_member audit_member hello_member d (a_batch name xs) h in record { one = m.0; list = m.1; few = m.2; listed = m.3; user = m.4 },
-    λ b. batch_said source ask_member do_member audit_member hello_member d name xs (b.one, b.list, b.few, b.listed, b.user),
+    λ h. let m = made source ask_member do_member audit_member hello_member d (a_batch name xs) h in
+        record { one = m.0; list = m.1; few = m.2; listed = m.3; user = m.4 },
+    λ b. batch_said source ask_member do_member audit_member hello_member d name xs (
+      b.one,
+      b.list,
+      b.few,
+      b.listed,
+      b.user,
+    ),
   )
 
   pub audit_object : (name : Option (List ℕ)) (range : AuditRange)
       → (request_of source d ≡ Ok (an_audit name range)) ↔ IsAudit source d name range
   unfolding request_of
   audit_object name range = (
-    λ h. let m = made source ask_member do_member audit_member hello_member d (an_audit name range) h in record { one = m.0; asked = m.1; listed = m.2; user = m.3 },
-    λ a. audit_said source ask_member do_member audit_member hello_member d name range (a.one, a.asked, a.listed, a.user),
+    λ h. let m = made source ask_member do_member audit_member hello_member d (an_audit name range) h in
+        record { one = m.0; asked = m.1; listed = m.2; user = m.3 },
+    λ a. audit_said source ask_member do_member audit_member hello_member d name range (
+      a.one,
+      a.asked,
+      a.listed,
+      a.user,
+    ),
   )
 
   pub greeting_object : (user : Option (List ℕ)) (name token : List ℕ)
-      → (request_of source d ≡ Ok (record { user = user; body = body.Hello name token })) ↔ IsGreeting source d user name token
+      → (request_of source d ≡ Ok (record { user = user; body = body.Hello name token })) ↔ IsGreeting source d user
+      name token
   unfolding request_of
   greeting_object user name token = (
-    λ h. let m = made source ask_member do_member audit_member hello_member d (record { user = user; body = body.Hello name token }) h in record { one = m.0; from = m.2; form = m.3; nobody = m.4 },
-    λ g. greeting_said source ask_member do_member audit_member hello_member d user name token (g.one, greeter_is_there d _ g.form, g.from, g.form, g.nobody),
+    λ h. let m = made source ask_member do_member audit_member hello_member d
+        (record { user = user; body = body.Hello name token }) h in record {
+          one = m.0;
+          from = m.2;
+          form = m.3;
+          nobody =
+              m.4;
+        },
+    λ g. greeting_said source ask_member do_member audit_member hello_member d user name token
+        (g.one, greeter_is_there d _ g.form, g.from, g.form, g.nobody),
   )
 
-  few_in_body : (user : Option (List ℕ)) (b : RequestBody) → request_of source d ≡ Ok (record { user = user; body = b }) → HasFewIn b
+  few_in_body : (user : Option (List ℕ)) (b : RequestBody) → request_of source d ≡ Ok
+      (record { user = user; body = b }) → HasFewIn b
   few_in_body user (body.OfUser (wanting.Query query version)) h = tt
   few_in_body user (body.OfUser (wanting.Batch xs)) h = ((batch_object user xs).0 h).few
   few_in_body user (body.OfUser (wanting.Audit range)) h = tt
@@ -366,16 +485,25 @@ module _ (source : Source) (d : Data) where
 
 said_by : (d : Data) (user : Option (List ℕ)) (b : RequestBody)
     → request_of Script d ≡ Ok (record { user = user; body = b }) → IsSome user × IsNoGreeting b
-said_by d user (body.OfUser (wanting.Query query version)) h = (said_in_script _ user ((query_object Script d user query version).0 h).user, tt)
-said_by d user (body.OfUser (wanting.Batch xs)) h = (said_in_script _ user ((batch_object Script d user xs).0 h).user, tt)
-said_by d user (body.OfUser (wanting.Audit range)) h = (said_in_script _ user ((audit_object Script d user range).0 h).user, tt)
-said_by d user (body.Hello name token) h = let from = ((greeting_object Script d user name token).0 h).from in absurd (cc)
+said_by d user (body.OfUser (wanting.Query query version)) h =
+    (said_in_script _ user ((query_object Script d user query version).0 h).user, tt)
+said_by d user (body.OfUser (wanting.Batch xs)) h = (
+  said_in_script _ user ((batch_object Script d user xs).0 h).user,
+  tt,
+)
+said_by d user (body.OfUser (wanting.Audit range)) h =
+    (said_in_script _ user ((audit_object Script d user range).0 h).user, tt)
+said_by d user (body.Hello name token) h = let from = ((greeting_object Script d user name token).0 h).from in
+    absurd (cc)
 
 unsaid_by : (d : Data) (user : Option (List ℕ)) (b : RequestBody)
     → request_of Connection d ≡ Ok (record { user = user; body = b }) → user ≡ None
-unsaid_by d user (body.OfUser (wanting.Query query version)) h = unsaid_on_connection _ user ((query_object Connection d user query version).0 h).user
-unsaid_by d user (body.OfUser (wanting.Batch xs)) h = unsaid_on_connection _ user ((batch_object Connection d user xs).0 h).user
-unsaid_by d user (body.OfUser (wanting.Audit range)) h = unsaid_on_connection _ user ((audit_object Connection d user range).0 h).user
+unsaid_by d user (body.OfUser (wanting.Query query version)) h = unsaid_on_connection _ user
+    ((query_object Connection d user query version).0 h).user
+unsaid_by d user (body.OfUser (wanting.Batch xs)) h = unsaid_on_connection _ user
+    ((batch_object Connection d user xs).0 h).user
+unsaid_by d user (body.OfUser (wanting.Audit range)) h = unsaid_on_connection _ user
+    ((audit_object Connection d user range).0 h).user
 unsaid_by d user (body.Hello name token) h = ((greeting_object Connection d user name token).0 h).nobody
 
 pub user_in_script : (d : Data) (y : Request) → request_of Script d ≡ Ok y → IsSaid y
@@ -433,14 +561,17 @@ said_fault source None (Some list) (Some rows) hello d fault h = unknown_fault f
 said_fault source None (Some list) None (Some name) d fault h = unknown_fault fault (cc)
 said_fault source None (Some list) None None d fault h = batch_fault source (as_array list) d fault h
 said_fault source None None (Some rows) (Some name) d fault h = unknown_fault fault (cc)
-said_fault source None None (Some rows) None d fault h = member_fault fault (wanted_fails (audit_of source rows d) fault h)
+said_fault source None None (Some rows) None d fault h = member_fault fault (wanted_fails (audit_of source rows d) fault
+    h)
 said_fault source None None None (Some name) d fault h = greeting_fault source d fault h
 said_fault source None None None None d fault h = unknown_fault fault (cc)
 
-pub object_fault : (source : Source) (d : Data) (fault : RequestFault) → request_of source d ≡ Err fault → IsFaultOfObject fault
+pub object_fault : (source : Source) (d : Data) (fault : RequestFault) → request_of source d ≡ Err fault →
+    IsFaultOfObject fault
 unfolding request_of
 object_fault source d fault h =
-    said_fault source (get (codes "ask") d) (get (codes "do") d) (get (codes "audit") d) (get (codes "hello") d) d fault h
+    said_fault source (get (codes "ask") d) (get (codes "do") d) (get (codes "audit") d) (get (codes "hello") d) d fault
+    h
 
 -- ---- unknown requests
 
@@ -469,8 +600,12 @@ other_unless false o h = let bad = wanted_fails o UnknownRequest h in absurd (cc
 asks_other : (source : Source) (o : Option (List ℕ)) (d : Data) → query_by source o d ≡ Err UnknownRequest
     → (word : List ℕ) × (o ≡ Some word) × All (λ other. word ≢ other) (words queries)
 asks_other source None d h = absurd (cc)
-asks_other source (Some word) d h =
-    (word, refl, none_among (words queries) word (other_where (is_among (words queries) word) (query_of source word d) h))
+asks_other source (Some word) d h = (
+  word,
+  refl,
+  none_among (words queries) word (other_where (is_among (words queries) word) (query_of source word d)
+      h),
+)
 
 wants_other : (source : Source) (o : Option Items) (d : Data) → batch_by source o d ≡ Err UnknownRequest
     → (elements : Items) × (o ≡ Some elements) × (has_unknown elements ≡ true)
@@ -491,7 +626,8 @@ other_is source None (Some list) (Some rows) hello d h = inl (λ same. omega (ar
 other_is source None (Some list) None (Some name) d h = inl (λ same. omega (arith, same))
 other_is source None (Some list) None None d h = inr (inr (inr (wants_other source (as_array list) d h)))
 other_is source None None (Some rows) (Some name) d h = inl (λ same. omega (arith, same))
-other_is source None None (Some rows) None d h = let bad = wanted_fails (audit_of source rows d) UnknownRequest h in absurd (cc)
+other_is source None None (Some rows) None d h = let bad = wanted_fails (audit_of source rows d) UnknownRequest h in
+    absurd (cc)
 other_is source None None None (Some name) d h = inr (inl (greets_other source d h, refl))
 other_is source None None None None d h = inl (λ same. omega (arith, same))
 
@@ -501,7 +637,8 @@ one_asks source ask d (inl count) = absurd (count refl)
 one_asks source ask d (inr (inl greets)) = let none = greets.1 in absurd (cc)
 one_asks source ask d (inr (inr (inl other))) =
     ap (λ o. query_by source o d) other.1
-    ∙ ap (λ b. cond b (wanted (query_of source other.0 d)) (Err UnknownRequest)) (among_none (words queries) other.0 other.2)
+    ∙ ap (λ b. cond b (wanted (query_of source other.0 d)) (Err UnknownRequest))
+    (among_none (words queries) other.0 other.2)
 one_asks source ask d (inr (inr (inr other))) = let none = other.1 in absurd (cc)
 
 one_wants : (source : Source) (list : Data) (d : Data) → IsOther source None (Some list) None None
@@ -510,7 +647,8 @@ one_wants source list d (inl count) = absurd (count refl)
 one_wants source list d (inr (inl greets)) = let none = greets.1 in absurd (cc)
 one_wants source list d (inr (inr (inl other))) = let none = other.1 in absurd (cc)
 one_wants source list d (inr (inr (inr other))) =
-    ap (λ o. batch_by source o d) other.1 ∙ ap (λ b. cond b (Err UnknownRequest) (wanted (batch_of source other.0 d))) other.2
+    ap (λ o. batch_by source o d) other.1 ∙ ap (λ b. cond b (Err UnknownRequest) (wanted (batch_of source other.0 d)))
+    other.2
 
 one_audits : (source : Source) (rows d : Data) → IsOther source None None (Some rows) None
     → wanted (audit_of source rows d) ≡ Err UnknownRequest

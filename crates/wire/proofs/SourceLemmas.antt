@@ -12,14 +12,16 @@ some_of : {A : Type 0} (o said : Option A) → option_map Some o ≡ Some said �
 some_of None said h = absurd (cc)
 some_of (Some x) said h = (x, refl, cc)
 
-said_read : (source : Source) (o : Option Data) (said : Option (List ℕ)) → said_in source o ≡ Some said → IsSaidIn source o said
+said_read : (source : Source) (o : Option Data) (said : Option (List ℕ)) → said_in source o ≡ Some said →
+    IsSaidIn source o said
 said_read Script o None h = let parts = some_of (user.value o) None h in let none = parts.2 in absurd (cc)
 said_read Script o (Some name) h =
     let parts = some_of (user.value o) (Some name) h in user_agrees.read o name (parts.1 ∙ sym parts.2)
 said_read Connection None said h = (refl, cc)
 said_read Connection (Some d) said h = absurd (cc)
 
-said_reads : (source : Source) (o : Option Data) (said : Option (List ℕ)) → IsSaidIn source o said → said_in source o ≡ Some said
+said_reads : (source : Source) (o : Option Data) (said : Option (List ℕ)) → IsSaidIn source o said →
+    said_in source o ≡ Some said
 said_reads Script o None is = absurd is
 said_reads Script o (Some name) is = ap (option_map Some) (user_agrees.reads o name is)
 said_reads Connection None said is = ap Some (sym is.1)

@@ -26,7 +26,8 @@ queries_agree = (
                 (
                   with_agrees _ board (with_agrees _ table (form_agrees _ _) (numbered_agrees _)) (numbered_agrees _),
                   (
-                    with_agrees _ limit (with_agrees _ from (with_agrees _ filter (form_agrees _ _) filter_agrees) from_agrees) limit_agrees,
+                    with_agrees _ limit (with_agrees _ from (with_agrees _ filter (form_agrees _ _) filter_agrees)
+                        from_agrees) limit_agrees,
                     tt,
                   ),
                 ),

@@ -11,8 +11,21 @@ use Rattle.session_book.specs.declared.audit.AuditRow.{AuditRow}
 use Rattle.session_commands.specs.declared.actor.Actor.{Actor}
 use Rattle.session_commands.specs.declared.actor.Actor.TheVariants.{User, Solver}
 use Rattle.session_commands.specs.declared.command_word.CommandWord.{CommandWord}
-use Rattle.session_commands.specs.declared.command_word.CommandWord.TheVariants.{Enter, Confirm, Correct, Rule, Void, Hold}
-use Rattle.session_commands.specs.declared.command_word.CommandWord.TheVariants.{Release, Seat, Unseat, NextRound, Close}
+use Rattle.session_commands.specs.declared.command_word.CommandWord.TheVariants.{
+  Enter,
+  Confirm,
+  Correct,
+  Rule,
+  Void,
+  Hold,
+}
+use Rattle.session_commands.specs.declared.command_word.CommandWord.TheVariants.{
+  Release,
+  Seat,
+  Unseat,
+  NextRound,
+  Close,
+}
 use Rattle.session_commands.specs.declared.command_word.CommandWord.TheVariants.{Finalise, AddUser, Assign, Deassign}
 use Rattle.session_commands.specs.declared.command_word.CommandWord.TheVariants.{AddInheritance, DeleteInheritance}
 use Rattle.session_commands.specs.declared.command_word.CommandWord.TheVariants.{Solved, Analysed}
@@ -41,7 +54,8 @@ word_text DeleteInheritance = codes "DeleteInheritance"
 word_text Solved = codes "Solved"
 word_text Analysed = codes "Analysed"
 
--- what a command is about: a table's number and the board's, as `2/14`; a board's; a user; a user's role, as `d:Director`;
+-- what a command is about: a table's number and the board's, as `2/14`; a board's; a user; a user's role, as
+-- `d:Director`;
 -- the senior role and the junior one that it inherits, as `Director>Scorer`; nothing, where it is the session
 abbrev pub target_text : Target → List ℕ
 target_text about.Session = []

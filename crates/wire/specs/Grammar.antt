@@ -1,5 +1,26 @@
 -- What a message is, said of its members alone: nothing here knows an order of reading.
-use Rattle.std.specs.Prelude.{◌≡◌, ◌≢◌, ◌⊎◌, ℕ, ◌<◌, ◌≤◌, List, [], ◌∷◌, length, count_by, All, true, is_some, IsSome, codes, Option, Some, None, option_and_then}
+use Rattle.std.specs.Prelude.{
+  ◌≡◌,
+  ◌≢◌,
+  ◌⊎◌,
+  ℕ,
+  ◌<◌,
+  ◌≤◌,
+  List,
+  [],
+  ◌∷◌,
+  length,
+  count_by,
+  All,
+  true,
+  is_some,
+  IsSome,
+  codes,
+  Option,
+  Some,
+  None,
+  option_and_then,
+}
 use Rattle.serde_json.specs.Data.{Data, Items}
 use Rattle.serde_json.specs.Find.{get, as_array}
 use Rattle.session_commands.specs.declared.command.Command.{Command}
@@ -12,7 +33,13 @@ use Rattle.wire.specs.declared.request.UserRequest.TheVariants as wanting
 use Rattle.wire.specs.declared.source.Source.{Source}
 use Rattle.wire.specs.declared.source.Source.TheVariants.{Script, Connection}
 use Rattle.json_fields.specs.declared.request_fault.RequestFault.{RequestFault}
-use Rattle.json_fields.specs.declared.request_fault.RequestFault.TheVariants.{TooLong, Malformed, UnknownRequest, BadField, OutOfMemory}
+use Rattle.json_fields.specs.declared.request_fault.RequestFault.TheVariants.{
+  TooLong,
+  Malformed,
+  UnknownRequest,
+  BadField,
+  OutOfMemory,
+}
 use Rattle.json_fields.specs.Form.{has_only, words, HasForm, HasFormOf, AreEach}
 use Rattle.json_fields.specs.Field.{text_at}
 use Rattle.json_fields.specs.Message.{since}

@@ -1,5 +1,18 @@
 -- The members of a list of boards: which boards, from which number on, and how many of them. Each may be left out.
-use Rattle.std.specs.Prelude.{◌≡◌, ℕ, ◌≤◌, nat_le, ◌&&◌, if◌then◌else◌, codes, Option, Some, None, option_map, option_and_then}
+use Rattle.std.specs.Prelude.{
+  ◌≡◌,
+  ℕ,
+  ◌≤◌,
+  nat_le,
+  ◌&&◌,
+  if◌then◌else◌,
+  codes,
+  Option,
+  Some,
+  None,
+  option_map,
+  option_and_then,
+}
 use Rattle.serde_json.specs.Data.{Data}
 use Rattle.wire.specs.declared.list_reading.TheConstants.{MOST_LISTED}
 use Rattle.query_filter.specs.Formula.{Formula}

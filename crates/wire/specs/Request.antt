@@ -2,7 +2,28 @@
 -- own: of the faults the first in this order that applies: it has too many bytes; they are no object's text; it isn't
 -- exactly one of these, or a word in it names none; a member is missing, isn't listed, or hasn't the type or the range
 -- that it should.
-use Rattle.std.specs.Prelude.{ℕ, Bool, ◌&&◌, ◌≤◌, List, [], ◌∷◌, ◌==◌, length, is_some, IsSome, nat_le, if◌then◌else◌, codes, Option, Some, None, Result, Ok, Err}
+use Rattle.std.specs.Prelude.{
+  ℕ,
+  Bool,
+  ◌&&◌,
+  ◌≤◌,
+  List,
+  [],
+  ◌∷◌,
+  ◌==◌,
+  length,
+  is_some,
+  IsSome,
+  nat_le,
+  if◌then◌else◌,
+  codes,
+  Option,
+  Some,
+  None,
+  Result,
+  Ok,
+  Err,
+}
 use Rattle.std.specs.Str.Lossy.{utf8_valid_len}
 use Rattle.serde_json.specs.Data.{Data, Items}
 use Rattle.serde_json.specs.Read.{read}
@@ -20,7 +41,12 @@ use Rattle.wire.specs.declared.reading.TheConstants.{MOST_MESSAGE_BYTES}
 use Rattle.wire.specs.declared.source.Source.{Source}
 use Rattle.wire.specs.declared.source.Source.TheVariants.{Script, Connection}
 use Rattle.json_fields.specs.declared.request_fault.RequestFault.{RequestFault}
-use Rattle.json_fields.specs.declared.request_fault.RequestFault.TheVariants.{TooLong, Malformed, UnknownRequest, BadField}
+use Rattle.json_fields.specs.declared.request_fault.RequestFault.TheVariants.{
+  TooLong,
+  Malformed,
+  UnknownRequest,
+  BadField,
+}
 use Rattle.json_fields.specs.Reading.{wanted}
 use Rattle.json_fields.specs.Form.{applied, has_only, formed, is_word_of, item_count}
 use Rattle.json_fields.specs.Message.{since}

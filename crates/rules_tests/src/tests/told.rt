@@ -4,14 +4,14 @@ use cards::Deal;
 use double_dummy::{Budget, table};
 use movement::Movement;
 use pbn_records::read_deals;
-use session_opening::{Config, NewUser};
-use table_terms::Items;
-use session_roles::Role;
 use session_commands::{Actor, Command, Refusal};
+use session_opening::{Config, NewUser};
+use session_roles::Role;
 use session_state::State;
 use solver_results::DdTable;
-use user_names::{Digest, Name};
 use std::alloc::Global;
+use table_terms::Items;
+use user_names::{Digest, Name};
 
 /// North has the spades, East the hearts, South the diamonds and West the clubs; and each suit's owner one further on.
 const SUITS: &str = "N:AKQJT98765432... .AKQJT98765432.. ..AKQJT98765432. ...AKQJT98765432";

@@ -27,4 +27,5 @@ returns-clause-hand c =
     let d = c.in-Some-read_holding-3 in
     let e = c.in-Some-read_holding-4 in
     rw (c.union-3.ensures, c.union-2.ensures, c.union.ensures)
-    (hand_of_suits a.spades b.hearts d.diamonds e.clubs _ _ _ _ _ c.in-Some.ensures.parts a.ensures.held a.ensures.only b.ensures.held b.ensures.only d.ensures.held d.ensures.only e.ensures.held e.ensures.only)
+    (hand_of_suits a.spades b.hearts d.diamonds e.clubs _ _ _ _ _ c.in-Some.ensures.parts a.ensures.held a.ensures.only
+    b.ensures.held b.ensures.only d.ensures.held d.ensures.only e.ensures.held e.ensures.only)

@@ -10,7 +10,8 @@ use Rattle.cards.proofs.hand_reading.read_holding.Goals as goal
 pub loop-letter-init : goal.loop-letter-init
 loop-letter-init c = record {
   held = subst (λ hand. IsHoldingText hand c.args.suit []) (sym c.new-hand.ensures) (holding_of_none c.args.suit);
-  only = λ card held. absurd (true≢false (sym held ∙ ap (λ hand. set.contains hand card) c.new-hand.ensures ∙ set.contains-empty card_cmp card));
+  only = λ card held. absurd (true≢false (sym held ∙ ap (λ hand. set.contains hand card) c.new-hand.ensures
+      ∙ set.contains-empty card_cmp card));
 }
 
 pub returns-in_default-clause-none : goal.returns-in_default-clause-none
@@ -42,5 +43,6 @@ loop-letter-preserved c =
     (sym c.contains.ensures ∙ c.if-contains.false) in
     record {
       held = rw (c.insert.ensures, take_more letters i 0 within) more;
-      only = rw c.insert.ensures (only_more c.loop-letter.hand (record { suit = c.args.suit; rank = c.in-Some.rank }) c.loop-letter.invariant.only);
+      only = rw c.insert.ensures (only_more c.loop-letter.hand (record { suit = c.args.suit; rank = c.in-Some.rank })
+          c.loop-letter.invariant.only);
     }

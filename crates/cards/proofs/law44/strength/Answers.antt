@@ -22,13 +22,15 @@ suit_tag Diamonds = refl
 suit_tag Clubs = refl
 
 rank_tag : (rank : Rank) → tag_of the_rank.the_type rank ≡ height rank
-rank_tag = each_rank (λ rank. tag_of the_rank.the_type rank ≡ height rank) refl refl refl refl refl refl refl refl refl refl refl refl refl
+rank_tag = each_rank (λ rank. tag_of the_rank.the_type rank ≡ height rank) refl refl refl refl refl refl refl refl refl
+    refl refl refl refl
 
 -- the tests of the code are those of the definition
 is_led : (led : Suit) (card : Card) → sameb the_suit.the_type led card.suit ≡ is_of led card
 is_led led card i = nat_eq (suit_tag led i) (suit_tag card.suit i)
 
-trumps : (trump : Option Suit) (card : Card) → option_eq (sameb the_suit.the_type) trump (Some card.suit) ≡ is_trump trump card
+trumps : (trump : Option Suit) (card : Card) → option_eq (sameb the_suit.the_type) trump (Some card.suit) ≡ is_trump
+    trump card
 trumps None card = refl
 trumps (Some suit) card = is_led suit card
 
@@ -36,7 +38,8 @@ pub returns-then-eq : goal.returns-then-eq
 returns-then-eq c =
     let trump = sym (trumps c.args.trump c.args.card) ∙ sym c.eq.ensures ∙ c.if-eq.true in
     record {
-      strength = ap (λ n. 14 + n) (rank_tag c.args.card.rank) ∙ sym (ap (λ b. strength_by b (is_of c.args.led c.args.card) (height c.args.card.rank)) trump);
+      strength = ap (λ n. 14 + n) (rank_tag c.args.card.rank)
+          ∙ sym (ap (λ b. strength_by b (is_of c.args.led c.args.card) (height c.args.card.rank)) trump);
       small = omega (arith, rank_tag c.args.card.rank, height_below c.args.card.rank);
     }
 
@@ -45,7 +48,8 @@ returns-then-eq-2 c =
     let trump = sym (trumps c.args.trump c.args.card) ∙ sym c.eq.ensures ∙ c.if-eq.false in
     let led = sym (is_led c.args.led c.args.card) ∙ sym c.eq-else-eq.ensures ∙ c.if-eq-2.true in
     record {
-      strength = ap (λ n. 1 + n) (rank_tag c.args.card.rank) ∙ sym (λ i. strength_by (trump i) (led i) (height c.args.card.rank));
+      strength = ap (λ n. 1 + n) (rank_tag c.args.card.rank)
+          ∙ sym (λ i. strength_by (trump i) (led i) (height c.args.card.rank));
       small = omega (arith, rank_tag c.args.card.rank, height_below c.args.card.rank);
     }
 

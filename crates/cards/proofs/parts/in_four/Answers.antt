@@ -18,6 +18,9 @@ returns-in_default-split_once-2-clause-none c = λ one two three four parts.
 
 pub returns-clause-parts : goal.returns-clause-parts
 returns-clause-parts c =
-    cut_in_four c.args.mark c.requires c.args.text.now (c.in-Some.one, c.in-Some.rest) (c.in-Some-split_once.two, c.in-Some-split_once.rest)
+    cut_in_four c.args.mark c.requires c.args.text.now (c.in-Some.one, c.in-Some.rest) (
+      c.in-Some-split_once.two,
+      c.in-Some-split_once.rest,
+    )
     (c.in-Some-split_once-2.three, c.in-Some-split_once-2.four)
     c.in-Some.ensures.cases c.in-Some-split_once.ensures.cases c.in-Some-split_once-2.ensures.cases

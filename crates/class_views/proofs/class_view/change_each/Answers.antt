@@ -21,12 +21,16 @@ loop-place-preserved c =
       each = search rules;
       done =
           done_more
-          (λ k before after. IsClassWith c.args.board (class_sees public (Some (class_at k)) c.args.board) c.args.old.now c.args.new.now before after)
+          (λ k before after. IsClassWith c.args.board (class_sees public (Some (class_at k)) c.args.board)
+          c.args.old.now c.args.new.now before after)
           first l.classes.items l.place c.change.new.self within l.invariant.done
           (λ d.
-          subst (λ (seen : Bool). IsClassWith c.args.board seen c.args.old.now c.args.new.now (get_or first l.place d) c.change.new.self) sees
-          (subst (λ (before : ClassView). IsClassWith c.args.board c.sees-sees.result c.args.old.now c.args.new.now before c.change.new.self)
-          (c.index_mut.ensures.value ∙ (get_or_default l.classes.items l.place c.index_mut.result.now d within ∙ l.invariant.rest l.place d (omega arith)))
+          subst (λ (seen : Bool). IsClassWith c.args.board seen c.args.old.now c.args.new.now (get_or first l.place d)
+          c.change.new.self) sees
+          (subst (λ (before : ClassView). IsClassWith c.args.board c.sees-sees.result c.args.old.now c.args.new.now
+          before c.change.new.self)
+          (c.index_mut.ensures.value ∙ (get_or_default l.classes.items l.place c.index_mut.result.now d within
+          ∙ l.invariant.rest l.place d (omega arith)))
           c.change.ensures));
       rest = rest_left first l.classes.items l.place c.change.new.self l.invariant.rest;
     }

@@ -10,6 +10,7 @@ abbrev pub invariant-loop-place : goal.invariant-loop-place
 invariant-loop-place l = record {
   each : vec_len l.classes ≡ 35;
   done : (k : ℕ) (d : ClassView) → k < l.place →
-      IsClassWith l.board (class_sees l.public (Some (class_at k)) l.board) l.old l.new (get_or l.initial.classes.items k d) (get_or l.classes.items k d);
+      IsClassWith l.board (class_sees l.public (Some (class_at k)) l.board) l.old l.new
+      (get_or l.initial.classes.items k d) (get_or l.classes.items k d);
   rest : (k : ℕ) (d : ClassView) → l.place ≤ k → get_or l.classes.items k d ≡ get_or l.initial.classes.items k d;
 }

@@ -6,4 +6,5 @@ use Rattle.class_views.proofs.class_views.add_side.Given as goal
 
 abbrev pub invariant-loop-before : goal.invariant-loop-before
 invariant-loop-before l =
-    l.standings.items ≡ l.initial.standings.items ++ map (total_for l.views l.class) (map (pair_on l.side) (range_with_len 1 l.before))
+    l.standings.items ≡ l.initial.standings.items ++ map (total_for l.views l.class)
+    (map (pair_on l.side) (range_with_len 1 l.before))

@@ -7,12 +7,21 @@ use Rattle.desks.proofs.laws.batch.Goals as goal
 
 pub returns-clause-published : goal.returns-clause-published
 returns-clause-published g c =
-    let line = c.show-receipt.ensures.line in
-    (ap (λ (l : Outgoing). entries_of l.published) line ∙ (entries_of_with_publication c.run.new.publisher.published c.run.new.publisher.pending ∙ sym c.run.ensures.published.1), ap (λ (l : Outgoing). l.pending) line)
+    let line = c.show-receipt.ensures.line in (
+      ap (λ (l : Outgoing). entries_of l.published) line ∙ (entries_of_with_publication c.run.new.publisher.published
+          c.run.new.publisher.pending ∙ sym c.run.ensures.published.1),
+      ap (λ (l : Outgoing). l.pending) line,
+    )
 
 pub returns-clause-receipt : goal.returns-clause-receipt
 returns-clause-receipt g c =
-    let before : length (entries_of c.run.new.publisher.published) ≡ length c.args.book.now.journal = ap (λ (l : List (List Entry)). length (entries_of l)) c.run.ensures.published.0 ∙ ap (λ (l : List Entry). length l) c.requires.published.0 in
-    let now : entries_of c.show-receipt.new.publisher.published ≡ c.run.new.book.journal = ap (λ (l : Outgoing). entries_of l.published) c.show-receipt.ensures.line ∙ (entries_of_with_publication c.run.new.publisher.published c.run.new.publisher.pending ∙ sym c.run.ensures.published.1) in
-    let after : length (entries_of c.show-receipt.new.publisher.published) ≡ length c.run.new.book.journal = ap (λ (l : List Entry). length l) now in
+    let before : length (entries_of c.run.new.publisher.published) ≡ length c.args.book.now.journal =
+    ap (λ (l : List (List Entry)). length (entries_of l)) c.run.ensures.published.0
+    ∙ ap (λ (l : List Entry). length l) c.requires.published.0 in
+    let now : entries_of c.show-receipt.new.publisher.published ≡ c.run.new.book.journal =
+    ap (λ (l : Outgoing). entries_of l.published) c.show-receipt.ensures.line
+    ∙ (entries_of_with_publication c.run.new.publisher.published c.run.new.publisher.pending
+    ∙ sym c.run.ensures.published.1) in
+    let after : length (entries_of c.show-receipt.new.publisher.published) ≡ length c.run.new.book.journal =
+    ap (λ (l : List Entry). length l) now in
     rw (← before, ← after) c.show-receipt.ensures.receipt

@@ -11,7 +11,8 @@ loop-command-init g c = record {
   published = refl;
   journal =
       sym c.requires.published.0
-      ∙ (sym (append-nil (entries_of c.args.publisher.now.published)) ∙ ap (λ (l : List Entry). entries_of c.args.publisher.now.published ++ l) (sym c.requires.published.1));
+      ∙ (sym (append-nil (entries_of c.args.publisher.now.published))
+      ∙ ap (λ (l : List Entry). entries_of c.args.publisher.now.published ++ l) (sym c.requires.published.1));
   counted = search rules;
   room = c.requires.room.1;
   runs = runs_none g.N.Server.opening c.args.book.now.journal c.args.actor _ c.requires.room.0;
@@ -34,6 +35,7 @@ loop-command-preserved g c =
       room = omega (arith, kept.room, c.push_within.ensures.capacity);
       runs =
           runs_so _ _ _ _ now.journal actor _ _ _ _ _ (sym c.is_stopped-stopped.ensures) refl
-          (ap (λ command. take i batch ++ command ∷ []) c.command-item.is ∙ sym (take_more batch i c.command-item.result c.loop-command-test.true))
+          (ap (λ command. take i batch ++ command ∷ []) c.command-item.is
+          ∙ sym (take_more batch i c.command-item.result c.loop-command-test.true))
           (ap (λ answer. answers ++ answer ∷ []) (sym c.new.ensures) ∙ sym c.push_within.ensures.items) ran;
     }

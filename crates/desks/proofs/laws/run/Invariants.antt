@@ -10,5 +10,6 @@ invariant-loop-command g l = record {
   journal : l.book.journal ≡ entries_of l.publisher.published ++ l.publisher.pending;
   counted : vec_len l.answers ≡ l.command-index;
   room : length l.batch ≤ vec_capacity l.answers;
-  runs : Runs l.stopped g.N.Server.opening l.initial.book.journal l.actor (take l.command-index l.batch) (record { journal = l.book.journal; answers = l.answers.items });
+  runs : Runs l.stopped g.N.Server.opening l.initial.book.journal l.actor (take l.command-index l.batch)
+      (record { journal = l.book.journal; answers = l.answers.items });
 }

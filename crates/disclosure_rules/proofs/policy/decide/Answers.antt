@@ -8,4 +8,5 @@ returns-then-forbids c =
     (sym c.forbids.ensures ∙ c.if-forbids.true) c.loop-rule.invariant
 
 pub returns : goal.returns
-returns c = no_first_at c.args.public.now c.args.viewer.now c.args.fact (λ k below. c.loop-rule.invariant k (omega arith))
+returns c = no_first_at c.args.public.now c.args.viewer.now c.args.fact
+    (λ k below. c.loop-rule.invariant k (omega arith))

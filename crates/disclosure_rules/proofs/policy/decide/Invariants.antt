@@ -5,4 +5,5 @@ use Rattle.disclosure_rules.proofs.policy.decide.Given as goal
 
 -- no rule so far forbids the fact
 abbrev pub invariant-loop-rule : goal.invariant-loop-rule
-invariant-loop-rule l = (k : ℕ) → k < l.rule-index → forbids (get_or l.rule-items k NoAccount) l.public l.viewer l.fact ≡ false
+invariant-loop-rule l = (k : ℕ) → k < l.rule-index → forbids (get_or l.rule-items k NoAccount) l.public l.viewer l.fact
+    ≡ false

@@ -7,7 +7,8 @@ pub returns-in-Some : goal.returns-in-Some
 returns-in-Some c =
     let own = c.in-Some.ensures in
     ap not c.contains.ensures
-    ∙ still_where_seated c.args.public.now c.args.viewer.now c.in-Some.cell own.seated c.args.board own.board own.section
+    ∙ still_where_seated c.args.public.now c.args.viewer.now c.in-Some.cell own.seated c.args.board own.board
+    own.section
 
 pub returns-in-None : goal.returns-in-None
 returns-in-None c = still_not c.args.public.now c.args.viewer.now c.args.board c.in-None.ensures.none

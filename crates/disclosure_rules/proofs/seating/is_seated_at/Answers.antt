@@ -8,4 +8,5 @@ returns-in-Some c =
     seated_at_one c.args.public.now c.args.viewer.now c.in-Some.own own.seated c.args.cell own.board own.section
 
 pub returns-in-None : goal.returns-in-None
-returns-in-None c = seated_not c.args.public.now c.args.viewer.now c.args.cell.board c.in-None.ensures.none c.args.cell refl
+returns-in-None c = seated_not c.args.public.now c.args.viewer.now c.args.cell.board c.in-None.ensures.none c.args.cell
+    refl

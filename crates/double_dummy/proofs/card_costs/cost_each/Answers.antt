@@ -1,4 +1,21 @@
-use Rattle.std.proofs.Common.{◌≡◌, ◌+◌, ◌≤◌, ◌++◌, ◌∷◌, [], ◌∙◌, ap, sym, subst, arith, suc, length, drop, get_or, length-append}
+use Rattle.std.proofs.Common.{
+  ◌≡◌,
+  ◌+◌,
+  ◌≤◌,
+  ◌++◌,
+  ◌∷◌,
+  [],
+  ◌∙◌,
+  ap,
+  sym,
+  subst,
+  arith,
+  suc,
+  length,
+  drop,
+  get_or,
+  length-append,
+}
 use Rattle.cards.specs.declared.card.Card.{Card}
 use Rattle.table_terms.specs.declared.suit.Suit.TheVariants.{Spades}
 use Rattle.cards.specs.declared.rank.Rank.TheVariants.{Two}
@@ -55,7 +72,8 @@ loop-card-preserved c =
       legal = sym (past_card (suc i) (suc (i + 1)) p q play i
           (i + 1) none more next c.loop-card-test.true may played.next) ∙ before.legal;
       costs =
-          one_cost_more (cost_list c.args.start.now play) c.loop-card.numbers.items c.push_reserved.new.self.items p q card
+          one_cost_more (cost_list c.args.start.now play) c.loop-card.numbers.items c.push_reserved.new.self.items p q
+          card
           (drop (i + 1) play)
           c.in-Ok-play_card.played.cost
           (ap (λ rest. c.loop-card.numbers.items ++ cost_list p rest)

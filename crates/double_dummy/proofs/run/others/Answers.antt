@@ -60,6 +60,7 @@ returns c ownership card owned tight live ne =
     card
     (cc) (c.hand.ensures.hand ∙ ap (hand_of _) (c.turn.ensures
     ∙ (λ i. turn (c.leader.ensures i) (c.trick-trick.ensures i))))
-    (in_difference _ _ _ c.difference.ensures) (λ x. ap (λ s. set.contains s x) c.cards.ensures ∙ set.contains-from_list card_cmp_total _ x
+    (in_difference _ _ _ c.difference.ensures) (λ x. ap (λ s. set.contains s x) c.cards.ensures ∙ set.contains-from_list
+    card_cmp_total _ x
     ∙ ap (list_any (eq_by_cmp card_cmp x)) c.trick-trick.ensures)
     owned tight live ne

@@ -5,7 +5,19 @@ use Rattle.position_patterns.proofs.SetLemmas.{in_difference}
 use Rattle.cards.specs.Play.{cards_left, legal}
 use Rattle.double_dummy.proofs.BoundLemmas.{too_many}
 use Rattle.position_patterns.proofs.RemainderLemmas.{left_without}
-use Rattle.double_dummy.proofs.SearchLemmas.{fewer_untried, found_decided, found_next, found_refused, known_more, nothing_left, of_either, other_bool, refused_step, same_bool, some_in}
+use Rattle.double_dummy.proofs.SearchLemmas.{
+  fewer_untried,
+  found_decided,
+  found_next,
+  found_refused,
+  known_more,
+  nothing_left,
+  of_either,
+  other_bool,
+  refused_step,
+  same_bool,
+  some_in,
+}
 use Rattle.position_patterns.proofs.SetLemmas.{in_first, in_second}
 use Rattle.position_patterns.specs.Remainder.{IsLeftOf}
 use Rattle.double_dummy_laws.proofs.CountLemmas.{fewer_after}
@@ -32,7 +44,8 @@ explore-returns-then-found-wanted-clause-found t c =
     let p = c.args.position.now in
     let found = subst (λ b. IsFound c.after-next.result (c.args.target - c.point.result) c.in-Ok-search.found.known b)
     (same_bool _ _ c.if-found-wanted.true) c.in-Ok-search.ensures.found in
-    found_decided p c.args.target c.in-Some.card c.in-Ok-search.found.known c.union-decisive.result c.wants-wanted.result
+    found_decided p c.args.target c.in-Some.card c.in-Ok-search.found.known c.union-decisive.result
+    c.wants-wanted.result
     (c.loop-card.invariant.untried c.in-Some.card c.in-Some.ensures.some)
     (λ ownership. known_more ownership _ _ _ _ _ (in_second _ _ _ c.union-decisive.ensures)
     (c.decisive.ensures ownership))
@@ -111,7 +124,8 @@ pub explore-spoken_for-spoken-requires-clause-playable : goal.explore-spoken_for
 explore-spoken_for-spoken-requires-clause-playable t c = c.legal_cards-playable.ensures
 
 pub explore-spoken_for-spoken-requires-clause-legal : goal.explore-spoken_for-spoken-requires-clause-legal
-explore-spoken_for-spoken-requires-clause-legal t c = c.loop-card.invariant.untried c.in-Some.card c.in-Some.ensures.some
+explore-spoken_for-spoken-requires-clause-legal t c = c.loop-card.invariant.untried c.in-Some.card
+    c.in-Some.ensures.some
 
 pub search-find-requires-clause-same : goal.search-find-requires-clause-same
 search-find-requires-clause-same t c = c.of-holders.ensures.hands

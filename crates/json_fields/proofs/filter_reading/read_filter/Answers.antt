@@ -9,4 +9,5 @@ returns-then-is_none c =
 
 pub returns-in-Err : goal.returns-in-Err
 returns-in-Err c =
-    fault_reads (formula_of (view c.args.value.now)) c.atoms_left.result c.in-Err.fault c.atoms_left.ensures c.if-is_none.ensures c.in-Err.ensures.fault
+    fault_reads (formula_of (view c.args.value.now)) c.atoms_left.result c.in-Err.fault c.atoms_left.ensures
+    c.if-is_none.ensures c.in-Err.ensures.fault

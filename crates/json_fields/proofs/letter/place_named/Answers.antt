@@ -9,5 +9,7 @@ returns-in-len1 c =
     let text = c.as_bytes.ensures.value in
     let same = c.from.ensures ∙ ap (λ bytes. get_or bytes 0 0) text in
     place_of_letter c.args.text.now c.from_letter.result (omega (arith, ap length text))
-    (subst (λ letter. IfSome c.from_letter.result (λ place. place_letter place ≡ letter)) same c.from_letter.ensures.found)
-    (subst (λ letter. IfNone c.from_letter.result ((place : Place) → place_letter place ≢ letter)) same c.from_letter.ensures.none)
+    (subst (λ letter. IfSome c.from_letter.result (λ place. place_letter place ≡ letter)) same
+    c.from_letter.ensures.found)
+    (subst (λ letter. IfNone c.from_letter.result ((place : Place) → place_letter place ≢ letter)) same
+    c.from_letter.ensures.none)

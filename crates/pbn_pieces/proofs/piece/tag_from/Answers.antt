@@ -9,4 +9,8 @@ returns-in-Some c =
     (Tagged tag.0, ap (tagged_at c.args.after.now) tag.1, (tag.0, refl, tag.2, tag.3))
 
 pub returns-in-None : goal.returns-in-None
-returns-in-None c = (Broken c.args.after.now, ap (tagged_at c.args.after.now) c.in-None.ensures, (c.args.after.now, refl))
+returns-in-None c = (
+  Broken c.args.after.now,
+  ap (tagged_at c.args.after.now) c.in-None.ensures,
+  (c.args.after.now, refl),
+)

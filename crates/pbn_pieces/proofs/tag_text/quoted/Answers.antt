@@ -8,10 +8,12 @@ use Rattle.pbn_pieces.proofs.tag_text.quoted.Goals.{then-at-bytes, else-at-bytes
 pub returns-then-byte-eq34 : goal.returns-then-byte-eq34
 returns-then-byte-eq34 c =
     walk_closes c.args.bytes.now c.loop-at.at c.loop-at.invariant c.loop-at-test.true c.if-byte-eq34.true
-    ∙ ap (λ (rest : List ℕ). Some (take c.loop-at.at c.args.bytes.now, rest)) (sym (to_end (c.loop-at.at + 1) c.args.bytes.now))
+    ∙ ap (λ (rest : List ℕ). Some (take c.loop-at.at c.args.bytes.now, rest))
+    (sym (to_end (c.loop-at.at + 1) c.args.bytes.now))
 
 pub returns-then-byte-eq10 : goal.returns-then-byte-eq10
-returns-then-byte-eq10 c = walk_feeds c.args.bytes.now c.loop-at.at c.loop-at.invariant c.loop-at-test.true c.if-byte-eq10.true
+returns-then-byte-eq10 c = walk_feeds c.args.bytes.now c.loop-at.at c.loop-at.invariant c.loop-at-test.true
+    c.if-byte-eq10.true
 
 pub loop-at-preserved : goal.loop-at-preserved
 loop-at-preserved c =
@@ -20,8 +22,11 @@ loop-at-preserved c =
     elim c.if-escaped.branch [
       | then-escaped w ↦ subst (λ step. Walks bytes (at + step)) (sym w.at-is)
           (elim c.if-at-bytes.branch [
-            | then-at-bytes w' ↦ walk_escape bytes at c.loop-at.invariant w'.if-at-bytes.true (sym w'.is_escape-escaped.ensures ∙ sym w'.escaped-is ∙ w.if-escaped.true)
-            | else-at-bytes w' ↦ absurd (true≢false (sym w.if-escaped.true ∙ w'.escaped-is ∙ le-ltb (at + 1) (length bytes) w'.if-at-bytes.false))
+            | then-at-bytes w' ↦ walk_escape bytes at c.loop-at.invariant w'.if-at-bytes.true
+                (sym w'.is_escape-escaped.ensures ∙ sym w'.escaped-is ∙ w.if-escaped.true)
+            | else-at-bytes w' ↦ absurd
+                (true≢false (sym w.if-escaped.true ∙ w'.escaped-is ∙ le-ltb (at + 1) (length bytes)
+                w'.if-at-bytes.false))
           ])
       | else-escaped w ↦ subst (λ step. Walks bytes (at + step)) (sym w.at-is)
           (walk_letter bytes at c.loop-at.invariant c.loop-at-test.true c.if-byte-eq34.false c.if-byte-eq10.false (λ h.

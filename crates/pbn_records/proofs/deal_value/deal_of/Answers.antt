@@ -23,6 +23,7 @@ returns-clause-deal c =
 pub returns-clause-none : goal.returns-clause-none
 returns-clause-none c =
     if_none_map c.deal_from.result
-    (no_deal_of_texts _ _ _ _ _ _ _ _ _ c.in-Some.ensures.hand c.in-Some-read_hand.ensures.hand c.in-Some-read_hand-2.ensures.hand
+    (no_deal_of_texts _ _ _ _ _ _ _ _ _ c.in-Some.ensures.hand c.in-Some-read_hand.ensures.hand
+    c.in-Some-read_hand-2.ensures.hand
     c.in-Some-read_hand-3.ensures.hand)
     c.deal_from.ensures.none

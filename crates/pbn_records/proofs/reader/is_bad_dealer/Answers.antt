@@ -5,12 +5,17 @@ use Rattle.pbn_records.proofs.FreeLemmas.{same_dealer}
 use Rattle.pbn_records.proofs.reader.is_bad_dealer.Goals as goal
 
 pub returns-then-is_open : goal.returns-then-is_open
-returns-then-is_open c =
-    ((λ never. absurd (true≢false (sym never))), (λ bad. absurd (true≢false (sym c.if-is_open.true ∙ c.is_open.ensures ∙ sym (same_open c.args.value.now) ∙ bad.there))))
+returns-then-is_open c = (
+  (λ never. absurd (true≢false (sym never))),
+  (λ bad. absurd (true≢false (sym c.if-is_open.true ∙ c.is_open.ensures ∙ sym (same_open c.args.value.now)
+      ∙ bad.there))),
+)
 
 pub returns-in-Some : goal.returns-in-Some
-returns-in-Some c =
-    ((λ never. absurd (true≢false (sym never))), (λ bad. absurd (bad.none _ ((same_dealer _ c.args.value.now).0 c.in-Some.ensures.place))))
+returns-in-Some c = (
+  (λ never. absurd (true≢false (sym never))),
+  (λ bad. absurd (bad.none _ ((same_dealer _ c.args.value.now).0 c.in-Some.ensures.place))),
+)
 
 pub returns-in-None : goal.returns-in-None
 returns-in-None c = (

@@ -6,7 +6,8 @@ use Rattle.pbn_records.proofs.reading.take_all.Goals as goal
 pub returns-in-Err-clause-refused : goal.returns-in-Err-clause-refused
 returns-in-Err-clause-refused c =
     let stands = c.loop-found.invariant.stands in
-    refused_taken _ _ _ _ _ _ _ _ stands c.loop-found.invariant.offset c.in-Some.ensures.piece (c.in-Err.ensures.fault stands.walk stands.at)
+    refused_taken _ _ _ _ _ _ _ _ stands c.loop-found.invariant.offset c.in-Some.ensures.piece
+    (c.in-Err.ensures.fault stands.walk stands.at)
 
 pub overflow_sub-offset-in-Some : goal.overflow_sub-offset-in-Some
 overflow_sub-offset-in-Some c =
@@ -25,7 +26,8 @@ pub returns-clause-read : goal.returns-clause-read
 returns-clause-read c =
     let stands = c.loop-found.invariant.stands in
     ok_of c.end_game.result
-    (λ ended same. reads_all _ _ _ _ _ stands c.in_default.ensures.none c.end_game.ensures.boards (ended stands.walk stands.at))
+    (λ ended same. reads_all _ _ _ _ _ stands c.in_default.ensures.none c.end_game.ensures.boards
+    (ended stands.walk stands.at))
     c.end_game.ensures.ended c.end_game.ensures.ended
 
 pub returns-clause-refused : goal.returns-clause-refused

@@ -1,4 +1,20 @@
-use Rattle.std.proofs.Common.{rules, ◌≡◌, ◌-◌, ◌≤◌, ◌++◌, true, false, Some, All, length, slice_get, subst, sym, ap, ◌∙◌}
+use Rattle.std.proofs.Common.{
+  rules,
+  ◌≡◌,
+  ◌-◌,
+  ◌≤◌,
+  ◌++◌,
+  true,
+  false,
+  Some,
+  All,
+  length,
+  slice_get,
+  subst,
+  sym,
+  ap,
+  ◌∙◌,
+}
 use Rattle.std.specs.Prelude.{is_some}
 use Rattle.std.proofs.lemmas.List.{append-nil}
 use Rattle.movement.specs.Movement.{IsCell, boards_of}
@@ -12,13 +28,17 @@ use Rattle.published_view.proofs.bodies.add_board.Goals as goal
 
 pub returns-then-is_some-clause-earnings : goal.returns-then-is_some-clause-earnings
 returns-then-is_some-clause-earnings c =
-    let forbids : is_some (first_rule c.args.state.now.public c.args.viewer.now (fact.Hands c.args.number)) ≡ true = search rules in
-    sym (ap (λ earned. c.args.earnings.now.items ++ earned) (nothing_earned c.args.state.now c.args.viewer.now c.args.number forbids) ∙ append-nil _)
+    let forbids : is_some (first_rule c.args.state.now.public c.args.viewer.now (fact.Hands c.args.number)) ≡ true =
+    search rules in
+    sym (ap (λ earned. c.args.earnings.now.items ++ earned) (nothing_earned c.args.state.now c.args.viewer.now
+    c.args.number forbids) ∙ append-nil _)
 
 pub add_earnings-requires-clause-cells : goal.add_earnings-requires-clause-cells
 add_earnings-requires-clause-cells c =
-    subst (λ (p : Public). All (λ (found : TableResult). IsCell p.movement found.cell) c.deref.result.now) (sym c.public-public.ensures.public)
-    (subst (All (λ (found : TableResult). IsCell c.args.state.now.public.movement found.cell)) (sym c.deref.ensures.value)
+    subst (λ (p : Public). All (λ (found : TableResult). IsCell p.movement found.cell) c.deref.result.now)
+    (sym c.public-public.ensures.public)
+    (subst (All (λ (found : TableResult). IsCell c.args.state.now.public.movement found.cell))
+    (sym c.deref.ensures.value)
     c.in_ok-results.ensures.cells)
 
 pub returns-clause-earnings : goal.returns-clause-earnings
@@ -30,5 +50,6 @@ returns-clause-earnings c =
     let marked : slice_get state.public.marks (c.args.number - 1) ≡ Some marks = search rules in
     c.in_ok-add_earnings.ensures.earnings
     ∙ ap (λ earned. c.args.earnings.now.items ++ earned)
-    ((λ i. earnings_of (c.public-public.ensures.public i).movement marks.vulnerability ((c.deref.ensures.value ∙ c.in_ok-results.ensures.results) i))
+    ((λ i. earnings_of (c.public-public.ensures.public i).movement marks.vulnerability
+    ((c.deref.ensures.value ∙ c.in_ok-results.ensures.results) i))
     ∙ sym (board_earned state c.args.viewer.now c.args.number c.requires.there dealt free marks marked))

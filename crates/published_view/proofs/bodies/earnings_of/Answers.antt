@@ -25,4 +25,5 @@ returns-clause-earnings c =
     let state = c.args.state.now in
     let section = state.public.movement in
     let last : c.loop-before.before ≡ boards_of section = search rules in
-    c.loop-before.invariant.so_far ∙ ap (λ n. flat_map (board_earnings section (shown state c.args.viewer.now)) (range_with_len 1 n)) last
+    c.loop-before.invariant.so_far ∙ ap (λ n. flat_map (board_earnings section (shown state c.args.viewer.now))
+    (range_with_len 1 n)) last

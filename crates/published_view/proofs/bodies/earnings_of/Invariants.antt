@@ -6,6 +6,7 @@ use Rattle.published_view.proofs.bodies.earnings_of.Given as goal
 
 abbrev pub invariant-loop-before : goal.invariant-loop-before
 invariant-loop-before l = record {
-  so_far : l.earnings.items ≡ flat_map (board_earnings l.state.public.movement (shown l.state l.viewer)) (range_with_len 1 l.before);
+  so_far : l.earnings.items ≡ flat_map (board_earnings l.state.public.movement (shown l.state l.viewer))
+      (range_with_len 1 l.before);
   few : vec_len l.earnings ≤ 16 * l.before;
 }

@@ -10,7 +10,8 @@ pub loop-senior-preserved : goal.loop-senior-preserved
 loop-senior-preserved c =
     let pairs = c.args.state.now.roles.pairs in
     let k = vec_len c.loop-senior.pairs in
-    let there : option_map {U = Role × Role} (λ (pair : Inheritance). (pair.senior, pair.junior)) (slice_get pairs k) ≡ Some (c.in-Some.senior, c.in-Some.junior) = search rules in
+    let there : option_map {U = Role × Role} (λ (pair : Inheritance). (pair.senior, pair.junior)) (slice_get pairs k) ≡
+    Some (c.in-Some.senior, c.in-Some.junior) = search rules in
     let more : suc k ≡ vec_len c.push.new.self = search rules in
     c.in_ok-push.ensures.items
     ∙ ((λ i. c.loop-senior.invariant i ++ record { senior = c.in-Some.senior; junior = c.in-Some.junior } ∷ [])
@@ -20,5 +21,6 @@ pub returns : goal.returns
 returns c =
     let pairs = c.args.state.now.roles.pairs in
     let k = vec_len c.loop-senior.pairs in
-    let none : option_map {U = Role × Role} (λ (pair : Inheritance). (pair.senior, pair.junior)) (slice_get pairs k) ≡ None = search rules in
+    let none : option_map {U = Role × Role} (λ (pair : Inheritance). (pair.senior, pair.junior)) (slice_get pairs k) ≡
+    None = search rules in
     c.loop-senior.invariant ∙ pairs_end pairs k none

@@ -10,4 +10,5 @@ returns-then-not-sees c =
     let state = c.args.views.now in
     let viewer = c.args.viewer.now in
     let hidden : not c.sees.result ≡ true = search rules in
-    not_listed state viewer c.args.board c.args.filter.now (not_seen (first_rule state.public viewer (fact.Hands c.args.board)) c.sees.result c.sees.ensures hidden)
+    not_listed state viewer c.args.board c.args.filter.now
+    (not_seen (first_rule state.public viewer (fact.Hands c.args.board)) c.sees.result c.sees.ensures hidden)

@@ -8,4 +8,5 @@ use Rattle.published_view.proofs.kept.listed_from.Given as goal
 abbrev pub invariant-loop-before : goal.invariant-loop-before
 invariant-loop-before l =
     l.boards.items
-    ≡ filter (λ board. nat_le l.from board && is_listed l.views.public.movement (shown l.views l.viewer) l.filter board) (range_with_len 1 l.before)
+    ≡ filter (λ board. nat_le l.from board && is_listed l.views.public.movement (shown l.views l.viewer) l.filter board)
+    (range_with_len 1 l.before)

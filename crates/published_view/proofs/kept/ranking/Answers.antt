@@ -13,4 +13,5 @@ returns c =
     ∙ (c.in_ok-standings.ensures
     ∙ ap ranked
     (c.deref.ensures.value
-    ∙ (found.standings ∙ standings_by_class state c.args.viewer.now found.section found.live found.dealt (pairs_of state.public.movement)))))
+    ∙ (found.standings ∙ standings_by_class state c.args.viewer.now found.section found.live found.dealt
+    (pairs_of state.public.movement)))))

@@ -1,4 +1,10 @@
-use Rattle.published_view.proofs.EveryRunLemmas.{is_written, denial_names_first, same_answers, are_exhaustive, none_foreknown}
+use Rattle.published_view.proofs.EveryRunLemmas.{
+  is_written,
+  denial_names_first,
+  same_answers,
+  are_exhaustive,
+  none_foreknown,
+}
 use Rattle.published_view.proofs.HistoryLemmas.{may_go_on, names_published}
 use Rattle.published_view.proofs.laws.every_run.Goals as goal
 
@@ -12,7 +18,8 @@ pub returns-clause-written : goal.returns-clause-written
 returns-clause-written c = is_written
 
 pub returns-clause-denials : goal.returns-clause-denials
-returns-clause-denials c opening history reading reply denial is told = denial_names_first opening history reading reply is told denial
+returns-clause-denials c opening history reading reply denial is told = denial_names_first opening history reading reply
+    is told denial
 
 pub returns-clause-worlds : goal.returns-clause-worlds
 returns-clause-worlds c = same_answers

@@ -14,13 +14,15 @@ returns c =
     let section = state.public.movement in
     let last : c.loop-before.before ≡ boards_of section = search rules in
     c.loop-before.invariant
-    ∙ ap (λ n. filter (λ board. nat_le c.args.from board && is_listed section (shown state c.args.viewer.now) c.args.filter.now board) (range_with_len 1 n)) last
+    ∙ ap (λ n. filter (λ board. nat_le c.args.from board && is_listed section (shown state c.args.viewer.now)
+    c.args.filter.now board) (range_with_len 1 n)) last
 
 pub loop-before-preserved : goal.loop-before-preserved
 loop-before-preserved c =
     let state = c.args.state.now in
     let before = c.loop-before.before in
-    let test : ℕ → Bool = λ board. nat_le c.args.from board && is_listed state.public.movement (shown state c.args.viewer.now) c.args.filter.now board in
+    let test : ℕ → Bool = λ board. nat_le c.args.from board && is_listed state.public.movement
+    (shown state c.args.viewer.now) c.args.filter.now board in
     c.in_ok-push_where.ensures
     ∙ ((λ i. c.loop-before.invariant i ++ cond (c.in_ok-listed.ensures i) ((before + 1) ∷ []) [])
     ∙ sym (filter_range_more test before))

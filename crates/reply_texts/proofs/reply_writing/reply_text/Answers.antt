@@ -10,4 +10,5 @@ unfolding reply_text
 returns c =
     let says = c.in_ok-value.ensures in
     let no_float = none_in_a_reply c.args.reply.now in
-    IfOk-weaker c.to_string.result _ _ (λ s h. h (ap has_float says ∙ no_float) ∙ ap compact_text says) c.to_string.ensures.text
+    IfOk-weaker c.to_string.result _ _ (λ s h. h (ap has_float says ∙ no_float) ∙ ap compact_text says)
+    c.to_string.ensures.text

@@ -5,4 +5,14 @@ use Rattle.reply_texts.proofs.status_writing.status_value.Goals as goal
 
 pub returns : goal.returns
 returns c =
-    c.object.ensures _ (c.number-4.ensures _ _ (c.member-5.ensures _ _ (c.number-3.ensures _ _ (c.number-2.ensures _ _ (c.member-4.ensures _ _ (c.number.ensures _ _ (c.member-3.ensures _ _ (c.member-2.ensures _ _ (c.member.ensures _ _ c.new.ensures c.held_value.ensures) c.live_value.ensures) c.marks_value.ensures) c.per_set.ensures.per_set) (IfOk-weaker c.try_from_str.result _ _ (λ v h. h ∙ ap string c.phase_name.ensures) c.try_from_str.ensures)) refl) c.rounds.ensures.rounds) c.list_value.ensures) c.tables.ensures.tables)
+    c.object.ensures _
+    (c.number-4.ensures _ _
+    (c.member-5.ensures _ _
+    (c.number-3.ensures _ _
+    (c.number-2.ensures _ _
+    (c.member-4.ensures _ _
+    (c.number.ensures _ _
+    (c.member-3.ensures _ _ (c.member-2.ensures _ _ (c.member.ensures _ _ c.new.ensures c.held_value.ensures)
+    c.live_value.ensures) c.marks_value.ensures) c.per_set.ensures.per_set) (IfOk-weaker c.try_from_str.result _ _
+    (λ v h. h ∙ ap string c.phase_name.ensures) c.try_from_str.ensures)) refl) c.rounds.ensures.rounds)
+    c.list_value.ensures) c.tables.ensures.tables)

@@ -10,7 +10,8 @@ loop-item-preserved g c =
     ap (map view) c.in_ok-push.ensures.ok
     ∙ map-append view c.loop-item.values.items (c.in_ok-value.value ∷ [])
     ∙ (λ i. c.loop-item.invariant i ++ c.in_ok-value.ensures i ∷ [])
-    ∙ (λ i. map g.T.ToJson.json (take c.loop-item.item-index c.args.items.now) ++ g.T.ToJson.json (c.item-item.is i) ∷ [])
+    ∙ (λ i. map g.T.ToJson.json (take c.loop-item.item-index c.args.items.now) ++ g.T.ToJson.json (c.item-item.is i) ∷
+    [])
     ∙ sym (map_more g.T.ToJson.json c.args.items.now c.loop-item.item-index _ c.loop-item-test.true)
 
 pub loop-item-smaller : goal.loop-item-smaller
@@ -19,4 +20,5 @@ loop-item-smaller g c = omega (arith, c.loop-item-test.true)
 pub returns : goal.returns
 returns g c =
     let all = take_all c.loop-item.item-index c.args.items.now (omega (arith, c.loop-item-test.false)) in
-    c.array_value.ensures ∙ ap (λ ds. array (items_of ds)) c.loop-item.invariant ∙ (λ i. array (items_of (map g.T.ToJson.json (all i))))
+    c.array_value.ensures ∙ ap (λ ds. array (items_of ds)) c.loop-item.invariant
+    ∙ (λ i. array (items_of (map g.T.ToJson.json (all i))))

@@ -9,9 +9,12 @@ units_among-requires-clause-held c =
 
 pub loop-score-preserved : goal.loop-score-preserved
 loop-score-preserved c =
-    let moved = moved_from_copy _ _ _ _ c.in_ok-sorted.ensures.items c.sort_unstable.ensures.permutation c.deref.ensures.value in
-    let here = units_from_sorted c.args.scores.now c.deref.result.now c.loop-score.score-index _ c.units_among.result c.loop-score-test.true (search rules) moved c.units_among.ensures in
+    let moved = moved_from_copy _ _ _ _ c.in_ok-sorted.ensures.items c.sort_unstable.ensures.permutation
+    c.deref.ensures.value in
+    let here = units_from_sorted c.args.scores.now c.deref.result.now c.loop-score.score-index _ c.units_among.result
+    c.loop-score-test.true (search rules) moved c.units_among.ensures in
     record {
       counted = search rules;
-      units_so_far = units_more c.args.scores.now c.loop-score.points.items _ c.loop-score.score-index c.units_among.result (search rules) c.loop-score.invariant.units_so_far here c.in_ok-push.ensures.items;
+      units_so_far = units_more c.args.scores.now c.loop-score.points.items _ c.loop-score.score-index
+          c.units_among.result (search rules) c.loop-score.invariant.units_so_far here c.in_ok-push.ensures.items;
     }

@@ -5,7 +5,8 @@ use Rattle.scoring.proofs.ranking.rank_order.Goals as goal
 ranked : (c : goal.After-then-4) → Ranks c.args.a c.args.b c.then-4.result
 ranked c =
     rw (c.then-4.ensures, c.then-3.ensures, c.then-2.ensures, c.then.ensures)
-    (ranks_from_comparisons c.args.a c.args.b _ _ _ _ _ c.percentage_order.ensures (cc) c.cmp-2.ensures c.cmp-3.ensures c.cmp-4.ensures)
+    (ranks_from_comparisons c.args.a c.args.b _ _ _ _ _ c.percentage_order.ensures (cc) c.cmp-2.ensures c.cmp-3.ensures
+    c.cmp-4.ensures)
 
 pub returns-clause-less : goal.returns-clause-less
 returns-clause-less c = less_from_ranks c.args.a c.args.b c.then-4.result (ranked c)

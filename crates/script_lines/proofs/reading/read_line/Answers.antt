@@ -2,7 +2,16 @@ use Rattle.std.proofs.Common.{◌+◌, ◌∷◌, [], ◌++◌, ◌∙◌, Some,
 use Rattle.std.specs.Io.KnownBytes.{Consumes}
 use Rattle.script_lines.specs.NextByte.{TakesByte}
 use Rattle.script_lines.specs.Lines.{ended_line}
-use Rattle.script_lines.proofs.NextByteLemmas.{at_ok, at_err, all_kept, ends_here, is_rest, goes_on, fails_for, fails_for_memory}
+use Rattle.script_lines.proofs.NextByteLemmas.{
+  at_ok,
+  at_err,
+  all_kept,
+  ends_here,
+  is_rest,
+  goes_on,
+  fails_for,
+  fails_for_memory,
+}
 use Rattle.script_lines.proofs.reading.read_line.Goals as goal
 
 pub returns-in-Ok-Some-eq10-clause-line : goal.returns-in-Ok-Some-eq10-clause-line
@@ -14,7 +23,8 @@ returns-in-Ok-Some-eq10-clause-line g c =
     let taken : TakesByte (Some 10) reader after c.loop-line.left c.next_byte.new.left = search rules in
     record {
       whole = ended_line so_far.piece;
-      takes = ends_here before reader after so_far.piece c.args.left.now c.loop-line.left c.next_byte.new.left so_far.unbroken so_far.consumed so_far.counted taken (ended_line so_far.piece) refl;
+      takes = ends_here before reader after so_far.piece c.args.left.now c.loop-line.left c.next_byte.new.left
+          so_far.unbroken so_far.consumed so_far.counted taken (ended_line so_far.piece) refl;
       kept = c.end_piece.ensures.kept so_far.piece so_far.kept;
     }
 
@@ -26,7 +36,9 @@ returns-in-Ok-None-clause-line g c =
     let after = g.R.Read.remaining c.next_byte.new.reader in
     record {
       whole = so_far.piece;
-      takes = is_rest before reader after so_far.piece c.args.left.now c.loop-line.left c.next_byte.new.left so_far.unbroken so_far.consumed so_far.counted c.in-Ok-None.field-0 c.in-Ok-None.field-0-is c.in-Ok-None.ensures.byte;
+      takes = is_rest before reader after so_far.piece c.args.left.now c.loop-line.left c.next_byte.new.left
+          so_far.unbroken so_far.consumed so_far.counted c.in-Ok-None.field-0 c.in-Ok-None.field-0-is
+          c.in-Ok-None.ensures.byte;
       kept = c.end_rest.ensures.kept so_far.piece so_far.kept;
     }
 
@@ -37,12 +49,15 @@ returns-then-is_err-clause-fault g c =
     let reader = g.R.Read.remaining c.loop-line.reader in
     let after = g.R.Read.remaining c.next_byte.new.reader in
     let more =
-    goes_on before reader after so_far.piece c.args.left.now c.loop-line.left c.next_byte.new.left so_far.unbroken so_far.consumed so_far.counted
+    goes_on before reader after so_far.piece c.args.left.now c.loop-line.left c.next_byte.new.left so_far.unbroken
+    so_far.consumed so_far.counted
     c.in-Ok-Some.field-0 c.in-Ok-Some.byte c.in-Ok-Some.field-0-is c.in-Ok-Some.byte-test.1 c.in-Ok-Some.ensures.byte in
     let refused = at_err c.keep.result (sym c.is_err.ensures.value ∙ c.if-is_err.true) c.keep.ensures.refused in
     let same = all_kept c.args.most c.loop-line.line.items so_far.piece so_far.kept refused.1 in
-    fails_for_memory before reader after so_far.piece c.args.left.now c.loop-line.left c.next_byte.new.left so_far.unbroken so_far.consumed so_far.counted
-    c.in-Ok-Some.byte (c.args.most + 2) c.in-Ok-Some.byte-test.1 more c.keep.new.line.items (refused.0 ∙ same) (omega (arith, refused.1, ap length refused.0))
+    fails_for_memory before reader after so_far.piece c.args.left.now c.loop-line.left c.next_byte.new.left
+    so_far.unbroken so_far.consumed so_far.counted
+    c.in-Ok-Some.byte (c.args.most + 2) c.in-Ok-Some.byte-test.1 more c.keep.new.line.items (refused.0 ∙ same)
+    (omega (arith, refused.1, ap length refused.0))
 
 pub returns-in-Err-clause-fault : goal.returns-in-Err-clause-fault
 returns-in-Err-clause-fault g c =
@@ -50,7 +65,8 @@ returns-in-Err-clause-fault g c =
     let before = g.R.Read.remaining c.args.reader.now in
     let reader = g.R.Read.remaining c.loop-line.reader in
     let after = g.R.Read.remaining c.next_byte.new.reader in
-    fails_for before reader after so_far.piece c.args.left.now c.loop-line.left c.next_byte.new.left so_far.unbroken so_far.consumed so_far.counted
+    fails_for before reader after so_far.piece c.args.left.now c.loop-line.left c.next_byte.new.left so_far.unbroken
+    so_far.consumed so_far.counted
     c.in-Err.fault c.in-Err.ensures.input c.in-Err.ensures.fault (c.args.most + 2) c.loop-line.line.items so_far.kept
 
 pub loop-line-preserved : goal.loop-line-preserved
@@ -60,7 +76,8 @@ loop-line-preserved g c =
     let reader = g.R.Read.remaining c.loop-line.reader in
     let after = g.R.Read.remaining c.next_byte.new.reader in
     let more =
-    goes_on before reader after so_far.piece c.args.left.now c.loop-line.left c.next_byte.new.left so_far.unbroken so_far.consumed so_far.counted
+    goes_on before reader after so_far.piece c.args.left.now c.loop-line.left c.next_byte.new.left so_far.unbroken
+    so_far.consumed so_far.counted
     c.in-Ok-Some.field-0 c.in-Ok-Some.byte c.in-Ok-Some.field-0-is c.in-Ok-Some.byte-test.1 c.in-Ok-Some.ensures.byte in
     let kept = at_ok c.keep.result (sym c.is_err.ensures.value ∙ c.if-is_err.false) c.keep.ensures.kept in
     record {
@@ -78,6 +95,7 @@ loop-line-smaller g c =
     let reader = g.R.Read.remaining c.loop-line.reader in
     let after = g.R.Read.remaining c.next_byte.new.reader in
     let more =
-    goes_on before reader after so_far.piece c.args.left.now c.loop-line.left c.next_byte.new.left so_far.unbroken so_far.consumed so_far.counted
+    goes_on before reader after so_far.piece c.args.left.now c.loop-line.left c.next_byte.new.left so_far.unbroken
+    so_far.consumed so_far.counted
     c.in-Ok-Some.field-0 c.in-Ok-Some.byte c.in-Ok-Some.field-0-is c.in-Ok-Some.byte-test.1 c.in-Ok-Some.ensures.byte in
     more.less

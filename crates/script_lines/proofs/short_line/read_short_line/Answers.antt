@@ -1,4 +1,20 @@
-use Rattle.std.proofs.Common.{◌≡◌, ◌+◌, ◌<◌, ◌≤◌, ◌∷◌, [], ◌++◌, Some, length, sym, ap, subst, length-append, rules, arith}
+use Rattle.std.proofs.Common.{
+  ◌≡◌,
+  ◌+◌,
+  ◌<◌,
+  ◌≤◌,
+  ◌∷◌,
+  [],
+  ◌++◌,
+  Some,
+  length,
+  sym,
+  ap,
+  subst,
+  length-append,
+  rules,
+  arith,
+}
 use Rattle.script_lines.specs.NextByte.{TakesByte}
 use Rattle.script_lines.specs.Reading.{IsUnbroken}
 use Rattle.std.specs.Io.KnownBytes.{Consumes}
@@ -13,7 +29,8 @@ returns-in-Ok-Some-eq10-clause-line g c =
     let reader = g.R.Read.remaining c.loop-line.reader in
     let after = g.R.Read.remaining c.next_byte.new.reader in
     let taken : TakesByte (Some 10) reader after c.loop-line.left c.next_byte.new.left = search rules in (
-      ends_here before reader after c.loop-line.line.items c.args.left.now c.loop-line.left c.next_byte.new.left so_far.unbroken so_far.consumed so_far.counted taken c.drop_return.new.line.items c.drop_return.ensures,
+      ends_here before reader after c.loop-line.line.items c.args.left.now c.loop-line.left c.next_byte.new.left
+          so_far.unbroken so_far.consumed so_far.counted taken c.drop_return.new.line.items c.drop_return.ensures,
       omega (arith, so_far.few, ap length c.drop_return.ensures, no_longer c.loop-line.line.items),
     )
 
@@ -27,7 +44,9 @@ returns-in-Ok-None-clause-line g c =
     let before = g.R.Read.remaining c.args.reader.now in
     let reader = g.R.Read.remaining c.loop-line.reader in
     let after = g.R.Read.remaining c.next_byte.new.reader in (
-      is_rest before reader after c.loop-line.line.items c.args.left.now c.loop-line.left c.next_byte.new.left so_far.unbroken so_far.consumed so_far.counted c.in-Ok-None.field-0 c.in-Ok-None.field-0-is c.in-Ok-None.ensures.byte,
+      is_rest before reader after c.loop-line.line.items c.args.left.now c.loop-line.left c.next_byte.new.left
+          so_far.unbroken so_far.consumed so_far.counted c.in-Ok-None.field-0 c.in-Ok-None.field-0-is
+          c.in-Ok-None.ensures.byte,
       so_far.few,
     )
 
@@ -38,10 +57,12 @@ returns-then-len-most-clause-line g c =
     let reader = g.R.Read.remaining c.loop-line.reader in
     let after = g.R.Read.remaining c.next_byte.new.reader in
     let more =
-    goes_on before reader after c.loop-line.line.items c.args.left.now c.loop-line.left c.next_byte.new.left so_far.unbroken so_far.consumed so_far.counted
+    goes_on before reader after c.loop-line.line.items c.args.left.now c.loop-line.left c.next_byte.new.left
+    so_far.unbroken so_far.consumed so_far.counted
     c.in-Ok-Some.field-0 c.in-Ok-Some.byte c.in-Ok-Some.field-0-is c.in-Ok-Some.byte-test.1 c.in-Ok-Some.ensures.byte in
     let full : length c.loop-line.line.items ≡ c.args.most = search rules in
-    c.end_of_full_line.ensures.line before c.loop-line.line.items c.args.most c.args.left.now so_far.unbroken full more.consumed
+    c.end_of_full_line.ensures.line before c.loop-line.line.items c.args.most c.args.left.now so_far.unbroken full
+    more.consumed
     (omega (arith, more.counted, length-append c.loop-line.line.items (c.in-Ok-Some.byte ∷ [])))
 
 pub returns-then-len-most-clause-fault : goal.returns-then-len-most-clause-fault
@@ -51,10 +72,12 @@ returns-then-len-most-clause-fault g c =
     let reader = g.R.Read.remaining c.loop-line.reader in
     let after = g.R.Read.remaining c.next_byte.new.reader in
     let more =
-    goes_on before reader after c.loop-line.line.items c.args.left.now c.loop-line.left c.next_byte.new.left so_far.unbroken so_far.consumed so_far.counted
+    goes_on before reader after c.loop-line.line.items c.args.left.now c.loop-line.left c.next_byte.new.left
+    so_far.unbroken so_far.consumed so_far.counted
     c.in-Ok-Some.field-0 c.in-Ok-Some.byte c.in-Ok-Some.field-0-is c.in-Ok-Some.byte-test.1 c.in-Ok-Some.ensures.byte in
     let full : length c.loop-line.line.items ≡ c.args.most = search rules in
-    c.end_of_full_line.ensures.fault before c.loop-line.line.items c.args.most c.args.left.now so_far.unbroken full more.consumed
+    c.end_of_full_line.ensures.fault before c.loop-line.line.items c.args.most c.args.left.now so_far.unbroken full
+    more.consumed
     (omega (arith, more.counted, length-append c.loop-line.line.items (c.in-Ok-Some.byte ∷ [])))
 
 pub returns-then-is_err-clause-fault : goal.returns-then-is_err-clause-fault
@@ -64,12 +87,15 @@ returns-then-is_err-clause-fault g c =
     let reader = g.R.Read.remaining c.loop-line.reader in
     let after = g.R.Read.remaining c.next_byte.new.reader in
     let more =
-    goes_on before reader after c.loop-line.line.items c.args.left.now c.loop-line.left c.next_byte.new.left so_far.unbroken so_far.consumed so_far.counted
+    goes_on before reader after c.loop-line.line.items c.args.left.now c.loop-line.left c.next_byte.new.left
+    so_far.unbroken so_far.consumed so_far.counted
     c.in-Ok-Some.field-0 c.in-Ok-Some.byte c.in-Ok-Some.field-0-is c.in-Ok-Some.byte-test.1 c.in-Ok-Some.ensures.byte in
     let same : c.push.new.self.items ≡ c.loop-line.line.items = search rules in
     let room : length c.loop-line.line.items < c.args.most = omega arith in
-    fails_for_memory before reader after c.loop-line.line.items c.args.left.now c.loop-line.left c.next_byte.new.left so_far.unbroken so_far.consumed so_far.counted
-    c.in-Ok-Some.byte c.args.most c.in-Ok-Some.byte-test.1 more c.push.new.self.items same (omega (arith, room, ap length same))
+    fails_for_memory before reader after c.loop-line.line.items c.args.left.now c.loop-line.left c.next_byte.new.left
+    so_far.unbroken so_far.consumed so_far.counted
+    c.in-Ok-Some.byte c.args.most c.in-Ok-Some.byte-test.1 more c.push.new.self.items same
+    (omega (arith, room, ap length same))
 
 pub returns-in-Err-clause-fault : goal.returns-in-Err-clause-fault
 returns-in-Err-clause-fault g c =
@@ -77,8 +103,10 @@ returns-in-Err-clause-fault g c =
     let before = g.R.Read.remaining c.args.reader.now in
     let reader = g.R.Read.remaining c.loop-line.reader in
     let after = g.R.Read.remaining c.next_byte.new.reader in
-    fails_for before reader after c.loop-line.line.items c.args.left.now c.loop-line.left c.next_byte.new.left so_far.unbroken so_far.consumed so_far.counted
-    c.in-Err.fault c.in-Err.ensures.input c.in-Err.ensures.fault c.args.most c.loop-line.line.items (sym (take_all c.args.most c.loop-line.line.items so_far.few))
+    fails_for before reader after c.loop-line.line.items c.args.left.now c.loop-line.left c.next_byte.new.left
+    so_far.unbroken so_far.consumed so_far.counted
+    c.in-Err.fault c.in-Err.ensures.input c.in-Err.ensures.fault c.args.most c.loop-line.line.items
+    (sym (take_all c.args.most c.loop-line.line.items so_far.few))
 
 pub loop-line-preserved : goal.loop-line-preserved
 loop-line-preserved g c =
@@ -87,7 +115,8 @@ loop-line-preserved g c =
     let reader = g.R.Read.remaining c.loop-line.reader in
     let after = g.R.Read.remaining c.next_byte.new.reader in
     let more =
-    goes_on before reader after c.loop-line.line.items c.args.left.now c.loop-line.left c.next_byte.new.left so_far.unbroken so_far.consumed so_far.counted
+    goes_on before reader after c.loop-line.line.items c.args.left.now c.loop-line.left c.next_byte.new.left
+    so_far.unbroken so_far.consumed so_far.counted
     c.in-Ok-Some.field-0 c.in-Ok-Some.byte c.in-Ok-Some.field-0-is c.in-Ok-Some.byte-test.1 c.in-Ok-Some.ensures.byte in
     let pushed : c.push.new.self.items ≡ c.loop-line.line.items ++ c.in-Ok-Some.byte ∷ [] = search rules in
     let room : length c.loop-line.line.items + 1 ≤ c.args.most = omega arith in
@@ -105,6 +134,7 @@ loop-line-smaller g c =
     let reader = g.R.Read.remaining c.loop-line.reader in
     let after = g.R.Read.remaining c.next_byte.new.reader in
     let more =
-    goes_on before reader after c.loop-line.line.items c.args.left.now c.loop-line.left c.next_byte.new.left so_far.unbroken so_far.consumed so_far.counted
+    goes_on before reader after c.loop-line.line.items c.args.left.now c.loop-line.left c.next_byte.new.left
+    so_far.unbroken so_far.consumed so_far.counted
     c.in-Ok-Some.field-0 c.in-Ok-Some.byte c.in-Ok-Some.field-0-is c.in-Ok-Some.byte-test.1 c.in-Ok-Some.ensures.byte in
     more.less

@@ -21,9 +21,14 @@ pub returns-then-is_in_range-clause-given : goal.returns-then-is_in_range-clause
 returns-then-is_in_range-clause-given c =
     let m = c.args.given.now in
     record {
-      port = number_in_rows m (codes "port") 16 c.get_one.result c.in_ok-get_one.field-0 c.in_ok-get_one.was c.get_one.ensures.none c.get_one.ensures.value;
-      displays = number_in_rows m (codes "displays") 8 c.get_one-2.result c.in_ok-get_one-2.field-0 c.in_ok-get_one-2.was c.get_one-2.ensures.none c.get_one-2.ensures.value;
-      workers = number_in_rows m (codes "workers") 8 c.get_one-3.result c.in_ok-get_one-3.field-0 c.in_ok-get_one-3.was c.get_one-3.ensures.none c.get_one-3.ensures.value;
-      connections = number_in_rows m (codes "connections") 32 c.get_one-4.result c.in_ok-get_one-4.field-0 c.in_ok-get_one-4.was c.get_one-4.ensures.none c.get_one-4.ensures.value;
-      idle = number_in_rows m (codes "idle") 32 c.get_one-5.result c.in_ok-get_one-5.field-0 c.in_ok-get_one-5.was c.get_one-5.ensures.none c.get_one-5.ensures.value;
+      port = number_in_rows m (codes "port") 16 c.get_one.result c.in_ok-get_one.field-0 c.in_ok-get_one.was
+          c.get_one.ensures.none c.get_one.ensures.value;
+      displays = number_in_rows m (codes "displays") 8 c.get_one-2.result c.in_ok-get_one-2.field-0
+          c.in_ok-get_one-2.was c.get_one-2.ensures.none c.get_one-2.ensures.value;
+      workers = number_in_rows m (codes "workers") 8 c.get_one-3.result c.in_ok-get_one-3.field-0 c.in_ok-get_one-3.was
+          c.get_one-3.ensures.none c.get_one-3.ensures.value;
+      connections = number_in_rows m (codes "connections") 32 c.get_one-4.result c.in_ok-get_one-4.field-0
+          c.in_ok-get_one-4.was c.get_one-4.ensures.none c.get_one-4.ensures.value;
+      idle = number_in_rows m (codes "idle") 32 c.get_one-5.result c.in_ok-get_one-5.field-0 c.in_ok-get_one-5.was
+          c.get_one-5.ensures.none c.get_one-5.ensures.value;
     }

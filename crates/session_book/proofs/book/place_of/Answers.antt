@@ -11,7 +11,8 @@ returns-then-eq-clause-found c =
     let place = c.loop-place.place in
     let below = c.loop-place-test.true in
     let account : Account = get_or accounts place c.index-accounts-place.result in
-    sym (name_at accounts place account below (get_or_default accounts place c.index-accounts-place.result account below))
+    sym (name_at accounts place account below (get_or_default accounts place c.index-accounts-place.result account
+    below))
     ∙ (same_name_decides account.name c.args.name).0 (sym c.eq.ensures ∙ c.if-eq.true)
 
 pub loop-place-preserved : goal.loop-place-preserved
@@ -20,4 +21,5 @@ loop-place-preserved c =
     let place = c.loop-place.place in
     let below = c.loop-place-test.true in
     let account : Account = get_or accounts place c.index-accounts-place.result in
-    not_yet accounts place account c.args.name below (get_or_default accounts place c.index-accounts-place.result account below) (sym c.eq.ensures ∙ c.if-eq.false) c.loop-place.invariant
+    not_yet accounts place account c.args.name below (get_or_default accounts place c.index-accounts-place.result
+    account below) (sym c.eq.ensures ∙ c.if-eq.false) c.loop-place.invariant

@@ -7,10 +7,12 @@ pub returns-in-Some-clause-behind : goal.returns-in-Some-clause-behind
 returns-in-Some-clause-behind c =
     let journal = c.args.book.now.journal in
     subst (IsBehind c.args.book.now.opening journal) (sym c.absorb.ensures.effect)
-    (one_more c.args.book.now.opening journal c.args.view.now c.in-Some.entry.now c.args.number c.requires.at c.requires.few
+    (one_more c.args.book.now.opening journal c.args.view.now c.in-Some.entry.now c.args.number c.requires.at
+    c.requires.few
     (sym (entry_after journal c.args.number) ∙ sym c.in-Some.ensures) c.requires.behind)
 
 pub returns-in_default-clause-at : goal.returns-in_default-clause-at
 returns-in_default-clause-at c =
     let journal = c.args.book.now.journal in
-    absurd (entry_there journal c.args.number (c.in_default.ensures ∙ entry_after journal c.args.number) c.requires.more)
+    absurd (entry_there journal c.args.number (c.in_default.ensures ∙ entry_after journal c.args.number)
+    c.requires.more)

@@ -7,14 +7,17 @@ returns-in-Err-clause-refused c = refused_parts _ (view c.args.value.now) c.in-E
 
 pub returns-in-Err-new-clause-refused : goal.returns-in-Err-new-clause-refused
 returns-in-Err-new-clause-refused c =
-    refused_section _ (view c.args.value.now) c.in-Ok.parts c.in-Err-new.error c.in-Ok.ensures.parts c.in-Err-new.ensures.refused
+    refused_section _ (view c.args.value.now) c.in-Ok.parts c.in-Err-new.error c.in-Ok.ensures.parts
+    c.in-Err-new.ensures.refused
 
 pub returns-in-Ok-read_deals-clause-read : goal.returns-in-Ok-read_deals-clause-read
 returns-in-Ok-read_deals-clause-read c =
-    reads_object _ (view c.args.value.now) c.in-Ok.parts c.in-Ok-new.movement c.boards.result c.in-Ok-read_deals.boards c.in-Ok.ensures.parts
+    reads_object _ (view c.args.value.now) c.in-Ok.parts c.in-Ok-new.movement c.boards.result c.in-Ok-read_deals.boards
+    c.in-Ok.ensures.parts
     c.in-Ok-new.ensures.section c.in-Ok-new.ensures.allowed c.boards.ensures.boards c.in-Ok-read_deals.ensures.set
 
 pub returns-in-Err-read_deals-clause-refused : goal.returns-in-Err-read_deals-clause-refused
 returns-in-Err-read_deals-clause-refused c =
-    refused_boards _ (view c.args.value.now) c.in-Ok.parts c.in-Ok-new.movement c.boards.result c.in-Err-read_deals.error _ c.fault_of_deals.ensures c.in-Ok.ensures.parts
+    refused_boards _ (view c.args.value.now) c.in-Ok.parts c.in-Ok-new.movement c.boards.result
+    c.in-Err-read_deals.error _ c.fault_of_deals.ensures c.in-Ok.ensures.parts
     c.in-Ok-new.ensures.section c.in-Ok-new.ensures.allowed c.boards.ensures.boards c.in-Err-read_deals.ensures.refused

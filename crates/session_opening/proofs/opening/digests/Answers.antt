@@ -11,7 +11,8 @@ loop-user-preserved c =
     record {
       items = c.push_within.ensures.items
           ∙ ap (λ digests. digests ++ user.digest ∷ []) c.loop-user.invariant.items
-          ∙ ap (λ (user : NewUser). map (λ (user : NewUser). user.digest) (take place users) ++ user.digest ∷ []) c.user-item.is
+          ∙ ap (λ (user : NewUser). map (λ (user : NewUser). user.digest) (take place users) ++ user.digest ∷ [])
+          c.user-item.is
           ∙ sym (map_more (λ (user : NewUser). user.digest) users place user c.loop-user-test.true);
       counted = c.push_within.ensures.len ∙ ap (λ n. n + 1) c.loop-user.invariant.counted;
       room = omega (arith, c.push_within.ensures.capacity, c.loop-user.invariant.room);
@@ -20,4 +21,5 @@ loop-user-preserved c =
 pub returns-clause-items : goal.returns-clause-items
 returns-clause-items c =
     c.loop-user.invariant.items
-    ∙ ap (map (λ (user : NewUser). user.digest)) (take_all c.loop-user.user-index c.args.users.now c.loop-user-test.false)
+    ∙ ap (map (λ (user : NewUser). user.digest)) (take_all c.loop-user.user-index c.args.users.now
+    c.loop-user-test.false)

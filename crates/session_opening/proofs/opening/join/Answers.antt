@@ -19,8 +19,10 @@ assign_unrefused-requires c cause =
     let within = subst (λ list. place < length list) c.as_slice-role-items.ensures c.loop-role-test.true in
     λ refused. role_joins c.args.roles.now user c.requires.may_join c.requires.separate place Member within cause
     (subst (λ state. RefusesAssignment state user.name (get_or user.roles place Member) cause) c.loop-role.invariant
-    (subst (λ name. RefusesAssignment c.loop-role.roles name (get_or user.roles place Member) cause) c.as_str.ensures.text
-    (subst (λ list. RefusesAssignment c.loop-role.roles c.as_str.result.now (get_or list place Member) cause) c.as_slice-role-items.ensures
+    (subst (λ name. RefusesAssignment c.loop-role.roles name (get_or user.roles place Member) cause)
+    c.as_str.ensures.text
+    (subst (λ list. RefusesAssignment c.loop-role.roles c.as_str.result.now (get_or list place Member) cause)
+    c.as_slice-role-items.ensures
     refused)))
 
 pub loop-role-preserved : goal.loop-role-preserved
@@ -29,7 +31,8 @@ loop-role-preserved c =
     let place = c.loop-role.role-index in
     let within = subst (λ list. place < length list) c.as_slice-role-items.ensures c.loop-role-test.true in
     c.assign_unrefused.ensures
-    ∙ (λ i. assign_user (c.loop-role.invariant i) (c.as_str.ensures.text i) (get_or (c.as_slice-role-items.ensures i) place Member))
+    ∙ (λ i. assign_user (c.loop-role.invariant i) (c.as_str.ensures.text i)
+    (get_or (c.as_slice-role-items.ensures i) place Member))
     ∙ role_added c.args.roles.now user c.requires.may_join place Member within
 
 pub returns-clause-separate : goal.returns-clause-separate

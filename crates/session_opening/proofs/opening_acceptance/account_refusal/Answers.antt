@@ -1,7 +1,11 @@
 use Rattle.std.proofs.Common.{[], ◌∷◌, not, sym, ap, ◌∙◌}
 use Rattle.std.specs.Bool.{then_some}
 use Rattle.rbac.specs.Account.{is_user_name}
-use Rattle.session_opening.specs.declared.opening_refusal.OpeningRefusal.TheVariants.{BadName, UserExists, AlreadyAssigned}
+use Rattle.session_opening.specs.declared.opening_refusal.OpeningRefusal.TheVariants.{
+  BadName,
+  UserExists,
+  AlreadyAssigned,
+}
 use Rattle.session_opening.specs.NewUser.{repeats}
 use Rattle.session_state.specs.Refusal.{first_cause}
 use Rattle.session_opening.proofs.OpeningRefusalLemmas.{account_among}

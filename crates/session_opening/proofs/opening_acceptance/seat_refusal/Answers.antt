@@ -2,7 +2,12 @@ use Rattle.std.proofs.Common.{[], ◌∷◌, not, sym, ap, ◌∙◌}
 use Rattle.std.specs.Bool.{then_some}
 use Rattle.session_roles.specs.Role.{has}
 use Rattle.session_roles.specs.declared.role.Role.TheVariants.{Contestant}
-use Rattle.session_opening.specs.declared.opening_refusal.OpeningRefusal.TheVariants.{NoSuchPair, WrongDirection, NotContestant, SeatTaken}
+use Rattle.session_opening.specs.declared.opening_refusal.OpeningRefusal.TheVariants.{
+  NoSuchPair,
+  WrongDirection,
+  NotContestant,
+  SeatTaken,
+}
 use Rattle.session_state.specs.Refusal.{first_cause}
 use Rattle.session_opening.proofs.OpeningRefusalLemmas.{taken_among}
 use Rattle.session_opening.proofs.opening_acceptance.seat_refusal.Goals as goal

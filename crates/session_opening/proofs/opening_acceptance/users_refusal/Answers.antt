@@ -10,10 +10,14 @@ returns-then-is_some c =
     let users = c.args.users.now in
     let place = c.loop-place.place in
     let user = c.index-users-place.result in
-    let found : c.user_refusal-refused.result ≡ first_cause (user_causes movement (take place users) (get_or users place user)) =
-    c.user_refusal-refused.ensures ∙ ap (λ user. first_cause (user_causes movement (take place users) user)) c.index-users-place.is in
+    let found : c.user_refusal-refused.result ≡ first_cause (user_causes movement (take place users)
+    (get_or users place user)) =
+    c.user_refusal-refused.ensures ∙ ap (λ user. first_cause (user_causes movement (take place users) user))
+    c.index-users-place.is in
     sym (c.loop-place.invariant ∙ ap first_cause (causes_more movement users place user c.loop-place-test.true)
-    ∙ found_first (user_causes movement (take place users) (get_or users place user)) (causes_on movement users (place + 1)) c.user_refusal-refused.result found (sym c.is_some.ensures ∙ c.if-is_some.true))
+    ∙ found_first (user_causes movement (take place users) (get_or users place user))
+    (causes_on movement users (place + 1)) c.user_refusal-refused.result found
+    (sym c.is_some.ensures ∙ c.if-is_some.true))
 
 pub loop-place-preserved : goal.loop-place-preserved
 loop-place-preserved c =
@@ -21,7 +25,11 @@ loop-place-preserved c =
     let users = c.args.users.now in
     let place = c.loop-place.place in
     let user = c.index-users-place.result in
-    let found : c.user_refusal-refused.result ≡ first_cause (user_causes movement (take place users) (get_or users place user)) =
-    c.user_refusal-refused.ensures ∙ ap (λ user. first_cause (user_causes movement (take place users) user)) c.index-users-place.is in
+    let found : c.user_refusal-refused.result ≡ first_cause (user_causes movement (take place users)
+    (get_or users place user)) =
+    c.user_refusal-refused.ensures ∙ ap (λ user. first_cause (user_causes movement (take place users) user))
+    c.index-users-place.is in
     c.loop-place.invariant ∙ ap first_cause (causes_more movement users place user c.loop-place-test.true)
-    ∙ found_later (user_causes movement (take place users) (get_or users place user)) (causes_on movement users (place + 1)) c.user_refusal-refused.result found (sym c.is_some.ensures ∙ c.if-is_some.false)
+    ∙ found_later (user_causes movement (take place users) (get_or users place user))
+    (causes_on movement users (place + 1)) c.user_refusal-refused.result found
+    (sym c.is_some.ensures ∙ c.if-is_some.false)

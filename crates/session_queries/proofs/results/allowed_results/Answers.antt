@@ -10,6 +10,8 @@ loop-below-init c = record { so_far = c.in_ok-results.ensures.items; few = searc
 
 pub loop-below-preserved : goal.loop-below-preserved
 loop-below-preserved c = record {
-  so_far = c.in_ok-push_found.ensures.items ∙ ((λ i. c.loop-below.invariant.so_far i ++ cons_option (c.allowed_result.ensures i) []) ∙ sym (allowed_more c.args.state.now c.args.viewer.now c.args.board c.loop-below.below));
+  so_far = c.in_ok-push_found.ensures.items
+      ∙ ((λ i. c.loop-below.invariant.so_far i ++ cons_option (c.allowed_result.ensures i) [])
+      ∙ sym (allowed_more c.args.state.now c.args.viewer.now c.args.board c.loop-below.below));
   few = search rules;
 }

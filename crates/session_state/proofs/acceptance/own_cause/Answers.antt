@@ -18,4 +18,5 @@ returns-in-Deassign c =
 
 pub returns-in-DeleteInheritance : goal.returns-in-DeleteInheritance
 returns-in-DeleteInheritance c =
-    c.delete_inheritance_cause.ensures ∙ ap (λ command. first_cause (own_causes c.args.state.now command)) (sym c.in-DeleteInheritance.is)
+    c.delete_inheritance_cause.ensures ∙ ap (λ command. first_cause (own_causes c.args.state.now command))
+    (sym c.in-DeleteInheritance.is)

@@ -10,4 +10,5 @@ pub loop-taken-preserved : goal.loop-taken-preserved
 loop-taken-preserved c =
     c.in_ok-place.ensures
     ∙ (ap (placed c.from_the_end.result) c.loop-taken.invariant
-    ∙ one_ranked c.args.standings.now c.loop-taken.taken c.from_the_end.result c.loop-taken-test.true (c.from_the_end.ensures c.from_the_end.result))
+    ∙ one_ranked c.args.standings.now c.loop-taken.taken c.from_the_end.result c.loop-taken-test.true
+    (c.from_the_end.ensures c.from_the_end.result))

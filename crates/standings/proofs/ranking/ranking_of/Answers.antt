@@ -12,4 +12,5 @@ returns c =
     let first = c.in_ok-place_side.ensures [] (c.in_ok-standings.ensures.items ∙ none_ranked earnings) in
     c.in_ok-place_side-2.ensures (east_west ++ []) first
     ∙ (λ i. ranked (map (standing_of earnings)
-    (map (pair_on NorthSouth) (range_with_len 1 (c.tables-tables.ensures.tables i)) ++ append-nil (map (pair_on EastWest) (range_with_len 1 (c.tables-tables.ensures.tables i))) i)))
+    (map (pair_on NorthSouth) (range_with_len 1 (c.tables-tables.ensures.tables i)) ++ append-nil
+    (map (pair_on EastWest) (range_with_len 1 (c.tables-tables.ensures.tables i))) i)))

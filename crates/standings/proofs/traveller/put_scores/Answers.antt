@@ -12,8 +12,11 @@ loop-found-preserved c =
     record {
       scores =
           c.push_found_within.ensures.items
-          ∙ ((λ i. c.loop-found.invariant.scores i ++ cons_option ((c.result_score.ensures ∙ ap (λ (found : TableResult). result_score c.args.vulnerability found.result) c.found-item.is) i) [])
-          ∙ sym (filter_map_more (λ (found : TableResult). result_score c.args.vulnerability found.result) results k c.found-item.result c.loop-found-test.true));
+          ∙ ((λ i. c.loop-found.invariant.scores i ++ cons_option
+          ((c.result_score.ensures ∙ ap (λ (found : TableResult). result_score c.args.vulnerability found.result)
+          c.found-item.is) i) [])
+          ∙ sym (filter_map_more (λ (found : TableResult). result_score c.args.vulnerability found.result) results k
+          c.found-item.result c.loop-found-test.true));
       few = omega (arith, c.push_found_within.ensures.few, c.loop-found.invariant.few);
       room = omega (arith, c.push_found_within.ensures.capacity, c.loop-found.invariant.room);
     }

@@ -18,15 +18,19 @@ pub loop-found-preserved : goal.loop-found-preserved
 loop-found-preserved c =
     let l = c.loop-found in
     let items : c.deref.result.now ≡ c.in_ok-scores.scores.items = cc in
-    next_made (traveller_row c.args.movement c.args.vulnerability c.in_ok-scores.scores.items) [] c.args.results.now l.found-index c.found-item.result
+    next_made (traveller_row c.args.movement c.args.vulnerability c.in_ok-scores.scores.items) [] c.args.results.now
+    l.found-index c.found-item.result
     l.rows.items c.push_copy.new.items.items c.traveller_row-row.result
     l.invariant c.loop-found-test.true c.found-item.is
-    (c.traveller_row-row.ensures ∙ ap (λ scores. traveller_row c.args.movement c.args.vulnerability scores c.found-item.result) items) c.in_ok-push_copy.ensures
+    (c.traveller_row-row.ensures ∙ ap (λ scores. traveller_row c.args.movement c.args.vulnerability scores
+    c.found-item.result) items) c.in_ok-push_copy.ensures
 
 pub returns : goal.returns
 unfolding traveller_rows
 returns c =
     let l = c.loop-found in
     l.invariant
-    ∙ (ap (λ found. map (traveller_row c.args.movement c.args.vulnerability c.in_ok-scores.scores.items) found) (take_all l.found-index c.args.results.now c.loop-found-test.false)
-    ∙ ap (λ scores. map (traveller_row c.args.movement c.args.vulnerability scores) c.args.results.now) c.in_ok-scores.ensures.scores)
+    ∙ (ap (λ found. map (traveller_row c.args.movement c.args.vulnerability c.in_ok-scores.scores.items) found)
+    (take_all l.found-index c.args.results.now c.loop-found-test.false)
+    ∙ ap (λ scores. map (traveller_row c.args.movement c.args.vulnerability scores) c.args.results.now)
+    c.in_ok-scores.ensures.scores)

@@ -10,4 +10,5 @@ unfolding audit_text
 returns c =
     let says = c.in_ok-value.ensures in
     let no_float = no_float_in_an_audit c.args.rows.now c.args.version in
-    IfOk-weaker c.to_string.result _ _ (λ s h. h (ap has_float says ∙ no_float) ∙ ap compact_text says) c.to_string.ensures.text
+    IfOk-weaker c.to_string.result _ _ (λ s h. h (ap has_float says ∙ no_float) ∙ ap compact_text says)
+    c.to_string.ensures.text

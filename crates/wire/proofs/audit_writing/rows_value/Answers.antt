@@ -19,4 +19,5 @@ loop-row-smaller c = omega (arith, c.loop-row-test.true)
 pub returns : goal.returns
 returns c =
     let all = take_all c.loop-row.row-index c.args.rows.now (omega (arith, c.loop-row-test.false)) in
-    c.array_value.ensures ∙ ap (λ ds. array (items_of ds)) c.loop-row.invariant ∙ (λ i. array (items_of (map audit_row_data (all i))))
+    c.array_value.ensures ∙ ap (λ ds. array (items_of ds)) c.loop-row.invariant
+    ∙ (λ i. array (items_of (map audit_row_data (all i))))

@@ -16,7 +16,8 @@ returns-in_err-filter-clause-memory c =
     (λ refused.
     let same : c.in_err-filter.field-0.0 ≡ OutOfMemory = cc (refused) in
     let asked = c.in_err-filter.ensures.memory (ap Err same) in
-    list_filtered _ _ _ _ _ _ (sym c.if-not-has_only.ensures) (sym c.in-Some.ensures) (sym c.in-Some-limit_of.ensures) asked)
+    list_filtered _ _ _ _ _ _ (sym c.if-not-has_only.ensures) (sym c.in-Some.ensures) (sym c.in-Some-limit_of.ensures)
+    asked)
 
 pub returns-clause-query : goal.returns-clause-query
 returns-clause-query c =

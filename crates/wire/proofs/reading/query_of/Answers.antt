@@ -8,7 +8,8 @@ pub returns-in_err-query : goal.returns-in_err-query
 unfolding query_of
 returns-in_err-query c =
     let p = err_from_is_err_and c.from_residual-in_err-query.result c.from_residual-in_err-query.ensures.1 in
-    rw (p.1, p.2) (query_fails _ _ _ _ _ _ (sym c.in_ok-user.ensures) (sym c.in_ok-since.ensures) c.in_err-query.ensures.query)
+    rw (p.1, p.2) (query_fails _ _ _ _ _ _ (sym c.in_ok-user.ensures) (sym c.in_ok-since.ensures)
+    c.in_err-query.ensures.query)
 
 pub returns : goal.returns
 unfolding query_of

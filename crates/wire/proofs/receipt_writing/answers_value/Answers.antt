@@ -10,7 +10,8 @@ loop-answer-preserved c =
     ap (map view) c.in_ok-push.ensures.ok
     ∙ map-append view c.loop-answer.values.items (c.in_ok-value.value ∷ [])
     ∙ (λ i. c.loop-answer.invariant i ++ c.in_ok-value.ensures i ∷ [])
-    ∙ (λ i. map answer_data (take c.loop-answer.answer-index c.args.answers.now) ++ answer_data (c.answer-item.is i) ∷ [])
+    ∙ (λ i. map answer_data (take c.loop-answer.answer-index c.args.answers.now) ++ answer_data (c.answer-item.is i) ∷
+    [])
     ∙ sym (map_more answer_data c.args.answers.now c.loop-answer.answer-index _ c.loop-answer-test.true)
 
 pub loop-answer-smaller : goal.loop-answer-smaller
@@ -19,4 +20,5 @@ loop-answer-smaller c = omega (arith, c.loop-answer-test.true)
 pub returns : goal.returns
 returns c =
     let all = take_all c.loop-answer.answer-index c.args.answers.now (omega (arith, c.loop-answer-test.false)) in
-    c.array_value.ensures ∙ ap (λ ds. array (items_of ds)) c.loop-answer.invariant ∙ (λ i. array (items_of (map answer_data (all i))))
+    c.array_value.ensures ∙ ap (λ ds. array (items_of ds)) c.loop-answer.invariant
+    ∙ (λ i. array (items_of (map answer_data (all i))))

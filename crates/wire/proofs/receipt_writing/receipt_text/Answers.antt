@@ -9,5 +9,7 @@ pub returns : goal.returns
 unfolding receipt_text
 returns c =
     let says = c.in_ok-receipt.ensures in
-    let no_float = no_float_in_a_receipt c.args.submission.now.answers.items c.args.submission.now.first c.args.submission.now.last c.args.version in
-    IfOk-weaker c.to_string.result _ _ (λ s h. h (ap has_float says ∙ no_float) ∙ ap compact_text says) c.to_string.ensures.text
+    let no_float = no_float_in_a_receipt c.args.submission.now.answers.items c.args.submission.now.first
+    c.args.submission.now.last c.args.version in
+    IfOk-weaker c.to_string.result _ _ (λ s h. h (ap has_float says ∙ no_float) ∙ ap compact_text says)
+    c.to_string.ensures.text

@@ -12,8 +12,10 @@ returns-then-not-no_two_share-clause-err c =
 
 pub invariant_of-result : goal.invariant_of-result
 invariant_of-result c =
-    deal_from_parts _ (c.all_have_thirteen.ensures.0 c.if-not-all_have_thirteen.false) (c.no_two_share.ensures.0 c.if-not-no_two_share.false)
+    deal_from_parts _ (c.all_have_thirteen.ensures.0 c.if-not-all_have_thirteen.false)
+    (c.no_two_share.ensures.0 c.if-not-no_two_share.false)
 
 pub returns-clause-deal : goal.returns-clause-deal
 returns-clause-deal c =
-    deal_from_parts _ (c.all_have_thirteen.ensures.0 c.if-not-all_have_thirteen.false) (c.no_two_share.ensures.0 c.if-not-no_two_share.false)
+    deal_from_parts _ (c.all_have_thirteen.ensures.0 c.if-not-all_have_thirteen.false)
+    (c.no_two_share.ensures.0 c.if-not-no_two_share.false)

@@ -8,7 +8,8 @@ pub returns : goal.returns
 returns c card =
     contains-cards_of_bits _ card
     ∙ bits_between c.number-2.result c.number.result card (omega arith) (omega arith)
-    ∙ (λ i. nat_lt (c.number-2.ensures.number i) (number_in_pack card) && nat_lt (number_in_pack card) (c.number.ensures.number i))
+    ∙ (λ i. nat_lt (c.number-2.ensures.number i) (number_in_pack card) && nat_lt (number_in_pack card)
+    (c.number.ensures.number i))
 
 pub invariant_of-result : goal.invariant_of-result
 invariant_of-result c = between_small c.number-2.result c.number.result (omega arith) c.number.ensures.below

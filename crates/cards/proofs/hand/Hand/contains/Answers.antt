@@ -7,6 +7,7 @@ use Rattle.cards.proofs.hand.Hand.contains.Goals as goal
 
 pub returns : goal.returns
 returns c =
-    ap (λ n. nat_eq n 1) (shr_and_one c.self.inside.bits c.number.result ∙ ap (bit_at c.self.inside.bits) c.number.ensures.number)
+    ap (λ n. nat_eq n 1) (shr_and_one c.self.inside.bits c.number.result ∙ ap (bit_at c.self.inside.bits)
+    c.number.ensures.number)
     ∙ sym (contains-cards_of_bits c.self.inside.bits c.args.card)
     ∙ ap (λ cards. set.contains cards c.args.card) c.self.view_is

@@ -26,5 +26,7 @@ returns-clause-some c =
 pub returns-clause-first : goal.returns-clause-first
 returns-clause-first c other held =
     let low = lowest_bit c.self.inside.bits c.self.invariant c.if-self-eq0.false in
-    let here : bit_at c.self.inside.bits (number_in_pack other) ≡ 1 = eqb-true _ _ (sym (contains-cards_of_bits c.self.inside.bits other) ∙ ap (λ cards. set.contains cards other) c.self.view_is ∙ held) in
+    let here : bit_at c.self.inside.bits (number_in_pack other) ≡ 1 = eqb-true _ _
+    (sym (contains-cards_of_bits c.self.inside.bits other) ∙ ap (λ cards. set.contains cards other) c.self.view_is
+    ∙ held) in
     omega (arith, low.2 (number_in_pack other) here, c.from_number.ensures)

@@ -7,7 +7,8 @@ use Rattle.cards.proofs.hand.Hand.remove.Goals as goal
 
 pub returns : goal.returns
 returns c =
-    ap (λ n. cards_of_bits (bit_and c.self.inside.bits (18446744073709551615 - 1 * 2 ^ n % 2 ^ 64))) c.number.ensures.number
+    ap (λ n. cards_of_bits (bit_and c.self.inside.bits (18446744073709551615 - 1 * 2 ^ n % 2 ^ 64)))
+    c.number.ensures.number
     ∙ cards_of_bits-clear c.self.inside.bits c.args.card
     ∙ ap (λ cards. set.remove cards c.args.card) c.self.view_is
 

@@ -17,12 +17,16 @@ unfolding ranks_down
 loop-rank-preserved g c = λ plain.
     elim c.if-contains.branch [
       | then-contains+in_ok-write_char w ↦
-          let e = held_letters_more c.args.self.now.hand c.args.self.now.suit ranks_down c.loop-rank.rank-index Two true (omega arith) (sym w.if-contains.true ∙ c.contains.ensures) in
+          let e = held_letters_more c.args.self.now.hand c.args.self.now.suit ranks_down c.loop-rank.rank-index Two true
+          (omega arith) (sym w.if-contains.true ∙ c.contains.ensures) in
           let so_far = c.loop-rank.invariant plain in
-          let letter = has_written_of_eq _ _ _ _ _ (ap encode_utf8 w.letter.ensures ∙ encode-rank_letter _) (w.in_ok-write_char.ensures.writes so_far.plain refl) in
-          has_written_of_eq _ _ _ _ _ (sym e) (has_written_append _ _ _ _ _ _ so_far (has_written_to_eq _ _ _ _ _ w.f-is letter))
+          let letter = has_written_of_eq _ _ _ _ _ (ap encode_utf8 w.letter.ensures ∙ encode-rank_letter _)
+          (w.in_ok-write_char.ensures.writes so_far.plain refl) in
+          has_written_of_eq _ _ _ _ _ (sym e) (has_written_append _ _ _ _ _ _ so_far
+          (has_written_to_eq _ _ _ _ _ w.f-is letter))
       | else-contains w ↦
-          let e = held_letters_more c.args.self.now.hand c.args.self.now.suit ranks_down c.loop-rank.rank-index Two false (omega arith) (sym w.if-contains.false ∙ c.contains.ensures) in
+          let e = held_letters_more c.args.self.now.hand c.args.self.now.suit ranks_down c.loop-rank.rank-index Two
+          false (omega arith) (sym w.if-contains.false ∙ c.contains.ensures) in
           has_written_of_eq _ _ _ _ _ (sym e) (search rules)
     ]
 

@@ -9,6 +9,13 @@ returns-clause-quarter c =
     let p = position_of c.self.inside in
     let total = c.len.result + c.len-2.result + c.len-3.result + c.len-4.result + c.len-5.result in
     let whole : total ≡ cards_left p + length p.table =
-    omega (arith, c.len.ensures.cards, c.len-2.ensures.cards, c.len-3.ensures.cards, c.len-4.ensures.cards, c.len-5.ensures.cards) in
+    omega (
+      arith,
+      c.len.ensures.cards,
+      c.len-2.ensures.cards,
+      c.len-3.ensures.cards,
+      c.len-4.ensures.cards,
+      c.len-5.ensures.cards,
+    ) in
     let quarter : 4 * (total / 4) ≡ total = omega (arith, whole, four_times p c.self.invariant) in
     quarter ∙ whole ∙ ap (λ p. cards_left p + length p.table) c.self.view_is

@@ -20,7 +20,9 @@ returns-in-Some c =
     let of_class : class_of c.args.viewer.now ≡ Some c.in-Some.class = search rules in
     c.contains.ensures.has
     ∙ (ap (λ (kept : ClassView). has_number kept.boards board) c.index.ensures
-    ∙ (sees_kept state classes c.self.inside.kept.rows.items c.self.invariant.0 c.args.viewer.now c.in-Some.class c.place.result board c.index.result.now c.self.invariant.1.0 of_class c.place.ensures.place c.place.ensures.below
+    ∙ (sees_kept state classes c.self.inside.kept.rows.items c.self.invariant.0 c.args.viewer.now c.in-Some.class
+    c.place.result board c.index.result.now c.self.invariant.1.0 of_class c.place.ensures.place
+    c.place.ensures.below
     (board_from state.public.movement board has) (board_to state.public.movement board has)
     ∙ ap (λ (state : SessionState). is_none (first_rule state.public c.args.viewer.now (Hands board))) c.self.view_is))
 
@@ -28,4 +30,5 @@ pub returns-in-None : goal.returns-in-None
 returns-in-None c =
     let none : class_of c.args.viewer.now ≡ None = search rules in
     sees_none c.self.inside.state c.args.viewer.now c.args.board c.self.invariant.1.0 none
-    ∙ ap (λ (state : SessionState). is_none (first_rule state.public c.args.viewer.now (Hands c.args.board))) c.self.view_is
+    ∙ ap (λ (state : SessionState). is_none (first_rule state.public c.args.viewer.now (Hands c.args.board)))
+    c.self.view_is

@@ -23,11 +23,18 @@ returns-clause-kept c sees sees_now earned earned_now kept now =
     let within : own - 1 < length rows = omega (arith, c.requires.from, c.requires.to, kept.each_board) in
     let each_class : length c.change_each.new.classes.items ≡ 35 = search rules in
     let are : AreStandings (earnings_on state own) new =
-    subst (λ (earnings : List Earning). AreStandings earnings new) (c.earnings.ensures.earnings ∙ c.put.ensures) c.put-2.ensures.standings in
+    subst (λ (earnings : List Earning). AreStandings earnings new) (c.earnings.ensures.earnings ∙ c.put.ensures)
+    c.put-2.ensures.standings in
     let row_are : AreStandings (earnings_on state own) row =
-    subst (λ (earnings : List Earning). AreStandings earnings row) (c.earnings-2.ensures.earnings ∙ c.put.ensures) c.put-3.ensures.standings in
-    let each : (place : ℕ) (d : ClassView) → place < 35 → IsClassWith own (class_sees state.public (Some (class_at place)) own) old new (get_or classes place d) (get_or c.change_each.new.classes.items place d) =
-    subst (λ (public : Public). (place : ℕ) (d : ClassView) → place < 35 → IsClassWith own (class_sees public (Some (class_at place)) own) old new (get_or classes place d) (get_or c.change_each.new.classes.items place d))
+    subst (λ (earnings : List Earning). AreStandings earnings row) (c.earnings-2.ensures.earnings ∙ c.put.ensures)
+    c.put-3.ensures.standings in
+    let each : (place : ℕ) (d : ClassView) → place < 35 → IsClassWith own
+    (class_sees state.public (Some (class_at place)) own) old new (get_or classes place d)
+    (get_or c.change_each.new.classes.items place d) =
+    subst (λ (public : Public). (place : ℕ) (d : ClassView) → place < 35 → IsClassWith own
+    (class_sees public (Some (class_at place)) own) old new (get_or classes place d)
+    (get_or c.change_each.new.classes.items place d))
     c.public.ensures.public c.change_each.ensures.classes in
-    kept_changed state own c.requires.from c.requires.to c.requires.section sees sees_now earned earned_now classes c.change_each.new.classes.items rows old new row kept now each_class each
+    kept_changed state own c.requires.from c.requires.to c.requires.section sees sees_now earned earned_now classes
+    c.change_each.new.classes.items rows old new row kept now each_class each
     (λ d. c.index.ensures ∙ get_or_default rows (own - 1) old d within) are row_are c.put-3.ensures.small

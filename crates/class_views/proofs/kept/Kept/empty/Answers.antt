@@ -8,4 +8,5 @@ returns c =
     let rows = c.in_ok-rows.rows.items in
     let each_class : length classes ≡ 35 = search rules in
     let each_board : length rows ≡ c.args.boards = search rules in
-    nothing_kept c.args.boards classes rows each_class each_board c.in_ok-classes.ensures.none c.in_ok-rows.ensures.none c.in_ok-rows.ensures.small
+    nothing_kept c.args.boards classes rows each_class each_board c.in_ok-classes.ensures.none c.in_ok-rows.ensures.none
+    c.in_ok-rows.ensures.small

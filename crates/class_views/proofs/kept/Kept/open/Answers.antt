@@ -10,11 +10,18 @@ loop-before-init c =
     let state = c.args.state.now in
     let kept = c.in_ok-kept.kept in
     let boards : c.boards-boards.result ≡ boards_of state.public.movement = search rules in
-    let none : IsKept (boards_of state.public.movement) (λ class board. false) (λ board. []) kept.classes.items kept.rows.items =
-    subst (λ (n : ℕ). IsKept n (λ class board. false) (λ board. []) kept.classes.items kept.rows.items) boards c.in_ok-kept.ensures in
+    let none : IsKept (boards_of state.public.movement) (λ class board. false) (λ board. []) kept.classes.items
+    kept.rows.items =
+    subst (λ (n : ℕ). IsKept n (λ class board. false) (λ board. []) kept.classes.items kept.rows.items) boards
+    c.in_ok-kept.ensures in
     let each_class = none.each_class in
     let each_board = none.each_board in
-    record { classes = search rules; rows = search rules; kept = kept_first state kept.classes.items kept.rows.items none }
+    record {
+      classes = search rules;
+      rows = search rules;
+      kept = kept_first state kept.classes.items kept.rows.items
+          none;
+    }
 
 pub loop-before-preserved : goal.loop-before-preserved
 loop-before-preserved c =
@@ -24,7 +31,8 @@ loop-before-preserved c =
       classes = c.change.ensures.classes;
       rows = c.change.ensures.rows;
       kept =
-          c.change.ensures.kept (seen_to state before) (seen_to state (before + 1)) (earned_to state before) (earned_to state (before + 1)) c.loop-before.invariant.kept
+          c.change.ensures.kept (seen_to state before) (seen_to state (before + 1)) (earned_to state before)
+          (earned_to state (before + 1)) c.loop-before.invariant.kept
           (one_more state before (boards_of state.public.movement));
     }
 
@@ -34,4 +42,5 @@ returns-clause-kept c =
     let l = c.loop-before in
     let all : l.before ≡ boards_of state.public.movement = search rules in
     kept_all state l.kept.classes.items l.kept.rows.items
-    (subst (λ (n : ℕ). IsKept (boards_of state.public.movement) (seen_to state n) (earned_to state n) l.kept.classes.items l.kept.rows.items) all l.invariant.kept)
+    (subst (λ (n : ℕ). IsKept (boards_of state.public.movement) (seen_to state n) (earned_to state n)
+    l.kept.classes.items l.kept.rows.items) all l.invariant.kept)

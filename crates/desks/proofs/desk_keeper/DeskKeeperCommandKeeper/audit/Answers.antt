@@ -17,7 +17,8 @@ returns-clause-receipt g c =
       permitted = c.audit_from-rows.ensures.permitted;
       refused = c.audit_from-rows.ensures.refused;
       valid = c.audit_from-rows.ensures.valid;
-      version = c.version.ensures.version ∙ sym (exact_version g.N.Server.opening journal c.audit_from-rows.ensures.published.accepted);
+      version = c.version.ensures.version
+          ∙ sym (exact_version g.N.Server.opening journal c.audit_from-rows.ensures.published.accepted);
       went = entries_of_prefix _ _ c.learn.ensures.told;
       begins = entries_of_prefix _ _ c.learn.ensures.told;
     }

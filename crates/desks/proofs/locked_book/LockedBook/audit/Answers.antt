@@ -14,21 +14,27 @@ pub returns-clause-refused : goal.returns-clause-refused
 returns-clause-refused g c =
     let book = c.self.inside.book in
     let journal : book.journal ≡ entries_of c.tell.result.published =
-    sym c.self.invariant.1 ∙ (ap (λ (l : Outgoing). entries_of l.published) (sym c.deref.ensures) ∙ ap (λ (r : Receipted). entries_of r.published) (sym c.tell.ensures.receipt)) in
-    let same : replay book.opening book.journal ≡ replay g.N.Server.opening (entries_of c.tell.result.published) = λ i. replay (c.self.invariant.0 i) (journal i) in
-    subst (λ (s : SessionState). IfErr c.audit-rows.result (λ error. (error ≡ NotPermitted) ↔ (¬ HasPermission s.roles c.args.actor Audit))) same c.audit-rows.ensures.err
+    sym c.self.invariant.1 ∙ (ap (λ (l : Outgoing). entries_of l.published) (sym c.deref.ensures)
+    ∙ ap (λ (r : Receipted). entries_of r.published) (sym c.tell.ensures.receipt)) in
+    let same : replay book.opening book.journal ≡ replay g.N.Server.opening (entries_of c.tell.result.published) =
+    λ i. replay (c.self.invariant.0 i) (journal i) in
+    subst (λ (s : SessionState). IfErr c.audit-rows.result
+    (λ error. (error ≡ NotPermitted) ↔ (¬ HasPermission s.roles c.args.actor Audit))) same c.audit-rows.ensures.err
 
 pub returns-clause-valid : goal.returns-clause-valid
 returns-clause-valid g c =
     let book = c.self.inside.book in
     let journal : book.journal ≡ entries_of c.tell.result.published =
-    sym c.self.invariant.1 ∙ (ap (λ (l : Outgoing). entries_of l.published) (sym c.deref.ensures) ∙ ap (λ (r : Receipted). entries_of r.published) (sym c.tell.ensures.receipt)) in
-    let same : replay book.opening book.journal ≡ replay g.N.Server.opening (entries_of c.tell.result.published) = λ i. replay (c.self.invariant.0 i) (journal i) in
+    sym c.self.invariant.1 ∙ (ap (λ (l : Outgoing). entries_of l.published) (sym c.deref.ensures)
+    ∙ ap (λ (r : Receipted). entries_of r.published) (sym c.tell.ensures.receipt)) in
+    let same : replay book.opening book.journal ≡ replay g.N.Server.opening (entries_of c.tell.result.published) =
+    λ i. replay (c.self.invariant.0 i) (journal i) in
     subst (λ (s : SessionState). IsValid s.roles) same c.audit-rows.ensures.valid
 
 pub returns-clause-journal : goal.returns-clause-journal
 returns-clause-journal g c =
     let book = c.self.inside.book in
     let journal : book.journal ≡ entries_of c.tell.result.published =
-    sym c.self.invariant.1 ∙ (ap (λ (l : Outgoing). entries_of l.published) (sym c.deref.ensures) ∙ ap (λ (r : Receipted). entries_of r.published) (sym c.tell.ensures.receipt)) in
+    sym c.self.invariant.1 ∙ (ap (λ (l : Outgoing). entries_of l.published) (sym c.deref.ensures)
+    ∙ ap (λ (r : Receipted). entries_of r.published) (sym c.tell.ensures.receipt)) in
     sym journal ∙ ap (λ (s : PublishedJournal). s.journal) c.self.view_is

@@ -11,7 +11,9 @@ pub returns-clause-begins : goal.returns-clause-begins
 returns-clause-begins g c is =
     let shown = c.deref.result.now.published in
     let seen = c.args.display.now in
-    let begins : IsPrefix seen shown = subst (λ (b : Bool). MatchBool b (IsPrefix seen shown) (IsPrefix shown seen)) is c.is_behind.ensures.begins in
+    let begins : IsPrefix seen shown = subst (λ (b : Bool). MatchBool b (IsPrefix seen shown) (IsPrefix shown seen)) is
+    c.is_behind.ensures.begins in
     let same : entries_of shown ≡ c.args.self.now.journal =
-    ap (λ (l : Outgoing). entries_of l.published) c.deref.ensures ∙ (c.self.invariant.1 ∙ ap (λ (s : PublishedJournal). s.journal) c.self.view_is) in
+    ap (λ (l : Outgoing). entries_of l.published) c.deref.ensures
+    ∙ (c.self.invariant.1 ∙ ap (λ (s : PublishedJournal). s.journal) c.self.view_is) in
     subst (IsPrefix (entries_of seen)) same (entries_of_prefix seen shown begins)

@@ -13,7 +13,8 @@ returns c =
     let scheduled = c.scheduled-scheduled in
     let tables = ap (AreAmong scheduled.result) c.tables.ensures in
     same_from_decides {P = IsComplete now board} _ _ (
-      λ test. complete_from_among now board scheduled.result scheduled.ensures (subst (λ P. P) tables (c.is_subset.ensures.0 test)),
+      λ test. complete_from_among now board scheduled.result scheduled.ensures
+          (subst (λ P. P) tables (c.is_subset.ensures.0 test)),
       λ complete.
           c.is_subset.ensures.1
           (subst (λ P. P) (sym tables) (among_from_complete now board scheduled.result scheduled.ensures complete)),

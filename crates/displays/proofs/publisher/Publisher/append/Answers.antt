@@ -11,5 +11,13 @@ invariant_of-self g c =
     let i = c.self.invariant in
     let s = c.self.inside in
     let bs = s.writer.desk.shown.value.prefix.publications in
-    let may : MayFollow g.N.Server.opening (entries_of bs ++ s.pending.items) c.args.entry.now = subst (λ (l : Outgoing). MayFollow g.N.Server.opening (entries_of l.published ++ l.pending) c.args.entry.now) (sym c.self.view_is) c.requires in
-    (i.0, i.1, i.2, append_kept g.N.Server.opening bs s.pending.items c.args.entry.now c.push.new.self.items (is_ok c.push.result) i.3 may c.push.ensures.items, i.4)
+    let may : MayFollow g.N.Server.opening (entries_of bs ++ s.pending.items) c.args.entry.now =
+    subst (λ (l : Outgoing). MayFollow g.N.Server.opening (entries_of l.published ++ l.pending) c.args.entry.now)
+    (sym c.self.view_is) c.requires in (
+      i.0,
+      i.1,
+      i.2,
+      append_kept g.N.Server.opening bs s.pending.items c.args.entry.now c.push.new.self.items
+          (is_ok c.push.result) i.3 may c.push.ensures.items,
+      i.4,
+    )

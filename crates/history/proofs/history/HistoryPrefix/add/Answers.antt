@@ -9,10 +9,12 @@ compare_exchange-found-requires c =
     let offer = c.plain-offer.ensures in
     let pen = c.no_pen-pen.ensures in
     let seen = c.again-seen.ensures in
-    let one : c.head.inside.word.book ≡ c.self.inside.seen.book = c.head.view_is ∙ c.requires.history ∙ sym (ap (λ (r : Prefix). r.history) c.self.view_is) in (
+    let one : c.head.inside.word.book ≡ c.self.inside.seen.book = c.head.view_is ∙ c.requires.history
+    ∙ sym (ap (λ (r : Prefix). r.history) c.self.view_is) in (
       ap (λ w. w.tracked) h,
       ap (λ s. s.book) seen ∙ sym one,
       pen.0 ∙ (ap (λ s. s.book) seen ∙ sym one),
       offer.0,
-      rw (ap (λ w. w.key) h, pen.1, offer.1, offer.3, seen) (adds_moves c.self.inside.seen.log c.args.entries.now.items c.self.inside.count (sym c.self.invariant)),
+      rw (ap (λ w. w.key) h, pen.1, offer.1, offer.3, seen) (adds_moves c.self.inside.seen.log c.args.entries.now.items
+          c.self.inside.count (sym c.self.invariant)),
     )

@@ -19,7 +19,8 @@ returns-then-round-self-clause-some c =
     let rounds = same_rounds c.self.view_is in
     let cell : Cell = record { table = c.args.table; board = c.args.board } in
     let plays = rw (same_tables c.self.view_is) at c.round_of_table-round.ensures.plays in
-    cell_at_set c.args.self is_section cell c.set_of-set.result c.round_of_table-round.result (omega arith) (omega arith)
+    cell_at_set c.args.self is_section cell c.set_of-set.result c.round_of_table-round.result (omega arith)
+    (omega arith)
     (omega arith) plays c.set_of-set.ensures.board
 
 pub returns-else-round-self-clause-none : goal.returns-else-round-self-clause-none

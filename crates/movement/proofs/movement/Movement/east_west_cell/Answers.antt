@@ -26,6 +26,7 @@ returns-else-round-self-clause-none c =
     let rounds = same_rounds c.self.view_is in
     let only = rw (same_tables c.self.view_is) at c.round_of_east_west-round.ensures.only in
     nobody_plays c.args.self c.args.number c.args.board (λ (plays : PairPlays c.args.self c.args.number c.args.board).
-    let held = set_on-plays c.args.self c.args.number c.args.board c.set_of-set.result plays c.set_of-set.ensures.board in
+    let held = set_on-plays c.args.self c.args.number c.args.board c.set_of-set.result plays c.set_of-set.ensures.board
+    in
     let round = only plays.round (omega arith) held in
     omega arith)

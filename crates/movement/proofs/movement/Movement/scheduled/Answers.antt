@@ -2,7 +2,15 @@ use Rattle.std.proofs.Common.{◌≡◌, ◌≤◌, ◌+◌, sym, ◌∙◌, sub
 use Rattle.movement.specs.declared.cell.Cell.{Cell}
 use Rattle.movement.specs.Movement.{most_tables}
 use Rattle.movement.proofs.RowLemmas.{same_tables}
-use Rattle.movement.proofs.ScheduledLemmas.{IsSoFar, so_far_none, so_far_more, so_far_same, so_far_all, some_is_cell, none_is_no_cell}
+use Rattle.movement.proofs.ScheduledLemmas.{
+  IsSoFar,
+  so_far_none,
+  so_far_more,
+  so_far_same,
+  so_far_all,
+  some_is_cell,
+  none_is_no_cell,
+}
 use Rattle.movement.proofs.movement.Movement.scheduled.Goals as goal
 use Rattle.movement.proofs.movement.Movement.scheduled.Goals.{then-is_some, else-is_some}
 
@@ -27,7 +35,8 @@ loop-table-preserved c =
           none_is_no_cell c.args.self cell c.cell.result (sym c.is_some.ensures ∙ w.if-is_some.false)
           c.cell.ensures.none in
           rw w.scheduled-is
-          (so_far_same c.args.self c.args.board c.loop-table.scheduled c.loop-table.table no_cell c.loop-table.invariant)
+          (so_far_same c.args.self c.args.board c.loop-table.scheduled c.loop-table.table no_cell
+          c.loop-table.invariant)
     ]
 
 pub returns : goal.returns

@@ -1,7 +1,18 @@
 use Rattle.std.proofs.Common.{◌≡◌, ◌∙◌, ◌+◌, sym, subst, arith}
 use Rattle.position_patterns.proofs.holders.Holders.reach.Goals as goal
-use Rattle.position_patterns.proofs.holders.Holders.reach.Goals.{in-Some+then-count-gt0, in-Some+else-count-gt0+else-contains, in_default}
-use Rattle.position_patterns.proofs.RankLemmas.{IsReachSoFar, reach_all, reach_free, reach_more, reach_none, reach_start}
+use Rattle.position_patterns.proofs.holders.Holders.reach.Goals.{
+  in-Some+then-count-gt0,
+  in-Some+else-count-gt0+else-contains,
+  in_default,
+}
+use Rattle.position_patterns.proofs.RankLemmas.{
+  IsReachSoFar,
+  reach_all,
+  reach_free,
+  reach_more,
+  reach_none,
+  reach_start,
+}
 
 pub loop-below-init : goal.loop-below-init
 loop-below-init c = reach_start c.args.known c.args.self.now c.args.suit

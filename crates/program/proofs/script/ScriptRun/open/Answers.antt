@@ -12,25 +12,33 @@ returns-in-Ok-clause-opened g c writer =
     let reader : Option (List ℕ) = g.R.Read.remaining c.args.reader.now in
     let after : Option (List ℕ) = g.R.Read.remaining c.read_short_line.new.reader in
     let line : List ℕ = c.read_short_line.new.line.items in
-    let takes : TakesUpTo (Some c.in-Ok-Some.first) reader after line most_bytes script_limit c.read_short_line.new.left =
-    subst (λ o. TakesUpTo o reader after line most_bytes script_limit c.read_short_line.new.left) c.in-Ok-Some.field-0-is c.in-Ok-Some.ensures.line in
+    let takes : TakesUpTo (Some c.in-Ok-Some.first) reader after line most_bytes script_limit
+    c.read_short_line.new.left =
+    subst (λ o. TakesUpTo o reader after line most_bytes script_limit c.read_short_line.new.left)
+    c.in-Ok-Some.field-0-is c.in-Ok-Some.ensures.line in
     begins reader after writer c.in-Ok.keeper c.read_short_line.new.left line c.in-Ok-Some.first
-    (subst (λ l. Opens l c.in-Ok.keeper.opening) c.as_slice.ensures.value c.in-Ok.ensures.opens) c.in-Ok.ensures.journal takes.0
+    (subst (λ l. Opens l c.in-Ok.keeper.opening) c.as_slice.ensures.value c.in-Ok.ensures.opens) c.in-Ok.ensures.journal
+    takes.0
 
 pub returns-in-Err-keeper_of-clause-ended : goal.returns-in-Err-keeper_of-clause-ended
 returns-in-Err-keeper_of-clause-ended g c writer =
     let reader : Option (List ℕ) = g.R.Read.remaining c.args.reader.now in
     let after : Option (List ℕ) = g.R.Read.remaining c.read_short_line.new.reader in
     let line : List ℕ = c.read_short_line.new.line.items in
-    let takes : TakesUpTo (Some c.in-Ok-Some.first) reader after line most_bytes script_limit c.read_short_line.new.left =
-    subst (λ o. TakesUpTo o reader after line most_bytes script_limit c.read_short_line.new.left) c.in-Ok-Some.field-0-is c.in-Ok-Some.ensures.line in
-    first_refused reader after writer c.in-Ok-Some.first line c.read_short_line.new.left c.in-Err-keeper_of.fault takes.0 takes.1
-    (subst (λ l. OpensNone c.in-Err-keeper_of.fault l ⊎ (c.in-Err-keeper_of.fault ≡ OutOfMemory)) c.as_slice.ensures.value
+    let takes : TakesUpTo (Some c.in-Ok-Some.first) reader after line most_bytes script_limit
+    c.read_short_line.new.left =
+    subst (λ o. TakesUpTo o reader after line most_bytes script_limit c.read_short_line.new.left)
+    c.in-Ok-Some.field-0-is c.in-Ok-Some.ensures.line in
+    first_refused reader after writer c.in-Ok-Some.first line c.read_short_line.new.left c.in-Err-keeper_of.fault
+    takes.0 takes.1
+    (subst (λ l. OpensNone c.in-Err-keeper_of.fault l ⊎ (c.in-Err-keeper_of.fault ≡ OutOfMemory))
+    c.as_slice.ensures.value
     c.in-Err-keeper_of.ensures.none)
 
 pub returns-in-Err-clause-ended : goal.returns-in-Err-clause-ended
 returns-in-Err-clause-ended g c writer =
-    first_unread (g.R.Read.remaining c.args.reader.now) (g.R.Read.remaining c.read_short_line.new.reader) writer most_bytes c.read_short_line.new.line.items c.read_short_line.new.left
+    first_unread (g.R.Read.remaining c.args.reader.now) (g.R.Read.remaining c.read_short_line.new.reader) writer
+    most_bytes c.read_short_line.new.line.items c.read_short_line.new.left
     c.in-Err.fault _ c.fault_of_read.ensures c.in-Err.ensures.fault
 
 pub returns-in-Ok-None-clause-ended : goal.returns-in-Ok-None-clause-ended
@@ -39,5 +47,6 @@ returns-in-Ok-None-clause-ended g c writer =
     let after : Option (List ℕ) = g.R.Read.remaining c.read_short_line.new.reader in
     let line : List ℕ = c.read_short_line.new.line.items in
     let takes : TakesUpTo None reader after line most_bytes script_limit c.read_short_line.new.left =
-    subst (λ o. TakesUpTo o reader after line most_bytes script_limit c.read_short_line.new.left) c.in-Ok-None.field-0-is c.in-Ok-None.ensures.line in
+    subst (λ o. TakesUpTo o reader after line most_bytes script_limit c.read_short_line.new.left)
+    c.in-Ok-None.field-0-is c.in-Ok-None.ensures.line in
     first_too_long reader after writer c.read_short_line.new.left takes

@@ -4,7 +4,16 @@ use Rattle.wire.specs.Request.{most_message_bytes, meaning, is_message_text}
 use Rattle.wire.proofs.LineLemmas.{first_bytes_tell, first_bytes_are_text}
 use Rattle.program.specs.Writes.{Responds, EndsWith}
 use Rattle.program.proofs.ResponseLemmas.{responds_whole}
-use Rattle.program.proofs.ScriptLemmas.{isnt_empty, kept_none, kept_some, passed_over, responded_next, cut_short, broken, fewer}
+use Rattle.program.proofs.ScriptLemmas.{
+  isnt_empty,
+  kept_none,
+  kept_some,
+  passed_over,
+  responded_next,
+  cut_short,
+  broken,
+  fewer,
+}
 use Rattle.program.proofs.script.ScriptRun.respond_next.Goals as goal
 
 pub returns-then-is_empty-clause-goes_on : goal.returns-then-is_empty-clause-goes_on
@@ -12,7 +21,8 @@ returns-then-is_empty-clause-goes_on g c input before at =
     let line = c.in-Ok.ensures.line in
     let none : vec_len c.read_line.new.line ≡ 0 = search rules in
     passed_over input before _ _ _ _ _ _ _ _ line.whole c.in-Ok.end at line.takes
-    (kept_none most_message_bytes c.read_line.new.line.items line.whole line.kept (sym c.read_line.new.line.ok.0 ∙ none)) refl refl
+    (kept_none most_message_bytes c.read_line.new.line.items line.whole line.kept (sym c.read_line.new.line.ok.0
+    ∙ none)) refl refl
 
 pub returns-then-is_empty-clause-fewer : goal.returns-then-is_empty-clause-fewer
 returns-then-is_empty-clause-fewer g c = fewer c.in-Ok.end _ _ _ _ _ c.in-Ok.ensures.line.takes
@@ -27,11 +37,15 @@ returns-in-Ok-respond-clause-goes_on g c input before at =
     let line = c.in-Ok.ensures.line in
     let same = ap (meaning Script) line.kept ∙ first_bytes_tell Script line.whole in
     let texts = ap is_message_text line.kept ∙ first_bytes_are_text line.whole in
-    responded_next input before (g.R.Read.remaining c.args.reader.now) (g.R.Read.remaining c.read_line.new.reader) (g.W.Write.contents c.args.writer.now) (g.W.Write.contents c.respond.new.writer)
-    c.args.self.now.keeper c.respond.new.keeper c.args.self.now.left c.read_line.new.left line.whole c.in-Ok.end at line.takes
-    (kept_some most_message_bytes c.read_line.new.line.items line.whole line.kept (subst (λ n. 1 ≤ n) c.read_line.new.line.ok.0 some)) c.respond.ensures.opening text
+    responded_next input before (g.R.Read.remaining c.args.reader.now) (g.R.Read.remaining c.read_line.new.reader)
+    (g.W.Write.contents c.args.writer.now) (g.W.Write.contents c.respond.new.writer)
+    c.args.self.now.keeper c.respond.new.keeper c.args.self.now.left c.read_line.new.left line.whole c.in-Ok.end at
+    line.takes
+    (kept_some most_message_bytes c.read_line.new.line.items line.whole line.kept
+    (subst (λ n. 1 ≤ n) c.read_line.new.line.ok.0 some)) c.respond.ensures.opening text
     (responds_whole _ _ c.read_line.new.line.items line.whole _ text same texts
-    (subst (λ l. Responds c.args.self.now.keeper.opening c.args.self.now.keeper.journal l c.respond.new.keeper.journal text) c.as_slice.ensures.value tells)) (search rules)
+    (subst (λ l. Responds c.args.self.now.keeper.opening c.args.self.now.keeper.journal l c.respond.new.keeper.journal
+    text) c.as_slice.ensures.value tells)) (search rules)
 
 pub returns-in-Err-respond-clause-ends : goal.returns-in-Err-respond-clause-ends
 returns-in-Err-respond-clause-ends g c input before at =
@@ -40,15 +54,19 @@ returns-in-Err-respond-clause-ends g c input before at =
     let line = c.in-Ok.ensures.line in
     let same = ap (meaning Script) line.kept ∙ first_bytes_tell Script line.whole in
     let texts = ap is_message_text line.kept ∙ first_bytes_are_text line.whole in
-    broken input before (g.R.Read.remaining c.args.reader.now) (g.R.Read.remaining c.read_line.new.reader) (g.W.Write.contents c.args.writer.now) (g.W.Write.contents c.respond.new.writer)
+    broken input before (g.R.Read.remaining c.args.reader.now) (g.R.Read.remaining c.read_line.new.reader)
+    (g.W.Write.contents c.args.writer.now) (g.W.Write.contents c.respond.new.writer)
     c.args.self.now.keeper c.args.self.now.left c.read_line.new.left line.whole c.in-Ok.end at line.takes
-    (kept_some most_message_bytes c.read_line.new.line.items line.whole line.kept (subst (λ n. 1 ≤ n) c.read_line.new.line.ok.0 some)) c.respond.new.keeper.journal text
+    (kept_some most_message_bytes c.read_line.new.line.items line.whole line.kept
+    (subst (λ n. 1 ≤ n) c.read_line.new.line.ok.0 some)) c.respond.new.keeper.journal text
     (responds_whole _ _ c.read_line.new.line.items line.whole _ text same texts
-    (subst (λ l. Responds c.args.self.now.keeper.opening c.args.self.now.keeper.journal l c.respond.new.keeper.journal text) c.as_slice.ensures.value tells)) part
+    (subst (λ l. Responds c.args.self.now.keeper.opening c.args.self.now.keeper.journal l c.respond.new.keeper.journal
+    text) c.as_slice.ensures.value tells)) part
 
 pub returns-in-Err-clause-ends : goal.returns-in-Err-clause-ends
 returns-in-Err-clause-ends g c input before at =
     let reader = g.R.Read.remaining c.read_line.new.reader in
     let writer = g.W.Write.contents c.args.writer.now in
     subst (λ fault. EndsWith fault input reader before writer) (sym c.fault_of_read.ensures)
-    (cut_short c.in-Err.fault input before (g.R.Read.remaining c.args.reader.now) reader writer c.args.self.now.keeper c.args.self.now.left c.read_line.new.left _ c.read_line.new.line.items at c.in-Err.ensures.fault)
+    (cut_short c.in-Err.fault input before (g.R.Read.remaining c.args.reader.now) reader writer c.args.self.now.keeper
+    c.args.self.now.left c.read_line.new.left _ c.read_line.new.line.items at c.in-Err.ensures.fault)

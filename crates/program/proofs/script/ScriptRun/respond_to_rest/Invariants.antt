@@ -5,8 +5,10 @@ use Rattle.program.proofs.script.ScriptRun.respond_to_rest.Given as goal
 
 abbrev pub invariant-loop-last : goal.invariant-loop-last
 invariant-loop-last g l = (input before : Option (List ℕ)) →
-    StandsAfter l.fn.self.first input before (g.R.Read.remaining l.fn.reader) (g.W.Write.contents l.fn.writer) l.fn.self.keeper l.fn.self.left →
-    StandsAfter l.last input before (g.R.Read.remaining l.reader) (g.W.Write.contents l.writer) l.self.keeper l.self.left
+    StandsAfter l.fn.self.first input before (g.R.Read.remaining l.fn.reader) (g.W.Write.contents l.fn.writer)
+    l.fn.self.keeper l.fn.self.left →
+    StandsAfter l.last input before (g.R.Read.remaining l.reader) (g.W.Write.contents l.writer) l.self.keeper
+    l.self.left
 
 abbrev pub decreases-loop-last : goal.decreases-loop-last
 decreases-loop-last g l = l.self.left + line_feeds l.last

@@ -11,5 +11,6 @@ returns-clause-stands c opening entries stands =
     record {
       state = c.absorb.ensures ∙ (ap (λ (seen : Seen). apply seen.state c.args.entry.now) c.self.view_is ∙ after.state);
       version =
-          c.saturating_add-self-inside.ensures ∙ (ap (λ (seen : Seen). min (seen.version + 1) most_versions) c.self.view_is ∙ after.version);
+          c.saturating_add-self-inside.ensures ∙ (ap (λ (seen : Seen). min (seen.version + 1) most_versions)
+          c.self.view_is ∙ after.version);
     }

@@ -8,8 +8,11 @@ loop-pair-preserved c =
     elim c.if-ne.branch [
       | then-ne w ↦
           rw w.hierarchy-is
-          (closure_with c.args.pairs.now c.args.left_out c.loop-pair.pair-index _ c.loop-pair.hierarchy.reached w.with-hierarchy.result.reached (omega arith) (sym c.ne.ensures ∙ w.if-ne.true) c.loop-pair.invariant w.with-hierarchy.ensures)
+          (closure_with c.args.pairs.now c.args.left_out c.loop-pair.pair-index _ c.loop-pair.hierarchy.reached
+          w.with-hierarchy.result.reached (omega arith) (sym c.ne.ensures ∙ w.if-ne.true) c.loop-pair.invariant
+          w.with-hierarchy.ensures)
       | else-ne w ↦
           rw w.hierarchy-is
-          (closure_left_out c.args.pairs.now c.args.left_out c.loop-pair.pair-index _ c.loop-pair.hierarchy.reached (omega arith) (sym c.ne.ensures ∙ w.if-ne.false) c.loop-pair.invariant)
+          (closure_left_out c.args.pairs.now c.args.left_out c.loop-pair.pair-index _ c.loop-pair.hierarchy.reached
+          (omega arith) (sym c.ne.ensures ∙ w.if-ne.false) c.loop-pair.invariant)
     ]

@@ -11,7 +11,8 @@ loop-pair-preserved c =
     let pair = get_or opening_pairs c.loop-pair.pair-index (pair_of Member Member) in
     subst (λ pairs. IsClosure pairs c.with-hierarchy.result.reached)
     (sym (take_more opening_pairs c.loop-pair.pair-index (pair_of Member Member) (omega arith)))
-    (closure_push (take c.loop-pair.pair-index opening_pairs) c.loop-pair.hierarchy.reached c.with-hierarchy.result.reached pair c.loop-pair.invariant c.with-hierarchy.ensures)
+    (closure_push (take c.loop-pair.pair-index opening_pairs) c.loop-pair.hierarchy.reached
+    c.with-hierarchy.result.reached pair c.loop-pair.invariant c.with-hierarchy.ensures)
 
 pub returns : goal.returns
 returns c =

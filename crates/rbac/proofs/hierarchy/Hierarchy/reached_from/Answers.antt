@@ -12,8 +12,10 @@ loop-senior-preserved c =
     elim c.if-has.branch [
       | then-has w ↦
           w.roles-is ∙ w.union-roles.ensures ∙ (λ i. union_of (c.loop-senior.invariant i) (w.below.ensures i))
-          ∙ reached_more c.args.self.now.reached c.args.assigned c.loop-senior.senior-index _ (omega arith) (sym c.has.ensures.has ∙ w.if-has.true)
+          ∙ reached_more c.args.self.now.reached c.args.assigned c.loop-senior.senior-index _ (omega arith)
+          (sym c.has.ensures.has ∙ w.if-has.true)
       | else-has w ↦
           w.roles-is ∙ c.loop-senior.invariant
-          ∙ reached_same c.args.self.now.reached c.args.assigned c.loop-senior.senior-index _ (omega arith) (sym c.has.ensures.has ∙ w.if-has.false)
+          ∙ reached_same c.args.self.now.reached c.args.assigned c.loop-senior.senior-index _ (omega arith)
+          (sym c.has.ensures.has ∙ w.if-has.false)
     ]

@@ -7,4 +7,5 @@ use Rattle.rbac.proofs.hierarchy.Hierarchy.reached_from.Given as goal
 
 abbrev pub invariant-loop-senior : goal.invariant-loop-senior
 invariant-loop-senior l =
-    l.roles ≡ roles_that (λ role. list_any (λ senior. has l.assigned senior && reach l.self.reached senior role) (take l.senior-index roles))
+    l.roles ≡ roles_that (λ role. list_any (λ senior. has l.assigned senior && reach l.self.reached senior role)
+    (take l.senior-index roles))

@@ -10,62 +10,92 @@ use Rattle.rbac.specs.RoleData.{RoleData}
 use Rattle.rbac.specs.Authorization.{IsValid}
 use Rattle.rbac.proofs.HierarchyLemmas.{closure_push}
 use Rattle.rbac.proofs.PairLemmas.{room_for_pair}
-use Rattle.rbac.proofs.RefusalLemmas.{decides_by_table, refused_cycle, refused_there, decides_there, not_there, refused_inheritance, keeps_apart, accepted_inheritance}
+use Rattle.rbac.proofs.RefusalLemmas.{
+  decides_by_table,
+  refused_cycle,
+  refused_there,
+  decides_there,
+  not_there,
+  refused_inheritance,
+  keeps_apart,
+  accepted_inheritance,
+}
 use Rattle.rbac.proofs.ValidityLemmas.{valid_add_inheritance}
 use Rattle.rbac.proofs.roles.Roles.add_inheritance.Goals as goal
 
 pub returns-then-has-clause-cause : goal.returns-then-has-clause-cause
 returns-then-has-clause-cause c =
     let state : RoleData = data_of c.self.inside in
-    let reaches = sym (ap (λ (set : List Role). has set c.args.senior) c.below.ensures) ∙ sym c.has.ensures.has ∙ c.if-has.true in
+    let reaches = sym (ap (λ (set : List Role). has set c.args.senior) c.below.ensures) ∙ sym c.has.ensures.has
+    ∙ c.if-has.true in
     rw (← c.self.view_is)
-    (refused_cycle state c.args.senior c.args.junior ((decides_by_table state.pairs c.self.inside.hierarchy.reached c.args.junior c.args.senior c.self.invariant.closure).0 reaches))
+    (refused_cycle state c.args.senior c.args.junior
+    ((decides_by_table state.pairs c.self.inside.hierarchy.reached c.args.junior c.args.senior
+    c.self.invariant.closure).0 reaches))
 
 pub returns-then-contains-clause-cause : goal.returns-then-contains-clause-cause
 returns-then-contains-clause-cause c =
     let state : RoleData = data_of c.self.inside in
-    let no_chain = sym (ap (λ (set : List Role). has set c.args.senior) c.below.ensures) ∙ sym c.has.ensures.has ∙ c.if-has.false in
+    let no_chain = sym (ap (λ (set : List Role). has set c.args.senior) c.below.ensures) ∙ sym c.has.ensures.has
+    ∙ c.if-has.false in
     let there = sym (c.contains.ensures.value) ∙ c.if-contains.true in
     rw (← c.self.view_is)
     (refused_there state c.args.senior c.args.junior
-    (λ up. both_ways _ no_chain ((decides_by_table state.pairs c.self.inside.hierarchy.reached c.args.junior c.args.senior c.self.invariant.closure).1 up))
+    (λ up. both_ways _ no_chain
+    ((decides_by_table state.pairs c.self.inside.hierarchy.reached c.args.junior c.args.senior
+    c.self.invariant.closure).1 up))
     ((decides_there state.pairs (pair_of c.args.senior c.args.junior)).0 (rw c.deref.ensures.value at there)))
 
 pub returns-in-Some-clause-cause : goal.returns-in-Some-clause-cause
 returns-in-Some-clause-cause c =
     let state : RoleData = data_of c.self.inside in
-    let no_chain = sym (ap (λ (set : List Role). has set c.args.senior) c.below.ensures) ∙ sym c.has.ensures.has ∙ c.if-has.false in
-    let up : ¬ Reaches state.pairs c.args.junior c.args.senior = λ chain. both_ways _ no_chain ((decides_by_table state.pairs c.self.inside.hierarchy.reached c.args.junior c.args.senior c.self.invariant.closure).1 chain) in
+    let no_chain = sym (ap (λ (set : List Role). has set c.args.senior) c.below.ensures) ∙ sym c.has.ensures.has
+    ∙ c.if-has.false in
+    let up : ¬ Reaches state.pairs c.args.junior c.args.senior = λ chain. both_ways _ no_chain
+    ((decides_by_table state.pairs c.self.inside.hierarchy.reached c.args.junior c.args.senior
+    c.self.invariant.closure).1 chain) in
     let unseen = sym (c.contains.ensures.value) ∙ c.if-contains.false in
     let other = rw c.deref.ensures.value at unseen in
-    let new : ¬ Contains state.pairs (pair_of c.args.senior c.args.junior) = λ there. both_ways _ other ((decides_there state.pairs (pair_of c.args.senior c.args.junior)).1 there) in
-    let closure = closure_push state.pairs c.self.inside.hierarchy.reached c.with-hierarchy.result.reached (pair_of c.args.senior c.args.junior) c.self.invariant.closure c.with-hierarchy.ensures in
+    let new : ¬ Contains state.pairs (pair_of c.args.senior c.args.junior) = λ there. both_ways _ other
+    ((decides_there state.pairs (pair_of c.args.senior c.args.junior)).1 there) in
+    let closure = closure_push state.pairs c.self.inside.hierarchy.reached c.with-hierarchy.result.reached
+    (pair_of c.args.senior c.args.junior) c.self.invariant.closure c.with-hierarchy.ensures in
     let answer = rw c.deref-2.ensures.value at c.first_broken.ensures in
     rw (← c.self.view_is)
-    (refused_inheritance state c.args.senior c.args.junior c.with-hierarchy.result.reached closure up new c.in-Some.set (sym c.in-Some.is ∙ answer))
+    (refused_inheritance state c.args.senior c.args.junior c.with-hierarchy.result.reached closure up new c.in-Some.set
+    (sym c.in-Some.is ∙ answer))
 
 pub push_reserved-requires : goal.push_reserved-requires
 push_reserved-requires c =
     let state : RoleData = data_of c.self.inside in
     let unseen = sym (c.contains.ensures.value) ∙ c.if-contains.false in
     let other = rw c.deref.ensures.value at unseen in
-    let room = room_for_pair state.pairs (pair_of c.args.senior c.args.junior) c.self.invariant.valid.once (not_there state.pairs (pair_of c.args.senior c.args.junior) other) in
+    let room = room_for_pair state.pairs (pair_of c.args.senior c.args.junior) c.self.invariant.valid.once
+    (not_there state.pairs (pair_of c.args.senior c.args.junior) other) in
     omega (arith, room, c.self.invariant.room, c.self.inside.pairs.ok)
 
 pub invariant_of-self : goal.invariant_of-self
 invariant_of-self c =
     let state : RoleData = data_of c.self.inside in
-    let no_chain = sym (ap (λ (set : List Role). has set c.args.senior) c.below.ensures) ∙ sym c.has.ensures.has ∙ c.if-has.false in
-    let up : ¬ Reaches state.pairs c.args.junior c.args.senior = λ chain. both_ways _ no_chain ((decides_by_table state.pairs c.self.inside.hierarchy.reached c.args.junior c.args.senior c.self.invariant.closure).1 chain) in
+    let no_chain = sym (ap (λ (set : List Role). has set c.args.senior) c.below.ensures) ∙ sym c.has.ensures.has
+    ∙ c.if-has.false in
+    let up : ¬ Reaches state.pairs c.args.junior c.args.senior = λ chain. both_ways _ no_chain
+    ((decides_by_table state.pairs c.self.inside.hierarchy.reached c.args.junior c.args.senior
+    c.self.invariant.closure).1 chain) in
     let unseen = sym (c.contains.ensures.value) ∙ c.if-contains.false in
     let other = rw c.deref.ensures.value at unseen in
-    let new : ¬ Contains state.pairs (pair_of c.args.senior c.args.junior) = λ there. both_ways _ other ((decides_there state.pairs (pair_of c.args.senior c.args.junior)).1 there) in
-    let closure = closure_push state.pairs c.self.inside.hierarchy.reached c.with-hierarchy.result.reached (pair_of c.args.senior c.args.junior) c.self.invariant.closure c.with-hierarchy.ensures in
+    let new : ¬ Contains state.pairs (pair_of c.args.senior c.args.junior) = λ there. both_ways _ other
+    ((decides_there state.pairs (pair_of c.args.senior c.args.junior)).1 there) in
+    let closure = closure_push state.pairs c.self.inside.hierarchy.reached c.with-hierarchy.result.reached
+    (pair_of c.args.senior c.args.junior) c.self.invariant.closure c.with-hierarchy.ensures in
     let answer = rw c.deref-2.ensures.value at c.first_broken.ensures in
-    let keeps = keeps_apart state c.args.senior c.args.junior c.with-hierarchy.result.reached closure up new (sym c.in_default.is ∙ answer) in
+    let keeps = keeps_apart state c.args.senior c.args.junior c.with-hierarchy.result.reached closure up new
+    (sym c.in_default.is ∙ answer) in
     record {
-      valid = subst (λ (pairs : List Inheritance). IsValid (record { accounts = c.self.inside.accounts.items; pairs = pairs })) (sym c.push_reserved.ensures.items)
-          (valid_add_inheritance state c.args.senior c.args.junior c.self.invariant.valid up (not_there state.pairs (pair_of c.args.senior c.args.junior) other) keeps);
+      valid = subst (λ (pairs : List Inheritance). IsValid
+          (record { accounts = c.self.inside.accounts.items; pairs = pairs })) (sym c.push_reserved.ensures.items)
+          (valid_add_inheritance state c.args.senior c.args.junior c.self.invariant.valid up
+          (not_there state.pairs (pair_of c.args.senior c.args.junior) other) keeps);
       closure = rw c.push_reserved.ensures.items closure;
       users = c.self.invariant.users;
       room = omega (arith, c.self.invariant.room);
@@ -74,12 +104,18 @@ invariant_of-self c =
 pub returns-clause-ok : goal.returns-clause-ok
 returns-clause-ok c =
     let state : RoleData = data_of c.self.inside in
-    let no_chain = sym (ap (λ (set : List Role). has set c.args.senior) c.below.ensures) ∙ sym c.has.ensures.has ∙ c.if-has.false in
-    let up : ¬ Reaches state.pairs c.args.junior c.args.senior = λ chain. both_ways _ no_chain ((decides_by_table state.pairs c.self.inside.hierarchy.reached c.args.junior c.args.senior c.self.invariant.closure).1 chain) in
+    let no_chain = sym (ap (λ (set : List Role). has set c.args.senior) c.below.ensures) ∙ sym c.has.ensures.has
+    ∙ c.if-has.false in
+    let up : ¬ Reaches state.pairs c.args.junior c.args.senior = λ chain. both_ways _ no_chain
+    ((decides_by_table state.pairs c.self.inside.hierarchy.reached c.args.junior c.args.senior
+    c.self.invariant.closure).1 chain) in
     let unseen = sym (c.contains.ensures.value) ∙ c.if-contains.false in
     let other = rw c.deref.ensures.value at unseen in
-    let new : ¬ Contains state.pairs (pair_of c.args.senior c.args.junior) = λ there. both_ways _ other ((decides_there state.pairs (pair_of c.args.senior c.args.junior)).1 there) in
-    let closure = closure_push state.pairs c.self.inside.hierarchy.reached c.with-hierarchy.result.reached (pair_of c.args.senior c.args.junior) c.self.invariant.closure c.with-hierarchy.ensures in
+    let new : ¬ Contains state.pairs (pair_of c.args.senior c.args.junior) = λ there. both_ways _ other
+    ((decides_there state.pairs (pair_of c.args.senior c.args.junior)).1 there) in
+    let closure = closure_push state.pairs c.self.inside.hierarchy.reached c.with-hierarchy.result.reached
+    (pair_of c.args.senior c.args.junior) c.self.invariant.closure c.with-hierarchy.ensures in
     let answer = rw c.deref-2.ensures.value at c.first_broken.ensures in
     rw (← c.self.view_is)
-    (accepted_inheritance state c.args.senior c.args.junior c.with-hierarchy.result.reached closure up new (sym c.in_default.is ∙ answer))
+    (accepted_inheritance state c.args.senior c.args.junior c.with-hierarchy.result.reached closure up new
+    (sym c.in_default.is ∙ answer))

@@ -15,11 +15,16 @@ use Rattle.rbac.proofs.roles.Roles.assign_unrefused.Goals as goal
 pub invariant_of-self : goal.invariant_of-self
 invariant_of-self c =
     let state : RoleData = data_of c.self.inside in
-    let at = found_at c.deref.result.now state.accounts c.args.name.now c.in-Some.place c.deref.ensures.value c.in-Some.ensures.within c.in-Some.ensures.found in
-    let write = write_is_change (λ set. with_role set c.args.role) c.args.name.now state.accounts c.in-Some.place at c.self.invariant.valid.names c.index.result.now c.index_mut.result.now c.with-more.result c.index.ensures c.index_mut.ensures.value c.with-more.ensures in
-    let unrefused = subst (λ (state : RoleData). (cause : AssignError) → ¬ RefusesAssignment state c.args.name.now c.args.role cause) (sym c.self.view_is) c.requires in
+    let at = found_at c.deref.result.now state.accounts c.args.name.now c.in-Some.place c.deref.ensures.value
+    c.in-Some.ensures.within c.in-Some.ensures.found in
+    let write = write_is_change (λ set. with_role set c.args.role) c.args.name.now state.accounts c.in-Some.place at
+    c.self.invariant.valid.names c.index.result.now c.index_mut.result.now c.with-more.result c.index.ensures
+    c.index_mut.ensures.value c.with-more.ensures in
+    let unrefused = subst (λ (state : RoleData). (cause : AssignError) → ¬ RefusesAssignment state c.args.name.now
+    c.args.role cause) (sym c.self.view_is) c.requires in
     record {
-      valid = subst (λ (accounts : List Account). IsValid (record { accounts = accounts; pairs = c.self.inside.pairs.items })) (sym write)
+      valid = subst (λ (accounts : List Account). IsValid
+          (record { accounts = accounts; pairs = c.self.inside.pairs.items })) (sym write)
           (valid_assigned state c.args.name.now c.args.role c.self.invariant.valid (λ set. unrefused (Separation set)));
       closure = c.self.invariant.closure;
       users = c.self.invariant.users;
@@ -29,12 +34,21 @@ invariant_of-self c =
 pub returns-in-Some : goal.returns-in-Some
 returns-in-Some c =
     let state : RoleData = data_of c.self.inside in
-    let at = found_at c.deref.result.now state.accounts c.args.name.now c.in-Some.place c.deref.ensures.value c.in-Some.ensures.within c.in-Some.ensures.found in
-    let write = write_is_change (λ set. with_role set c.args.role) c.args.name.now state.accounts c.in-Some.place at c.self.invariant.valid.names c.index.result.now c.index_mut.result.now c.with-more.result c.index.ensures c.index_mut.ensures.value c.with-more.ensures in
-    ap (λ (accounts : List Account). let now : RoleData = record { accounts = accounts; pairs = c.self.inside.pairs.items } in now) write
+    let at = found_at c.deref.result.now state.accounts c.args.name.now c.in-Some.place c.deref.ensures.value
+    c.in-Some.ensures.within c.in-Some.ensures.found in
+    let write = write_is_change (λ set. with_role set c.args.role) c.args.name.now state.accounts c.in-Some.place at
+    c.self.invariant.valid.names c.index.result.now c.index_mut.result.now c.with-more.result c.index.ensures
+    c.index_mut.ensures.value c.with-more.ensures in
+    ap (λ (accounts : List Account). let now : RoleData = record {
+      accounts = accounts;
+      pairs =
+          c.self.inside.pairs.items;
+    } in now) write
     ∙ ap (λ (now : RoleData). assign_user now c.args.name.now c.args.role) c.self.view_is
 
 pub returns-in_default : goal.returns-in_default
 returns-in_default c =
-    let unrefused = subst (λ (state : RoleData). (cause : AssignError) → ¬ RefusesAssignment state c.args.name.now c.args.role cause) (sym c.self.view_is) c.requires in
-    absurd (unrefused NoSuchUser (no_account c.self.inside.accounts.items c.args.name.now (rw c.deref.ensures.value at c.in_default.ensures.none)))
+    let unrefused = subst (λ (state : RoleData). (cause : AssignError) → ¬ RefusesAssignment state c.args.name.now
+    c.args.role cause) (sym c.self.view_is) c.requires in
+    absurd (unrefused NoSuchUser (no_account c.self.inside.accounts.items c.args.name.now
+    (rw c.deref.ensures.value at c.in_default.ensures.none)))

@@ -15,7 +15,8 @@ pub returns : goal.returns
 returns c =
     let state : RoleData = data_of c.self.inside in
     let table = c.with-hierarchy.result.reached in
-    let closure = closure_push state.pairs c.self.inside.hierarchy.reached table (pair_of c.args.senior c.args.junior) c.self.invariant.closure c.with-hierarchy.ensures in
+    let closure = closure_push state.pairs c.self.inside.hierarchy.reached table (pair_of c.args.senior c.args.junior)
+    c.self.invariant.closure c.with-hierarchy.ensures in
     c.first_broken.ensures
     ∙ ap (λ (accounts : List Account). find (is_broken_in table accounts) separation_sets) c.deref.ensures.value
     ∙ broken_by_table (add_inheritance state c.args.senior c.args.junior).pairs table closure state.accounts

@@ -11,19 +11,27 @@ use Rattle.rbac.proofs.roles.Roles.deassign.Goals as goal
 pub returns-then-not-has-clause-cause : goal.returns-then-not-has-clause-cause
 returns-then-not-has-clause-cause c =
     let state : RoleData = data_of c.self.inside in
-    let at = found_at c.deref.result.now state.accounts c.args.name.now c.in-Some.place c.deref.ensures.value c.in-Some.ensures.within c.in-Some.ensures.found in
-    let none = has_there state.accounts c.in-Some.place c.index.result.now c.args.role c.has.result _ c.index.ensures c.has.ensures.has c.if-not-has.true in
+    let at = found_at c.deref.result.now state.accounts c.args.name.now c.in-Some.place c.deref.ensures.value
+    c.in-Some.ensures.within c.in-Some.ensures.found in
+    let none = has_there state.accounts c.in-Some.place c.index.result.now c.args.role c.has.result _ c.index.ensures
+    c.has.ensures.has c.if-not-has.true in
     rw (← c.self.view_is)
-    (refused_deassignment state c.args.name.now c.args.role c.in-Some.place at c.self.invariant.valid c.index.result.now none)
+    (refused_deassignment state c.args.name.now c.args.role c.in-Some.place at c.self.invariant.valid c.index.result.now
+    none)
 
 pub invariant_of-self : goal.invariant_of-self
 invariant_of-self c =
     let state : RoleData = data_of c.self.inside in
-    let at = found_at c.deref.result.now state.accounts c.args.name.now c.in-Some.place c.deref.ensures.value c.in-Some.ensures.within c.in-Some.ensures.found in
-    let write = write_is_change (λ set. without_role set c.args.role) c.args.name.now state.accounts c.in-Some.place at c.self.invariant.valid.names c.index.result.now c.index_mut.result.now c.without.result c.index.ensures c.index_mut.ensures.value c.without.ensures in
+    let at = found_at c.deref.result.now state.accounts c.args.name.now c.in-Some.place c.deref.ensures.value
+    c.in-Some.ensures.within c.in-Some.ensures.found in
+    let write = write_is_change (λ set. without_role set c.args.role) c.args.name.now state.accounts c.in-Some.place at
+    c.self.invariant.valid.names c.index.result.now c.index_mut.result.now c.without.result c.index.ensures
+    c.index_mut.ensures.value c.without.ensures in
     record {
-      valid = subst (λ (accounts : List Account). IsValid (record { accounts = accounts; pairs = c.self.inside.pairs.items })) (sym write)
-          (valid_deassignment state c.args.name.now c.args.role c.in-Some.place at c.self.invariant.valid c.index.result.now);
+      valid = subst (λ (accounts : List Account). IsValid
+          (record { accounts = accounts; pairs = c.self.inside.pairs.items })) (sym write)
+          (valid_deassignment state c.args.name.now c.args.role c.in-Some.place at c.self.invariant.valid
+          c.index.result.now);
       closure = c.self.invariant.closure;
       users = c.self.invariant.users;
       room = c.self.invariant.room;
@@ -32,7 +40,14 @@ invariant_of-self c =
 pub returns-clause-deassigned : goal.returns-clause-deassigned
 returns-clause-deassigned c =
     let state : RoleData = data_of c.self.inside in
-    let at = found_at c.deref.result.now state.accounts c.args.name.now c.in-Some.place c.deref.ensures.value c.in-Some.ensures.within c.in-Some.ensures.found in
-    let write = write_is_change (λ set. without_role set c.args.role) c.args.name.now state.accounts c.in-Some.place at c.self.invariant.valid.names c.index.result.now c.index_mut.result.now c.without.result c.index.ensures c.index_mut.ensures.value c.without.ensures in
-    ap (λ (accounts : List Account). let now : RoleData = record { accounts = accounts; pairs = c.self.inside.pairs.items } in now) write
+    let at = found_at c.deref.result.now state.accounts c.args.name.now c.in-Some.place c.deref.ensures.value
+    c.in-Some.ensures.within c.in-Some.ensures.found in
+    let write = write_is_change (λ set. without_role set c.args.role) c.args.name.now state.accounts c.in-Some.place at
+    c.self.invariant.valid.names c.index.result.now c.index_mut.result.now c.without.result c.index.ensures
+    c.index_mut.ensures.value c.without.ensures in
+    ap (λ (accounts : List Account). let now : RoleData = record {
+      accounts = accounts;
+      pairs =
+          c.self.inside.pairs.items;
+    } in now) write
     ∙ ap (λ (now : RoleData). deassign_user now c.args.name.now c.args.role) c.self.view_is

@@ -12,7 +12,8 @@ pub invariant_of-self : goal.invariant_of-self
 invariant_of-self c =
     let state : RoleData = data_of c.self.inside in
     record {
-      valid = subst (λ (pairs : List Inheritance). IsValid (record { accounts = c.self.inside.accounts.items; pairs = pairs })) (sym c.remove_from.ensures.items)
+      valid = subst (λ (pairs : List Inheritance). IsValid
+          (record { accounts = c.self.inside.accounts.items; pairs = pairs })) (sym c.remove_from.ensures.items)
           (valid_delete_inheritance state c.args.senior c.args.junior c.self.invariant.valid);
       closure = rw (c.remove_from.ensures.items, ← c.deref-2.ensures.value) c.of_all_but-self-inside.ensures;
       users = c.self.invariant.users;
@@ -21,7 +22,11 @@ invariant_of-self c =
 
 pub returns-clause-deleted : goal.returns-clause-deleted
 returns-clause-deleted c =
-    ap (λ (pairs : List Inheritance). let now : RoleData = record { accounts = c.self.inside.accounts.items; pairs = pairs } in now) c.remove_from.ensures.items
+    ap (λ (pairs : List Inheritance). let now : RoleData = record {
+      accounts = c.self.inside.accounts.items;
+      pairs =
+          pairs;
+    } in now) c.remove_from.ensures.items
     ∙ ap (λ (now : RoleData). delete_inheritance now c.args.senior c.args.junior) c.self.view_is
 
 pub returns-clause-ok : goal.returns-clause-ok
@@ -29,4 +34,5 @@ returns-clause-ok c =
     let state : RoleData = data_of c.self.inside in
     let seen = sym (c.contains.ensures.value) ∙ c.if-not-contains.false in
     rw (← c.self.view_is)
-    (accepted_deletion state c.args.senior c.args.junior ((decides_there state.pairs (pair_of c.args.senior c.args.junior)).0 (rw c.deref.ensures.value at seen)))
+    (accepted_deletion state c.args.senior c.args.junior
+    ((decides_there state.pairs (pair_of c.args.senior c.args.junior)).0 (rw c.deref.ensures.value at seen)))

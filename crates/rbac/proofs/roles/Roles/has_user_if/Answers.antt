@@ -15,9 +15,13 @@ returns-in-Deassign c =
     let state : RoleData = data_of c.self.inside in
     let table = c.self.inside.hierarchy.reached in
     c.has_user_for_without.ensures
-    ∙ ap (λ (accounts : List Account). list_any (λ account. has (reached_from table (assigned_without account c.in-Deassign.name.now c.in-Deassign.taken)) c.args.role) accounts) c.deref.ensures.value
-    ∙ user_without state.pairs table c.self.invariant.closure state.accounts c.args.role c.in-Deassign.name.now c.in-Deassign.taken
-    ∙ ap (λ (now : RoleData). has_user_for (deassign_user now c.in-Deassign.name.now c.in-Deassign.taken) c.args.role) c.self.view_is
+    ∙ ap (λ (accounts : List Account). list_any
+    (λ account. has (reached_from table (assigned_without account c.in-Deassign.name.now c.in-Deassign.taken))
+    c.args.role) accounts) c.deref.ensures.value
+    ∙ user_without state.pairs table c.self.invariant.closure state.accounts c.args.role c.in-Deassign.name.now
+    c.in-Deassign.taken
+    ∙ ap (λ (now : RoleData). has_user_for (deassign_user now c.in-Deassign.name.now c.in-Deassign.taken) c.args.role)
+    c.self.view_is
     ∙ ap (λ change. has_user_for (after_change c.args.self.now change) c.args.role) (sym c.in-Deassign.is)
 
 pub returns-in-DeleteInheritance : goal.returns-in-DeleteInheritance
@@ -28,7 +32,8 @@ returns-in-DeleteInheritance c =
     let table = c.of_all_but.result.reached in
     let closure = rw c.deref-in-DeleteInheritance-2.ensures.value at c.of_all_but.ensures in
     c.has_user_for.ensures
-    ∙ ap (λ (accounts : List Account). list_any (λ account. has (reached_from table account.assigned) c.args.role) accounts) c.deref-in-DeleteInheritance.ensures.value
+    ∙ ap (λ (accounts : List Account). list_any (λ account. has (reached_from table account.assigned) c.args.role)
+    accounts) c.deref-in-DeleteInheritance.ensures.value
     ∙ user_by_table (without_pair state.pairs (pair_of senior junior)) table closure state.accounts c.args.role
     ∙ ap (λ (now : RoleData). has_user_for (delete_inheritance now senior junior) c.args.role) c.self.view_is
     ∙ ap (λ change. has_user_for (after_change c.args.self.now change) c.args.role) (sym c.in-DeleteInheritance.is)

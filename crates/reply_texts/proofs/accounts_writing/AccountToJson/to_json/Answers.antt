@@ -5,4 +5,7 @@ use Rattle.reply_texts.proofs.accounts_writing.AccountToJson.to_json.Goals as go
 
 pub returns : goal.returns
 returns c =
-    c.array.ensures _ (c.item-2.ensures _ _ (c.item.ensures _ _ c.new.ensures (IfOk-weaker c.try_from_str.result _ _ (λ v h. h ∙ ap string c.as_str.ensures.text) c.try_from_str.ensures)) c.roles_value.ensures)
+    c.array.ensures _
+    (c.item-2.ensures _ _
+    (c.item.ensures _ _ c.new.ensures (IfOk-weaker c.try_from_str.result _ _
+    (λ v h. h ∙ ap string c.as_str.ensures.text) c.try_from_str.ensures)) c.roles_value.ensures)

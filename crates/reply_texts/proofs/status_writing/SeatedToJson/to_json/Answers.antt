@@ -5,4 +5,9 @@ use Rattle.reply_texts.proofs.status_writing.SeatedToJson.to_json.Goals as goal
 
 pub returns : goal.returns
 returns c =
-    c.array.ensures _ (c.item-3.ensures _ _ (c.item-2.ensures _ _ (c.item.ensures _ _ c.new.ensures (IfOk-weaker c.try_from_str.result _ _ (λ v h. h ∙ ap string c.as_str.ensures.text) c.try_from_str.ensures)) (c.string_value.ensures _ c.to_string.ensures.ok)) (c.string_value-2.ensures _ c.to_string-2.ensures.ok))
+    c.array.ensures _
+    (c.item-3.ensures _ _
+    (c.item-2.ensures _ _
+    (c.item.ensures _ _ c.new.ensures (IfOk-weaker c.try_from_str.result _ _
+    (λ v h. h ∙ ap string c.as_str.ensures.text) c.try_from_str.ensures))
+    (c.string_value.ensures _ c.to_string.ensures.ok)) (c.string_value-2.ensures _ c.to_string-2.ensures.ok))

@@ -12,7 +12,9 @@ invariant_of-result c =
       replayed = c.in-Ok.ensures ∙ ap (replay opening) (sym c.in_ok-journal.ensures.items);
       accepted = subst (IsAccepted opening) (sym c.in_ok-journal.ensures.items) tt;
       noted =
-          subst (λ entries. IsNoted opening entries c.in-Ok.state c.in_ok-exposure.exposure) (sym c.in_ok-journal.ensures.items)
-          (subst (λ state. IsNoted opening [] state c.in_ok-exposure.exposure) (sym c.in-Ok.ensures) c.in_ok-exposure.ensures.noted);
+          subst (λ entries. IsNoted opening entries c.in-Ok.state c.in_ok-exposure.exposure)
+          (sym c.in_ok-journal.ensures.items)
+          (subst (λ state. IsNoted opening [] state c.in_ok-exposure.exposure) (sym c.in-Ok.ensures)
+          c.in_ok-exposure.ensures.noted);
       boards = c.in_ok-exposure.ensures.boards;
     }

@@ -18,8 +18,10 @@ is_noted-requires-clause-to c =
 pub returns-in-Some-clause-exposed : goal.returns-in-Some-clause-exposed
 returns-in-Some-clause-exposed c =
     let ledger = c.args.self.now in
-    let listed = c.accounts-accounts.ensures.accounts ∙ ap (λ (state : SessionState). state.roles.accounts) c.state.ensures.state in
-    let user = sym (ap (λ (accounts : List Account). get_or (map (λ (account : Account). account.name) accounts) c.in-Some.place []) listed) ∙ c.in-Some.ensures.found in
+    let listed = c.accounts-accounts.ensures.accounts ∙ ap (λ (state : SessionState). state.roles.accounts)
+    c.state.ensures.state in
+    let user = sym (ap (λ (accounts : List Account). get_or (map (λ (account : Account). account.name) accounts)
+    c.in-Some.place []) listed) ∙ c.in-Some.ensures.found in
     let same = c.is_noted.ensures ∙ ap (λ name. is_exposed ledger.opening ledger.journal name c.args.board) user in
     let decides = exposed_decides ledger.opening ledger.journal c.args.name c.args.board in
     (λ noted. decides.0 (sym same ∙ noted), λ exposed. same ∙ decides.1 exposed)
@@ -27,15 +29,19 @@ returns-in-Some-clause-exposed c =
 pub returns-in-None-clause-test : goal.returns-in-None-clause-test
 returns-in-None-clause-test c =
     let ledger = c.args.self.now in
-    let listed = c.accounts-accounts.ensures.accounts ∙ ap (λ (state : SessionState). state.roles.accounts) c.state.ensures.state in
+    let listed = c.accounts-accounts.ensures.accounts ∙ ap (λ (state : SessionState). state.roles.accounts)
+    c.state.ensures.state in
     sym (stranger_unexposed ledger.opening ledger.journal c.args.name c.args.board
-    (subst (λ (accounts : List Account). ¬ Contains (map (λ (account : Account). account.name) accounts) c.args.name) listed c.in-None.ensures.none))
+    (subst (λ (accounts : List Account). ¬ Contains (map (λ (account : Account). account.name) accounts) c.args.name)
+    listed c.in-None.ensures.none))
 
 pub returns-in-None-clause-exposed : goal.returns-in-None-clause-exposed
 returns-in-None-clause-exposed c =
     let ledger = c.args.self.now in
-    let listed = c.accounts-accounts.ensures.accounts ∙ ap (λ (state : SessionState). state.roles.accounts) c.state.ensures.state in
+    let listed = c.accounts-accounts.ensures.accounts ∙ ap (λ (state : SessionState). state.roles.accounts)
+    c.state.ensures.state in
     let decides = exposed_decides ledger.opening ledger.journal c.args.name c.args.board in
     let unexposed = stranger_unexposed ledger.opening ledger.journal c.args.name c.args.board
-    (subst (λ (accounts : List Account). ¬ Contains (map (λ (account : Account). account.name) accounts) c.args.name) listed c.in-None.ensures.none) in
+    (subst (λ (accounts : List Account). ¬ Contains (map (λ (account : Account). account.name) accounts) c.args.name)
+    listed c.in-None.ensures.none) in
     (λ yes_true. absurd (false≢true yes_true), λ exposed. sym unexposed ∙ decides.1 exposed)

@@ -13,11 +13,19 @@ returns-then-spoils c =
     let accounts = c.accounts-accounts.result.now in
     let place = c.loop-place.place in
     let below = c.loop-place-test.true in
-    let listed = c.accounts-accounts.ensures.accounts ∙ ap (λ (state : SessionState). state.roles.accounts) c.state.ensures.state in
+    let listed = c.accounts-accounts.ensures.accounts ∙ ap (λ (state : SessionState). state.roles.accounts)
+    c.state.ensures.state in
     let account : Account = get_or accounts place c.index-accounts-place.result in
-    let here = name_read (state_of ledger) accounts place account listed below (get_or_default accounts place c.index-accounts-place.result account below) in
-    let within : place < length (users_of (state_of ledger)) = omega (arith, below, ap length listed, length-map (state_of ledger).roles.accounts (λ (a : Account). a.name)) in
-    first_spoiler (spoils ledger.opening ledger.journal c.args.cell) (users_of (state_of ledger)) place account.name within here (sym c.spoils.ensures ∙ c.if-spoils.true) c.loop-place.invariant
+    let here = name_read (state_of ledger) accounts place account listed below
+    (get_or_default accounts place c.index-accounts-place.result account below) in
+    let within : place < length (users_of (state_of ledger)) = omega (
+      arith,
+      below,
+      ap length listed,
+      length-map (state_of ledger).roles.accounts (λ (a : Account). a.name),
+    ) in
+    first_spoiler (spoils ledger.opening ledger.journal c.args.cell) (users_of (state_of ledger)) place account.name
+    within here (sym c.spoils.ensures ∙ c.if-spoils.true) c.loop-place.invariant
 
 pub loop-place-preserved : goal.loop-place-preserved
 loop-place-preserved c =
@@ -25,16 +33,21 @@ loop-place-preserved c =
     let accounts = c.accounts-accounts.result.now in
     let place = c.loop-place.place in
     let below = c.loop-place-test.true in
-    let listed = c.accounts-accounts.ensures.accounts ∙ ap (λ (state : SessionState). state.roles.accounts) c.state.ensures.state in
+    let listed = c.accounts-accounts.ensures.accounts ∙ ap (λ (state : SessionState). state.roles.accounts)
+    c.state.ensures.state in
     let account : Account = get_or accounts place c.index-accounts-place.result in
-    let here = name_read (state_of ledger) accounts place account listed below (get_or_default accounts place c.index-accounts-place.result account below) in
-    spoils_step (spoils ledger.opening ledger.journal c.args.cell) (users_of (state_of ledger)) place account.name here (sym c.spoils.ensures ∙ c.if-spoils.false) c.loop-place.invariant
+    let here = name_read (state_of ledger) accounts place account listed below
+    (get_or_default accounts place c.index-accounts-place.result account below) in
+    spoils_step (spoils ledger.opening ledger.journal c.args.cell) (users_of (state_of ledger)) place account.name here
+    (sym c.spoils.ensures ∙ c.if-spoils.false) c.loop-place.invariant
 
 pub returns : goal.returns
 returns c =
     let ledger = c.args.self.now in
-    let listed = c.accounts-accounts.ensures.accounts ∙ ap (λ (state : SessionState). state.roles.accounts) c.state.ensures.state in
+    let listed = c.accounts-accounts.ensures.accounts ∙ ap (λ (state : SessionState). state.roles.accounts)
+    c.state.ensures.state in
     let past = c.loop-place-test.false in
     let all = ap length listed in
     let count = length-map (state_of ledger).roles.accounts (λ (a : Account). a.name) in
-    no_spoiler_at (spoils ledger.opening ledger.journal c.args.cell) (users_of (state_of ledger)) (λ k below. c.loop-place.invariant k (omega (arith, past, all, count, below)))
+    no_spoiler_at (spoils ledger.opening ledger.journal c.args.cell) (users_of (state_of ledger))
+    (λ k below. c.loop-place.invariant k (omega (arith, past, all, count, below)))

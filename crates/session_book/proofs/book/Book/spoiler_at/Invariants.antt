@@ -5,4 +5,5 @@ use Rattle.session_book.specs.Journal.{state_of}
 use Rattle.session_book.proofs.book.Book.spoiler_at.Given as goal
 
 abbrev pub invariant-loop-place : goal.invariant-loop-place
-invariant-loop-place l = (k : ℕ) → k < l.place → spoils l.self.opening l.self.journal l.cell (user_at (state_of l.self) k) ≡ false
+invariant-loop-place l = (k : ℕ) → k < l.place → spoils l.self.opening l.self.journal l.cell
+    (user_at (state_of l.self) k) ≡ false

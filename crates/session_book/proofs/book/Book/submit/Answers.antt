@@ -27,6 +27,7 @@ loop-command-preserved c =
       opening = c.attempt-refusal.ensures.opening ∙ kept.opening;
       runs =
           runs_so _ _ _ _ now.journal actor _ _ _ _ _ (sym c.is_stopped-stopped.ensures) kept.opening
-          (ap (λ command. take i batch ++ command ∷ []) c.command-item.is ∙ sym (take_more batch i c.command-item.result c.loop-command-test.true))
+          (ap (λ command. take i batch ++ command ∷ []) c.command-item.is
+          ∙ sym (take_more batch i c.command-item.result c.loop-command-test.true))
           (ap (λ answer. answers ++ answer ∷ []) (sym c.new.ensures) ∙ sym c.push_within.ensures.items) ran;
     }

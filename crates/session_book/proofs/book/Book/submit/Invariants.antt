@@ -7,5 +7,6 @@ invariant-loop-command l = record {
   counted : vec_len l.answers ≡ l.command-index;
   room : length l.batch ≤ vec_capacity l.answers;
   opening : l.self.opening ≡ l.initial.self.opening;
-  runs : Runs l.stopped l.initial.self.opening l.initial.self.journal l.actor (take l.command-index l.batch) (record { journal = l.self.journal; answers = l.answers.items });
+  runs : Runs l.stopped l.initial.self.opening l.initial.self.journal l.actor (take l.command-index l.batch)
+      (record { journal = l.self.journal; answers = l.answers.items });
 }

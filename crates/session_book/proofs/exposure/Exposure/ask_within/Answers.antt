@@ -9,11 +9,15 @@ use Rattle.session_book.proofs.exposure.Exposure.ask_within.Goals as goal
 
 pub returns-then-board-lt1 : goal.returns-then-board-lt1
 returns-then-board-lt1 c =
-    let out : (c.args.board < 1) ⊎ (c.args.boards < c.args.board) = elim (cases_lt c.args.board 1) [ inl low ↦ inl low | inr from ↦ inr (omega arith) ] in
-    asked_none c.args.state.now (touched_at c.args.state.now (Board c.args.board) c.args.boards c.args.place) c.args.self.now
+    let out : (c.args.board < 1) ⊎ (c.args.boards < c.args.board) = elim (cases_lt c.args.board 1)
+    [ inl low ↦ inl low | inr from ↦ inr (omega arith) ] in
+    asked_none c.args.state.now (touched_at c.args.state.now (Board c.args.board) c.args.boards c.args.place)
+    c.args.self.now
     (λ p b from. no_board_at c.args.state.now c.args.boards c.args.place c.args.board p b out from)
 
 pub returns : goal.returns
 returns c =
-    asked_as c.args.state.now (one_board c.args.place c.args.board) (touched_at c.args.state.now (Board c.args.board) c.args.boards c.args.place) c.args.self.now c.ask.new.self
-    (λ p b from. board_at c.args.state.now c.args.boards c.args.place c.args.board p b (omega arith) (omega arith)) c.ask.ensures
+    asked_as c.args.state.now (one_board c.args.place c.args.board) (touched_at c.args.state.now (Board c.args.board)
+    c.args.boards c.args.place) c.args.self.now c.ask.new.self
+    (λ p b from. board_at c.args.state.now c.args.boards c.args.place c.args.board p b (omega arith) (omega arith))
+    c.ask.ensures

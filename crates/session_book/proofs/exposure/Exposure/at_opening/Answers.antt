@@ -7,9 +7,15 @@ use Rattle.session_book.proofs.exposure.Exposure.at_opening.Goals as goal
 pub returns : goal.returns
 returns c =
     let opening = c.args.opening.now in
-    let all : c.boards-boards.result ≡ boards_of opening.public.movement = c.boards-boards.ensures.boards ∙ ap (λ (public : Public). boards_of public.movement) c.public.ensures.public in
-    let few : c.boards-boards.result ≤ most_boards = omega (arith, c.boards-boards.ensures.boards, c.boards-boards.ensures.section.not_too_many_boards) in
+    let all : c.boards-boards.result ≡ boards_of opening.public.movement = c.boards-boards.ensures.boards
+    ∙ ap (λ (public : Public). boards_of public.movement) c.public.ensures.public in
+    let few : c.boards-boards.result ≤ most_boards = omega (
+      arith,
+      c.boards-boards.ensures.boards,
+      c.boards-boards.ensures.section.not_too_many_boards,
+    ) in
     record {
-      noted = noted_first opening opening c.in_ok-exposure.exposure c.ask_all.new.self c.boards-boards.result refl c.in_ok-exposure.ensures all few c.ask_all.ensures.asked;
+      noted = noted_first opening opening c.in_ok-exposure.exposure c.ask_all.new.self c.boards-boards.result refl
+          c.in_ok-exposure.ensures all few c.ask_all.ensures.asked;
       boards = omega (arith, all, few);
     }

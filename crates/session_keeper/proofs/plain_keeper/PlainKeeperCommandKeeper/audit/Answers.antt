@@ -6,8 +6,10 @@ use Rattle.session_keeper.proofs.plain_keeper.PlainKeeperCommandKeeper.audit.Goa
 
 pub returns-clause-receipt : goal.returns-clause-receipt
 returns-clause-receipt g c =
-    subst (λ (l : Ledger). IsAuditOf (λ before after. after ≡ before) l.opening l.journal c.args.actor c.args.from c.args.limit
+    subst (λ (l : Ledger). IsAuditOf (λ before after. after ≡ before) l.opening l.journal c.args.actor c.args.from
+    c.args.limit
     (record { rows = c.audit.result; version = c.version.result }) l.journal) c.self.view_is
     (audit_alone c.self.inside.book c.args.actor c.args.from c.args.limit
     (record { rows = c.audit.result; version = c.version.result })
-    c.audit.ensures.rows c.audit.ensures.ok c.audit.ensures.err c.audit.ensures.valid c.version.ensures.version c.version.ensures.accepted)
+    c.audit.ensures.rows c.audit.ensures.ok c.audit.ensures.err c.audit.ensures.valid c.version.ensures.version
+    c.version.ensures.accepted)

@@ -12,7 +12,8 @@ absorb_new-requires g c =
     let before = c.self.inside.book in
     record {
       behind =
-          subst (λ opening. IsBehind opening c.submit.new.self.journal c.self.inside.view) (sym c.submit.ensures.opening)
+          subst (λ opening. IsBehind opening c.submit.new.self.journal c.self.inside.view)
+          (sym c.submit.ensures.opening)
           (behind_extends before.opening before.journal c.submit.new.self.journal c.self.inside.view
           (runs_extend stopped before.opening before.journal c.args.actor c.args.batch.now _ runs)
           c.self.invariant.stands c.self.invariant.accepted);
@@ -21,5 +22,6 @@ absorb_new-requires g c =
 pub returns-clause-later : goal.returns-clause-later
 returns-clause-later g c =
     let (stopped, runs) = c.in_ok-submission.ensures.ran in
-    subst (λ (l : Ledger). GoesOn l.opening l.journal c.submit.new.self.opening c.submit.new.self.journal) c.self.view_is
+    subst (λ (l : Ledger). GoesOn l.opening l.journal c.submit.new.self.opening c.submit.new.self.journal)
+    c.self.view_is
     (record { same = c.submit.ensures.opening; begins = runs_begin stopped _ _ _ _ _ runs })

@@ -9,7 +9,8 @@ absorb_new-requires g c =
     let after = c.submit_analysed-answer.new.self in
     record {
       behind =
-          subst (λ opening. IsBehind opening after.journal c.self.inside.view) (sym c.submit_analysed-answer.ensures.opening)
+          subst (λ opening. IsBehind opening after.journal c.self.inside.view)
+          (sym c.submit_analysed-answer.ensures.opening)
           (behind_extends before.opening before.journal after.journal c.self.inside.view
           (tried_extends before after _ _ _ c.submit_analysed-answer.ensures.tried)
           c.self.invariant.stands c.self.invariant.accepted);

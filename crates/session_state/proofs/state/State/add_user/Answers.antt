@@ -31,9 +31,11 @@ invariant_of-self c =
     let kept = c.self.invariant in
     let unhindered : hindrance_of (the_view inside) (AddUser c.args.name c.args.digest) ≡ None =
     ap (λ state. hindrance_of state (AddUser c.args.name c.args.digest)) c.self.view_is ∙ c.requires in
-    let room : length inside.roles.accounts < most_users = room_for_user (the_view inside) c.args.name c.args.digest unhindered in
+    let room : length inside.roles.accounts < most_users = room_for_user (the_view inside) c.args.name c.args.digest
+    unhindered in
     let added = c.add_user_unrefused.ensures in
-    let more = ap (λ (roles : RoleData). length roles.accounts) added ∙ length_push inside.roles.accounts (new_account c.args.name) in
+    let more = ap (λ (roles : RoleData). length roles.accounts) added ∙ length_push inside.roles.accounts
+    (new_account c.args.name) in
     record {
       cells = kept.cells;
       marks = kept.marks;
@@ -44,7 +46,8 @@ invariant_of-self c =
       digest_room = omega (arith, kept.digest_room, c.push_within.ensures.capacity);
       seats = kept.seats;
       users = omega (arith, more, room);
-      seated = subst (λ roles. AreSeated roles inside.seats.items) (sym added) (seated_added inside.roles c.args.name inside.seats.items kept.seated);
+      seated = subst (λ roles. AreSeated roles inside.seats.items) (sym added)
+          (seated_added inside.roles c.args.name inside.seats.items kept.seated);
       placed = kept.placed;
       live = kept.live;
     }

@@ -10,7 +10,10 @@ pub returns : goal.returns
 returns c =
     let inside = c.self.inside in
     let cell = c.args.cell in
-    (λ i. record (the_view inside) { cells = slice_set inside.cells.items (c.cell_index-place.ensures.place i) (c.with_costs.ensures i) })
+    (λ i. record (the_view inside) {
+      cells = slice_set inside.cells.items (c.cell_index-place.ensures.place i)
+          (c.with_costs.ensures i);
+    })
     ∙ ap (λ known. with_cell (the_view inside) cell (with_costs known c.args.costs)) c.cell-known.ensures.known
     ∙ ap (λ state. with_cell state cell (with_costs (cell_at c.args.self.now cell) c.args.costs)) c.self.view_is
 
@@ -19,7 +22,13 @@ invariant_of-self c =
     let inside = c.self.inside in
     let kept = c.self.invariant in
     let cell = c.args.cell in
-    let below : cell_index cell < length inside.cells.items = omega (arith, inside.cells.ok.0, kept.cells, c.cell_index-place.ensures.place, c.cell_index-place.ensures.below) in
+    let below : cell_index cell < length inside.cells.items = omega (
+      arith,
+      inside.cells.ok.0,
+      kept.cells,
+      c.cell_index-place.ensures.place,
+      c.cell_index-place.ensures.below,
+    ) in
     let as_before : has_result c.with_costs.result ≡ has_result (cell_at (the_view inside) cell) =
     ap has_result c.with_costs.ensures ∙ costs_live c.cell-known.result c.args.costs
     ∙ ap has_result (c.cell-known.ensures.known ∙ ap (λ state. cell_at state cell) (sym c.self.view_is)) in
@@ -36,6 +45,8 @@ invariant_of-self c =
       placed = kept.placed;
       boards = kept.boards;
       live =
-          subst (λ place. AreLive inside.public.live (slice_set inside.cells.items place c.with_costs.result)) (sym c.cell_index-place.ensures.place)
-          (same_live inside.public.live inside.cells.items cell c.with_costs.result c.requires below kept.boards kept.live as_before);
+          subst (λ place. AreLive inside.public.live (slice_set inside.cells.items place c.with_costs.result))
+          (sym c.cell_index-place.ensures.place)
+          (same_live inside.public.live inside.cells.items cell c.with_costs.result c.requires below kept.boards
+          kept.live as_before);
     }

@@ -17,15 +17,18 @@ pub assign_unrefused-requires : goal.assign_unrefused-requires
 assign_unrefused-requires c =
     let unhindered : hindrance_of (the_view c.self.inside) (Assign c.args.name c.args.role) ≡ None =
     ap (λ state. hindrance_of state (Assign c.args.name c.args.role)) c.self.view_is ∙ c.requires in
-    subst (λ name. (cause : AssignError) → ¬ RefusesAssignment c.self.inside.roles name c.args.role cause) (sym c.as_str.ensures.text)
+    subst (λ name. (cause : AssignError) → ¬ RefusesAssignment c.self.inside.roles name c.args.role cause)
+    (sym c.as_str.ensures.text)
     (role_is_assigned (the_view c.self.inside) c.args.name c.args.role unhindered)
 
 pub invariant_of-self : goal.invariant_of-self
 invariant_of-self c =
     let inside = c.self.inside in
     let kept = c.self.invariant in
-    let changed = c.assign_unrefused.ensures ∙ ap (λ name. assign_user inside.roles name c.args.role) c.as_str.ensures.text in
-    let as_many = ap (λ (roles : RoleData). length roles.accounts) changed ∙ length_changed (λ set. with_role set c.args.role) c.args.name inside.roles.accounts in
+    let changed = c.assign_unrefused.ensures ∙ ap (λ name. assign_user inside.roles name c.args.role)
+    c.as_str.ensures.text in
+    let as_many = ap (λ (roles : RoleData). length roles.accounts) changed ∙ length_changed
+    (λ set. with_role set c.args.role) c.args.name inside.roles.accounts in
     record {
       cells = kept.cells;
       marks = kept.marks;
@@ -36,13 +39,15 @@ invariant_of-self c =
       digest_room = kept.digest_room;
       seats = kept.seats;
       users = omega (arith, as_many, kept.users);
-      seated = subst (λ roles. AreSeated roles inside.seats.items) (sym changed) (seated_changed (λ set. with_role set c.args.role) inside.roles c.args.name inside.seats.items kept.seated);
+      seated = subst (λ roles. AreSeated roles inside.seats.items) (sym changed)
+          (seated_changed (λ set. with_role set c.args.role) inside.roles c.args.name inside.seats.items kept.seated);
       placed = kept.placed;
       live = kept.live;
     }
 
 pub returns : goal.returns
 returns c =
-    let changed = c.assign_unrefused.ensures ∙ ap (λ name. assign_user c.self.inside.roles name c.args.role) c.as_str.ensures.text in
+    let changed = c.assign_unrefused.ensures ∙ ap (λ name. assign_user c.self.inside.roles name c.args.role)
+    c.as_str.ensures.text in
     (λ i. record (the_view c.self.inside) { roles = changed i })
     ∙ ap (λ state. effect state (Assign c.args.name c.args.role)) c.self.view_is

@@ -17,15 +17,18 @@ pub deassign_unrefused-requires : goal.deassign_unrefused-requires
 deassign_unrefused-requires c =
     let unhindered : hindrance_of (the_view c.self.inside) (Deassign c.args.name c.args.role) ≡ None =
     ap (λ state. hindrance_of state (Deassign c.args.name c.args.role)) c.self.view_is ∙ c.requires in
-    subst (λ name. (cause : DeassignError) → ¬ RefusesDeassignment c.self.inside.roles name c.args.role cause) (sym c.as_str.ensures.text)
+    subst (λ name. (cause : DeassignError) → ¬ RefusesDeassignment c.self.inside.roles name c.args.role cause)
+    (sym c.as_str.ensures.text)
     (role_is_deassigned (the_view c.self.inside) c.args.name c.args.role unhindered)
 
 pub invariant_of-self : goal.invariant_of-self
 invariant_of-self c =
     let inside = c.self.inside in
     let kept = c.self.invariant in
-    let changed = c.deassign_unrefused.ensures ∙ ap (λ name. deassign_user inside.roles name c.args.role) c.as_str.ensures.text in
-    let as_many = ap (λ (roles : RoleData). length roles.accounts) changed ∙ length_changed (λ set. without_role set c.args.role) c.args.name inside.roles.accounts in
+    let changed = c.deassign_unrefused.ensures ∙ ap (λ name. deassign_user inside.roles name c.args.role)
+    c.as_str.ensures.text in
+    let as_many = ap (λ (roles : RoleData). length roles.accounts) changed ∙ length_changed
+    (λ set. without_role set c.args.role) c.args.name inside.roles.accounts in
     record {
       cells = kept.cells;
       marks = kept.marks;
@@ -36,13 +39,16 @@ invariant_of-self c =
       digest_room = kept.digest_room;
       seats = kept.seats;
       users = omega (arith, as_many, kept.users);
-      seated = subst (λ roles. AreSeated roles inside.seats.items) (sym changed) (seated_changed (λ set. without_role set c.args.role) inside.roles c.args.name inside.seats.items kept.seated);
+      seated = subst (λ roles. AreSeated roles inside.seats.items) (sym changed)
+          (seated_changed (λ set. without_role set c.args.role) inside.roles c.args.name inside.seats.items
+          kept.seated);
       placed = kept.placed;
       live = kept.live;
     }
 
 pub returns : goal.returns
 returns c =
-    let changed = c.deassign_unrefused.ensures ∙ ap (λ name. deassign_user c.self.inside.roles name c.args.role) c.as_str.ensures.text in
+    let changed = c.deassign_unrefused.ensures ∙ ap (λ name. deassign_user c.self.inside.roles name c.args.role)
+    c.as_str.ensures.text in
     (λ i. record (the_view c.self.inside) { roles = changed i })
     ∙ ap (λ state. effect state (Deassign c.args.name c.args.role)) c.self.view_is

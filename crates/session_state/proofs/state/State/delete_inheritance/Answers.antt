@@ -31,7 +31,8 @@ invariant_of-self c =
       digest_room = kept.digest_room;
       seats = kept.seats;
       users = omega (arith, as_many, kept.users);
-      seated = subst (λ roles. AreSeated roles inside.seats.items) (sym changed) (still_seated _ _ inside.seats.items kept.seated (λ other there. there));
+      seated = subst (λ roles. AreSeated roles inside.seats.items) (sym changed)
+          (still_seated _ _ inside.seats.items kept.seated (λ other there. there));
       placed = kept.placed;
       live = kept.live;
     }

@@ -16,10 +16,17 @@ invariant_of-self c =
     let kept = c.self.invariant in
     let cell = c.args.cell in
     let known = Entered c.args.outcome c.args.play in
-    let below : cell_index cell < length inside.cells.items = omega (arith, inside.cells.ok.0, kept.cells, c.cell_index-place.ensures.place, c.cell_index-place.ensures.below) in
+    let below : cell_index cell < length inside.cells.items = omega (
+      arith,
+      inside.cells.ok.0,
+      kept.cells,
+      c.cell_index-place.ensures.place,
+      c.cell_index-place.ensures.below,
+    ) in
     let free : has_result (cell_at (the_view inside) cell) ≡ false =
     entry_is_free (the_view inside) cell.table cell.board c.args.outcome c.args.play
-    (ap (λ state. hindrance_of state (Enter cell.table cell.board c.args.outcome c.args.play)) c.self.view_is ∙ c.requires.unhindered) in
+    (ap (λ state. hindrance_of state (Enter cell.table cell.board c.args.outcome c.args.play)) c.self.view_is
+    ∙ c.requires.unhindered) in
     record {
       cells = kept.cells;
       marks = kept.marks;
@@ -33,6 +40,8 @@ invariant_of-self c =
       placed = kept.placed;
       boards = kept.boards;
       live =
-          subst (λ place. AreLive inside.public.live (slice_set inside.cells.items place known)) (sym c.cell_index-place.ensures.place)
-          (entered_live inside.public.live inside.cells.items cell known c.requires.placed below kept.boards kept.live refl free);
+          subst (λ place. AreLive inside.public.live (slice_set inside.cells.items place known))
+          (sym c.cell_index-place.ensures.place)
+          (entered_live inside.public.live inside.cells.items cell known c.requires.placed below kept.boards kept.live
+          refl free);
     }

@@ -22,4 +22,14 @@ invariant_of-result c = record {
 
 pub returns : goal.returns
 returns c =
-    λ i. record { roles = c.args.roles; digests = c.args.digests.items; seats = c.args.seats.items; public = c.args.public; cells = c.in_ok-cells.ensures.items i; deals = c.args.deals.items; tables = c.in_ok-tables.ensures.items i }
+    λ i. record {
+      roles = c.args.roles;
+      digests = c.args.digests.items;
+      seats = c.args.seats.items;
+      public =
+          c.args.public;
+      cells = c.in_ok-cells.ensures.items i;
+      deals = c.args.deals.items;
+      tables =
+          c.in_ok-tables.ensures.items i;
+    }

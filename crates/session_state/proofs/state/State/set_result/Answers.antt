@@ -21,7 +21,13 @@ invariant_of-self c =
     let inside = c.self.inside in
     let kept = c.self.invariant in
     let cell = c.args.cell in
-    let below : cell_index cell < length inside.cells.items = omega (arith, inside.cells.ok.0, kept.cells, c.cell_index-place.ensures.place, c.cell_index-place.ensures.below) in
+    let below : cell_index cell < length inside.cells.items = omega (
+      arith,
+      inside.cells.ok.0,
+      kept.cells,
+      c.cell_index-place.ensures.place,
+      c.cell_index-place.ensures.below,
+    ) in
     record {
       cells = kept.cells;
       marks = kept.marks;
@@ -35,7 +41,10 @@ invariant_of-self c =
       placed = kept.placed;
       boards = ap length c.insert.ensures ∙ length-set inside.public.live (cell.board - 1) _ ∙ kept.boards;
       live =
-          subst (λ live. AreLive live (slice_set inside.cells.items c.cell_index-place.result c.args.known)) (sym c.insert.ensures)
-          (subst (λ place. AreLive (with_live inside.public.live cell) (slice_set inside.cells.items place c.args.known)) (sym c.cell_index-place.ensures.place)
-          (result_live inside.public.live inside.cells.items cell c.args.known c.requires.placed below kept.boards kept.live c.requires.live));
+          subst (λ live. AreLive live (slice_set inside.cells.items c.cell_index-place.result c.args.known))
+          (sym c.insert.ensures)
+          (subst (λ place. AreLive (with_live inside.public.live cell)
+          (slice_set inside.cells.items place c.args.known)) (sym c.cell_index-place.ensures.place)
+          (result_live inside.public.live inside.cells.items cell c.args.known c.requires.placed below kept.boards
+          kept.live c.requires.live));
     }

@@ -51,7 +51,8 @@ pub returns-in-AddInheritance : goal.returns-in-AddInheritance
 returns-in-AddInheritance c = c.add_inheritance.ensures ∙ ap (effect c.args.self.now) (sym c.in-AddInheritance.is)
 
 pub returns-in-DeleteInheritance : goal.returns-in-DeleteInheritance
-returns-in-DeleteInheritance c = c.delete_inheritance.ensures ∙ ap (effect c.args.self.now) (sym c.in-DeleteInheritance.is)
+returns-in-DeleteInheritance c = c.delete_inheritance.ensures ∙ ap (effect c.args.self.now)
+    (sym c.in-DeleteInheritance.is)
 
 pub returns-in-Solved : goal.returns-in-Solved
 returns-in-Solved c = c.solve.ensures ∙ ap (effect c.args.self.now) (sym c.in-Solved.is)

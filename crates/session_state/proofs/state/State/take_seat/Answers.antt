@@ -19,7 +19,14 @@ push_within-requires c =
     let are = seats_still_apart (the_view inside) c.args.name seat.pair seat.place unhindered c.self.invariant.seated in
     let few : length (inside.seats.items ++ seated ∷ []) ≤ length inside.roles.accounts =
     seats_are_few inside.roles (inside.seats.items ++ seated ∷ []) are in
-    omega (arith, few, length_push inside.seats.items seated, c.self.invariant.users, c.self.invariant.seats, inside.seats.ok.0)
+    omega (
+      arith,
+      few,
+      length_push inside.seats.items seated,
+      c.self.invariant.users,
+      c.self.invariant.seats,
+      inside.seats.ok.0,
+    )
 
 pub invariant_of-self : goal.invariant_of-self
 invariant_of-self c =

@@ -16,7 +16,8 @@ invariant_of-self c =
     let kept = c.self.invariant in
     let seats = c.self.inside.seats.items in
     let left : c.retain.new.self.items ≡ without_seat seats c.args.name =
-    filter_same _ (λ (seated : Seated). not (same_name seated.name c.args.name)) _ (λ x b kept called. search rules) seats c.retain.new.self.items c.retain.ensures.filtered in
+    filter_same _ (λ (seated : Seated). not (same_name seated.name c.args.name)) _ (λ x b kept called. search rules)
+    seats c.retain.new.self.items c.retain.ensures.filtered in
     record {
       cells = kept.cells;
       marks = kept.marks;
@@ -27,8 +28,10 @@ invariant_of-self c =
       digest_room = kept.digest_room;
       seats = omega (arith, kept.seats, c.retain.ensures.capacity);
       users = kept.users;
-      seated = subst (AreSeated c.self.inside.roles) (sym left) (one_less_sits c.self.inside.roles seats c.args.name kept.seated);
-      placed = subst (AreSeatsOf c.self.inside.public.movement) (sym left) (one_less_placed c.self.inside.public.movement seats c.args.name kept.placed);
+      seated = subst (AreSeated c.self.inside.roles) (sym left) (one_less_sits c.self.inside.roles seats c.args.name
+          kept.seated);
+      placed = subst (AreSeatsOf c.self.inside.public.movement) (sym left)
+          (one_less_placed c.self.inside.public.movement seats c.args.name kept.placed);
       live = kept.live;
     }
 
@@ -36,5 +39,7 @@ pub returns : goal.returns
 returns c =
     let seats = c.self.inside.seats.items in
     let left : c.retain.new.self.items ≡ without_seat seats c.args.name =
-    filter_same _ (λ (seated : Seated). not (same_name seated.name c.args.name)) _ (λ x b kept called. search rules) seats c.retain.new.self.items c.retain.ensures.filtered in
-    (λ i. record (the_view c.self.inside) { seats = left i }) ∙ ap (λ state. effect state (command.Unseat c.args.name)) c.self.view_is
+    filter_same _ (λ (seated : Seated). not (same_name seated.name c.args.name)) _ (λ x b kept called. search rules)
+    seats c.retain.new.self.items c.retain.ensures.filtered in
+    (λ i. record (the_view c.self.inside) { seats = left i }) ∙ ap (λ state. effect state (command.Unseat c.args.name))
+    c.self.view_is

@@ -22,7 +22,13 @@ invariant_of-self c =
     let inside = c.self.inside in
     let kept = c.self.invariant in
     let cell = c.args.cell in
-    let below : cell_index cell < length inside.cells.items = omega (arith, inside.cells.ok.0, kept.cells, c.cell_index-place.ensures.place, c.cell_index-place.ensures.below) in
+    let below : cell_index cell < length inside.cells.items = omega (
+      arith,
+      inside.cells.ok.0,
+      kept.cells,
+      c.cell_index-place.ensures.place,
+      c.cell_index-place.ensures.below,
+    ) in
     record {
       cells = kept.cells;
       marks = kept.marks;
@@ -36,7 +42,10 @@ invariant_of-self c =
       placed = kept.placed;
       boards = ap length c.remove.ensures ∙ length-set inside.public.live (cell.board - 1) _ ∙ kept.boards;
       live =
-          subst (λ live. AreLive live (slice_set inside.cells.items c.cell_index-place.result Empty)) (sym c.remove.ensures)
-          (subst (λ place. AreLive (without_live inside.public.live cell) (slice_set inside.cells.items place Empty)) (sym c.cell_index-place.ensures.place)
-          (cleared_live inside.public.live inside.cells.items cell Empty c.requires.placed below kept.boards kept.live refl));
+          subst (λ live. AreLive live (slice_set inside.cells.items c.cell_index-place.result Empty))
+          (sym c.remove.ensures)
+          (subst (λ place. AreLive (without_live inside.public.live cell) (slice_set inside.cells.items place Empty))
+          (sym c.cell_index-place.ensures.place)
+          (cleared_live inside.public.live inside.cells.items cell Empty c.requires.placed below kept.boards kept.live
+          refl));
     }

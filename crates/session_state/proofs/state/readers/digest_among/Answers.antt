@@ -19,5 +19,6 @@ loop-place-preserved c =
     let next : suc place ≡ place + 1 = omega arith in
     c.loop-place.invariant
     ∙ (digest_from accounts digests place name account none (omega arith) (omega (arith, c.requires))
-    ∙ (ap (λ b. cond b (Some (get_or digests place none)) (digest_among (drop (suc place) accounts) (drop (suc place) digests) name)) other
+    ∙ (ap (λ b. cond b (Some (get_or digests place none)) (digest_among (drop (suc place) accounts)
+    (drop (suc place) digests) name)) other
     ∙ ap (λ k. digest_among (drop k accounts) (drop k digests) name) next))

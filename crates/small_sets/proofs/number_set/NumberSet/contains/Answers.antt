@@ -7,11 +7,14 @@ use Rattle.small_sets.proofs.number_set.NumberSet.contains.Goals as goal
 
 pub returns-then-number-lt1-clause-has : goal.returns-then-number-lt1-clause-has
 returns-then-number-lt1-clause-has g c =
-    let out : (c.args.number < 1) ⊎ (g.row.MOST < c.args.number) = elim (cases_lt c.args.number 1) [ inl low ↦ inl low | inr from ↦ inr (omega arith) ] in
-    sym (has_none_of_bits g.row.MOST c.self.inside.bits c.args.number out) ∙ ap (λ numbers. has_number numbers c.args.number) c.self.view_is
+    let out : (c.args.number < 1) ⊎ (g.row.MOST < c.args.number) = elim (cases_lt c.args.number 1)
+    [ inl low ↦ inl low | inr from ↦ inr (omega arith) ] in
+    sym (has_none_of_bits g.row.MOST c.self.inside.bits c.args.number out)
+    ∙ ap (λ numbers. has_number numbers c.args.number) c.self.view_is
 
 pub returns-then-number-lt1-clause-up_to : goal.returns-then-number-lt1-clause-up_to
-returns-then-number-lt1-clause-up_to g c = subst (IsSetUpTo g.row.MOST) c.self.view_is (set_of_bits g.row.MOST c.self.inside.bits)
+returns-then-number-lt1-clause-up_to g c = subst (IsSetUpTo g.row.MOST) c.self.view_is
+    (set_of_bits g.row.MOST c.self.inside.bits)
 
 pub returns-clause-has : goal.returns-clause-has
 returns-clause-has g c =

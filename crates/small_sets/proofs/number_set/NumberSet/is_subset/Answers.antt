@@ -14,5 +14,6 @@ returns g c =
     let same : AreAmong (numbers_of_bits most a) (numbers_of_bits most b) ≡ AreAmong c.args.self c.args.other =
     λ i. AreAmong (c.self.view_is i) (c.other.view_is i) in (
       λ none. subst (λ P. P) same (among_from_bits w128 most a b c.self.invariant.0 (omega arith) (eqb-true _ _ none)),
-      λ among. eq-eqb _ _ (bits_from_among w128 most a b c.self.invariant.0 c.self.invariant.1 (omega arith) (subst (λ P. P) (sym same) among)),
+      λ among. eq-eqb _ _ (bits_from_among w128 most a b c.self.invariant.0 c.self.invariant.1 (omega arith)
+          (subst (λ P. P) (sym same) among)),
     )

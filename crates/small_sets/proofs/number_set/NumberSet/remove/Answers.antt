@@ -12,5 +12,6 @@ invariant_of-self g c = (
 
 pub returns : goal.returns
 returns g c =
-    numbers_of_bits-clear w128 g.row.MOST c.self.inside.bits c.args.number c.self.invariant.0 c.requires.from c.requires.to
+    numbers_of_bits-clear w128 g.row.MOST c.self.inside.bits c.args.number c.self.invariant.0 c.requires.from
+    c.requires.to
     ∙ ap (λ numbers. without_number g.row.MOST numbers c.args.number) c.self.view_is
