@@ -1,6 +1,5 @@
 -- What a connection answers: for the user who is signed in, over the journal for which its keeper stands then. Others
--- may
--- lead the journal on meanwhile, where the keeper doesn't keep its session alone.
+-- may lead the journal on meanwhile, where the keeper doesn't keep its session alone.
 use Rattle.std.specs.Prelude.{◌≡◌, ◌≢◌, ◌⊎◌, ℕ, Option, Some, None, Result, Ok, Err, IfOk, IfErr, List, codes}
 use Rattle.serde_json.specs.Data.{Data, object, member, no_members, string}
 use Rattle.serde_json.specs.Written.{compact_text}
@@ -52,8 +51,7 @@ IsUnserved Others no_entry before after user request OutOfMemory =
     IsUnanswered Others no_entry after.opening before.journal user request query_fault.OutOfMemory after.journal
 
 -- where somebody is signed in, the answer to a request of that user, or why there is none, over an accepted journal
--- that
--- goes on from the one before; where nobody is, that fault, and all is as before
+-- that goes on from the one before; where nobody is, that fault, and all is as before
 abbrev pub IsServed : (List Entry → List Entry → Type 0) → Type 0 → {S : Type 0} → (S → List ℕ) → Linked → Linked
     → UserRequest → Result S ConnectionFault → Option (List ℕ) → Type 0
 IsServed Others no_entry bytes before after request served None = (served ≡ Err NotSignedIn) × (after ≡ before)

@@ -1,6 +1,5 @@
 -- What desks do: a batch, or a command of the solver's, is tried after some journal, and what was accepted is published
--- as
--- one publication.
+-- as one publication.
 use Rattle.std.specs.Prelude.{◌≡◌, ℕ, Bool, List, [], ◌∷◌, ◌++◌, length, refl}
 use Rattle.std.specs.Coded.{Coded, code_by, coded×, coded_list}
 use Rattle.session_state.specs.SessionState.{SessionState}
@@ -21,16 +20,14 @@ with_publication publications [] = publications
 with_publication publications (entry ∷ more) = publications ++ (entry ∷ more) ∷ []
 
 -- the receipt for what joined a journal: the numbers of the first and the last entry, or twice 0 where none joined it,
--- and
--- all that is published, which is that journal now
+-- and all that is published, which is that journal now
 abbrev pub receipt_after : List Entry → List (List Entry) → Receipted
 receipt_after before published =
     receipted (first_number (length before) (length (entries_of published)))
     (last_number (length before) (length (entries_of published))) published
 
 -- a user's batch was run after a journal, whole or up to a command for which memory was refused, with these answers;
--- its
--- accepted entries stand behind that journal in what was published then, and the receipt tells their numbers
+-- its accepted entries stand behind that journal in what was published then, and the receipt tells their numbers
 pub record IsSubmitted (opening : SessionState) (before : List Entry) (actor : List ℕ) (batch : List Command)
     (answers : List Answer) (receipt : Receipted) : Type 0 where
   pub stopped : Bool

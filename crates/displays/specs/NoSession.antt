@@ -1,6 +1,5 @@
 -- A session that nobody keeps: where a call picks its server by the name `Brand`, this stands in place of its opening,
--- and
--- no copy is ever opened for it.
+-- and no copy is ever opened for it.
 use Rattle.std.specs.Prelude.{[]}
 use Rattle.session_state.specs.SessionState.{SessionState}
 use Rattle.disclosure_rules.specs.declared.phase.Phase.TheVariants.{Running}

@@ -1,6 +1,5 @@
 -- What a PBN text is joined of (PBN 2.1, in this project's reading): comments, escape lines, quoted texts, tags, lines
--- of
--- nothing but blanks, and plain bytes. Bytes are ASCII.
+-- of nothing but blanks, and plain bytes. Bytes are ASCII.
 use Rattle.std.specs.Prelude.{
   ◌≡◌,
   ◌≢◌,

@@ -83,8 +83,7 @@ response_to_meaning opening journal memory (Err fault) =
     record { journal = journal; text = fault_text fault }
 
 -- a message is what its line means, unless memory was refused before it had any effect. A line that is too long, or no
--- text
--- in UTF-8, takes none
+-- text in UTF-8, takes none
 unfoldable pub response_to_line : SessionState → List Entry → Received → Response
 response_to_line opening journal received =
     if received.memory.refused_before && is_message_text received.line

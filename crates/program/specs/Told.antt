@@ -13,8 +13,7 @@ use Rattle.program.specs.Script.{Received, responses_to}
 -- ---- lines
 
 -- the line for a message of which nothing came: it is a text, and memory was refused before there was any effect, or it
--- means
--- no request, and its fault responds to it
+-- means no request, and its fault responds to it
 abbrev pub IsLineOfNothing : Received → List ℕ → Type 0
 IsLineOfNothing received line =
     ((received.memory.refused_before ≡ true) × (is_message_text received.line ≡ true) × (line ≡ fault_text OutOfMemory))

@@ -58,8 +58,7 @@ abbrev mutual
   all_have_lists_within (formula_then f fs) = has_lists_within f && all_have_lists_within fs
 
 -- a formula that a filter may be: not too deep, with not too many atoms, and in each list one member or more, but not
--- too
--- many
+-- too many
 abbrev pub is_within_limits : Formula → Bool
 is_within_limits f = nat_le (depth f) most_depth && (nat_le (atoms f) most_atoms && has_lists_within f)
 

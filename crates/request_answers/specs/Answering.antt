@@ -15,8 +15,7 @@ use Rattle.wire.specs.declared.request.UserRequest.TheVariants.{Query, Batch, Au
 use Rattle.request_answers.specs.Response.{response_at}
 
 -- the journal for which the keeper stands after it left one: a query is answered of the journal that is then known;
--- after
--- a batch or an audit others may have led on
+-- after a batch or an audit others may have led on
 abbrev pub LeadsOn : (List Entry → List Entry → Type 0) → UserRequest → List Entry → List Entry → Type 0
 LeadsOn Others (Query query since) left now = now ≡ left
 LeadsOn Others (Batch commands) left now = Others left now

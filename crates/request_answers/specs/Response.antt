@@ -1,6 +1,5 @@
 -- What a user's request comes to at a journal: the journal after it, and the text that answers it. Scripts and
--- connections
--- are answered so.
+-- connections are answered so.
 use Rattle.std.specs.Prelude.{
   ℕ,
   is_some,

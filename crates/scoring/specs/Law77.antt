@@ -58,8 +58,7 @@ trick_score contract =
     (first_odd_trick contract.strain + (contract.level - 1) * trick_value contract.strain) * factor contract.doubling
 
 -- the two columns of the law's table, for declarer's side not vulnerable and vulnerable: a line has a number for each,
--- in
--- this order
+-- in this order
 abbrev pub by_column : Bool → ℕ → ℕ → ℕ
 by_column false not_vulnerable vulnerable = not_vulnerable
 by_column true not_vulnerable vulnerable = vulnerable

@@ -1,6 +1,5 @@
 -- A user sees no more of a board where the user has the same roles, keeps the seat or loses it, a held board stays
--- held, and no
--- result is new: with the same roles, what the policy shows grows with seats and results alone.
+-- held, and no result is new: with the same roles, what the policy shows grows with seats and results alone.
 use Rattle.std.proofs.Common.{◌≡◌, ℕ, Bool, true, false, cond, List, inl, inr, refl, sym, ap, ◌∙◌, subst, Any}
 use Rattle.std.specs.Prelude.{Option, Some, None, is_none, not, ◌&&◌, ◌⊎◌, IsSomeAnd}
 use Rattle.std.specs.List.{list_any}

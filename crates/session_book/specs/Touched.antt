@@ -21,11 +21,9 @@ use Rattle.session_book.specs.ExposureTable.{user_at}
 
 -- what each command touches: a result may complete its board, and a board that is released is shown again, to anybody;
 -- a user who takes a seat, is assigned a role or loses one may see more of any board, since a rule may bind or spare
--- who
--- has a role; so may everybody where an inheritance comes or goes. What is entered, voided or held, a seat that is
--- left,
--- a user with no role yet, a round and a phase let nobody see more; nor do the solver's numbers, since no rule looks at
--- what a fact says
+-- who has a role; so may everybody where an inheritance comes or goes. What is entered, voided or held, a seat that is
+-- left, a user with no role yet, a round and a phase let nobody see more; nor do the solver's numbers, since no rule
+-- looks at what a fact says
 abbrev pub touched_by : Command → Touched
 touched_by (Enter table board outcome play) = Nothing
 touched_by (Confirm table board outcome) = Board board

@@ -1,6 +1,5 @@
 -- What an audit tells of a command: how it is called, and what it is about. One line for each command, in the order of
--- the
--- commands.
+-- the commands.
 --
 -- own: an audit tells no result, no card, no percentage and no reason.
 use Rattle.session_commands.specs.declared.command.Command.{Command}

@@ -1,6 +1,5 @@
 -- What one who keeps a session tells, and how the journal that it stands for grows. While it is asked, others may lead
--- the
--- journal on; by how much is the keeper's own: not at all, where it keeps the session alone.
+-- the journal on; by how much is the keeper's own: not at all, where it keeps the session alone.
 use Rattle.std.specs.Prelude.{◌≡◌, ◌↔◌, ℕ, Bool, List, length, IfOk, IfErr, OnOk}
 use mathlib.Core.List.{IsPrefix}
 use Rattle.rbac.specs.Authorization.{HasPermission, IsValid}

@@ -48,8 +48,7 @@ not_met true cause none = absurd cc
 not_met false cause none = refl
 
 -- a command that nothing hinders: the user that it is about has an account, the cell is scheduled, and none of its own
--- causes
--- is met
+-- causes is met
 module _ (state : SessionState) (command : Command) (unhindered : hindrance_of state command ≡ None) where
   stranger : Option Refusal
   stranger = then_some (some_that (subject_user command) (λ name. not (has_account state.roles name))) NoSuchUser

@@ -55,8 +55,8 @@ word_text Solved = codes "Solved"
 word_text Analysed = codes "Analysed"
 
 -- what a command is about: a table's number and the board's, as `2/14`; a board's; a user; a user's role, as
--- `d:Director`;
--- the senior role and the junior one that it inherits, as `Director>Scorer`; nothing, where it is the session
+-- `d:Director`; the senior role and the junior one that it inherits, as `Director>Scorer`; nothing, where it is the
+-- session
 abbrev pub target_text : Target → List ℕ
 target_text about.Session = []
 target_text (about.Cell cell) = decimal cell.table ++ (codes "/" ++ decimal cell.board)
