@@ -41,6 +41,7 @@ BUILT = (
     (sys.executable, ("tests/refuse_serving_growths.py", SERVER)),
     (sys.executable, ("tests/hold_ups.py", SERVER)),
     (sys.executable, ("tests/conformance.py", SERVER)),
+    (sys.executable, ("tests/failing_devices.py", SERVER)),
     (sys.executable, ("tests/failing_calls.py", SERVER)),
     (DEBIAN_PYTHON, ("tests/load.py", SERVER)),
     (DEBIAN_PYTHON, ("tests/fuzz_texts.py", SERVER)),

@@ -1,10 +1,10 @@
 #!/usr/bin/env python3
 """Many connections, one after another and beside one another, for a minute against a server of 32 displays, while scorers write.
 
-    /usr/bin/python3 tests/load.py crates/bridge_server/out/bridge_server [SECONDS] [SEED]
+    /usr/bin/python3 tests/load.py crates/bridge_server/out/bridge_server [SECONDS] [SEED] [AT_ONCE]
 
-It needs Debian's package python3-websockets, as tests/many_clients.py does, whose model and senders it takes. 90 clients are there at
-once, which is more than the displays: each connects, waits until a display is free, greets, asks, leaves, and comes again as somebody
+It needs Debian's package python3-websockets, as tests/many_clients.py does, whose model and senders it takes. 90 clients, or so many as are
+said, are there at once, which is more than the displays: each connects, waits until a display is free, greets, asks, leaves, and comes again as somebody
 else. Six more stay, and send batches. Then every batch and every reply is compared with the plain model, byte for byte; no message may
 be without its answer, the memory of the program may grow by its journal alone, and in the end each display must serve still. Each line
 is a check: 'ok', or 'FAILED' with what came. The status is 1 where one failed.
@@ -25,11 +25,12 @@ from write_stored_runs import text_of
 PROGRAM = sys.argv[1] if len(sys.argv) > 1 else "crates/bridge_server/out/bridge_server"
 SECONDS = float(sys.argv[2]) if len(sys.argv) > 2 else 60
 SEED = int(sys.argv[3]) if len(sys.argv) > 3 else 2026
-DISPLAYS, PROCESSES, READERS = 32, 3, 30
+AT_ONCE = int(sys.argv[4]) if len(sys.argv) > 4 else 90
+DISPLAYS, PROCESSES = 32, 3
 WRITERS = CLIENTS[32][0]
 # What an entry of the journal may take in all that keeps it, and what may come and go besides, in KiB.
 PER_ENTRY, BESIDES = 1, 2048
-MOST_SECONDS_FOR_A_PLACE = 60
+MOST_SECONDS_FOR_A_PLACE = 60 + AT_ONCE // 5
 
 
 class Port:
@@ -112,7 +113,7 @@ def in_processes(tasks):
         process = context.Process(target=in_a_process, args=(other, tasks[number::PROCESSES]))
         process.start()
         started.append((process, own))
-    return [one for _, own in started for one in (own.recv() if own.poll(SECONDS + 120) else ["a process said nothing"])]
+    return [one for _, own in started for one in (own.recv() if own.poll(SECONDS + 2 * MOST_SECONDS_FOR_A_PLACE) else ["a process said nothing"])]
 
 
 def watch(server, until, seen):
@@ -126,12 +127,12 @@ def main():
     rng = random.Random(SEED)
     hands = [some_hands(rng) for _ in BOARDS]
     session = {"budget": 0, "per_set": PER_SET, "rounds": ROUNDS, "tables": TABLES, "users": USERS}
-    tell(f"seed {SEED}, {SECONDS:g} s")
+    tell(f"seed {SEED}, {SECONDS:g} s, {AT_ONCE} clients at once")
     with Server(PROGRAM, "--displays", DISPLAYS, "--workers", 2, session=session, deals=pbn_text([deal_text(one) for one in hands])) as server:
         begin, port, memory = time.time(), Port(server.port), []
         until = begin + SECONDS
         tasks = [(write, (port, hands, name, rng.random(), begin, until)) for name in WRITERS]
-        tasks += [(read, (port, hands, rng.random(), until)) for _ in range(PROCESSES * READERS)]
+        tasks += [(read, (port, hands, rng.random(), until)) for _ in range(AT_ONCE)]
         watching = threading.Thread(target=watch, args=(server, until, memory))
         watching.start()
         told = in_processes(tasks)
