@@ -6,10 +6,15 @@ use Rattle.std.proofs.Common.{
   suc,
   ◌+◌,
   ◌<◌,
+  Bool,
+  true,
+  false,
+  cond,
   List,
   [],
   ◌∷◌,
   map,
+  filter,
   get_or,
   refl,
   sym,
@@ -20,7 +25,15 @@ use Rattle.std.proofs.Common.{
   arith,
 }
 use Rattle.std.specs.List.{flat_map, range_with_len}
-use Rattle.std.proofs.lemmas.List.Elements.{Contains-append_left, Contains-append_right, Contains-append_cases}
+use Rattle.std.proofs.lemmas.List.Elements.{
+  All-contains,
+  All-contains_itself,
+  All-filter,
+  filter_passes,
+  Contains-append_left,
+  Contains-append_right,
+  Contains-append_cases,
+}
 use Rattle.std.proofs.lemmas.List.FromFn.{
   length-range_with_len,
   get_or-range_with_len,
@@ -78,3 +91,33 @@ flat_map-contains f (first ∷ rest) y among =
           let found = flat_map-contains f rest y later in
           (found.0, Contains-append_right (first ∷ []) rest found.0 found.1, found.2)
     ]
+
+-- the head of a list that passes is kept, and whatever was kept before it
+at_head : {X : Type 0} (b : Bool) (x : X) (rest : List X) → b ≡ true → Contains (cond b (x ∷ rest) rest) x
+at_head true x rest passes = (0, omega arith, refl)
+at_head false x rest passes = absurd (cc)
+
+behind_head : {X : Type 0} (b : Bool) (first : X) (rest : List X) (x : X) → Contains rest x →
+    Contains (cond b (first ∷ rest) rest) x
+behind_head true first rest x among = Contains-append_right (first ∷ []) rest x among
+behind_head false first rest x among = among
+
+-- what passes a test and is in a list is in what the test keeps of it
+pub Contains-filter : {X : Type 0} (test : X → Bool) (xs : List X) (x : X) → test x ≡ true → Contains xs x →
+    Contains (filter test xs) x
+Contains-filter test [] x passes (k, within, here) = absurd (omega arith)
+Contains-filter test (first ∷ rest) x passes among =
+    elim (Contains-append_cases (first ∷ []) rest x among) [
+      | inl (k, within, here) ↦
+          rw (single first x k within here) (at_head (test x) x (filter test rest) passes)
+      | inr later ↦
+          behind_head (test first) first (filter test rest) x (Contains-filter test rest x passes later)
+    ]
+
+-- what a test keeps of a list is in the list, and passes
+pub filter-contains : {X : Type 0} (test : X → Bool) (xs : List X) (x : X) → Contains (filter test xs) x → Contains xs x
+filter-contains test xs x among =
+    All-contains (Contains xs) (filter test xs) x (All-filter test (Contains xs) xs (All-contains_itself xs)) among
+
+pub filter-passed : {X : Type 0} (test : X → Bool) (xs : List X) (x : X) → Contains (filter test xs) x → test x ≡ true
+filter-passed test xs x among = All-contains (λ x. test x ≡ true) (filter test xs) x (filter_passes test xs) among

@@ -2,6 +2,7 @@ pub mod CellLemmas
 pub mod ContainsLemmas
 pub mod MovementLemmas
 pub mod PairLemmas
+pub mod PlaysLemmas
 pub mod RoundLemmas
 pub mod RowLemmas
 pub mod ScheduleTests

@@ -3,25 +3,31 @@ use Rattle.std.proofs.Common.{◌≡◌, ℕ, sym, ap, ◌∙◌, inl, inr, Cont
 use Rattle.table_terms.specs.declared.pair.Pair.{Pair}
 use Rattle.table_terms.specs.declared.side.Side.TheVariants.{NorthSouth, EastWest}
 use Rattle.movement.specs.declared.cell.Cell.{Cell}
-use Rattle.movement.specs.Movement.{Section, Row, IsSection, HasCell, rows, east_west_table, set_on}
+use Rattle.movement.specs.Movement.{Section, Row, IsSection, HasCell, full_rows, rows, east_west_table, set_on}
 use Rattle.movement.specs.Row.{Plays, Seats}
 use Rattle.movement.proofs.RoundLemmas.{same_pair, same_round_of_table, same_round_of_pair, same_round_at_table}
-use Rattle.movement.proofs.RowLemmas.{made_of, rounds-le, same_made, in_range}
+use Rattle.movement.proofs.RowLemmas.{made_of, made_of_full, in_full, rounds-le, same_made, in_range}
 use Rattle.movement.proofs.SetLemmas.{same_set}
 
 -- a table has one row in a round
-pub same_at_table : (section : Section) (first second : Row) → IsSection section → Contains (rows section) first →
-    Contains (rows section) second → first.table ≡ second.table → first.round ≡ second.round → first ≡ second
-same_at_table section first second is_section in_first in_second same_table same_round =
+pub same_at_table_in_full : (section : Section) (first second : Row) → IsSection section → Contains (full_rows section) first →
+    Contains (full_rows section) second → first.table ≡ second.table → first.round ≡ second.round → first ≡ second
+same_at_table_in_full section first second is_section in_first in_second same_table same_round =
     let n : ℕ = section.tables in
-    let a = made_of section first in_first in
-    let b = made_of section second in_second in
+    let a = made_of_full section first in_first in
+    let b = made_of_full section second in_second in
     let few = rounds-le section is_section in
     let round : a.round ≡ b.round = omega arith in
     let table : east_west_table n a.pair a.round ≡ east_west_table n b.pair b.round = omega arith in
     let met : east_west_table n a.pair a.round ≡ east_west_table n b.pair a.round = cc in
     let pair : a.pair ≡ b.pair = same_pair n a.pair b.pair a.round a.pair_below b.pair_below (omega arith) met in
     same_made section first second a b round pair
+
+pub same_at_table : (section : Section) (first second : Row) → IsSection section → Contains (rows section) first →
+    Contains (rows section) second → first.table ≡ second.table → first.round ≡ second.round → first ≡ second
+same_at_table section first second is_section in_first in_second =
+    same_at_table_in_full section first second is_section (in_full section first in_first)
+    (in_full section second in_second)
 
 -- a table has one row at a set
 pub same_set_at_table : (section : Section) (first second : Row) → IsSection section → Contains (rows section) first →

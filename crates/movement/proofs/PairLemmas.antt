@@ -14,6 +14,7 @@ use Rattle.std.proofs.Common.{
   inr,
   Any,
   All,
+  Contains,
   Option,
   Some,
   None,
@@ -29,18 +30,19 @@ use Rattle.movement.specs.declared.cell.Cell.{Cell}
 use Rattle.movement.specs.Movement.{
   Section,
   Row,
+  IsSection,
   IsOfSet,
   HasCell,
   IsCell,
   boards_of,
-  row_of,
   rows,
   east_west_table,
   set_on,
 }
-use Rattle.movement.specs.Row.{Seats, Plays, IsCellInRange}
-use Rattle.movement.proofs.CellLemmas.{cell_in_range}
-use Rattle.movement.proofs.RowLemmas.{IsMade, made_of, Any-rows, All-rows}
+use Rattle.movement.specs.Row.{IsAt, Seats, Plays, IsCellInRange}
+use Rattle.movement.proofs.CellLemmas.{cell_in_range, set_at}
+use Rattle.movement.proofs.RoundLemmas.{same_pair}
+use Rattle.movement.proofs.RowLemmas.{IsMade, made_of, in_full, All-rows, rounds-le}
 use Rattle.movement.proofs.SetLemmas.{same_set, within-boards}
 
 -- the East-West pair of a number
@@ -65,20 +67,35 @@ seated_north_south section row pair made is_north_south (inr east) =
     sym made.is_east_west ∙ ap (λ (pair : Pair). pair.side) east ∙ is_north_south in
     absurd (cc)
 
--- an East-West pair's cell at a set, in the round in which it plays the set
-pub pair_cell : (section : Section) (number board set round table : ℕ) → 1 ≤ number → number ≤ section.tables →
-    round < section.rounds → table ≡ east_west_table section.tables (number - 1) round →
+-- an East-West pair's cell at a set, where its table plays in the round in which it has the set
+pub pair_cell : (section : Section) → IsSection section → (number board set round table : ℕ) → 1 ≤ number →
+    number ≤ section.tables → round < section.rounds → table ≡ east_west_table section.tables (number - 1) round →
     set_on section.tables (east_west_table section.tables (number - 1) round) round ≡ set →
-    IsOfSet section (set + 1) board →
+    IsOfSet section (set + 1) board → Any (λ row. IsAt row (table + 1) (round + 1)) (rows section) →
     Any (λ row. Seats row (east_west number) × HasCell section row (record { table = table + 1; board = board }))
     (rows section)
-pair_cell section number board set round table from_number to_number round_below at held is_of_set =
-    let same : number - 1 + 1 ≡ number = omega arith in
-    let cell : Cell = record { table = table + 1; board = board } in
-    let has : HasCell section (row_of section.tables round (number - 1)) cell =
-    record { table = omega arith; board = rw held is_of_set } in
-    Any-rows section (λ row. Seats row (east_west number) × HasCell section row cell) round (number - 1) round_below
-    (omega arith) (inr (rw same refl), has)
+pair_cell section is_section number board set round table from_number to_number round_below is_table held is_of_set
+    (k, row, within, here, at) =
+    let n : ℕ = section.tables in
+    let few = rounds-le section is_section in
+    let made = made_of section row (k, within, here) in
+    let when : made.round ≡ round = omega (arith, at.round) in
+    let there : east_west_table n made.pair made.round ≡ table = omega (arith, at.table) in
+    let met : east_west_table n made.pair round ≡ east_west_table n (number - 1) round = rw when at there ∙ is_table in
+    let pair : made.pair ≡ number - 1 =
+    same_pair n made.pair (number - 1) round made.pair_below (omega arith) (omega arith) met in
+    let whose : made.pair + 1 ≡ number = omega arith in
+    let number_of_row : row.east_west.number ≡ number = made.is_pair ∙ whose in
+    let seated : row.east_west ≡ east_west number =
+    λ i. record { side = made.is_east_west i; number = number_of_row i } in
+    let its_set = set_at section row table round (in_full section row (k, within, here)) at in
+    let same_set_of : set_on n table round ≡ set = rw is_table held in (
+      k,
+      row,
+      within,
+      here,
+      (inr seated, record { table = at.table; board = rw (its_set, same_set_of) is_of_set }),
+    )
 
 -- an East-West pair's board, with the round, from 0, in which the pair plays it
 pub record PairPlays (section : Section) (number board : ℕ) : Type 0 where
@@ -89,14 +106,17 @@ pub record PairPlays (section : Section) (number board : ℕ) : Type 0 where
   pub set : IsOfSet section (set_on section.tables (east_west_table section.tables (number - 1) round) round + 1) board
   pub from_board : 1 ≤ board
   pub to_board : board ≤ boards_of section
+  pub at : Any (λ row. IsAt row (east_west_table section.tables (number - 1) round + 1) (round + 1)) (rows section)
 
-pub pair_plays : (section : Section) (row : Row) (number board : ℕ) → IsMade section row →
+pub pair_plays : (section : Section) (row : Row) (number board : ℕ) → Contains (rows section) row →
     Plays section row (east_west number) board → PairPlays section number board
-pair_plays section row number board made plays =
+pair_plays section row number board (k, within, here) plays =
     let n : ℕ = section.tables in
+    let made = made_of section row (k, within, here) in
     let seated = seated_east_west section row number made plays.seated in
     let pair : made.pair ≡ number - 1 = omega arith in
     let set : row.set ≡ set_on n (east_west_table n (number - 1) made.round) made.round + 1 = rw pair at made.is_set in
+    let table : row.table ≡ east_west_table n (number - 1) made.round + 1 = rw pair at made.is_table in
     let set_below : set_on n (east_west_table n (number - 1) made.round) made.round < n = omega (arith, made.pair_below)
     in
     let board_of = rw set at plays.board in
@@ -110,6 +130,7 @@ pair_plays section row number board made plays =
       set = board_of;
       from_board = limits.0;
       to_board = limits.1;
+      at = (k, row, within, here, record { table = table; round = made.is_round });
     }
 
 -- the set that the pair plays in that round is the board's
@@ -126,7 +147,7 @@ pub nobody_plays : (section : Section) (number board : ℕ) → ¬ PairPlays sec
     All (λ row. ¬ Plays section row (east_west number) board) (rows section)
 nobody_plays section number board never =
     All-rows section (λ row. ¬ Plays section row (east_west number) board)
-    (λ row made plays. never (pair_plays section row number board made plays))
+    (λ row among plays. never (pair_plays section row number board among plays))
 
 -- a North-South pair's cells are those of its table
 pub north_south_cell : (section : Section) (pair : Pair) (cell : Cell) → pair.side ≡ NorthSouth →

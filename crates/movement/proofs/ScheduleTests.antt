@@ -20,9 +20,9 @@ use Rattle.table_terms.specs.declared.pair.Pair.{Pair}
 use Rattle.table_terms.specs.declared.side.Side.{Side}
 use Rattle.table_terms.specs.declared.side.Side.TheVariants.{NorthSouth, EastWest}
 use Rattle.movement.specs.declared.cell.Cell.{Cell}
-use Rattle.movement.specs.Movement.{Section, Row, IsSection, IsOfSet, rows, HasCell, IsCell}
+use Rattle.movement.specs.Movement.{Section, Row, IsSection, IsOfSet, same_side, same_pair, rows, HasCell, IsCell}
 use Rattle.movement.specs.Row.{Seats, Plays}
-use Rattle.movement.specs.Schedule.{is_of_set, stands_in, is_scheduled, is_later, same_side, same_pair, seats, plays}
+use Rattle.movement.specs.Schedule.{is_of_set, stands_in, is_scheduled, is_later, seats, plays}
 use Rattle.movement.proofs.MovementLemmas.{same_cell}
 
 -- what holds of some element, said in other words

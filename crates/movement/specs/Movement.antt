@@ -2,7 +2,8 @@
 --
 -- own: the movement is the plain Mitchell. The North-South pairs stay at their tables, the East-West pairs move up one
 -- table a round, and the sets of boards down one. At an even number of tables the East-West pairs skip a table in the
--- middle of the session, so that they meet no set again.
+-- middle of the session, so that they meet no set again. With an odd number of pairs one of them is absent, and whoever
+-- would meet it sits out: that table plays nothing in that round.
 use Rattle.std.specs.Prelude.{
   ◌≡◌,
   ℕ,
@@ -14,8 +15,17 @@ use Rattle.std.specs.Prelude.{
   ◌<◌,
   ◌≤◌,
   Bool,
+  true,
+  false,
+  not,
+  nat_eq,
+  Option,
+  None,
+  Some,
+  IfSome,
   List,
   map,
+  filter,
   Any,
   ◌==◌,
   ◌&&◌,
@@ -24,15 +34,17 @@ use Rattle.std.specs.Prelude.{
 }
 use Rattle.std.specs.List.{flat_map, range_with_len}
 use Rattle.table_terms.specs.declared.pair.Pair.{Pair}
+use Rattle.table_terms.specs.declared.side.Side.{Side}
 use Rattle.table_terms.specs.declared.side.Side.TheVariants.{NorthSouth, EastWest}
 use Rattle.movement.specs.declared.cell.Cell.{Cell}
 use Rattle.movement.specs.declared.movement.TheConstants.Movement.{MOST_TABLES, MOST_PER_SET, MOST_BOARDS}
 
--- a section: its tables, the rounds that are played, and the boards in a set
+-- a section: its tables, the rounds that are played, the boards in a set, and the pair that isn't there, if one isn't
 pub record Section : Type 0 where
   pub tables : ℕ
   pub rounds : ℕ
   pub per_set : ℕ
+  pub absent : Option Pair
 
 -- what one table plays in one round; rounds, tables and sets are counted from 1
 pub record Row : Type 0 where
@@ -66,12 +78,34 @@ row_of tables round east_west =
       east_west = record { side = EastWest; number = east_west + 1 };
     }
 
--- the movement: what each East-West pair plays in each round
-unfoldable pub rows : Section → List Row
-rows section =
+-- what each East-West pair would play in each round if every pair were there
+unfoldable pub full_rows : Section → List Row
+full_rows section =
     flat_map
     (λ round. map (row_of section.tables round) (range_with_len 0 section.tables))
     (range_with_len 0 section.rounds)
+
+abbrev pub same_side : Side → Side → Bool
+same_side NorthSouth NorthSouth = true
+same_side NorthSouth EastWest = false
+same_side EastWest NorthSouth = false
+same_side EastWest EastWest = true
+
+abbrev pub same_pair : Pair → Pair → Bool
+same_pair pair other = same_side pair.side other.side && nat_eq pair.number other.number
+
+-- whether a pair is the one that isn't there
+abbrev pub is_absent : Option Pair → Pair → Bool
+is_absent None pair = false
+is_absent (Some absent) pair = same_pair absent pair
+
+-- whether both pairs of a row are there
+abbrev pub is_played : Section → Row → Bool
+is_played section row = not (is_absent section.absent row.north_south) && not (is_absent section.absent row.east_west)
+
+-- the movement: what each East-West pair plays in each round; a row with the absent pair isn't played
+unfoldable pub rows : Section → List Row
+rows section = filter (is_played section) (full_rows section)
 
 -- how many boards the section plays
 abbrev pub boards_of : Section → ℕ
@@ -120,3 +154,4 @@ pub record IsSection (section : Section) : Type 0 where
   pub enough_boards : 1 ≤ section.per_set
   pub not_too_many_boards_in_a_set : section.per_set ≤ most_per_set
   pub not_too_many_boards : boards_of section ≤ most_boards
+  pub absent_in_range : IfSome section.absent (λ pair. (1 ≤ pair.number) × (pair.number ≤ section.tables))

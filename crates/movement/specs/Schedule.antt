@@ -1,11 +1,9 @@
 -- Which cells of the movement are played, by whom and when, as tests.
-use Rattle.std.specs.Prelude.{ℕ, ◌-◌, ◌*◌, Bool, true, false, ◌&&◌, ◌||◌, nat_eq, nat_lt, nat_le}
+use Rattle.std.specs.Prelude.{ℕ, ◌-◌, ◌*◌, Bool, ◌&&◌, ◌||◌, nat_eq, nat_lt, nat_le}
 use Rattle.std.specs.List.{list_any}
 use Rattle.table_terms.specs.declared.pair.Pair.{Pair}
-use Rattle.table_terms.specs.declared.side.Side.{Side}
-use Rattle.table_terms.specs.declared.side.Side.TheVariants.{NorthSouth, EastWest}
 use Rattle.movement.specs.declared.cell.Cell.{Cell}
-use Rattle.movement.specs.Movement.{Section, Row, rows}
+use Rattle.movement.specs.Movement.{Section, Row, rows, same_pair}
 
 -- whether the set has the board
 abbrev pub is_of_set : Section → ℕ → ℕ → Bool
@@ -22,15 +20,6 @@ is_scheduled section cell = list_any (stands_in section cell) (rows section)
 -- whether the cell is played after a round
 abbrev pub is_later : Section → Cell → ℕ → Bool
 is_later section cell round = list_any (λ row. stands_in section cell row && nat_lt round row.round) (rows section)
-
-abbrev pub same_side : Side → Side → Bool
-same_side NorthSouth NorthSouth = true
-same_side NorthSouth EastWest = false
-same_side EastWest NorthSouth = false
-same_side EastWest EastWest = true
-
-abbrev pub same_pair : Pair → Pair → Bool
-same_pair pair other = same_side pair.side other.side && nat_eq pair.number other.number
 
 -- whether the row seats the pair
 abbrev pub seats : Row → Pair → Bool

@@ -1,5 +1,5 @@
-ghost use Rattle.std.specs.Prelude.{◌≡◌, ℕ, ◌+◌, ◌-◌, ◌*◌, ◌<◌, ◌≤◌, Any, All, IfOk, OnOk, IfErr, IfSome, IfNone, true, IsTrue, ◌↔◌};
-ghost use Rattle.movement.specs.Movement.{Section, IsSection, IsOfSet, HasCell, IsCell, boards_of, rows};
+ghost use Rattle.std.specs.Prelude.{◌≡◌, ℕ, ◌+◌, ◌-◌, ◌*◌, ◌<◌, ◌≤◌, Any, All, IfOk, OnOk, IfErr, IfSome, IfNone, None, Contains, true, IsTrue, ◌↔◌};
+ghost use Rattle.movement.specs.Movement.{Section, Row, IsSection, IsOfSet, HasCell, IsCell, boards_of, full_rows, is_absent, rows};
 ghost use Rattle.movement.specs.Row.{IsAt, Seats, Plays, board_of_set, IsCellInRange};
 ghost use Rattle.user_names.specs.First.{IsFirst};
 ghost use Rattle.small_sets.specs.Numbers.{has_number};
@@ -14,22 +14,25 @@ use small_sets::NumberSet;
 use std::marker::Model;
 use table_terms::{Pair, Side};
 
-/// Who plays what, where and when in one section of a plain Mitchell movement.
-#[derive(Clone, Copy, Debug, PartialEq, Eq)]
+/// Who plays what, where and when in one section of a plain Mitchell movement. With an odd number of pairs one of them is
+/// absent: whoever would meet it sits out (a half table).
+#[derive(Clone, Copy, PartialEq, Eq)]
 pub struct Movement {
     tables: u8,
     rounds: u8,
     per_set: u8,
+    absent: Option<Pair>,
 }
 
 impl Model for Movement {
     ghost Value = { Section };
 
-    ghost view = { λ m. record { tables = m.tables; rounds = m.rounds; per_set = m.per_set } };
+    ghost view = { λ m. record { tables = m.tables; rounds = m.rounds; per_set = m.per_set; absent = m.absent } };
 
-    ghost invariant = { λ m. IsSection (record { tables = m.tables; rounds = m.rounds; per_set = m.per_set }) };
+    ghost invariant = { λ m.
+        IsSection (record { tables = m.tables; rounds = m.rounds; per_set = m.per_set; absent = m.absent }) };
 
-    ghost inverse = { λ s. record { tables = s.tables; rounds = s.rounds; per_set = s.per_set } };
+    ghost inverse = { λ s. record { tables = s.tables; rounds = s.rounds; per_set = s.per_set; absent = s.absent } };
 }
 
 impl Movement {
@@ -42,13 +45,29 @@ impl Movement {
     /// How many boards a section plays at most.
     pub const MOST_BOARDS: u8 = 64;
 
-    /// The movement of a section of 3 to 16 tables, with `per_set` boards in a set.
+    /// The movement of a section of 3 to 16 tables, with `per_set` boards in a set, in which every pair is there.
     pub fn new(tables: u8, rounds: u8, per_set: u8) -> Result<Movement, MovementError>
         ensures section { IfOk result (λ movement.
-            movement ≡ record { tables = tables; rounds = rounds; per_set = per_set }) }
+            movement ≡ record { tables = tables; rounds = rounds; per_set = per_set; absent = None }) }
         ensures allowed { IfOk result (λ movement. (error : MovementError) → ¬ Refuses error movement) }
         ensures refused { IfErr result (IsFirst number_of (λ error.
-            Refuses error (record { tables = tables; rounds = rounds; per_set = per_set }))) }
+            Refuses error (record { tables = tables; rounds = rounds; per_set = per_set; absent = None }))) }
+    {
+        Movement::with_absent(tables, rounds, per_set, None)
+    }
+
+    /// The same of a section in which a pair may be absent.
+    pub fn with_absent(
+        tables: u8,
+        rounds: u8,
+        per_set: u8,
+        absent: Option<Pair>,
+    ) -> Result<Movement, MovementError>
+        ensures section { IfOk result (λ movement.
+            movement ≡ record { tables = tables; rounds = rounds; per_set = per_set; absent = absent }) }
+        ensures allowed { IfOk result (λ movement. (error : MovementError) → ¬ Refuses error movement) }
+        ensures refused { IfErr result (IsFirst number_of (λ error.
+            Refuses error (record { tables = tables; rounds = rounds; per_set = per_set; absent = absent }))) }
     {
         if tables < 3 || tables > Movement::MOST_TABLES {
             return Err(MovementError::BadTables);
@@ -62,10 +81,16 @@ impl Movement {
         {
             return Err(MovementError::BadSets);
         }
+        if let Some(pair) = absent {
+            if pair.number < 1 || pair.number > tables {
+                return Err(MovementError::BadPair);
+            }
+        }
         Ok(Movement {
             tables,
             rounds,
             per_set,
+            absent,
         })
     }
 
@@ -101,7 +126,31 @@ impl Movement {
         self.tables * self.per_set
     }
 
-    /// The k-th board, from 1, that a table plays in a round.
+    /// The pair that isn't there, if one isn't.
+    pub fn absent(self) -> Option<Pair>
+        ensures absent { result ≡ self.absent }
+        ensures section { IsSection self }
+    {
+        self.absent
+    }
+
+    /// Whether a table plays in a round: both pairs there are present.
+    pub fn plays(self, table: u8, round: u8) -> bool
+        requires from_table { 1 ≤ table }
+        requires to_table { table ≤ self.tables }
+        requires from_round { 1 ≤ round }
+        requires to_round { round ≤ self.rounds }
+        ensures { IsTrue result ↔ Any (λ row. IsAt row table round) (rows self) }
+    {
+        let north_south = Pair {
+            side: Side::NorthSouth,
+            number: table,
+        };
+        let east_west = self.ew_at(table, round);
+        !self.is_absent(north_south) && !self.is_absent(east_west)
+    }
+
+    /// The k-th board, from 1, that a table plays in a round, or would play if both pairs were there.
     pub fn board_at(self, table: u8, round: u8, k: u8) -> u8
         requires from_table { 1 ≤ table }
         requires to_table { table ≤ self.tables }
@@ -109,21 +158,24 @@ impl Movement {
         requires to_round { round ≤ self.rounds }
         requires from_board { 1 ≤ k }
         requires to_board { k ≤ self.per_set }
-        ensures row { Any (λ row. IsAt row table round × (result ≡ board_of_set self row.set k)) (rows self) }
-        ensures cell { IsCell self (record { table = table; board = result }) }
+        ensures row { Any (λ row. IsAt row table round × (result ≡ board_of_set self row.set k)) (full_rows self) }
+        ensures cell { Any (λ row. IsAt row table round) (rows self) →
+            IsCell self (record { table = table; board = result }) }
     {
         let set = mitchell::set_on(self.tables, table - 1, round - 1);
         set * self.per_set + k
     }
 
-    /// The East-West pair at a table in a round.
+    /// The East-West pair at a table in a round, or that would be there if it were present.
     pub fn ew_at(self, table: u8, round: u8) -> Pair
         requires from_table { 1 ≤ table }
         requires to_table { table ≤ self.tables }
         requires from_round { 1 ≤ round }
         requires to_round { round ≤ self.rounds }
-        ensures row { Any (λ row. IsAt row table round × (row.east_west ≡ result)) (rows self) }
+        ensures row { Any (λ row. IsAt row table round × (row.east_west ≡ result)) (full_rows self) }
+        ensures played { (row : Row) → Contains (rows self) row → IsAt row table round → row.east_west ≡ result }
         ensures number { (1 ≤ result.number) × (result.number ≤ self.tables) }
+        ensures section { IsSection self }
     {
         let east_west = mitchell::east_west_at(self.tables, table - 1, round - 1);
         Pair {
@@ -173,7 +225,11 @@ impl Movement {
         let set = self.set_of(board);
         let round = mitchell::round_of_table(self.tables, table - 1, set);
         if round < self.rounds {
-            Some(Cell { table, board })
+            if self.plays(table, round + 1) {
+                Some(Cell { table, board })
+            } else {
+                None
+            }
         } else {
             None
         }
@@ -226,9 +282,24 @@ impl Movement {
         let round = mitchell::round_of_east_west(self.tables, number - 1, set);
         if round < self.rounds {
             let table = mitchell::east_west_table(self.tables, number - 1, round) + 1;
-            Some(Cell { table, board })
+            if self.plays(table, round + 1) {
+                Some(Cell { table, board })
+            } else {
+                None
+            }
         } else {
             None
+        }
+    }
+
+    // Whether a pair is the one that isn't there.
+    #[tactic(auto, using(crate::proofs::ScheduleTests::pair_decides))]
+    fn is_absent(self, pair: Pair) -> bool
+        ensures { result ≡ is_absent self.absent pair }
+    {
+        match self.absent {
+            None => false,
+            Some(absent) => absent == pair,
         }
     }
 }

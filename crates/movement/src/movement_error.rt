@@ -10,6 +10,8 @@ pub enum MovementError {
     BadRounds,
     /// Fewer than 1 board in a set, more than 8, or more than 64 boards in all.
     BadSets,
+    /// The absent pair has the number 0, or one above the tables.
+    BadPair,
 }
 
 impl fmt::Display for MovementError {

@@ -13,5 +13,5 @@ returns-clause-row c =
 
 pub returns-clause-cell : goal.returns-clause-cell
 returns-clause-cell c =
-    board_is_cell c.args.self c.args.table c.args.round c.args.k _ c.requires.from_board c.requires.to_board
-    (returns-clause-row c)
+    board_is_cell c.args.self c.args.table c.args.round c.args.k _ c.requires.from_table c.requires.from_round
+    c.requires.from_board c.requires.to_board (returns-clause-row c)

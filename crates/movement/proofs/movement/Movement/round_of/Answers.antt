@@ -1,6 +1,6 @@
-use Rattle.std.proofs.Common.{arith}
-use Rattle.movement.specs.Movement.{IsSection}
-use Rattle.movement.proofs.CellLemmas.{cell_in_range, cell_in_round, scheduled_of, set_on-scheduled}
+use Rattle.std.proofs.Common.{◌≡◌, ◌+◌, Any, subst, arith}
+use Rattle.movement.specs.Movement.{IsSection, HasCell, rows}
+use Rattle.movement.proofs.CellLemmas.{cell_in_range, scheduled_of, set_on-scheduled}
 use Rattle.movement.proofs.RowLemmas.{rounds-le, same_tables}
 use Rattle.movement.proofs.movement.Movement.round_of.Goals as goal
 
@@ -33,11 +33,15 @@ returns-clause-round c =
 pub returns-clause-row : goal.returns-clause-row
 returns-clause-row c =
     let is_section : IsSection c.args.self = rw c.self.view_is at c.self.invariant in
+    let few = rounds-le c.args.self is_section in
     let scheduled = scheduled_of c.args.self c.args.cell c.requires in
-    let limits = returns-clause-round c in
-    let plays = rw (same_tables c.self.view_is) at c.round_of_table.ensures.plays in
-    cell_in_round c.args.self is_section c.args.cell c.set_of-set.result c.round_of_table.result scheduled.from_table
-    scheduled.to_table (omega (arith, limits.1)) plays c.set_of-set.ensures.board
+    let only = rw (same_tables c.self.view_is) at c.round_of_table.ensures.only in
+    let held = set_on-scheduled c.args.self c.args.cell c.set_of-set.result scheduled c.set_of-set.ensures.board in
+    let round : scheduled.round ≡ c.round_of_table.result =
+    only scheduled.round (omega (arith, scheduled.round_below)) held in
+    subst
+    (λ round. Any (λ row. HasCell c.args.self row c.args.cell × (row.round ≡ round + 1)) (rows c.args.self))
+    round scheduled.row
 
 pub returns-clause-range : goal.returns-clause-range
 returns-clause-range c = cell_in_range c.args.self c.args.cell c.requires
