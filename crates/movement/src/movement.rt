@@ -292,9 +292,9 @@ impl Movement {
         }
     }
 
-    // Whether a pair is the one that isn't there.
+    /// Whether a pair is the one that isn't there.
     #[tactic(auto, using(crate::proofs::ScheduleTests::pair_decides))]
-    fn is_absent(self, pair: Pair) -> bool
+    pub fn is_absent(self, pair: Pair) -> bool
         ensures { result ≡ is_absent self.absent pair }
     {
         match self.absent {

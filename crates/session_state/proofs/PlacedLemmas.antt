@@ -7,7 +7,7 @@ use Rattle.std.proofs.lemmas.List.Elements.{All-filter, All-nil, All-push}
 use Rattle.std.proofs.lemmas.Map.Keys.{IsDistinct-push}
 use Rattle.table_terms.specs.Place.{place_number}
 use Rattle.movement.specs.Movement.{Section}
-use Rattle.movement.specs.Schedule.{same_pair}
+use Rattle.movement.specs.Movement.{same_pair}
 use Rattle.session_state.proofs.movement_lemmas.ScheduleTests.{pair_decides}
 use Rattle.rbac.specs.Account.{same_name}
 use Rattle.rbac.proofs.ListLemmas.{distinct_filter, distinct_none}

@@ -5,7 +5,7 @@ use Rattle.table_terms.specs.declared.pair.Pair.{Pair}
 use Rattle.table_terms.specs.declared.place.Place.{Place}
 use Rattle.table_terms.specs.Place.{side_of, place_number}
 use Rattle.movement.specs.Movement.{Section}
-use Rattle.movement.specs.Schedule.{same_side, same_pair}
+use Rattle.movement.specs.Movement.{same_side, same_pair}
 use Rattle.rbac.specs.Account.{same_name}
 use Rattle.rbac.specs.RoleData.{RoleData}
 use Rattle.disclosure_rules.specs.declared.seat.Seat.{Seat}

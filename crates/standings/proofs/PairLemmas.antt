@@ -89,16 +89,14 @@ row_of section cell scheduled =
 pub east_west_at : (section : Section) (cell : Cell) (round : ℕ) (pair : Pair) → IsSection section →
     IsCell section cell →
     Any (λ row. HasCell section row cell × (row.round ≡ round)) (rows section) →
-    Any (λ row. IsAt row cell.table round × (row.east_west ≡ pair)) (rows section) → pair ≡ east_west_by
+    ((row : Row) → Contains (rows section) row → IsAt row cell.table round → row.east_west ≡ pair) → pair ≡ east_west_by
     (row_of_cell section cell)
-east_west_at section cell round pair is_section is_cell (k, played, below, here, (has, in_round))
-    (j, row, within, there, (at, seated)) =
+east_west_at section cell round pair is_section is_cell (k, played, below, here, (has, in_round)) seated =
     let own = row_of section cell (cell-scheduled section cell is_cell) in
     let first : own.row ≡ played = same_cell section own.row played cell is_section own.listed (k, below, here) own.has
     has in
-    let second : played ≡ row = same_at_table section played row is_section (k, below, here) (j, within, there)
-    (has.table ∙ sym at.table) (in_round ∙ sym at.round) in
-    sym (ap east_west_by own.is ∙ (ap (λ (r : Row). r.east_west) (first ∙ second) ∙ seated))
+    let at : IsAt played cell.table round = record { table = has.table; round = in_round } in
+    sym (ap east_west_by own.is ∙ (ap (λ (r : Row). r.east_west) first ∙ seated played (k, below, here) at))
 
 -- the North-South pair of a cell has the table's number
 pub north_south_at : (section : Section) (cell : Cell) → ◌≡◌ {A = Pair}

@@ -11,6 +11,9 @@ use Rattle.std.proofs.Common.{
   Bool,
   true,
   false,
+  cond,
+  not,
+  Option,
   List,
   [],
   ◌∷◌,
@@ -45,9 +48,10 @@ use Rattle.table_terms.specs.declared.side.Side.{Side}
 use Rattle.scoring.specs.declared.standing.Standing.{Standing}
 use Rattle.scoring.specs.Ranking.{RanksBefore}
 use Rattle.scoring.proofs.RankingLemmas.{ranks-asym, ranks-trans}
+use Rattle.movement.specs.Movement.{is_absent}
 use Rattle.standings.specs.Order.{ranks_before}
 use Rattle.standings.specs.declared.earning.Earning.{Earning}
-use Rattle.standings.specs.Ranking.{pair_on, placed, ranked, standing_of}
+use Rattle.standings.specs.Ranking.{pair_on, pairs_on, placed, ranked, standing_of}
 use Rattle.standings.proofs.OrderLemmas.{ranks_decides}
 
 -- ---- each once
@@ -147,25 +151,42 @@ pub ranks_here : (standing : Standing) (others : List Standing) (place : ℕ) (d
 ranks_here standing others place d e below ranks = subst (RanksBefore standing) (get_or_default others place d e below)
     ranks
 
--- a pair more of a side
-pub side_more : (earnings : List Earning) (side : Side) (tables before : ℕ) (others : List Pair) → before < tables →
-    placed (standing_of earnings (pair_on side (tables - before)))
-    (ranked (map (standing_of earnings) (map (pair_on side) (range_with_len (tables - before + 1) before)
-    ++ others)))
-    ≡ ranked (map (standing_of earnings) (map (pair_on side) (range_with_len (tables - (before + 1) + 1) (before + 1))
-    ++ others))
-unfolding ranked
-side_more earnings side tables before others below =
-    sym (ap (λ n. ranked (map (standing_of earnings) (map (pair_on side) (range_with_len n (before + 1)) ++ others)))
-    first
-    ∙ ap (λ n. ranked (map (standing_of earnings) (map (pair_on side) (range_with_len (tables - before) n) ++ others)))
-    more)
+-- a pair more of a side: it is the first of the pairs from its number on, where it is there
+pairs_from : (absent : Option Pair) (side : Side) (tables before : ℕ) → before < tables →
+    pairs_on absent side (tables - (before + 1) + 1) (before + 1)
+    ≡ cond (not (is_absent absent (pair_on side (tables - before))))
+    (pair_on side (tables - before) ∷ pairs_on absent side (tables - before + 1) before)
+    (pairs_on absent side (tables - before + 1) before)
+unfolding pairs_on
+pairs_from absent side tables before below =
+    ap (λ n. pairs_on absent side n (before + 1)) first ∙ ap (pairs_on absent side (tables - before)) more
   where
     first : tables - (before + 1) + 1 ≡ tables - before
     first = omega arith
 
     more : before + 1 ≡ suc before
     more = omega arith
+
+pub side_more : (earnings : List Earning) (absent : Option Pair) (side : Side) (tables before : ℕ)
+    (others : List Pair) → before < tables → is_absent absent (pair_on side (tables - before)) ≡ false →
+    placed (standing_of earnings (pair_on side (tables - before)))
+    (ranked (map (standing_of earnings) (pairs_on absent side (tables - before + 1) before ++ others)))
+    ≡ ranked (map (standing_of earnings) (pairs_on absent side (tables - (before + 1) + 1) (before + 1) ++ others))
+unfolding ranked
+side_more earnings absent side tables before others below present =
+    sym (ap (λ pairs. ranked (map (standing_of earnings) (pairs ++ others)))
+    (rw present at (pairs_from absent side tables before below)))
+
+-- and where it is absent, nothing is more
+pub side_same : (absent : Option Pair) (side : Side) (tables before : ℕ) → before < tables →
+    is_absent absent (pair_on side (tables - before)) ≡ true →
+    pairs_on absent side (tables - before + 1) before
+    ≡ pairs_on absent side (tables - (before + 1) + 1) (before + 1)
+side_same absent side tables before below missing = sym (rw missing at (pairs_from absent side tables before below))
+
+pub no_pairs : (absent : Option Pair) (side : Side) (from : ℕ) → pairs_on absent side from 0 ≡ []
+unfolding pairs_on
+no_pairs absent side from = refl
 
 -- no pair at all
 pub none_ranked : (earnings : List Earning) → [] ≡ ranked (map (standing_of earnings) [])

@@ -2,7 +2,7 @@ ghost use Rattle.std.specs.Prelude.{◌≡◌, ◌≤◌, ◌<◌, ◌*◌, ◌-
 ghost use Rattle.scoring.specs.declared.standing.Standing.{Standing};
 ghost use Rattle.std.specs.List.{range_with_len, insert};
 ghost use Rattle.table_terms.specs.declared.pair.Pair.{Pair};
-ghost use Rattle.standings.specs.Ranking.{most_results, earned_by, top_for, standing_of, pair_on, placed, ranked, ranking_of};
+ghost use Rattle.standings.specs.Ranking.{most_results, earned_by, top_for, standing_of, pairs_on, placed, ranked, ranking_of};
 
 use crate::earning::Earning;
 use movement::Movement;
@@ -22,8 +22,8 @@ pub fn ranking_of(
 {
     let tables = movement.tables();
     let mut standings = Vec::with_capacity(alloc, 2 * tables as usize)?;
-    place_side(&mut standings, earnings, Side::EastWest, tables)?;
-    place_side(&mut standings, earnings, Side::NorthSouth, tables)?;
+    place_side(&mut standings, earnings, movement, Side::EastWest)?;
+    place_side(&mut standings, earnings, movement, Side::NorthSouth)?;
     Ok(standings)
 }
 
@@ -46,25 +46,28 @@ fn from_the_end(standings: &[Standing], others: usize) -> Standing
     standings[standings.len() - 1 - others]
 }
 
-/// Puts the pairs of a side in their places among those that are in their order.
+/// Puts the pairs of a side that are there in their places among those that are in their order.
 fn place_side(
     standings: &mut Vec<Standing>,
     earnings: &[Earning],
+    movement: Movement,
     side: Side,
-    tables: u8,
 ) -> Result<(), AllocError>
     requires few { length earnings.now ≤ most_results }
     ensures { OnOk result ((others : List Pair) →
         standings.old.items ≡ ranked (map (standing_of earnings.now) others) →
         standings.new.items ≡ ranked (map (standing_of earnings.now)
-        (map (pair_on side) (range_with_len 1 tables) ++ others))) }
+        (pairs_on movement.absent side 1 movement.tables ++ others))) }
 {
+    let tables = movement.tables();
     for before in 0..tables {
         let pair = Pair {
             side,
             number: tables - before,
         };
-        place(standings, standing_of(earnings, pair))?;
+        if !movement.is_absent(pair) {
+            place(standings, standing_of(earnings, pair))?;
+        }
     }
     Ok(())
 }
