@@ -8,14 +8,19 @@ use Rattle.std.proofs.Common.{
   ◌+◌,
   ◌<◌,
   ◌≤◌,
+  Bool,
   true,
   false,
+  cond,
+  not,
   List,
   [],
   ◌∷◌,
   ◌++◌,
   get_or,
   map,
+  filter,
+  append-nil,
   refl,
   sym,
   ap,
@@ -24,17 +29,20 @@ use Rattle.std.proofs.Common.{
 }
 use Rattle.std.specs.Prelude.{Option, Some, None, is_none}
 use Rattle.std.specs.List.{range_with_len, sum_by}
+use Rattle.std.proofs.lemmas.List.{map-append}
+use Rattle.std.proofs.lemmas.List.Elements.{filter-append}
 use Rattle.std.proofs.lemmas.List.Sums.{sum_by-cons}
-use Rattle.movement.specs.Movement.{Section, IsSection, boards_of, has_board}
+use Rattle.movement.specs.Movement.{Section, IsSection, is_absent, boards_of, has_board}
 use Rattle.scoring.specs.declared.standing.Standing.{Standing}
 use Rattle.table_terms.specs.declared.pair.Pair.{Pair}
+use Rattle.table_terms.specs.declared.side.Side.{Side}
 use Rattle.small_sets.specs.Numbers.{has_number}
 use Rattle.disclosure_rules.specs.Policy.{first_rule}
 use Rattle.disclosure_rules.specs.declared.fact.Fact.TheVariants.{Hands}
 use Rattle.disclosure_rules.specs.declared.viewer.Viewer.{Viewer}
 use Rattle.session_state.specs.SessionState.{SessionState}
 use Rattle.standings.specs.declared.earning.Earning.{Earning}
-use Rattle.standings.specs.Ranking.{earned_by, top_for}
+use Rattle.standings.specs.Ranking.{earned_by, top_for, pair_on, pairs_on}
 use Rattle.class_views.specs.Classes.{class_of, class_sees}
 use Rattle.class_views.specs.Kept.{IsKeptOf, counted_to}
 use Rattle.class_views.specs.Places.{class_at, pair_at}
@@ -116,15 +124,34 @@ range_more first n = ap (range_with_len first) one_more ∙ more first n
         next : first + 1 + n ≡ first + suc n
         next = omega arith
 
-pub each_more : {X Y : Type 0} (f : X → Y) (g : ℕ → X) (n : ℕ) → map f (map g (range_with_len 1 (n + 1))) ≡ map f
-    (map g (range_with_len 1 n)) ++ f (g (n + 1)) ∷ []
-each_more f g n =
-    ap (λ numbers. map f (map g numbers)) (range_more 1 n)
-    ∙ (both (range_with_len 1 n) ∙ ap (λ m. map f (map g (range_with_len 1 n)) ++ f (g m) ∷ []) same)
-  where
-    same : 1 + n ≡ n + 1
-    same = omega arith
+-- the pairs of a side with its next one, where that is there
+pub pairs_with_next : (absent : Option Pair) (side : Side) (n : ℕ) →
+    pairs_on absent side 1 (n + 1)
+    ≡ pairs_on absent side 1 n ++ cond (not (is_absent absent (pair_on side (n + 1)))) (pair_on side (n + 1) ∷ []) []
+unfolding pairs_on
+pairs_with_next absent side n =
+    let present : Pair → Bool = λ pair. not (is_absent absent pair) in
+    let before : List Pair = map (pair_on side) (range_with_len 1 n) in
+    let same : 1 + n ≡ n + 1 = omega arith in
+    ap (λ numbers. filter present (map (pair_on side) numbers)) (range_more 1 n)
+    ∙ (ap (filter present) (map-append (pair_on side) (range_with_len 1 n) ((1 + n) ∷ []))
+    ∙ (filter-append present before (pair_on side (1 + n) ∷ [])
+    ∙ ap (λ m. filter present before ++ cond (present (pair_on side m)) (pair_on side m ∷ []) []) same))
 
-    both : (numbers : List ℕ) → map f (map g (numbers ++ (1 + n) ∷ [])) ≡ map f (map g numbers) ++ f (g (1 + n)) ∷ []
-    both [] = refl
-    both (number ∷ numbers) = ap (λ rest. f (g number) ∷ rest) (both numbers)
+pub pairs_and_one : {A : Type 0} (f : Pair → A) (absent : Option Pair) (side : Side) (n : ℕ) →
+    is_absent absent (pair_on side (n + 1)) ≡ false →
+    map f (pairs_on absent side 1 (n + 1)) ≡ map f (pairs_on absent side 1 n) ++ f (pair_on side (n + 1)) ∷ []
+pairs_and_one f absent side n present =
+    ap (map f) (rw present at (pairs_with_next absent side n))
+    ∙ map-append f (pairs_on absent side 1 n) (pair_on side (n + 1) ∷ [])
+
+pub pairs_and_none : {A : Type 0} (f : Pair → A) (absent : Option Pair) (side : Side) (n : ℕ) →
+    is_absent absent (pair_on side (n + 1)) ≡ true →
+    map f (pairs_on absent side 1 (n + 1)) ≡ map f (pairs_on absent side 1 n)
+pairs_and_none f absent side n missing =
+    ap (map f) (rw missing at (pairs_with_next absent side n) ∙ append-nil (pairs_on absent side 1 n))
+
+pub no_pairs_yet : {A : Type 0} (f : Pair → A) (absent : Option Pair) (side : Side) (before : List A) →
+    before ≡ before ++ map f (pairs_on absent side 1 0)
+unfolding pairs_on
+no_pairs_yet f absent side before = sym (append-nil before)

@@ -5,13 +5,14 @@ ghost use Rattle.disclosure_rules.specs.declared.fact.Fact.TheVariants as fact;
 ghost use Rattle.disclosure_rules.specs.Policy.{first_rule};
 ghost use Rattle.session_state.specs.Apply.{apply};
 ghost use Rattle.session_state.specs.SessionState.{AreLive};
-ghost use Rattle.standings.specs.Ranking.{pair_on, pairs_of};
+ghost use Rattle.standings.specs.Ranking.{pairs_on, pairs_of};
 ghost use Rattle.class_views.specs.Classes.{class_of, is_kept_class, is_kept_pair};
 ghost use Rattle.class_views.specs.Totals.{told_board, total_for};
 
 use crate::kept::Kept;
 use crate::user_class::{UserClass, place_of};
 use disclosure_rules::Viewer;
+use movement::Movement;
 use scoring::Standing;
 use session_commands::{Command, Entry};
 use session_state::State;
@@ -91,10 +92,10 @@ impl ClassViews {
         ensures dealt { boards_of self.now.public.movement ≤ length self.now.deals }
     {
         let class = UserClass::of(viewer);
-        let tables = self.state.public().movement.tables();
-        let mut standings = Vec::with_capacity(alloc, 2 * tables as usize)?;
-        add_side(&mut standings, self, class, Side::NorthSouth, tables)?;
-        add_side(&mut standings, self, class, Side::EastWest, tables)?;
+        let movement = self.state.public().movement;
+        let mut standings = Vec::with_capacity(alloc, 2 * movement.tables() as usize)?;
+        add_side(&mut standings, self, class, movement, Side::NorthSouth)?;
+        add_side(&mut standings, self, class, movement, Side::EastWest)?;
         Ok(standings)
     }
 
@@ -117,22 +118,26 @@ impl ClassViews {
     }
 }
 
-/// Adds how the pairs of a side stand by the boards that a class is shown.
+/// Adds how the pairs of a side that are there stand by the boards that a class is shown.
 fn add_side(
     standings: &mut Vec<Standing>,
     views: &ClassViews,
     class: Option<UserClass>,
+    movement: Movement,
     side: Side,
-    tables: u8,
 ) -> Result<(), AllocError>
     requires class { IfSome class (λ class. is_kept_class class ≡ true) }
-    requires few { tables ≤ most_tables }
     ensures { OnOk result (standings.new.items ≡ standings.old.items
-        ++ map (total_for views.now class) (map (pair_on side) (range_with_len 1 tables))) }
+        ++ map (total_for views.now class) (pairs_on movement.absent side 1 movement.tables)) }
 {
-    for before in 0..tables {
-        let number = before + 1;
-        standings.push(views.total(class, Pair { side, number }))?;
+    for before in 0..movement.tables() {
+        let pair = Pair {
+            side,
+            number: before + 1,
+        };
+        if !movement.is_absent(pair) {
+            standings.push(views.total(class, pair))?;
+        }
     }
     Ok(())
 }

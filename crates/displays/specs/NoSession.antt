@@ -1,6 +1,6 @@
 -- A session that nobody keeps: where a call picks its server by the name `Brand`, this stands in place of its opening,
 -- and no copy is ever opened for it.
-use Rattle.std.specs.Prelude.{[]}
+use Rattle.std.specs.Prelude.{[], None}
 use Rattle.session_state.specs.SessionState.{SessionState}
 use Rattle.disclosure_rules.specs.declared.phase.Phase.TheVariants.{Running}
 
@@ -10,7 +10,7 @@ no_session = record {
   digests = [];
   seats = [];
   public = record {
-    movement = record { tables = 0; rounds = 0; per_set = 0 };
+    movement = record { tables = 0; rounds = 0; per_set = 0; absent = None };
     marks = [];
     round = 0;
     phase = Running;

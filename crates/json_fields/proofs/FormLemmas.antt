@@ -20,6 +20,7 @@ use Rattle.std.proofs.Common.{
   Option,
   Some,
   None,
+  option_map,
   option_and_then,
   refl,
   sym,
@@ -28,6 +29,7 @@ use Rattle.std.proofs.Common.{
   ◌∙◌,
   arith,
 }
+use Rattle.std.proofs.lemmas.Option.{same_Some}
 use Rattle.serde_json.specs.Data.{Data, Items, no_items, item}
 use Rattle.serde_json.specs.Find.{get}
 use Rattle.scoring.specs.declared.doubling.Doubling.{Doubling}
@@ -37,6 +39,9 @@ use Rattle.user_names.specs.declared.name.TheConstants.Name.{MOST}
 use Rattle.json_fields.specs.Form.{
   Member,
   Form,
+  read_if_there,
+  IsIfThere,
+  optional,
   applied,
   form,
   ◌with◌,
@@ -95,6 +100,33 @@ with_agrees f m of_form of_member = record {
       ∙ ap (applied (Some is.0)) (of_member.reads (get m.name d) is.1 is.3)
       ∙ ap Some is.4;
 }
+
+-- ---- a member that may be missing
+
+inside : {A : Type 0} (o : Option A) (x : A) → option_map (λ y. Some y) o ≡ Some (Some x) → o ≡ Some x
+inside None x h = absurd (cc)
+inside (Some y) x h = same_Some (Some y) (Some x) h
+
+never_none : {A : Type 0} (o : Option A) → ¬ (option_map (λ (y : A). Some y) o ≡ Some None)
+never_none None h = absurd (cc)
+never_none (Some y) h = absurd (cc)
+
+optional_read : {A : Type 0} (m : Member A) → Agrees m → (o : Option Data) (x : Option A) →
+    read_if_there m.value o ≡ Some x → IsIfThere m.Is o x
+optional_read m agrees None None h = tt
+optional_read m agrees None (Some x) h = absurd (cc)
+optional_read m agrees (Some d) None h = absurd (never_none (m.value (Some d)) h)
+optional_read m agrees (Some d) (Some x) h = agrees.read (Some d) x (inside (m.value (Some d)) x h)
+
+optional_reads : {A : Type 0} (m : Member A) → Agrees m → (o : Option Data) (x : Option A) → IsIfThere m.Is o x →
+    read_if_there m.value o ≡ Some x
+optional_reads m agrees None None is = refl
+optional_reads m agrees None (Some x) is = absurd is
+optional_reads m agrees (Some d) None is = absurd is
+optional_reads m agrees (Some d) (Some x) is = ap (option_map (λ y. Some y)) (agrees.reads (Some d) x is)
+
+pub optional_agrees : {A : Type 0} (m : Member A) → Agrees m → Agrees (optional m)
+optional_agrees m agrees = record { read = optional_read m agrees; reads = optional_reads m agrees }
 
 -- a value that is kept where a test passes
 pub kept : {A : Type 0} (b : Bool) (o : Option A) (x : A) → cond b o None ≡ Some x → (b ≡ true) × (o ≡ Some x)

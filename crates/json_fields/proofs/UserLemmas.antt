@@ -74,11 +74,13 @@ use Rattle.json_fields.specs.User.{
   user_roles,
   side_pairs,
   pair_named,
+  paired,
   pair,
+  absent,
   place,
 }
 use Rattle.json_fields.proofs.LetterLemmas.{place_found, place_reads, find_nothing, found_passes}
-use Rattle.json_fields.proofs.FormLemmas.{Agrees, named_agrees, listed_agrees}
+use Rattle.json_fields.proofs.FormLemmas.{Agrees, named_agrees, listed_agrees, optional_agrees}
 
 -- ---- digests
 
@@ -282,9 +284,15 @@ pair_at : (o : Option (List ℕ)) (pair : Pair) → option_and_then pair_named o
 pair_at None pair h = absurd (cc)
 pair_at (Some word) pair h = let is = named_pair word pair h in (ap Some is.text, is.least, is.most)
 
-pub pair_agrees : Agrees pair
-pair_agrees = record {
+pub paired_agrees : (name : List ℕ) → Agrees (paired name)
+paired_agrees name = record {
   read = λ o x h. let is = pair_at (text o) x h in record { is = is.0; least = is.1; most = is.2 };
   reads = λ o x is. ap (option_and_then pair_named) is.is
       ∙ sym (pair_found (pair_text x) x (record { written = refl; least = is.least; most = is.most }));
 }
+
+pub pair_agrees : Agrees pair
+pair_agrees = paired_agrees _
+
+pub absent_agrees : Agrees absent
+absent_agrees = optional_agrees (paired (codes "absent")) (paired_agrees (codes "absent"))

@@ -17,6 +17,7 @@ use Rattle.std.specs.Prelude.{
   Option,
   Some,
   None,
+  option_map,
 }
 use Rattle.std.specs.List.{list_any}
 use Rattle.std.specs.Str.{bytes_eq}
@@ -29,6 +30,21 @@ pub record Member (A : Type 0) : Type 1 where
   pub name : List ℕ
   pub value : Option Data → Option A
   pub Is : Option Data → A → Type 0
+
+-- what is read of a member that may be missing: nothing where it is
+abbrev pub read_if_there : {A : Type 0} → (Option Data → Option A) → Option Data → Option (Option A)
+read_if_there read None = Some None
+read_if_there read (Some d) = option_map (λ x. Some x) (read (Some d))
+
+abbrev pub IsIfThere : {A : Type 0} → (Option Data → A → Type 0) → Option Data → Option A → Type 0
+IsIfThere Is None None = Unit {0}
+IsIfThere Is None (Some x) = ⊥
+IsIfThere Is (Some d) None = ⊥
+IsIfThere Is (Some d) (Some x) = Is (Some d) x
+
+-- a member that may be missing
+abbrev pub optional : {A : Type 0} → Member A → Member (Option A)
+optional m = record { name = m.name; value = read_if_there m.value; Is = IsIfThere m.Is }
 
 -- a form: its word, the names of its members, the value that they make, and when they make a value
 pub record Form (A : Type 0) : Type 1 where

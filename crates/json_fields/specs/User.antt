@@ -32,7 +32,7 @@ use Rattle.table_terms.specs.Place.{place_letter}
 use Rattle.session_roles.specs.declared.role.Role.{Role}
 use Rattle.session_roles.specs.Role.{roles, role_name}
 use Rattle.user_names.specs.declared.digest.Digest.{Digest}
-use Rattle.json_fields.specs.Form.{Member}
+use Rattle.json_fields.specs.Form.{Member, optional}
 use Rattle.json_fields.specs.Field.{text, called, named, listed}
 use Rattle.json_fields.specs.Letter.{place_named}
 
@@ -93,9 +93,17 @@ pub record IsPair (o : Option Data) (pair : Pair) : Type 0 where
   pub least : 1 ≤ pair.number
   pub most : pair.number ≤ 255
 
+-- a pair in the member of this name
+abbrev pub paired : List ℕ → Member Pair
+paired name = record { name = name; value = λ o. option_and_then pair_named (text o); Is = IsPair }
+
 -- the pair in which a user sits
 abbrev pub pair : Member Pair
-pair = record { name = codes "pair"; value = λ o. option_and_then pair_named (text o); Is = IsPair }
+pair = paired (codes "pair")
+
+-- the pair of a session that is absent, if one is
+abbrev pub absent : Member (Option Pair)
+absent = optional (paired (codes "absent"))
 
 -- and the place
 abbrev pub place : Member Place

@@ -3,7 +3,7 @@
 ghost use Rattle.std.specs.Prelude.{◌≡◌};
 ghost use Rattle.serde_json.specs.Find.{get};
 ghost use Rattle.serde_json.specs.View.{view};
-ghost use Rattle.json_fields.specs.User.{digest_named, digest, role_named, role_of, pair_named, pair, place};
+ghost use Rattle.json_fields.specs.User.{digest_named, digest, role_named, role_of, pair_named, pair, absent, place};
 
 use crate::field::text_at;
 use crate::letter::place_named;
@@ -69,6 +69,22 @@ pub fn read_pair(value: &Value) -> Option<Pair>
     match text_at(value, "pair") {
         Some(word) => pair_named(word),
         None => None,
+    }
+}
+
+/// The pair in the member `absent`, where there is one.
+pub fn read_absent(value: &Value) -> Option<Option<Pair>>
+    ensures { result ≡ absent.value (get absent.name (view value.now)) }
+{
+    match value.get("absent") {
+        None => Some(None),
+        Some(member) => match member.as_str() {
+            Some(word) => match pair_named(word) {
+                Some(pair) => Some(Some(pair)),
+                None => None,
+            },
+            None => None,
+        },
     }
 }
 

@@ -2,7 +2,7 @@
 use Rattle.std.proofs.Common.{◌≡◌, ℕ, ℤ, pos, negsuc, List, [], ◌∷◌, ◌||◌, Option, Some, None, false, refl, ap}
 use Rattle.std.specs.Prelude.{take}
 use Rattle.std.specs.List.{range_with_len}
-use Rattle.serde_json.specs.Data.{Data}
+use Rattle.serde_json.specs.Data.{Data, Members, object}
 use Rattle.serde_json.specs.Find.{of_integer, is_float}
 use Rattle.serde_json.specs.Written.{has_float}
 use Rattle.table_terms.specs.declared.pair.Pair.{Pair}
@@ -31,6 +31,7 @@ use Rattle.reply_texts.specs.StatusText.{
   marks_data,
   seat_data,
   status_data,
+  with_absent,
 }
 use Rattle.reply_texts.specs.BoardText.{tricks_data}
 use Rattle.reply_texts.specs.TravellerText.{outcome_data, result_data, traveller_row_data}
@@ -70,13 +71,18 @@ none_in_live_tables public =
     (λ board. none_in_numbers (live_tables public board))
     (range_with_len 1 (boards_of public.movement))
 
+none_with_absent : (absent : Option Pair) (others : Members) → has_float (object others) ≡ false →
+    has_float (object (with_absent absent others)) ≡ false
+none_with_absent None others none = none
+none_with_absent (Some pair) others none = none
+
 none_in_a_status : (public : Public) (seats : List Seated) → has_float (status_data public seats) ≡ false
 none_in_a_status public seats =
-    λ i. none_in_numbers (held_boards public) i
+    none_with_absent public.movement.absent _ (λ i. none_in_numbers (held_boards public) i
     || (none_in_live_tables public i
     || (none_in_marks public i
     || (false || (false || (false || (false
-    || (none_in_a_list seat_data (λ seated. refl) seats i || (false || false))))))))
+    || (none_in_a_list seat_data (λ seated. refl) seats i || (false || false)))))))))
 
 none_in_an_outcome : (outcome : Outcome) → has_float (outcome_data outcome) ≡ false
 none_in_an_outcome outcome.PassedOut = refl

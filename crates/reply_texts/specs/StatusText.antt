@@ -1,8 +1,9 @@
 -- What is written of a session's status: what every member may see.
-use Rattle.std.specs.Prelude.{ℕ, List, [], ◌∷◌, ◌++◌, take, codes}
+use Rattle.std.specs.Prelude.{ℕ, Option, None, Some, List, [], ◌∷◌, ◌++◌, take, codes}
 use Rattle.std.specs.List.{range_with_len}
-use Rattle.serde_json.specs.Data.{Data, string, array, object, member, no_members}
+use Rattle.serde_json.specs.Data.{Data, Members, string, array, object, member, no_members}
 use Rattle.serde_json.specs.View.{items_of}
+use Rattle.table_terms.specs.declared.pair.Pair.{Pair}
 use Rattle.table_terms.specs.Pair.{pair_text}
 use Rattle.table_terms.specs.Place.{place_letter}
 use Rattle.table_terms.specs.Vulnerability.{vulnerability_text}
@@ -57,9 +58,14 @@ seat_data seated =
     ∷ string (place_letter seated.seat.place ∷ [])
     ∷ []))
 
+-- the pair that is absent, where one is, before the other members
+abbrev pub with_absent : Option Pair → Members → Members
+with_absent None others = others
+with_absent (Some pair) others = member (codes "absent") (string (pair_text pair)) others
+
 abbrev pub status_data : Public → List Seated → Data
 status_data public seats =
-    object (member (codes "held") (list_data number_data (held_boards public))
+    object (with_absent public.movement.absent (member (codes "held") (list_data number_data (held_boards public))
     (member (codes "live") (live_data public)
     (member (codes "marks") (marks_data public)
     (member (codes "per_set") (number_data public.movement.per_set)
@@ -67,4 +73,4 @@ status_data public seats =
     (member (codes "round") (number_data public.round)
     (member (codes "rounds") (number_data public.movement.rounds)
     (member (codes "seats") (list_data seat_data seats)
-    (member (codes "tables") (number_data public.movement.tables) no_members)))))))))
+    (member (codes "tables") (number_data public.movement.tables) no_members))))))))))

@@ -1,10 +1,12 @@
 //! What is written of a session's status.
 
 ghost use Rattle.std.specs.Prelude.{◌≡◌, IfOk};
+ghost use Rattle.serde_json.specs.Data.{no_members};
 ghost use Rattle.serde_json.specs.View.{view};
+ghost use Rattle.json_fields.specs.Written.{HasMembers};
 ghost use Rattle.reply_texts.specs.DataOf.{number_data, list_data};
 ghost use Rattle.reply_texts.specs.StatusText.{phase_name, held_boards, live_tables, tables_data, live_data, mark_data};
-ghost use Rattle.reply_texts.specs.StatusText.{marks_data, seat_data, status_data};
+ghost use Rattle.reply_texts.specs.StatusText.{marks_data, seat_data, with_absent, status_data};
 
 use crate::to_json::{ToJson, list_value};
 use disclosure_rules::{Marks, Phase, Public};
@@ -13,6 +15,7 @@ use movement::Cell;
 use serde_json::{Value, push};
 use session_state::Seated;
 use std::alloc::{AllocError, Global};
+use table_terms::Pair;
 
 pub(crate) fn status_value(
     alloc: Global,
@@ -21,7 +24,7 @@ pub(crate) fn status_value(
 ) -> Result<Value, AllocError>
     ensures { IfOk result (λ value. view value ≡ status_data public.now seats.now) }
 {
-    ObjectWriter::new(alloc)
+    begun_with(alloc, public.movement.absent())
         .member("held", held_value(alloc, public))
         .member("live", live_value(alloc, public))
         .member("marks", marks_value(alloc, public))
@@ -35,6 +38,17 @@ pub(crate) fn status_value(
         .member("seats", list_value(alloc, seats))
         .number("tables", public.movement.tables())
         .object()
+}
+
+// An object that begins with the pair that is absent, where one is.
+fn begun_with(alloc: Global, absent: Option<Pair>) -> ObjectWriter
+    ensures { HasMembers result (with_absent absent no_members) }
+{
+    let object = ObjectWriter::new(alloc);
+    match absent {
+        None => object,
+        Some(pair) => object.member("absent", string_value(pair.to_string(alloc))),
+    }
 }
 
 fn held_value(alloc: Global, public: &Public) -> Result<Value, AllocError>

@@ -4,7 +4,7 @@ use Rattle.std.proofs.lemmas.Option.{same_Some}
 use Rattle.serde_json.specs.Data.{Data}
 use Rattle.serde_json.specs.Find.{get}
 use Rattle.session_opening.specs.declared.new_user.NewUser.{NewUser}
-use Rattle.json_fields.specs.User.{user_name, digest, user_roles, pair, place}
+use Rattle.json_fields.specs.User.{user_name, digest, user_roles, pair, absent, place}
 use Rattle.json_fields.specs.Field.{limited, numbered, written}
 use Rattle.json_fields.proofs.FormLemmas.{
   Agrees,
@@ -16,7 +16,7 @@ use Rattle.json_fields.proofs.FormLemmas.{
   numbered_agrees,
 }
 use Rattle.json_fields.proofs.FormLemmas.{limited_agrees, called_agrees, written_agrees, listed_agrees}
-use Rattle.json_fields.proofs.UserLemmas.{digest_agrees, user_roles_agree, pair_agrees, place_agrees}
+use Rattle.json_fields.proofs.UserLemmas.{digest_agrees, user_roles_agree, pair_agrees, absent_agrees, place_agrees}
 use Rattle.session_object.specs.Session.{
   Session,
   seated,
@@ -67,15 +67,15 @@ with_boards_agrees : AgreesForm with_boards
 with_boards_agrees =
     with_agrees _ users (with_agrees _ (numbered (codes "tables")) (with_agrees _ (numbered (codes "rounds"))
     (with_agrees _ (numbered (codes "per_set"))
-    (with_agrees _ (written (codes "pbn")) (with_agrees _ (limited (codes "budget") most_visits) (form_agrees [] _)
-    (limited_agrees _ _)) (written_agrees _)) (numbered_agrees _)) (numbered_agrees _)) (numbered_agrees _)) users_agree
+    (with_agrees _ (written (codes "pbn")) (with_agrees _ (limited (codes "budget") most_visits)
+    (with_agrees _ absent (form_agrees [] _) absent_agrees) (limited_agrees _ _)) (written_agrees _)) (numbered_agrees _)) (numbered_agrees _)) (numbered_agrees _)) users_agree
 
 beside_boards_agrees : (given : List ℕ) → AgreesForm (beside_boards given)
 beside_boards_agrees given =
     with_agrees _ users (with_agrees _ (numbered (codes "tables")) (with_agrees _ (numbered (codes "rounds"))
     (with_agrees _ (numbered (codes "per_set"))
-    (with_agrees _ (limited (codes "budget") most_visits) (form_agrees [] _)
-    (limited_agrees _ _)) (numbered_agrees _)) (numbered_agrees _)) (numbered_agrees _)) users_agree
+    (with_agrees _ (limited (codes "budget") most_visits)
+    (with_agrees _ absent (form_agrees [] _) absent_agrees) (limited_agrees _ _)) (numbered_agrees _)) (numbered_agrees _)) (numbered_agrees _)) users_agree
 
 session_agrees : (given : Option (List ℕ)) → AgreesForm (session_form given)
 session_agrees None = with_boards_agrees

@@ -30,7 +30,12 @@ most_bytes = MOST_BYTES
 
 -- the section that a session object asks for
 abbrev pub section_of : Session → Section
-section_of session = record { tables = session.tables; rounds = session.rounds; per_set = session.per_set }
+section_of session = record {
+  tables = session.tables;
+  rounds = session.rounds;
+  per_set = session.per_set;
+  absent = session.absent;
+}
 
 -- there is such a section
 abbrev pub HasNoMovementError : Section → Type 0
@@ -108,6 +113,7 @@ IsSessionRefused OutOfMemory given text = Unit {0}
 -- the session of the parts that were read
 abbrev pub session_of_parts : Parts → Session
 session_of_parts parts = record {
+  absent = parts.absent;
   budget = parts.budget;
   pbn = parts.pbn.now;
   per_set = parts.per_set;

@@ -2,10 +2,11 @@
 use Rattle.std.specs.Prelude.{ℕ, List, [], codes, Option, Some, None}
 use Rattle.serde_json.specs.Data.{Data}
 use Rattle.serde_json.specs.Find.{get}
+use Rattle.table_terms.specs.declared.pair.Pair.{Pair}
 use Rattle.session_opening.specs.declared.new_user.NewUser.{NewUser}
 use Rattle.json_fields.specs.Form.{Member, Form, form, ◌with◌, formed, HasForm}
 use Rattle.json_fields.specs.Field.{limited, numbered, written, listed}
-use Rattle.json_fields.specs.User.{user_name, digest, user_roles, pair, place}
+use Rattle.json_fields.specs.User.{user_name, digest, user_roles, pair, absent, place}
 
 -- ---- users
 
@@ -41,9 +42,10 @@ users = listed (codes "users") new_user_of IsUser
 
 -- ---- sessions
 
--- what a session object says: the visits of a solver's call, the boards' PBN text, the three numbers of the movement,
--- and the users
+-- what a session object says: the pair that is absent, if one is, the visits of a solver's call, the boards' PBN text, the
+-- three numbers of the movement, and the users
 pub record Session : Type 0 where
+  pub absent : Option Pair
   pub budget : ℕ
   pub pbn : List ℕ
   pub per_set : ℕ
@@ -58,17 +60,31 @@ most_visits = 1000000000000000000
 -- a session object that has its boards in it
 abbrev pub with_boards : Form Session
 with_boards =
-    form [] (λ budget pbn per_set rounds tables users.
-    record { budget = budget; pbn = pbn; per_set = per_set; rounds = rounds; tables = tables; users = users })
-    with limited (codes "budget") most_visits with written (codes "pbn") with numbered (codes "per_set")
+    form [] (λ absent budget pbn per_set rounds tables users. record {
+      absent = absent;
+      budget = budget;
+      pbn = pbn;
+      per_set = per_set;
+      rounds = rounds;
+      tables = tables;
+      users = users;
+    })
+    with absent with limited (codes "budget") most_visits with written (codes "pbn") with numbered (codes "per_set")
     with numbered (codes "rounds") with numbered (codes "tables") with users
 
 -- a session object whose boards are given beside it
 abbrev pub beside_boards : List ℕ → Form Session
 beside_boards pbn =
-    form [] (λ budget per_set rounds tables users.
-    record { budget = budget; pbn = pbn; per_set = per_set; rounds = rounds; tables = tables; users = users })
-    with limited (codes "budget") most_visits with numbered (codes "per_set")
+    form [] (λ absent budget per_set rounds tables users. record {
+      absent = absent;
+      budget = budget;
+      pbn = pbn;
+      per_set = per_set;
+      rounds = rounds;
+      tables = tables;
+      users = users;
+    })
+    with absent with limited (codes "budget") most_visits with numbered (codes "per_set")
     with numbered (codes "rounds") with numbered (codes "tables") with users
 
 -- which of the two it is, by the deals that are given

@@ -8,11 +8,11 @@ ghost use Rattle.session_object.specs.Reading.{FailsPart, session_of_parts};
 
 use crate::session_fault::SessionFault;
 use crate::user::users_of;
-use json_fields::{has_only, limited_at, small_number_at, text_at};
+use json_fields::{has_only, limited_at, read_absent, small_number_at, text_at};
 use serde_json::Value;
 use session_opening::NewUser;
 use std::alloc::Global;
-use table_terms::Items;
+use table_terms::{Items, Pair};
 
 /// The most visits of a solver's call.
 const MOST_VISITS: u64 = 1_000_000_000_000_000_000;
@@ -20,6 +20,7 @@ const MOST_VISITS: u64 = 1_000_000_000_000_000_000;
 /// What the members of a session object say.
 #[derive(Drop)]
 pub(crate) struct Parts<'t> {
+    pub(crate) absent: Option<Pair>,
     pub(crate) budget: u64,
     /// The PBN text of the boards.
     pub(crate) pbn: &'t [u8],
@@ -35,10 +36,15 @@ fn with_boards<'t>(alloc: Global, value: &'t Value) -> Result<Parts<'t>, Session
 {
     if !has_only(
         value,
-        &["budget", "pbn", "per_set", "rounds", "tables", "users"],
+        &[
+            "absent", "budget", "pbn", "per_set", "rounds", "tables", "users",
+        ],
     ) {
         return Err(SessionFault::BadField);
     }
+    let Some(absent) = read_absent(value) else {
+        return Err(SessionFault::BadField);
+    };
     let Some(budget) = limited_at(value, "budget", MOST_VISITS) else {
         return Err(SessionFault::BadField);
     };
@@ -56,6 +62,7 @@ fn with_boards<'t>(alloc: Global, value: &'t Value) -> Result<Parts<'t>, Session
     };
     let users = users_of(alloc, value)?;
     Ok(Parts {
+        absent,
         budget,
         pbn: pbn.as_bytes(),
         per_set,
@@ -70,9 +77,15 @@ fn beside_boards<'t>(alloc: Global, value: &Value, pbn: &'t [u8]) -> Result<Part
         formed [] (beside_boards pbn.now) (view value.now) ≡ Some (session_of_parts parts)) }
     ensures fault { IfErr result (λ fault. FailsPart fault (formed [] (beside_boards pbn.now) (view value.now))) }
 {
-    if !has_only(value, &["budget", "per_set", "rounds", "tables", "users"]) {
+    if !has_only(
+        value,
+        &["absent", "budget", "per_set", "rounds", "tables", "users"],
+    ) {
         return Err(SessionFault::BadField);
     }
+    let Some(absent) = read_absent(value) else {
+        return Err(SessionFault::BadField);
+    };
     let Some(budget) = limited_at(value, "budget", MOST_VISITS) else {
         return Err(SessionFault::BadField);
     };
@@ -87,6 +100,7 @@ fn beside_boards<'t>(alloc: Global, value: &Value, pbn: &'t [u8]) -> Result<Part
     };
     let users = users_of(alloc, value)?;
     Ok(Parts {
+        absent,
         budget,
         pbn,
         per_set,

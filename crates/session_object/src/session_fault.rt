@@ -43,6 +43,7 @@ fn name_of(fault: &SessionFault) -> &'static str {
         SessionFault::Movement(MovementError::BadTables) => "BadTables",
         SessionFault::Movement(MovementError::BadRounds) => "BadRounds",
         SessionFault::Movement(MovementError::BadSets) => "BadSets",
+        SessionFault::Movement(MovementError::BadPair) => "BadPair",
         SessionFault::Deals(_) => "Deals",
         SessionFault::OutOfMemory => "OutOfMemory",
     }

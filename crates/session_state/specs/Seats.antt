@@ -4,17 +4,17 @@ use Rattle.std.specs.List.{list_any, IsDistinct}
 use Rattle.table_terms.specs.declared.pair.Pair.{Pair}
 use Rattle.table_terms.specs.declared.place.Place.{Place}
 use Rattle.table_terms.specs.Place.{side_of, place_number}
-use Rattle.movement.specs.Movement.{Section}
-use Rattle.movement.specs.Movement.{same_side, same_pair}
+use Rattle.movement.specs.Movement.{Section, same_side, same_pair, is_absent}
 use Rattle.rbac.specs.Account.{same_name}
 use Rattle.rbac.specs.RoleData.{RoleData}
 use Rattle.disclosure_rules.specs.declared.seat.Seat.{Seat}
 use Rattle.session_state.specs.declared.seated.Seated.{Seated}
 use Rattle.session_state.specs.Accounts.{has_account}
 
--- whether the section has the pair: on each side a pair for each table
+-- whether the section has the pair: on each side a pair for each table, but for one that is absent
 abbrev pub is_pair : Section → Pair → Bool
-is_pair section pair = nat_le 1 pair.number && nat_le pair.number section.tables
+is_pair section pair =
+    (nat_le 1 pair.number && nat_le pair.number section.tables) && not (is_absent section.absent pair)
 
 -- whether the place is one of the pair's side
 abbrev pub is_of_side : Pair → Place → Bool

@@ -31,11 +31,11 @@ pub fn unseat_cause(state: &State, name: Name) -> Option<Refusal>
     (!state.has_seat(name)).then_some(Refusal::NotSeated)
 }
 
-/// Whether the section has the pair.
+/// Whether the section has the pair, and it isn't absent.
 pub fn is_pair(movement: Movement, pair: Pair) -> bool
     ensures { result ≡ is_pair movement pair }
 {
-    1 <= pair.number && pair.number <= movement.tables()
+    1 <= pair.number && pair.number <= movement.tables() && !movement.is_absent(pair)
 }
 
 /// Whether the place is one of the pair's side.
