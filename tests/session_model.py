@@ -79,10 +79,10 @@ def movement_of(tables, rounds):
 
 
 class Session:
-    def __init__(self, tables, rounds, per_set, users, deals):
-        self.tables, self.rounds, self.per_set, self.deals = tables, rounds, per_set, deals
+    def __init__(self, tables, rounds, per_set, users, deals, absent=None):
+        self.tables, self.rounds, self.per_set, self.deals, self.absent = tables, rounds, per_set, deals, absent
         self.boards = range(1, tables * per_set + 1)
-        self.rows = movement_of(tables, rounds)
+        self.rows = [row for row in movement_of(tables, rounds) if absent not in row[3:]]
         self.scheduled = {board: [row for row in sorted(self.rows, key=lambda row: row[1]) if row[2] == (board - 1) // per_set + 1]
                           for board in self.boards}
         self.users = {user["name"]: set(user["roles"]) for user in users}
@@ -226,7 +226,8 @@ class Session:
     def ask_status(self, name, query):
         live = [[row[1] for row in self.scheduled[board] if (row[1], board) in self.results] for board in self.boards]
         seats = [[name, *self.seats[name]] for name in self.users if name in self.seats]
-        return {"held": sorted(self.held), "live": live, "marks": [f"{dealer_of(b)} {vulnerability_of(b)}" for b in self.boards],
+        half_table = {} if self.absent is None else {"absent": self.absent}
+        return {**half_table, "held": sorted(self.held), "live": live, "marks": [f"{dealer_of(b)} {vulnerability_of(b)}" for b in self.boards],
                 "per_set": self.per_set, "phase": self.phase, "round": self.round, "rounds": self.rounds, "seats": seats, "tables": self.tables}
 
     def ask_board(self, name, query):
@@ -277,6 +278,7 @@ class Session:
             if self.sees(name, "Hands", board):
                 self.add_earnings(board, self.shown_results(name, board), earned, tops)
         pairs = [side + str(number) for side in ("NS", "EW") for number in range(1, self.tables + 1)]
+        pairs = [pair for pair in pairs if pair != self.absent]
         standings = [[pair, earned.get(pair, 0), tops.get(pair, 0)] for pair in pairs]
         return sorted(standings, key=cmp_to_key(ranks_before))
 

@@ -26,6 +26,8 @@ PARTS = {
     "session end": MODEL,
     "filters": MODEL,
     "largest": MODEL,
+    "half table": MODEL,
+    "a board that nobody plays": MODEL,
     "one world": MODEL,
     "other world": MODEL,
     "exposure": "tests/exposure_rows.py: by hand, from the laws of the session and the policy, and from a plain model",

@@ -1,6 +1,6 @@
 #!/usr/bin/env python3
 """Writes the parts of the stored runs of crates/bridge_server_stored_runs that ask queries: `queries`, `session end`, `filters`,
-`largest`, `one world` and `other world`.
+`largest`, `half table`, `a board that nobody plays`, `one world` and `other world`.
 
     python3 tests/write_query_runs.py
 
@@ -576,7 +576,64 @@ def write_largest():
     run.write("largest")
 
 
+# ---- a half table
+
+def half_table_run(rounds):
+    """Three tables without the East-West pair 3: who would meet it sits out."""
+    opening = SESSION.replace('"budget":0', '"absent":"EW3","budget":0', 1).replace('"rounds":3', f'"rounds":{rounds}', 1)
+    return Run(opening, Session(3, rounds, 1, USERS, DEALS, "EW3"))
+
+
+def write_half_table():
+    run = half_table_run(3)
+    # table 3 would play board 3 in the first round, table 1 board 2 in the second, and table 2 board 1 in the third
+    run.ask("n1", "status", {"absent": "EW3", **STATUS_0})
+    for table, board in ((3, 3), (1, 2), (2, 1)):
+        run.refuse("k", enter(table, board, FOUR_SPADES), "NoSuchCell")
+        run.ask("d", "play", "NoSuchCell", table=table, board=board)
+    # NS1 doesn't play board 2, which the tables 2 and 3 play; NS3 is at none of the tables of board 3
+    run.ask("n1", "board", (6, 2), board=2)
+    run.ask("n1", "board", (5, 1), board=3)
+    run.ask("n2", "board", (6, 1), board=1)
+    run.ask("n1", "ranking", [["NS1", 0, 0], ["NS2", 0, 0], ["NS3", 0, 0], ["EW1", 0, 0], ["EW2", 0, 0]])
+    run.refuse("d", {"cmd": "Seat", "name": "n1", "pair": "EW3", "place": "E"}, "NoSuchPair")
+    # NS1 beats NS3 at board 1; the others are all even. EW1 and EW2 play three boards, the others two
+    run.accept("k", *played(1, 1, FOUR_SPADES), *played(2, 2, FOUR_SPADES))
+    run.accept("d", NEXT)
+    run.accept("k", *played(3, 1, "pass"), *played(2, 3, "pass"))
+    for name in EVERYBODY:
+        run.ask_all(name, (1, 2, 3), [(1, 1), (3, 1), (2, 2), (2, 3)])
+    run.accept("d", NEXT)
+    run.accept("k", *played(3, 2, FOUR_SPADES), *played(1, 3, "pass"))
+    run.ask("d", "status", {"absent": "EW3", **STATUS_0, "live": [[1, 3], [2, 3], [1, 2]], "round": 3})
+    # by what was earned of what could be: 75, 66.7, 50, 33.3 and 25 of a hundred
+    run.ask("s", "ranking", [["NS1", 300, 400], ["EW2", 400, 600], ["NS2", 200, 400], ["EW1", 200, 600], ["NS3", 100, 400]])
+    run.ask("s", "list", {"boards": [1, 2, 3], "more": False})
+    for name in EVERYBODY:
+        run.ask_all(name, (1, 2, 3), [(1, 1), (3, 1), (2, 2), (3, 2), (1, 3), (2, 3)])
+    run.accept("d", CLOSE)
+    run.accept("d", FINALISE)
+    run.ask("n1", "board", {"deal": DEALS[2], "dealer": "S", "number": 3, "vul": "ew"}, board=3)
+    run.write("half table")
+
+    # in one round nobody plays board 3: no table has still to, so that it is complete
+    run = half_table_run(1)
+    run.ask("s", "traveller", {"board": 3, "rows": []}, board=3)
+    run.ask("s", "board", {"deal": DEALS[2], "dealer": "S", "number": 3, "vul": "ew"}, board=3)
+    run.ask("n1", "board", {"deal": DEALS[2], "dealer": "S", "number": 3, "vul": "ew"}, board=3)
+    run.ask("n1", "board", (5, 1), board=1)
+    run.refuse("k", enter(3, 3, FOUR_SPADES), "NoSuchCell")
+    run.refuse("d", rule(3, 3, 60, 40, 1), "NoSuchCell")
+    run.ask("s", "list", {"boards": [3], "more": False})
+    run.accept("k", *played(1, 1, FOUR_SPADES), *played(2, 2, FOUR_SPADES))
+    run.accept("d", CLOSE)
+    for name in EVERYBODY:
+        run.ask_all(name, (1, 2, 3), [(1, 1), (2, 2)])
+    run.write("a board that nobody plays")
+
+
 if __name__ == "__main__":
+    write_half_table()
     write_queries()
     write_session_end()
     write_filters()
