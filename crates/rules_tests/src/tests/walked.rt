@@ -1,6 +1,7 @@
 //! The movement as it is walked through round by round.
 
-use movement::Movement;
+use movement::{Movement, MovementError};
+use table_terms::{Pair, Side};
 
 /// What is at the tables, from table 1 on: the pairs, or how many sets are before the table's.
 type Seats = [u8; 16];
@@ -86,4 +87,75 @@ fn movements_are_as_walked(rt: HostRuntime) {
         let per_set = 1 << (case % 4);
         assert!(rt; tables < 3 || is_walked_or_refused(tables, rounds, per_set));
     }
+}
+
+/// Whether each table plays in each round just where neither of its pairs is absent, and would play the boards of the full
+/// movement against its East-West pair. The cell of a table and a board is there where the table plays it, and is found
+/// for both of its pairs.
+fn sits_out(full: Movement, half: Movement, absent: Pair) -> bool {
+    for table in 1..=full.tables() {
+        for round in 1..=full.rounds() {
+            let there = Pair {
+                side: Side::NorthSouth,
+                number: table,
+            };
+            let against = full.ew_at(table, round);
+            let board = full.board_at(table, round, 1);
+            let plays = there != absent && against != absent;
+            let is_as_it_was = half.plays(table, round) == plays
+                && half.board_at(table, round, 1) == board
+                && half.ew_at(table, round) == against
+                && half.cell(table, board).is_some() == plays
+                && half.scheduled(board).contains(table) == plays
+                && half.cell_of(there, board).is_some() == plays
+                && half.cell_of(against, board).is_some() == plays;
+            if !is_as_it_was || !full.plays(table, round) {
+                return false;
+            }
+        }
+    }
+    true
+}
+
+/// The same of each pair of a section, which is absent in turn.
+fn each_sits_out(tables: u8) -> bool {
+    let rounds = tables.saturating_sub(1) | 1;
+    let Ok(full) = Movement::new(tables, rounds, 1) else {
+        return false;
+    };
+    for side in [Side::NorthSouth, Side::EastWest] {
+        for number in 1..=tables {
+            let absent = Pair { side, number };
+            match Movement::with_absent(tables, rounds, 1, Some(absent)) {
+                Ok(half) if half.absent() == Some(absent) && sits_out(full, half, absent) => {}
+                _ => return false,
+            }
+        }
+    }
+    full.absent().is_none()
+}
+
+/// 3 to 16 tables, and each of their pairs.
+#[test]
+fn whoever_would_meet_an_absent_pair_sits_out(rt: HostRuntime) {
+    for tables in 3u8..17 {
+        assert!(rt; each_sits_out(tables));
+    }
+}
+
+/// Whether the absent pair of three tables has this number's fault.
+fn is_fault(number: u8, per_set: u8, fault: MovementError) -> bool {
+    let absent = Pair {
+        side: Side::NorthSouth,
+        number,
+    };
+    matches!(Movement::with_absent(3, 3, per_set, Some(absent)), Err(found) if found == fault)
+}
+
+/// A pair that the section hasn't can't be absent; that is found after all else.
+#[test]
+fn nobody_is_absent_who_is_no_pair(rt: HostRuntime) {
+    assert!(rt; is_fault(4, 1, MovementError::BadPair));
+    assert!(rt; is_fault(0, 1, MovementError::BadPair));
+    assert!(rt; is_fault(4, 9, MovementError::BadSets));
 }
