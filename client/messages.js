@@ -10,6 +10,7 @@
 /**
  * What every member may see.
  * @typedef {object} Status
+ * @property {string} [absent] the pair that isn't there, where one isn't
  * @property {number[]} held the boards that the director holds
  * @property {number[][]} live for each board, from 1 on, the tables that have a result on it
  * @property {string[]} marks for each board its dealer and who is vulnerable, as "E ns"

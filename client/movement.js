@@ -1,20 +1,21 @@
 // The Mitchell movement: who plays which board, where and when. docs/SESSION.md tells it in words: NS pair 1 stays at
 // table 1, the EW pairs move up a table each round and the boards down; with an even number of tables the EW pairs skip
-// a table at half time.
+// a table at half time. Where a pair is absent, whoever would meet it sits out.
 
 /** @typedef {{round: number, table: number, set: number, ns: string, ew: string}} Row all counted from 1 */
 
 /**
  * @param {number} tables
  * @param {number} rounds
+ * @param {string} [absent] the pair that isn't there, if one isn't
  * @returns {Row[]} by round, then by table
  */
-export function movementOf(tables, rounds) {
+export function movementOf(tables, rounds, absent) {
   const rows = [];
   for (let round = 0; round < rounds; round += 1) {
     for (let table = 0; table < tables; table += 1) rows.push(rowOf(tables, round, table));
   }
-  return rows;
+  return rows.filter((row) => row.ns !== absent && row.ew !== absent);
 }
 
 function rowOf(tables, round, table) {

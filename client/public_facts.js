@@ -7,7 +7,7 @@ import { boardsOf, movementOf, rowOfPair, rowsOfBoard } from "./movement.js";
  * @param {import("./messages.js").Status} status
  */
 export function publicFacts(status) {
-  const rows = movementOf(status.tables, status.rounds);
+  const rows = movementOf(status.tables, status.rounds, status.absent);
   const boards = Array.from({ length: status.tables * status.per_set }, (_, index) => index + 1);
   return { ...status, rows, boards };
 }

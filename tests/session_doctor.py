@@ -25,7 +25,7 @@ SEPARATED = {"S1": ("Director", "Contestant"), "S2": ("Scorer", "Contestant"), "
 USED = (b"Board", b"Dealer", b"Vulnerable", b"Deal")
 RANKS = b"AKQJT98765432"
 # The user whom each refusal of a user in the part `session objects` is about, in its order.
-WHOM = ["a b", "", "", "a", "a", "s", "d", "d", "k", "a", "n1", "n1", "n1", "s", "n2", "u254"]
+WHOM = ["n1", "a b", "", "", "a", "a", "s", "d", "d", "k", "a", "n1", "n1", "n1", "s", "n2", "u254"]
 
 
 class Refused(Exception):
@@ -121,6 +121,10 @@ def is_text(value):
     return isinstance(value, str) and not isinstance(value, Number)
 
 
+def is_pair(value):
+    return is_text(value) and bool(re.fullmatch("(NS|EW)[1-9][0-9]{0,2}", value)) and int(value[2:]) <= 255
+
+
 def check_user(found, number):
     if not isinstance(found, dict):
         raise bad(f"user {number}", "a user is an object")
@@ -137,15 +141,17 @@ def check_user(found, number):
         if not is_text(role) or role not in ROLES:
             raise bad(where, f"{quoted(role)} is no role", user)
     if "pair" in found:
-        pair = found["pair"]
-        if not is_text(pair) or not re.fullmatch("(NS|EW)[1-9][0-9]{0,2}", pair) or int(pair[2:]) > 255:
+        if not is_pair(found["pair"]):
             raise bad(where, "`pair` is NS or EW and a number from 1 to 255, as NS1", user)
         if not is_text(found["place"]) or found["place"] not in ("N", "E", "S", "W"):
             raise bad(where, "`place` is N, E, S or W", user)
 
 
 def check_members(found, deals):
-    check_names(found, MEMBERS + (["pbn"] if deals is None else []), "the session object")
+    may_be_missing = ["absent"] if "absent" in found else []
+    check_names(found, MEMBERS + may_be_missing + (["pbn"] if deals is None else []), "the session object")
+    if may_be_missing and not is_pair(found["absent"]):
+        raise bad("the session object", "`absent` is a pair: NS or EW and a number from 1 to 255, as EW9")
     whole(found, "budget", MOST_VISITS)
     if deals is None and not is_text(found["pbn"]):
         raise bad("the session object", "`pbn` is a text")
@@ -157,7 +163,7 @@ def check_members(found, deals):
     return numbers
 
 
-def check_movement(tables, rounds, per_set):
+def check_movement(tables, rounds, per_set, absent):
     if not 3 <= tables <= 16:
         raise Refused("BadTables", f"{tables} tables play, and may be 3 to 16")
     most = tables - 1 if tables % 2 == 0 else tables
@@ -167,6 +173,8 @@ def check_movement(tables, rounds, per_set):
         raise Refused("BadSets", f"a table plays {per_set} boards in a round, and may play 1 to 8")
     if tables * per_set > 64:
         raise Refused("BadSets", f"{tables} sets of {per_set} boards are {tables * per_set}, and may be 64 together")
+    if absent is not None and int(absent[2:]) > tables:
+        raise Refused("BadPair", f"{absent} is absent, and at {tables} tables the pairs are NS1 to NS{tables} and EW1 to EW{tables}")
 
 
 # ---- the boards' text: its tags, each with the place of its `[`
@@ -352,10 +360,12 @@ def check_account(user, number, before):
             raise Refused(f"Separation({separation})", f"{where} is authorized for {pair[0]} and {pair[1]}, by: {assigned}", name)
 
 
-def check_seat(user, number, before, tables):
+def check_seat(user, number, before, tables, absent):
     name, where, pair, place = user["name"], at_user(number, user["name"]), user["pair"], user["place"]
     if int(pair[2:]) > tables:
         raise Refused("NoSuchPair", f"{where}: there is no pair {pair} at {tables} tables", name)
+    if pair == absent:
+        raise Refused("NoSuchPair", f"{where}: the pair {pair} is absent", name)
     if place not in pair[:2]:
         raise Refused("WrongDirection", f"{where} sits {place} in {pair}", name)
     if "Contestant" not in authorized(user["roles"]):
@@ -365,11 +375,11 @@ def check_seat(user, number, before, tables):
             raise Refused("SeatTaken", f"{where} has the seat of {at_user(other, earlier['name'])}: {place} in {pair}", name)
 
 
-def check_users(users, tables):
+def check_users(users, tables, absent):
     for place, user in enumerate(users):
         check_account(user, place + 1, users[:place])
         if "pair" in user:
-            check_seat(user, place + 1, users[:place], tables)
+            check_seat(user, place + 1, users[:place], tables, absent)
     if not any("Administrator" in authorized(user["roles"]) for user in users):
         raise Refused("LastAdministrator", "no user is authorized for Administrator")
 
@@ -378,9 +388,9 @@ def check_session(line, deals=None):
     """Looks at a session object, and the text of its boards where they are given beside it; the first refusal is raised."""
     found = object_of(line)
     tables, rounds, per_set = check_members(found, deals)
-    check_movement(tables, rounds, per_set)
+    check_movement(tables, rounds, per_set, found.get("absent"))
     check_boards(found["pbn"].encode() if deals is None else deals, tables * per_set)
-    check_users(found["users"], tables)
+    check_users(found["users"], tables, found.get("absent"))
     return f"opens: {tables} tables, {rounds} rounds, boards 1 to {tables * per_set}, {len(found['users'])} users"
 
 

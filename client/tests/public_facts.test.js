@@ -63,6 +63,16 @@ test("the pairs at a table are those that the protocol's example names", () => {
   assert.deepEqual(pairs, [[1, "NS1", "EW1"], [2, "NS2", "EW3"], [3, "NS3", "EW2"]]);
 });
 
+test("where a pair is absent, whoever would meet it sits out", () => {
+  const half = publicFacts({ ...status, absent: "EW3" });
+  const cells = half.rows.map(({ round, table, set }) => [round, table, set]);
+  assert.deepEqual(cells, [[1, 1, 1], [1, 2, 2], [2, 2, 3], [2, 3, 1], [3, 1, 3], [3, 3, 2]]);
+  assert.equal(tableOfPair(half, "NS1", 2), 0);
+  assert.deepEqual(awaitedTables(half, 1), []);
+  const one_round = publicFacts({ ...status, absent: "EW3", rounds: 1 });
+  assert.equal(isComplete(one_round, 3), true);
+});
+
 test("what is awaited is told by the tables without a result", () => {
   assert.deepEqual([1, 2, 3].map((board) => awaitedTables(facts, board)), [[2], [1, 2, 3], [1, 2]]);
   assert.equal(isComplete(facts, 1), false);

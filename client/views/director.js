@@ -66,7 +66,8 @@ function resultSection(page) {
   const tables = facts.rows.filter(
     (row) => Math.ceil(form.board / facts.per_set) === row.set,
   ).map((row) => row.table).sort((one, other) => one - other);
-  if (!tables.includes(form.table)) form.table = tables[0];
+  // with a pair absent there may be a board that no table plays
+  if (!tables.includes(form.table)) form.table = tables[0] ?? 0;
   return section(texts.director.result,
     element("p", {}, texts.director.resultExplained),
     element("div", { class: "fields" },

@@ -55,8 +55,10 @@ function seatForm(page) {
   );
 }
 
-const pairsOf = ({ tables }) =>
-  ["NS", "EW"].flatMap((side) => Array.from({ length: tables }, (_, index) => `${side}${index + 1}`));
+/** The pairs that a user can sit in: all of the section but one that is absent. */
+const pairsOf = ({ tables, absent }) =>
+  ["NS", "EW"].flatMap((side) => Array.from({ length: tables }, (_, index) => `${side}${index + 1}`))
+    .filter((pair) => pair !== absent);
 
 /** Users without a seat, to choose from. */
 function unseated(page) {

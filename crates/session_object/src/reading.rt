@@ -66,7 +66,12 @@ fn read_object(
         Ok(parts) => parts,
         Err(fault) => return Err(fault),
     };
-    let movement = match Movement::with_absent(parts.tables, parts.rounds, parts.per_set, parts.absent) {
+    let movement = match Movement::with_absent(
+        parts.tables,
+        parts.rounds,
+        parts.per_set,
+        parts.absent,
+    ) {
         Ok(movement) => movement,
         Err(error) => return Err(SessionFault::Movement(error)),
     };
