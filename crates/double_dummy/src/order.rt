@@ -1,42 +1,76 @@
 ghost use Rattle.std.specs.Prelude.{◌≡◌, true, IfSome, IfNone};
 ghost use Rattle.std.specs.FinSet as set;
-ghost use Rattle.cards.specs.Play.{legal};
-ghost use Rattle.cards.specs.declared.card.Card.{Card};
-ghost use Rattle.double_dummy.specs.Search.{HasOthers};
 
-use crate::run::{is_one_run, run_of};
+use crate::run::is_one_run;
 use crate::weights::{Weights, top};
-use cards::{Card, Hand, Position};
+use cards::{Card, Hand, Position, Rank};
+use table_terms::Suit;
 
-/// The most promising of the cards that are untried, the highest of its run: if it wins, the fewest cards have to be
-/// known. Which it is decides nothing but the time.
-#[tactic(auto, using(position_patterns::proofs::SetLemmas::still_held))]
-pub fn best(position: &Position, others: Hand, playable: Hand, untried: Hand) -> Option<Card>
-    requires others { HasOthers position.now others }
-    requires playable { playable ≡ legal position.now }
-    requires untried { (card : Card) → set.contains untried card ≡ true → set.contains (legal position.now) card ≡ true }
-    ensures some { IfSome result (λ card. set.contains untried card ≡ true) }
-    ensures none { IfNone result (untried ≡ set.empty) }
-{
-    let Some(lowest) = untried.first() else {
-        return None;
-    };
-    let mut best = top(untried, lowest);
-    if is_one_run(untried, others) {
-        return Some(best);
-    }
-    let weights = Weights::of(position);
-    let mut most = 0;
-    let mut rest = untried;
-    'runs: while let Some(card) = rest.first() {
-        let run = run_of(position, others, playable, card);
-        let high = top(run, card);
-        let weight = weights.weight(high, run);
-        if most < weight && untried.contains(high) {
-            best = high;
-            most = weight;
+// The most runs that a player's cards can be.
+const RUNS: usize = 13;
+
+/// A card that may be played, the highest of its run, and how promising it is.
+#[derive(Clone, Copy)]
+struct Weighed {
+    card: Card,
+    weight: u16,
+}
+
+/// What a player may play, weighed once: of each run the highest card, since if it wins, the fewest cards have to be
+/// known. Which card is tried first decides nothing but the time.
+#[derive(Clone, Copy)]
+pub struct Order {
+    weighed: [Weighed; RUNS],
+    runs: usize,
+}
+
+impl Order {
+    /// Of the cards that the player in turn may play; where they are one run, there is nothing to weigh.
+    pub fn of(position: &Position, others: Hand, playable: Hand) -> Order {
+        let nothing = Weighed {
+            card: Card {
+                suit: Suit::Spades,
+                rank: Rank::Two,
+            },
+            weight: 0,
+        };
+        let mut order = Order {
+            weighed: [nothing; RUNS],
+            runs: 0,
+        };
+        if !is_one_run(playable, others) {
+            Weights::of(position).weigh(playable, others, &mut order);
         }
-        rest = rest.difference(run);
+        order
     }
-    Some(best)
+
+    /// Adds a card.
+    pub(crate) fn push(&mut self, card: Card, weight: u16) {
+        if self.runs < RUNS {
+            self.weighed[self.runs] = Weighed { card, weight };
+            self.runs += 1;
+        }
+    }
+
+    /// The most promising of the cards that are untried.
+    pub fn best(&self, untried: Hand) -> Option<Card>
+        ensures some { IfSome result (λ card. set.contains untried card ≡ true) }
+        ensures none { IfNone result (untried ≡ set.empty) }
+    {
+        let Some(lowest) = untried.first() else {
+            return None;
+        };
+        let mut best = top(untried, lowest);
+        let mut most = 0;
+        'weighed: for weighed in &self.weighed {
+            if weighed.weight == 0 {
+                break;
+            }
+            if most < weighed.weight && untried.contains(weighed.card) {
+                best = weighed.card;
+                most = weighed.weight;
+            }
+        }
+        Some(best)
+    }
 }

@@ -34,12 +34,21 @@ pub fn run_of(position: &Position, others: Hand, playable: Hand, card: Card) -> 
 
 /// The cards that a refused card speaks for, where these cards mattered: those of its suit that none of them parts from
 /// it, if it did not matter itself. In this the search differs from DDS, which drops what is lower than all cards that
-/// mattered so far.
-pub fn spoken_for(position: &Position, playable: Hand, card: Card, decisive: Hand) -> Hand
+/// mattered so far. Where no card is left to try, it need not speak.
+pub fn spoken_for(
+    position: &Position,
+    playable: Hand,
+    card: Card,
+    decisive: Hand,
+    rest: Hand,
+) -> Hand
     requires playable { playable ≡ legal position.now }
     requires legal { set.contains (legal position.now) card ≡ true }
     ensures { AreSpokenFor position.now decisive card result }
 {
+    if rest.is_empty() {
+        return Hand::new();
+    }
     if decisive.contains(card) {
         return Hand::new();
     }

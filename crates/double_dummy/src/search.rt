@@ -10,7 +10,7 @@ ghost use Rattle.std.specs.FinSet as set;
 ghost use Rattle.cards.specs.declared.card.Card.{Card};
 
 use crate::budget::{Budget, BudgetSpent};
-use crate::order::best;
+use crate::order::Order;
 use crate::{run, trick};
 use cards::{Hand, Position, Trick};
 use position_patterns::{DealPatterns, Finding, Holders, Memory};
@@ -105,8 +105,9 @@ fn explore(
     };
     let wanted = wants(position);
     let others = run::others(position);
+    let order = Order::of(position, others, playable);
     let mut known = Hand::new();
-    while let Some(card) = best(position, others, playable, untried) {
+    while let Some(card) = order.best(untried) {
         let rest = target - position.point(card);
         let next = position.after(card);
         let Ok(found) = search(&next, rest, patterns, memory, budget) else {
@@ -121,7 +122,8 @@ fn explore(
         }
         let run = run::run_of(position, others, playable, card);
         known = learnt(known, decisive, run);
-        let spoken = run::spoken_for(position, playable, card, decisive);
+        let rest = untried.difference(run);
+        let spoken = run::spoken_for(position, playable, card, decisive, rest);
         untried = untried.difference(run.union(spoken));
     }
     Ok(Finding {

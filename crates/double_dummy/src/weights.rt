@@ -8,11 +8,14 @@ ghost use Rattle.std.specs.FinSet as set;
 mod follow;
 mod lead;
 
+use crate::order::Order;
 use cards::{Card, Hand, Position, Trick, strength};
 use table_terms::Suit;
 
 // A weight of nothing: weights count up and down from here.
 const EVEN: u16 = 100;
+
+const SUITS: [Suit; 4] = [Suit::Spades, Suit::Hearts, Suit::Diamonds, Suit::Clubs];
 
 /// What the weights of a player's cards are read off: the hands round the table from his own, all cards in play, and
 /// how the trick under way stands.
@@ -29,7 +32,6 @@ pub(crate) struct Weights {
     // The suit led, if the player does not lead, and how many cards are on the table.
     led: Option<Suit>,
     played: u32,
-    tricks_left: u8,
     // Whether partner's card is the best of the trick, and how strong its best card is.
     ours: bool,
     beaten: u8,
@@ -59,7 +61,6 @@ impl Weights {
             trump: position.strain().trump(),
             led: None,
             played: trick.len(),
-            tricks_left: position.tricks_left(),
             ours: false,
             beaten: 0,
             threat: 0,
@@ -75,14 +76,11 @@ impl Weights {
         weights
     }
 
-    /// How promising the highest card of a run is.
-    pub(crate) fn weight(&self, card: Card, run: Hand) -> u16 {
-        let is_sequence = run.len() > 1;
-        match (self.led, self.played) {
-            (None, _) => self.lead(card, is_sequence),
-            (Some(led), 1) => self.second_hand(card, led, is_sequence),
-            (Some(led), 2) => self.third_hand(card, led, run),
-            (Some(led), _) => self.fourth_hand(card, led),
+    /// Puts the highest card of each run of these into the order, with how promising it is.
+    pub(crate) fn weigh(&self, playable: Hand, others: Hand, order: &mut Order) {
+        match self.led {
+            None => self.weigh_leads(playable, others, order),
+            Some(led) => self.weigh_answers(playable, others, led, order),
         }
     }
 
@@ -131,6 +129,43 @@ fn length(hand: Hand, suit: Suit) -> u16
     ensures { result ≤ 52 }
 {
     hand.of_suit(suit).len() as u16
+}
+
+/// The highest run of one suit's cards.
+#[derive(Clone, Copy)]
+pub(crate) struct Run {
+    pub card: Card,
+    word: u64,
+}
+
+impl Run {
+    /// Of these cards, if there are any, where the other players have those.
+    fn highest(cards: u64, others: u64) -> Option<Run> {
+        if cards == 0 {
+            return None;
+        }
+        let last = cards.ilog2();
+        let lower = others & ((1 << last) - 1);
+        let word = if lower == 0 {
+            cards
+        } else {
+            cards & u64::MAX << lower.ilog2()
+        };
+        Some(Run {
+            card: Card::from_number(last.min(51) as u8),
+            word,
+        })
+    }
+
+    /// Whether it has more cards than one.
+    fn is_sequence(self) -> bool {
+        self.word & self.word.wrapping_sub(1) != 0
+    }
+
+    /// Whether it has this card.
+    fn has(self, card: Card) -> bool {
+        self.word >> card.number() & 1 == 1
+    }
 }
 
 /// The last card of a set in the order of the pack, of one suit's cards the highest, or another where it has none.

@@ -2,7 +2,8 @@
 
 ghost use Rattle.std.specs.Prelude.{◌≤◌};
 
-use super::{EVEN, Weights, length, rank, top};
+use super::{EVEN, Run, SUITS, Weights, length, rank, top};
+use crate::order::Order;
 use crate::run::common;
 use cards::{Card, Hand, Rank, Trick, strength};
 use table_terms::Suit;
@@ -75,8 +76,31 @@ impl Weights {
         self.beaten.max(self.threat)
     }
 
+    /// Weighs the cards of a player who does not lead.
+    pub(super) fn weigh_answers(&self, playable: Hand, others: Hand, led: Suit, order: &mut Order) {
+        for suit in SUITS {
+            let mut rest = playable.of_suit(suit).word();
+            let theirs = others.of_suit(suit).word();
+            for _ in 0..13 {
+                let Some(run) = Run::highest(rest, theirs) else {
+                    break;
+                };
+                order.push(run.card, self.answer_weight(run, led));
+                rest &= !run.word;
+            }
+        }
+    }
+
+    fn answer_weight(&self, run: Run, led: Suit) -> u16 {
+        match self.played {
+            1 => self.second_hand(run.card, led, run.is_sequence()),
+            2 => self.third_hand(run.card, led, run),
+            _ => self.fourth_hand(run.card, led),
+        }
+    }
+
     /// Of second hand's card.
-    pub(super) fn second_hand(&self, card: Card, led: Suit, is_sequence: bool) -> u16 {
+    fn second_hand(&self, card: Card, led: Suit, is_sequence: bool) -> u16 {
         let power = strength(self.trump, led, card);
         let wins = self.help.max(power) > self.bar();
         if card.suit != led {
@@ -156,13 +180,13 @@ impl Weights {
     }
 
     /// Of third hand's card.
-    pub(super) fn third_hand(&self, card: Card, led: Suit, run: Hand) -> u16 {
+    fn third_hand(&self, card: Card, led: Suit, run: Run) -> u16 {
         let power = strength(self.trump, led, card);
         if card.suit != led {
             return self.third_without(card, power);
         }
         let forces = match self.forcing {
-            Some(forcing) => run.contains(forcing),
+            Some(forcing) => run.has(forcing),
             None => false,
         };
         if self.is_won() {
@@ -200,7 +224,7 @@ impl Weights {
     }
 
     /// Of the last card of a trick.
-    pub(super) fn fourth_hand(&self, card: Card, led: Suit) -> u16 {
+    fn fourth_hand(&self, card: Card, led: Suit) -> u16 {
         let power = strength(self.trump, led, card);
         let wins = !self.ours && power > self.beaten;
         if card.suit == led {

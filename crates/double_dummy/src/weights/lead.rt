@@ -3,7 +3,8 @@
 
 ghost use Rattle.std.specs.Prelude.{◌≤◌};
 
-use super::{Weights, length, rank, top};
+use super::{Run, SUITS, Weights, length, rank, top};
+use crate::order::Order;
 use cards::{Card, Hand, strength};
 use table_terms::Suit;
 
@@ -72,18 +73,45 @@ impl Suited {
 }
 
 impl Weights {
-    /// Of a lead.
-    pub(super) fn lead(&self, card: Card, is_sequence: bool) -> u16 {
-        let suit = card.suit;
+    /// Weighs leads.
+    pub(super) fn weigh_leads(&self, playable: Hand, others: Hand, order: &mut Order) {
+        for suit in SUITS {
+            let mine = playable.of_suit(suit);
+            if !mine.is_empty() {
+                self.weigh_suit(suit, mine.word(), others.of_suit(suit).word(), order);
+            }
+        }
+    }
+
+    fn weigh_suit(&self, suit: Suit, mine: u64, theirs: u64, order: &mut Order) {
         let suited = self.suited(suit);
-        let best = strength(self.trump, suit, card).max(self.answer(self.partner, suit));
-        let wins = best > self.answer(self.left, suit) && best > self.answer(self.right, suit);
         let base = self.suit_weight(suit, &suited);
+        let partners = self.answer(self.partner, suit);
+        let most = self
+            .answer(self.left, suit)
+            .max(self.answer(self.right, suit));
+        let mut rest = mine;
+        for _ in 0..13 {
+            let Some(run) = Run::highest(rest, theirs) else {
+                return;
+            };
+            let wins = strength(self.trump, suit, run.card).max(partners) > most;
+            order.push(run.card, self.lead(run, base, &suited, wins));
+            rest &= !run.word;
+        }
+    }
+
+    /// Of a lead.
+    fn lead(&self, run: Run, base: u16, suited: &Suited, wins: bool) -> u16
+        requires least { 200 ≤ base }
+        requires most { base ≤ 2000 }
+    {
+        let is_sequence = run.is_sequence();
         match (self.trump.is_some(), wins) {
-            (false, true) => self.winning_lead(base, card, &suited),
-            (false, false) => self.losing_lead(base, card, &suited, is_sequence),
-            (true, true) => self.winning_lead_at_trumps(base, card, &suited, is_sequence),
-            (true, false) => self.losing_lead_at_trumps(base, card, &suited, is_sequence),
+            (false, true) => self.winning_lead(base, run.card, suited),
+            (false, false) => self.losing_lead(base, run.card, suited, is_sequence),
+            (true, true) => self.winning_lead_at_trumps(base, run.card, suited, is_sequence),
+            (true, false) => self.losing_lead_at_trumps(base, run.card, suited, is_sequence),
         }
     }
 
@@ -124,13 +152,14 @@ impl Weights {
         ensures least { 200 ≤ result }
         ensures most { result ≤ 2000 }
     {
+        let tricks_left = self.mine.len() as u16;
         let left = if suited.left == 0 {
-            self.tricks_left as u16
+            tricks_left
         } else {
             suited.left
         };
         let right = if suited.right == 0 {
-            self.tricks_left as u16
+            tricks_left
         } else {
             suited.right
         };

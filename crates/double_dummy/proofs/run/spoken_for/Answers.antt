@@ -5,8 +5,12 @@ use Rattle.std.specs.FinSet as set
 use Rattle.double_dummy.proofs.RunLemmas.{none_in}
 use Rattle.double_dummy.proofs.run.spoken_for.Goals as goal
 
+pub returns-then-is_empty : goal.returns-then-is_empty
+returns-then-is_empty c other held = absurd (none_in c.new.result other c.new.ensures held)
+
 pub returns-then-contains : goal.returns-then-contains
-returns-then-contains c other held = absurd (none_in c.new.result other c.new.ensures held)
+returns-then-contains c other held =
+    absurd (none_in c.new-then-contains.result other c.new-then-contains.ensures held)
 
 pub returns : goal.returns
 returns c other held =

@@ -99,15 +99,6 @@ search-returns-then-tricks_left-target-clause-found t c =
 pub search-store-requires-clause-found : goal.search-store-requires-clause-found
 search-store-requires-clause-found t c = c.in-Ok.ensures.found
 
-pub explore-best-requires-clause-others : goal.explore-best-requires-clause-others
-explore-best-requires-clause-others t c = c.others-others.ensures
-
-pub explore-best-requires-clause-playable : goal.explore-best-requires-clause-playable
-explore-best-requires-clause-playable t c = c.legal_cards-playable.ensures
-
-pub explore-best-requires-clause-untried : goal.explore-best-requires-clause-untried
-explore-best-requires-clause-untried t c = c.loop-card.invariant.untried
-
 pub explore-after-next-requires : goal.explore-after-next-requires
 explore-after-next-requires t c = c.loop-card.invariant.untried c.in-Some.card c.in-Some.ensures.some
 
