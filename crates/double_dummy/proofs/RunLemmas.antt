@@ -1,9 +1,11 @@
 -- The cards of a player's that are alike.
 use Rattle.std.proofs.Common.{◌≡◌, ◌<◌, ◌≤◌, true, refl, sym, ap, ◌∙◌, inl, inr, arith}
 use Rattle.std.specs.Prelude.{nat_lt, ◌&&◌}
-use Rattle.std.proofs.lemmas.Bool.{and_from, eq-eqb, lt-ltb, ltb-true, and_parts, true≢false}
+use Rattle.std.proofs.lemmas.Bool.{and_from, cases_Bool, eq-eqb, not_from_false, lt-ltb, ltb-true, and_parts, true≢false}
 use Rattle.cards.specs.declared.card.Card.{Card}
+use Rattle.std.specs.Ordering.{eq_by_cmp}
 use Rattle.cards.specs.Card.{card_cmp, number_in_pack}
+use Rattle.cards.specs.CardBits.{card_cmp_total, tied_is_equal}
 use Rattle.cards.specs.Cards.{AreDisjoint, Cards}
 use Rattle.table_terms.specs.Suit.{suit_number}
 use Rattle.cards.specs.Hands.{hand_of}
@@ -42,6 +44,16 @@ run_round p others playable near run card has_others playable_is may among suits
 
 pub none_in : (s : Cards) (card : Card) → s ≡ set.empty → set.contains s card ≡ true → ⊥
 none_in s card none held = true≢false (sym held ∙ ap (λ t. set.contains t card) none ∙ set.contains-empty card_cmp card)
+
+-- the one card of a set that has no other
+pub only_one : (s t : Cards) (card other : Card) → t ≡ set.remove s card → t ≡ set.empty →
+    set.contains s other ≡ true → card ≡ other
+only_one s t card other without none held =
+    elim (cases_Bool (eq_by_cmp card_cmp other card)) [
+      | inl same ↦ sym (tied_is_equal other card same)
+      | inr apart ↦ absurd (none_in t other none (ap (λ u. set.contains u other) without
+          ∙ set.contains-remove card_cmp_total s card other ∙ and_from _ _ (not_from_false _ apart) held))
+    ]
 
 -- the cards from one to another
 from_to : (low high : Card) (inner some stretch : Cards) → ((other : Card) → set.contains inner other

@@ -97,6 +97,23 @@ found_decided p target card less more answer may known each is_wanted found owne
     (owned_knowing ownership more p owned) may
     (subst (λ b. CardClaims (knowing ownership more) (cards_left (after p card)) p target card b) is_wanted claims)))
 
+-- the one card that may be played gives the answer, whoever wants it
+pub found_forced : (p : Position) (target : ℕ) (card : Card) (less more : Cards) (answer : Bool) →
+    set.contains (legal p) card ≡ true →
+    ((other : Card) → set.contains (legal p) other ≡ true → card ≡ other) →
+    ((ownership : Ownership) → IsKnown (knowing ownership more) p.strain p.table card) →
+    ((other : Card) → set.contains less other ≡ true → set.contains more other ≡ true) →
+    IsFound (after p card) (target - point p card) less answer → IsFound p target more answer
+found_forced p target card less more answer may only known each found ownership owned tight_p =
+    let left = left_after ownership p card owned may in
+    let claims = found_card ownership (cards_left (after p card)) p target card less more answer owned may left
+    (known ownership) each found in
+    subst (λ m. Claims (knowing ownership more) m p target answer) (sym left)
+    (refused (knowing ownership more) (cards_left (after p card)) p target answer card
+    (owned_knowing ownership more p owned) may
+    (λ other may'. subst (λ c. CardClaims (knowing ownership more) (cards_left (after p card)) p target c answer)
+    (only other may') claims))
+
 -- no card is left untried
 pub found_refused : (p : Position) (target : ℕ) (untried known : Cards) (answer : Bool) (some : Card) →
     set.contains (legal p) some ≡ true → untried ≡ set.empty →

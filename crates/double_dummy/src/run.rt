@@ -1,4 +1,4 @@
-ghost use Rattle.std.specs.Prelude.{◌≡◌, ◌<◌, ◌≤◌, ◌&&◌, IsTrue, true};
+ghost use Rattle.std.specs.Prelude.{◌≡◌, ◌<◌, ◌≤◌, ◌&&◌, IfSome, IsTrue, true};
 ghost use Rattle.std.specs.FinSet as set;
 ghost use Rattle.cards.specs.declared.card.Card.{Card};
 ghost use Rattle.cards.specs.Play.{legal};
@@ -53,6 +53,19 @@ pub fn spoken_for(
         return Hand::new();
     }
     unparted(playable, card, decisive).difference(decisive)
+}
+
+/// The card, where there is one alone.
+pub fn only(cards: Hand) -> Option<Card>
+    ensures held { IfSome result (λ card. set.contains cards card ≡ true) }
+    ensures alone { IfSome result (λ card. (other : Card) → set.contains cards other ≡ true → card ≡ other) }
+{
+    let card = cards.first()?;
+    if cards.without(card).is_empty() {
+        Some(card)
+    } else {
+        None
+    }
 }
 
 /// Whether these cards are one run, or none: where a player has no choice, none has to be weighed.

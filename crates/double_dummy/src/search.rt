@@ -1,5 +1,5 @@
 ghost use Rattle.table_terms.specs.Place.{side_of};
-ghost use Rattle.cards.specs.Play.{to_play};
+ghost use Rattle.cards.specs.Play.{legal, to_play};
 ghost use Rattle.double_dummy_laws.specs.Found.{wanted_answer};
 ghost use Rattle.cards.specs.Play.{cards_left};
 ghost use Rattle.position_patterns.specs.Remainder.{IsLeftOf};
@@ -12,7 +12,7 @@ ghost use Rattle.cards.specs.declared.card.Card.{Card};
 use crate::budget::{Budget, BudgetSpent};
 use crate::order::Order;
 use crate::{run, trick};
-use cards::{Hand, Position, Trick};
+use cards::{Card, Hand, Position, Trick};
 use position_patterns::{DealPatterns, Finding, Holders, Memory};
 use table_terms::Side;
 
@@ -103,6 +103,9 @@ fn explore(
     let Ok(()) = budget.visit() else {
         return Err(BudgetSpent);
     };
+    if let Some(card) = run::only(playable) {
+        return forced(position, card, target, patterns, memory, budget);
+    }
     let wanted = wants(position);
     let others = run::others(position);
     let order = Order::of(position, others, playable);
@@ -129,6 +132,36 @@ fn explore(
     Ok(Finding {
         holds: !wanted,
         known,
+    })
+}
+
+/// The same, where the player has no choice.
+#[cycle(search)]
+fn forced(
+    position: &Position,
+    card: Card,
+    target: u8,
+    patterns: &DealPatterns,
+    memory: &mut Memory,
+    budget: &mut Budget,
+) -> Result<Finding, BudgetSpent>
+    requires target { 0 < target }
+    requires left { IsLeftOf patterns.now.whole position.now.hands }
+    requires legal { set.contains (legal position.now) card ≡ true }
+    requires only { (other : Card) → set.contains (legal position.now) other ≡ true → card ≡ other }
+    ensures found { IfOk result (λ found. IsFound position.now target found.known found.holds) }
+    ensures err { OnErr result (budget.new ≡ 0) }
+    ensures spent { budget.new ≤ budget.old }
+{
+    let rest = target - position.point(card);
+    let next = position.after(card);
+    let Ok(found) = search(&next, rest, patterns, memory, budget) else {
+        return Err(BudgetSpent);
+    };
+    let decisive = found.known.union(trick::decisive(position, card));
+    Ok(Finding {
+        holds: found.holds,
+        known: decisive,
     })
 }
 

@@ -8,6 +8,7 @@ use Rattle.position_patterns.proofs.RemainderLemmas.{left_without}
 use Rattle.double_dummy.proofs.SearchLemmas.{
   fewer_untried,
   found_decided,
+  found_forced,
   found_next,
   found_refused,
   known_more,
@@ -30,13 +31,13 @@ explore-returns-then-is_empty-clause-found t c =
 
 pub explore-search-requires : goal.explore-search-requires
 explore-search-requires t c =
-    let fewer = fewer_after c.args.position.now c.in-Some.card
-    (c.loop-card.invariant.untried c.in-Some.card c.in-Some.ensures.some) in
+    let fewer = fewer_after c.args.position.now c.in-Some-best.card
+    (c.loop-card.invariant.untried c.in-Some-best.card c.in-Some-best.ensures.some) in
     let same = ap cards_left c.after-next.ensures in
     let d = c.decreases in (
       omega (arith, fewer, same, d),
       subst (λ q. IsLeftOf c.args.patterns.now.whole q.hands) (sym c.after-next.ensures)
-          (left_without c.args.patterns.now.whole c.args.position.now.hands c.in-Some.card c.requires.left),
+          (left_without c.args.patterns.now.whole c.args.position.now.hands c.in-Some-best.card c.requires.left),
     )
 
 pub explore-returns-then-found-wanted-clause-found : goal.explore-returns-then-found-wanted-clause-found
@@ -44,20 +45,20 @@ explore-returns-then-found-wanted-clause-found t c =
     let p = c.args.position.now in
     let found = subst (λ b. IsFound c.after-next.result (c.args.target - c.point.result) c.in-Ok-search.found.known b)
     (same_bool _ _ c.if-found-wanted.true) c.in-Ok-search.ensures.found in
-    found_decided p c.args.target c.in-Some.card c.in-Ok-search.found.known c.union-decisive.result
+    found_decided p c.args.target c.in-Some-best.card c.in-Ok-search.found.known c.union-decisive.result
     c.wants-wanted.result
-    (c.loop-card.invariant.untried c.in-Some.card c.in-Some.ensures.some)
+    (c.loop-card.invariant.untried c.in-Some-best.card c.in-Some-best.ensures.some)
     (λ ownership. known_more ownership _ _ _ _ _ (in_second _ _ _ c.union-decisive.ensures)
     (c.decisive.ensures ownership))
     (in_first _ _ _ c.union-decisive.ensures)
     c.wants-wanted.ensures
-    (found_next p c.after-next.result c.args.target _ c.point.result c.in-Some.card _ _ c.after-next.ensures
+    (found_next p c.after-next.result c.args.target _ c.point.result c.in-Some-best.card _ _ c.after-next.ensures
     c.point.ensures.point refl found)
 
 pub explore-loop-card-smaller : goal.explore-loop-card-smaller
 explore-loop-card-smaller t c =
-    fewer_untried c.loop-card.untried c.difference-untried.result c.union.result c.in-Some.card
-    c.in-Some.ensures.some (in_first _ _ _ c.union.ensures c.in-Some.card c.run_of-run.ensures.itself)
+    fewer_untried c.loop-card.untried c.difference-untried.result c.union.result c.in-Some-best.card
+    c.in-Some-best.ensures.some (in_first _ _ _ c.union.ensures c.in-Some-best.card c.run_of-run.ensures.itself)
     (in_difference _ _ _ c.difference-untried.ensures)
 
 pub explore-loop-card-preserved : goal.explore-loop-card-preserved
@@ -71,9 +72,9 @@ explore-loop-card-preserved t c = record {
       (other_bool _ _ c.if-found-wanted.false) c.in-Ok-search.ensures.found in
       refused_step p c.args.target c.loop-card.untried c.difference-untried.result c.loop-card.known
       c.learnt-known.result c.in-Ok-search.found.known c.union-decisive.result c.run_of-run.result
-      c.spoken_for-spoken.result c.union.result c.in-Some.card (not c.wants-wanted.result) c.loop-card.invariant.refused
-      (c.loop-card.invariant.untried c.in-Some.card c.in-Some.ensures.some)
-      (found_next p c.after-next.result c.args.target _ c.point.result c.in-Some.card _ _ c.after-next.ensures
+      c.spoken_for-spoken.result c.union.result c.in-Some-best.card (not c.wants-wanted.result) c.loop-card.invariant.refused
+      (c.loop-card.invariant.untried c.in-Some-best.card c.in-Some-best.ensures.some)
+      (found_next p c.after-next.result c.args.target _ c.point.result c.in-Some-best.card _ _ c.after-next.ensures
       c.point.ensures.point refl found)
       (λ ownership. known_more ownership _ _ _ _ _ (in_second _ _ _ c.union-decisive.ensures)
       (c.decisive.ensures ownership))
@@ -100,7 +101,7 @@ pub search-store-requires-clause-found : goal.search-store-requires-clause-found
 search-store-requires-clause-found t c = c.in-Ok.ensures.found
 
 pub explore-after-next-requires : goal.explore-after-next-requires
-explore-after-next-requires t c = c.loop-card.invariant.untried c.in-Some.card c.in-Some.ensures.some
+explore-after-next-requires t c = c.loop-card.invariant.untried c.in-Some-best.card c.in-Some-best.ensures.some
 
 pub explore-run_of-run-requires-clause-others : goal.explore-run_of-run-requires-clause-others
 explore-run_of-run-requires-clause-others t c = c.others-others.ensures
@@ -109,14 +110,14 @@ pub explore-run_of-run-requires-clause-playable : goal.explore-run_of-run-requir
 explore-run_of-run-requires-clause-playable t c = c.legal_cards-playable.ensures
 
 pub explore-run_of-run-requires-clause-legal : goal.explore-run_of-run-requires-clause-legal
-explore-run_of-run-requires-clause-legal t c = c.loop-card.invariant.untried c.in-Some.card c.in-Some.ensures.some
+explore-run_of-run-requires-clause-legal t c = c.loop-card.invariant.untried c.in-Some-best.card c.in-Some-best.ensures.some
 
 pub explore-spoken_for-spoken-requires-clause-playable : goal.explore-spoken_for-spoken-requires-clause-playable
 explore-spoken_for-spoken-requires-clause-playable t c = c.legal_cards-playable.ensures
 
 pub explore-spoken_for-spoken-requires-clause-legal : goal.explore-spoken_for-spoken-requires-clause-legal
-explore-spoken_for-spoken-requires-clause-legal t c = c.loop-card.invariant.untried c.in-Some.card
-    c.in-Some.ensures.some
+explore-spoken_for-spoken-requires-clause-legal t c = c.loop-card.invariant.untried c.in-Some-best.card
+    c.in-Some-best.ensures.some
 
 pub search-find-requires-clause-same : goal.search-find-requires-clause-same
 search-find-requires-clause-same t c = c.of-holders.ensures.hands
@@ -151,3 +152,24 @@ search-returns-in_default-explore-clause-err t c = c.in_default-explore.ensures.
 
 pub search-returns-clause-found : goal.search-returns-clause-found
 search-returns-clause-found t c = c.in-Ok.ensures.found
+
+pub forced-search-requires : goal.forced-search-requires
+forced-search-requires t c =
+    let fewer = fewer_after c.args.position.now c.args.card c.requires.legal in
+    let same = ap cards_left c.after-next.ensures in
+    let d = c.decreases in (
+      omega (arith, fewer, same, d),
+      subst (λ q. IsLeftOf c.args.patterns.now.whole q.hands) (sym c.after-next.ensures)
+          (left_without c.args.patterns.now.whole c.args.position.now.hands c.args.card c.requires.left),
+    )
+
+pub forced-returns-clause-found : goal.forced-returns-clause-found
+forced-returns-clause-found t c =
+    let p = c.args.position.now in
+    found_forced p c.args.target c.args.card c.in-Ok.found.known c.union-decisive.result c.in-Ok.found.holds
+    c.requires.legal c.requires.only
+    (λ ownership. known_more ownership _ _ _ _ _ (in_second _ _ _ c.union-decisive.ensures)
+    (c.decisive.ensures ownership))
+    (in_first _ _ _ c.union-decisive.ensures)
+    (found_next p c.after-next.result c.args.target _ c.point.result c.args.card _ _ c.after-next.ensures
+    c.point.ensures.point refl c.in-Ok.ensures.found)

@@ -1,4 +1,4 @@
-use Rattle.std.proofs.Common.{◌≡◌, ◌≤◌, suc, ◌*◌, true}
+use Rattle.std.proofs.Common.{◌≡◌, ◌≤◌, ◌+◌, ◌*◌, true}
 use Rattle.std.specs.Prelude.{not}
 use Rattle.cards.specs.declared.card.Card.{Card}
 use Rattle.std.specs.FinSet as set
@@ -17,7 +17,10 @@ abbrev pub decreases-explore-loop-card : goal.decreases-explore-loop-card
 decreases-explore-loop-card l = set.len l.untried
 
 abbrev pub decreases-search : goal.decreases-search
-decreases-search l = suc (2 * cards_left l.position.now)
+decreases-search l = 2 + 3 * cards_left l.position.now
 
 abbrev pub decreases-explore : goal.decreases-explore
-decreases-explore l = 2 * cards_left l.position.now
+decreases-explore l = 1 + 3 * cards_left l.position.now
+
+abbrev pub decreases-forced : goal.decreases-forced
+decreases-forced l = 3 * cards_left l.position.now
