@@ -3,16 +3,15 @@ ghost use Rattle.std.specs.FinSet as set;
 
 use crate::run::is_one_run;
 use crate::weights::{Weights, top};
-use cards::{Card, Hand, Position, Rank};
-use table_terms::Suit;
+use cards::{Card, Hand, Position};
 
 // The most runs that a player's cards can be.
 const RUNS: usize = 13;
 
-/// A card that may be played, the highest of its run, and how promising it is.
+/// A card that may be played, the highest of its run, by its number in the pack, and how promising it is.
 #[derive(Clone, Copy)]
 struct Weighed {
-    card: Card,
+    number: u8,
     weight: u16,
 }
 
@@ -27,15 +26,11 @@ pub struct Order {
 impl Order {
     /// Of the cards that the player in turn may play; where they are one run, there is nothing to weigh.
     pub fn of(position: &Position, others: Hand, playable: Hand) -> Order {
-        let nothing = Weighed {
-            card: Card {
-                suit: Suit::Spades,
-                rank: Rank::Two,
-            },
-            weight: 0,
-        };
         let mut order = Order {
-            weighed: [nothing; RUNS],
+            weighed: [Weighed {
+                number: 0,
+                weight: 0,
+            }; RUNS],
             runs: 0,
         };
         if !is_one_run(playable, others) {
@@ -45,9 +40,9 @@ impl Order {
     }
 
     /// Adds a card.
-    pub(crate) fn push(&mut self, card: Card, weight: u16) {
+    pub(crate) fn push(&mut self, number: u8, weight: u16) {
         if self.runs < RUNS {
-            self.weighed[self.runs] = Weighed { card, weight };
+            self.weighed[self.runs] = Weighed { number, weight };
             self.runs += 1;
         }
     }
@@ -60,17 +55,26 @@ impl Order {
         let Some(lowest) = untried.first() else {
             return None;
         };
-        let mut best = top(untried, lowest);
-        let mut most = 0;
-        'weighed: for weighed in &self.weighed {
-            if weighed.weight == 0 {
-                break;
+        if let Some(number) = self.most_promising(untried.word()) {
+            let card = Card::from_number(number.min(51));
+            if untried.contains(card) {
+                return Some(card);
             }
-            if most < weighed.weight && untried.contains(weighed.card) {
-                best = weighed.card;
+        }
+        Some(top(untried, lowest))
+    }
+
+    /// The number of the card with the most weight, of those in a word.
+    fn most_promising(&self, untried: u64) -> Option<u8> {
+        let mut best = None;
+        let mut most = 0;
+        for at in 0..self.runs.min(RUNS) {
+            let weighed = self.weighed[at];
+            if most < weighed.weight && untried >> (weighed.number & 63) & 1 == 1 {
+                best = Some(weighed.number);
                 most = weighed.weight;
             }
         }
-        Some(best)
+        best
     }
 }

@@ -38,6 +38,9 @@ pub(crate) struct Weights {
     // How strong the best answer of the next opponent is, and that of partner, if they have still to play.
     threat: u8,
     help: u8,
+    // What the next opponent must play at least, and what he or partner must, if second hand is to play.
+    least_threat: u8,
+    least: u8,
     // The lowest card with which third hand makes fourth hand spend his best.
     forcing: Option<Card>,
 }
@@ -65,6 +68,8 @@ impl Weights {
             beaten: 0,
             threat: 0,
             help: 0,
+            least_threat: 0,
+            least: 0,
             forcing: None,
         };
         if let Some(suit) = weights.trump {
@@ -131,10 +136,11 @@ fn length(hand: Hand, suit: Suit) -> u16
     hand.of_suit(suit).len() as u16
 }
 
-/// The highest run of one suit's cards.
+/// The highest run of one suit's cards: its highest card, that card's number in the pack, and all of it.
 #[derive(Clone, Copy)]
-pub(crate) struct Run {
-    pub card: Card,
+struct Run {
+    card: Card,
+    number: u8,
     word: u64,
 }
 
@@ -151,8 +157,10 @@ impl Run {
         } else {
             cards & u64::MAX << lower.ilog2()
         };
+        let number = last.min(51) as u8;
         Some(Run {
-            card: Card::from_number(last.min(51) as u8),
+            card: Card::from_number(number),
+            number,
             word,
         })
     }

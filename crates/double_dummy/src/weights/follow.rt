@@ -36,7 +36,11 @@ impl Weights {
             self.threat = self.answer(self.left, led);
         }
         match trick {
-            Trick::One(_) => self.help = self.answer(self.partner, led),
+            Trick::One(_) => {
+                self.help = self.answer(self.partner, led);
+                self.least_threat = self.lowest(self.left, led);
+                self.least = self.least_threat.max(self.lowest(self.partner, led));
+            }
             Trick::Two(a, b) => self.forcing = self.forcing_card(a, b),
             _ => {}
         }
@@ -78,16 +82,32 @@ impl Weights {
 
     /// Weighs the cards of a player who does not lead.
     pub(super) fn weigh_answers(&self, playable: Hand, others: Hand, led: Suit, order: &mut Order) {
+        let following = playable.of_suit(led);
+        if !following.is_empty() {
+            self.weigh_suit_of(led, following, others, led, order);
+            return;
+        }
         for suit in SUITS {
-            let mut rest = playable.of_suit(suit).word();
-            let theirs = others.of_suit(suit).word();
-            for _ in 0..13 {
-                let Some(run) = Run::highest(rest, theirs) else {
-                    break;
-                };
-                order.push(run.card, self.answer_weight(run, led));
-                rest &= !run.word;
-            }
+            self.weigh_suit_of(suit, playable, others, led, order);
+        }
+    }
+
+    fn weigh_suit_of(
+        &self,
+        suit: Suit,
+        playable: Hand,
+        others: Hand,
+        led: Suit,
+        order: &mut Order,
+    ) {
+        let mut rest = playable.of_suit(suit).word();
+        let theirs = others.of_suit(suit).word();
+        for _ in 0..13 {
+            let Some(run) = Run::highest(rest, theirs) else {
+                return;
+            };
+            order.push(run.number, self.answer_weight(run, led));
+            rest &= !run.word;
         }
     }
 
@@ -120,7 +140,7 @@ impl Weights {
             EVEN - rank(card)
         } else if power > self.bar() {
             EVEN + 81 - rank(card)
-        } else if power < self.lowest_answer(led) {
+        } else if power < self.least {
             EVEN - 3 + place
         } else if power < self.beaten {
             EVEN - 11 + place
@@ -135,7 +155,7 @@ impl Weights {
     fn second_winning(&self, card: Card, led: Suit, power: u8, is_sequence: bool) -> u16 {
         let place = self.place_from_top(card);
         let leaders = self.greatest(self.right.of_suit(led), led);
-        if power < self.lowest(self.left, led) {
+        if power < self.least_threat {
             EVEN + 40 + place
         } else if self.beaten < self.help && self.help < leaders {
             EVEN + 41 + place
@@ -155,7 +175,7 @@ impl Weights {
     /// With trumps, where the opponents win it.
     fn second_losing(&self, card: Card, led: Suit, power: u8, is_sequence: bool) -> u16 {
         let place = self.place_from_top(card);
-        if power < self.lowest_answer(led) {
+        if power < self.least {
             EVEN - 9 + place
         } else if power < self.beaten {
             EVEN - 16 + place
@@ -275,12 +295,6 @@ impl Weights {
             Some(card) => strength(self.trump, led, card),
             None => 0,
         }
-    }
-
-    /// What third or fourth hand must play at least.
-    fn lowest_answer(&self, led: Suit) -> u8 {
-        self.lowest(self.left, led)
-            .max(self.lowest(self.partner, led))
     }
 }
 

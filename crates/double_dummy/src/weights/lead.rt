@@ -59,16 +59,18 @@ impl Suited {
         self.first == Whose::Lefts && self.second == Whose::Partners && self.partner != 1
     }
 
-    /// Whether partner has the second and the third best card.
-    fn partner_is_next(&self) -> bool {
-        self.second == Whose::Partners && self.third == Whose::Partners
-    }
-
-    /// Whether we have the second and the third best card between us.
-    fn we_are_next(&self) -> bool {
-        self.partner > 1
-            && (self.second == Whose::Mine && self.third == Whose::Partners
-                || self.second == Whose::Partners && self.third == Whose::Mine)
+    /// What it counts that partner has the second and the third best card, or that we have them between us.
+    fn next_best(&self, partners: u16, ours: u16) -> u16
+        requires partners { partners ≤ 100 }
+        requires ours { ours ≤ 100 }
+        ensures { result ≤ 100 }
+    {
+        match (self.second, self.third) {
+            (Whose::Partners, Whose::Partners) => partners,
+            (Whose::Partners, Whose::Mine) if self.partner > 1 => ours,
+            (Whose::Mine, Whose::Partners) if self.partner > 1 => ours,
+            _ => 0,
+        }
     }
 }
 
@@ -96,7 +98,7 @@ impl Weights {
                 return;
             };
             let wins = strength(self.trump, suit, run.card).max(partners) > most;
-            order.push(run.card, self.lead(run, base, &suited, wins));
+            order.push(run.number, self.lead(run, base, &suited, wins));
             rest &= !run.word;
         }
     }
@@ -225,11 +227,7 @@ impl Weights {
         } else if suited.is_through_strength() {
             base += 31;
         }
-        if suited.partner_is_next() {
-            base += 35;
-        } else if suited.we_are_next() {
-            base += 25;
-        }
+        base += suited.next_best(35, 25);
         if suited.first_is_single() {
             base + 28 + place
         } else if suited.first == Whose::Mine {
@@ -282,12 +280,7 @@ impl Weights {
         requires most { base ≤ 2000 }
     {
         let place = self.place_from_top(card);
-        let mut base = base;
-        if suited.partner_is_next() {
-            base += 20;
-        } else if suited.we_are_next() {
-            base += 13;
-        }
+        let base = base + suited.next_best(20, 13);
         if suited.first_is_single() {
             return base + 2 + place;
         }
