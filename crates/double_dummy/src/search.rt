@@ -1,5 +1,5 @@
 ghost use Rattle.table_terms.specs.Place.{side_of};
-ghost use Rattle.cards.specs.Play.{legal, to_play};
+ghost use Rattle.cards.specs.Play.{after, legal, point, to_play};
 ghost use Rattle.double_dummy_laws.specs.Found.{wanted_answer};
 ghost use Rattle.cards.specs.Play.{cards_left};
 ghost use Rattle.position_patterns.specs.Remainder.{IsLeftOf};
@@ -61,8 +61,8 @@ pub fn search(
             known: Hand::new(),
         });
     }
-    // two tricks are searched sooner than they are remembered
-    if tricks_left <= 2 {
+    // the last trick is played sooner than it is remembered
+    if tricks_left <= 1 {
         return explore(position, target, patterns, memory, budget);
     }
     let holders = Holders::of(position);
@@ -111,8 +111,8 @@ fn explore(
     let order = Order::of(position, others, playable);
     let mut known = Hand::new();
     while let Some(card) = order.best(untried) {
-        let rest = target - position.point(card);
         let next = position.after(card);
+        let rest = target - point(position, &next);
         let Ok(found) = search(&next, rest, patterns, memory, budget) else {
             return Err(BudgetSpent);
         };
@@ -153,8 +153,8 @@ fn forced(
     ensures err { OnErr result (budget.new ≡ 0) }
     ensures spent { budget.new ≤ budget.old }
 {
-    let rest = target - position.point(card);
     let next = position.after(card);
+    let rest = target - point(position, &next);
     let Ok(found) = search(&next, rest, patterns, memory, budget) else {
         return Err(BudgetSpent);
     };
@@ -163,6 +163,21 @@ fn forced(
         holds: found.holds,
         known: decisive,
     })
+}
+
+/// 1 where the card that was played to a position completed a trick that North and South won, else 0: its winner is
+/// next to lead.
+fn point(position: &Position, next: &Position) -> u8
+    ensures point { (card : Card) → next.now ≡ after position.now card → result ≡ point position.now card }
+    ensures small { result ≤ 1 }
+{
+    let Trick::Three(_, _, _) = position.trick() else {
+        return 0;
+    };
+    match next.leader().side() {
+        Side::NorthSouth => 1,
+        Side::EastWest => 0,
+    }
 }
 
 /// The answer that the player in turn would rather have to whether North and South take so many tricks.

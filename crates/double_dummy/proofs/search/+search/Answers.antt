@@ -53,7 +53,7 @@ explore-returns-then-found-wanted-clause-found t c =
     (in_first _ _ _ c.union-decisive.ensures)
     c.wants-wanted.ensures
     (found_next p c.after-next.result c.args.target _ c.point.result c.in-Some-best.card _ _ c.after-next.ensures
-    c.point.ensures.point refl found)
+    (c.point.ensures.point _ c.after-next.ensures) refl found)
 
 pub explore-loop-card-smaller : goal.explore-loop-card-smaller
 explore-loop-card-smaller t c =
@@ -75,7 +75,7 @@ explore-loop-card-preserved t c = record {
       c.spoken_for-spoken.result c.union.result c.in-Some-best.card (not c.wants-wanted.result) c.loop-card.invariant.refused
       (c.loop-card.invariant.untried c.in-Some-best.card c.in-Some-best.ensures.some)
       (found_next p c.after-next.result c.args.target _ c.point.result c.in-Some-best.card _ _ c.after-next.ensures
-      c.point.ensures.point refl found)
+      (c.point.ensures.point _ c.after-next.ensures) refl found)
       (λ ownership. known_more ownership _ _ _ _ _ (in_second _ _ _ c.union-decisive.ensures)
       (c.decisive.ensures ownership))
       c.run_of-run.ensures.run c.run_of-run.ensures.itself c.spoken_for-spoken.ensures
@@ -172,4 +172,4 @@ forced-returns-clause-found t c =
     (c.decisive.ensures ownership))
     (in_first _ _ _ c.union-decisive.ensures)
     (found_next p c.after-next.result c.args.target _ c.point.result c.args.card _ _ c.after-next.ensures
-    c.point.ensures.point refl c.in-Ok.ensures.found)
+    (c.point.ensures.point _ c.after-next.ensures) refl c.in-Ok.ensures.found)
