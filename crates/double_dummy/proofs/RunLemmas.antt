@@ -16,10 +16,7 @@ use Rattle.double_dummy.specs.Search.{HasOthers, IsRunOf}
 use Rattle.double_dummy_laws.proofs.HandLemmas.{in_suit, legal_follows}
 use Rattle.double_dummy_laws.proofs.WinnerLemmas.{both_of}
 use Rattle.double_dummy_laws.proofs.NeighbourLemmas.{no_between}
-use Rattle.double_dummy_laws.specs.Found.{IsOwned, IsTight}
-use Rattle.double_dummy_laws.specs.Known.{IsLike}
 use Rattle.double_dummy_laws.specs.Neighbours.{IsBetween}
-use Rattle.double_dummy_laws.specs.Renaming.{Ownership}
 
 -- legal cards of a card's suit with no card of the others between are like it
 pub run_round : (p : Position) (others playable near run : Cards) (card : Card) → HasOthers p others →
