@@ -1,11 +1,12 @@
 -- Who is authorized: the test that the code makes decides it.
 use Rattle.std.proofs.Common.{◌≡◌, ◌≢◌, ℕ, Bool, true, List, get_or, Some, None, sym, ap, ◌∙◌}
-use Rattle.std.specs.Prelude.{◌&&◌, All, option_map}
+use Rattle.std.specs.Prelude.{◌&&◌, All, option_map, slice_get}
 use Rattle.std.specs.List.{list_any}
 use Rattle.std.specs.Bool.{Decides}
 use Rattle.std.proofs.lemmas.Bool.{and_parts, and_from}
 use Rattle.std.proofs.lemmas.Bool.Decides.{Decides-at, Decides-like, Decides-and}
 use Rattle.std.proofs.lemmas.List.Folds.{Any-from_list_any, list_any_at}
+use Rattle.std.proofs.lemmas.Option.{get_or_from_slice_get, slice_get_within}
 use Rattle.session_roles.specs.declared.role.Role.{Role}
 use Rattle.session_roles.specs.declared.role.Role.TheVariants.{Member}
 use Rattle.rbac.specs.declared.inheritance.Inheritance.{Inheritance}
@@ -117,6 +118,19 @@ module _ (now : RoleData) (name : List ℕ) (place : ℕ) (at : FoundAt now.acco
   by_table table account closure is =
       closure_reached now.pairs table account.assigned closure
       ∙ ap (λ (account : Account). reached now.pairs account.assigned) is
+
+-- what `authorized` answers of the user of an account, at its place
+pub authorized_there : (now : RoleData) (place : ℕ) (account : Account) → AreApart now.accounts →
+    slice_get now.accounts place ≡ Some account →
+    authorized_roles now account.name ≡ Some (reached now.pairs account.assigned)
+authorized_there now place account apart there =
+    let read = get_or_from_slice_get now.accounts place account in
+    let at : FoundAt now.accounts account.name place = record {
+      within = slice_get_within now.accounts place account there;
+      found = λ d. ap (λ (account : Account). account.name) (read d there);
+    } in
+    authorized_is now account.name place at apart account
+    ∙ ap (λ (account : Account). Some (reached now.pairs account.assigned)) (read account there)
 
 pub none_authorized : (now : RoleData) (name : List ℕ) → All (λ account. account.name ≢ name) now.accounts →
     authorized_roles now name ≡ None

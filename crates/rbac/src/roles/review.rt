@@ -1,6 +1,7 @@
 //! What can be asked of users, their roles and the role hierarchy (the review functions of INCITS 359-2012). No call
 //! changes anything.
-ghost use Rattle.std.specs.Prelude.{◌≡◌, length};
+ghost use Rattle.std.specs.Prelude.{◌≡◌, length, slice_get, option_and_then};
+ghost use Rattle.rbac.specs.Authorization.{authorized_roles};
 ghost use Rattle.rbac.specs.Inheritance.{reaches};
 ghost use Rattle.rbac.specs.Review.{is_assigned, has_user_for, first_broken, has_pair};
 ghost use Rattle.rbac.specs.RoleData.{assign_user, add_inheritance, after_change};
@@ -10,7 +11,7 @@ use crate::hierarchy::Hierarchy;
 use crate::inheritance::Inheritance;
 use crate::lookup::{first_broken, has_user_for, has_user_for_without, place_of};
 use crate::roles::Roles;
-use session_roles::{Role, SeparationSet};
+use session_roles::{Role, RoleSet, SeparationSet};
 
 impl Roles {
     /// How many users there are.
@@ -18,6 +19,15 @@ impl Roles {
         ensures { result ≡ length self.now.accounts }
     {
         self.accounts.len()
+    }
+
+    /// What `authorized` answers of the user at a place from 0, if there are so many users. No name is looked for.
+    pub fn authorized_at(&self, place: usize) -> Option<RoleSet>
+        ensures { result ≡ option_and_then (λ account. authorized_roles self.now account.name)
+            (slice_get self.now.accounts place) }
+    {
+        let account = self.accounts.get(place)?;
+        Some(self.hierarchy.reached_from(account.assigned))
     }
 
     /// Whether a role is assigned to a user.
