@@ -159,6 +159,13 @@ as_before place board table p b from to = same (is_noted table p b) (one_board p
     same false true = refl
     same false false = refl
 
+-- a pair that is noted isn't asked about
+pub asked_noted : (state : SessionState) (place board : ℕ) (table : List (List ℕ)) →
+    is_noted table place board ≡ true → IsAsked state (one_board place board) table table
+asked_noted state place board table noted =
+    asked_one state table table place board false (as_before place board table)
+    (ap (λ x. x || false) noted ∙ sym (ap (λ x. x || sees_hands state (user_at state place) board) noted))
+
 both : (o f g s : Bool) → ((o || (f && s)) || (g && s)) ≡ (o || ((f || g) && s))
 both true f g s = refl
 both false true g true = refl

@@ -4,6 +4,7 @@ pub mod ExposureLemmas
 pub mod ExposureTableLemmas
 pub mod JournalLemmas
 pub mod LastingLemmas
+pub mod OnlookerLemmas
 pub mod PlacedLemmas
 pub mod RunLemmas
 pub mod SightLemmas

@@ -11,12 +11,16 @@ use Rattle.std.specs.Prelude.{
   nat_eq,
   nat_le,
   nat_lt,
+  is_none,
   List,
   [],
   length,
   slice_index_or,
 }
 use Rattle.movement.specs.Movement.{boards_of, most_boards}
+use Rattle.disclosure_rules.specs.Policy.{first_rule}
+use Rattle.disclosure_rules.specs.declared.fact.Fact.TheVariants.{Hands}
+use Rattle.disclosure_rules.specs.declared.viewer.Viewer.{Viewer}
 use Rattle.small_sets.specs.Numbers.{has_number}
 use Rattle.session_commands.specs.declared.entry.Entry.{Entry}
 use Rattle.session_state.specs.SessionState.{SessionState}
@@ -29,6 +33,12 @@ is_noted table place board = has_number (slice_index_or table place []) board
 -- the name of the user at a place
 abbrev pub user_at : SessionState → ℕ → List ℕ
 user_at state place = slice_index_or (users_of state) place []
+
+-- the viewer sees the hands of just the boards that the user at a place sees
+abbrev pub SeesAs : SessionState → ℕ → Viewer → Type 0
+SeesAs state place viewer =
+    (board : ℕ) → is_none (first_rule state.public viewer (Hands board))
+    ≡ sees_hands state (user_at state place) board
 
 -- the table, after the policy was asked about some users and boards: a pair that was asked about is noted if it was, or
 -- if the user is allowed the hands; the others are as they were

@@ -1,6 +1,7 @@
 ghost use Rattle.std.specs.Prelude.{◌≡◌, ℕ, ◌+◌, ◌-◌, ◌≤◌, ◌<◌, ◌⊎◌, ◌||◌, Bool, false, List, [], ◌∷◌, ◌++◌, None, Some, length, slice_get, slice_index_or, map, Contains, IfOk, IfErr, OnOk, OnErr, IfSome, IfNone, IsTrue, ◌↔◌, true};
 ghost use Rattle.std.specs.Option.{option_copied};
 ghost use Rattle.movement.specs.Movement.{IsCell, boards_of, most_boards};
+ghost use Rattle.disclosure_rules.specs.Seating.{is_seated_at};
 ghost use Rattle.rbac.specs.Account.{most_users};
 ghost use Rattle.rbac.specs.Authorization.{HasPermission, IsValid};
 ghost use Rattle.session_roles.specs.declared.operation.Operation.TheVariants.{Audit};
@@ -10,6 +11,7 @@ ghost use Rattle.session_book.specs.Exposure.{Exposed, is_exposed, spoiler_of, s
 ghost use Rattle.session_book.specs.ExposureTable.{user_at};
 ghost use Rattle.session_book.specs.Journal.{IsAccepted, MayFollow, refusal_at, state_of, entry_of};
 ghost use Rattle.session_state.specs.Refusal.{most_entries};
+ghost use Rattle.session_state.specs.SessionState.{viewer_of};
 ghost use Rattle.session_book.specs.Run.{Runs, IsTried, stops, answer_of, first_number, last_number, most_commands};
 ghost use Rattle.session_commands.specs.declared.actor.Actor.TheVariants.{Solver};
 ghost use Rattle.session_commands.specs.declared.command.Command.{Command};
@@ -26,7 +28,7 @@ use crate::audit::{AuditError, AuditRows, rows_of};
 use crate::exposure::Exposure;
 use crate::submission::Submission;
 use crate::touched::touched_by;
-use disclosure_rules::is_seated_at;
+use disclosure_rules::{Viewer, is_seated_at};
 use movement::Cell;
 use rbac::Account;
 use session_commands::room::{push_copy, push_within};
@@ -226,7 +228,7 @@ impl Book {
         ensures { result ≡ spoils self.now.opening self.now.journal cell user }
     {
         let state = self.state();
-        self.is_noted(place, cell.board) && is_seated_at(state.public(), &state.viewer(user), cell)
+        self.is_noted(place, cell.board) && sits_at(state, user, cell)
     }
 
     // Whether the user at a place was shown something of a board.
@@ -382,6 +384,17 @@ fn is_stopped(stopped: bool, refusal: &Option<Refusal>) -> bool
             Some(cause) => cause.is_out_of_memory(),
             None => false,
         }
+}
+
+// Whether a user sits at a cell, whatever roles the user has.
+fn sits_at(state: &State, user: Name, cell: Cell) -> bool
+    ensures { result ≡ is_seated_at state.now.public (viewer_of state.now user) cell }
+{
+    let seated = Viewer {
+        roles: None,
+        seat: state.seat(user),
+    };
+    is_seated_at(state.public(), &seated, cell)
 }
 
 // The cell whose result a command enters or confirms, if it does so.

@@ -2,16 +2,16 @@ ghost use Rattle.std.specs.Prelude.{◌≡◌, ℕ, ◌||◌, ◌<◌, ◌≤◌
 ghost use Rattle.movement.specs.Movement.{boards_of, most_boards};
 ghost use Rattle.rbac.specs.Account.{most_users};
 ghost use Rattle.rbac.specs.Authorization.{IsValid};
-ghost use Rattle.session_state.specs.SessionState.{viewer_of};
 ghost use Rattle.session_book.specs.Exposure.{users_of};
 ghost use Rattle.session_book.specs.Touched.{touched_at, touched_before};
 ghost use Rattle.session_book.specs.declared.touched.Touched.TheVariants.{Board, User};
-ghost use Rattle.session_book.specs.ExposureTable.{is_noted, user_at, IsAsked, IsNoted, one_board, first_boards, first_users};
+ghost use Rattle.session_book.specs.ExposureTable.{is_noted, user_at, SeesAs, IsAsked, IsNoted, one_board, first_boards, first_users};
 
 use crate::touched::Touched;
 use disclosure_rules::{Boards, Fact, Viewer, decide};
 use rbac::Roles;
 use session_commands::room::filled;
+use session_roles::Role;
 use session_state::State;
 use std::alloc::{AllocError, Global};
 use std::marker::Model;
@@ -104,6 +104,7 @@ impl Exposure {
     // Notes what the user at a place is allowed of what is touched.
     fn ask_user(&mut self, state: &State, place: usize, user: Name, touched: &Touched, boards: u8)
         requires room { place < most_users }
+        requires place { place < length state.now.roles.accounts }
         requires user { user ≡ user_at state.now place }
         requires boards { boards ≤ most_boards }
         ensures { IsAsked state.now (touched_at state.now touched.now boards place) self.old self.new }
@@ -119,6 +120,7 @@ impl Exposure {
     // Notes a board for the user at a place, if it is one of the first.
     fn ask_within(&mut self, state: &State, place: usize, user: Name, board: u8, boards: u8)
         requires room { place < most_users }
+        requires place { place < length state.now.roles.accounts }
         requires user { user ≡ user_at state.now place }
         requires boards { boards ≤ most_boards }
         ensures { IsAsked state.now (touched_at state.now (Board board) boards place) self.old self.new }
@@ -126,12 +128,16 @@ impl Exposure {
         if board < 1 || board > boards {
             return;
         }
-        self.ask(state, &state.viewer(user), place, board);
+        if self.contains(place, board) {
+            return;
+        }
+        self.ask(state, &onlooker(state, place, user), place, board);
     }
 
     // Notes what the user at a place is allowed, if it has the name.
     fn ask_named(&mut self, state: &State, place: usize, user: Name, name: Name, boards: u8)
         requires room { place < most_users }
+        requires place { place < length state.now.roles.accounts }
         requires user { user ≡ user_at state.now place }
         requires boards { boards ≤ most_boards }
         ensures { IsAsked state.now (touched_at state.now (User name) boards place) self.old self.new }
@@ -145,11 +151,12 @@ impl Exposure {
     // Notes what the user at a place is allowed, of so many boards: each that isn't noted yet is asked about.
     fn ask_boards(&mut self, state: &State, place: usize, user: Name, boards: u8)
         requires room { place < most_users }
+        requires place { place < length state.now.roles.accounts }
         requires user { user ≡ user_at state.now place }
         requires boards { boards ≤ most_boards }
         ensures { IsAsked state.now (first_boards place boards) self.old self.new }
     {
-        let viewer = state.viewer(user);
+        let viewer = onlooker(state, place, user);
         for k in 0..boards {
             self.ask(state, &viewer, place, k + 1);
         }
@@ -159,7 +166,7 @@ impl Exposure {
     // asked about again.
     fn ask(&mut self, state: &State, viewer: &Viewer, place: usize, board: u8)
         requires room { place < most_users }
-        requires viewer { viewer.now ≡ viewer_of state.now (user_at state.now place) }
+        requires viewer { SeesAs state.now place viewer.now }
         requires from { 1 ≤ board }
         requires to { board ≤ most_boards }
         ensures { IsAsked state.now (one_board place board) self.old self.new }
@@ -168,5 +175,25 @@ impl Exposure {
         if !self.contains(place, board) && decide(state.public(), viewer, hands).is_none() {
             self.insert(place, board);
         }
+    }
+}
+
+// Who sees the hands of just the boards that the user at a place sees: the user, by roles that no name is looked for, and
+// without the seat unless it is a contestant's, since the policy asks of no other where they sit.
+fn onlooker(state: &State, place: usize, user: Name) -> Viewer
+    requires place { place < length state.now.roles.accounts }
+    requires user { user ≡ user_at state.now place }
+    ensures { SeesAs state.now place result }
+{
+    let unseated = Viewer {
+        roles: state.roles().authorized_at(place),
+        seat: None,
+    };
+    if !unseated.is_authorized(Role::Contestant) {
+        return unseated;
+    }
+    Viewer {
+        roles: unseated.roles,
+        seat: state.seat(user),
     }
 }

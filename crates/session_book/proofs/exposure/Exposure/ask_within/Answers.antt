@@ -1,9 +1,9 @@
-use Rattle.std.proofs.Common.{◌⊎◌, ◌<◌, inl, inr, arith}
+use Rattle.std.proofs.Common.{◌⊎◌, ◌<◌, inl, inr, sym, ◌∙◌, arith}
 use Rattle.std.proofs.lemmas.Bool.{cases_lt}
 use Rattle.session_book.specs.ExposureTable.{one_board}
 use Rattle.session_book.specs.Touched.{touched_at}
 use Rattle.session_book.specs.declared.touched.Touched.TheVariants.{Board}
-use Rattle.session_book.proofs.ExposureTableLemmas.{asked_none}
+use Rattle.session_book.proofs.ExposureTableLemmas.{asked_none, asked_noted}
 use Rattle.session_book.proofs.TouchedLemmas.{asked_as, board_at, no_board_at}
 use Rattle.session_book.proofs.exposure.Exposure.ask_within.Goals as goal
 
@@ -14,6 +14,14 @@ returns-then-board-lt1 c =
     asked_none c.args.state.now (touched_at c.args.state.now (Board c.args.board) c.args.boards c.args.place)
     c.args.self.now
     (λ p b from. no_board_at c.args.state.now c.args.boards c.args.place c.args.board p b out from)
+
+pub returns-then-contains : goal.returns-then-contains
+returns-then-contains c =
+    let state = c.args.state.now in
+    asked_as state (one_board c.args.place c.args.board) (touched_at state (Board c.args.board) c.args.boards
+    c.args.place) c.args.self.now c.args.self.now
+    (λ p b from. board_at state c.args.boards c.args.place c.args.board p b (omega arith) (omega arith))
+    (asked_noted state c.args.place c.args.board c.args.self.now (sym c.contains.ensures ∙ c.if-contains.true))
 
 pub returns : goal.returns
 returns c =
