@@ -9,6 +9,7 @@ pub mod HiddenLemmas
 pub mod HistoryLemmas
 pub mod ListLemmas
 pub mod PlaceLemmas
+pub mod ShowingLemmas
 pub mod StandingLemmas
 pub mod StepLemmas
 pub mod TotalLemmas

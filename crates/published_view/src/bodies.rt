@@ -16,6 +16,7 @@ ghost use Rattle.session_queries.specs.Facts.{has_place};
 ghost use Rattle.session_queries.specs.Shown.{shown};
 
 use crate::listing::listed_from;
+use crate::showing::Showing;
 use disclosure_rules::{Fact, Viewer, decide};
 use movement::Cell;
 use query_filter::Filter;
@@ -146,18 +147,18 @@ fn traveller(alloc: Global, state: &State, viewer: &Viewer, number: u8) -> Resul
 }
 
 /// The boards that are listed for the user.
-fn list(
+pub(crate) fn list<S: Showing>(
     alloc: Global,
-    state: &State,
+    showing: &S,
     viewer: &Viewer,
     filter: &Option<Filter>,
     from: u8,
     limit: u8,
 ) -> Result<Body, AllocError>
     ensures { IfOk result (λ found. found ≡
-        list_by (shown state.now viewer.now) filter.now from limit (Some state.now.public)) }
+        list_by (shown (S.seen showing.now) viewer.now) filter.now from limit (Some (S.seen showing.now).public)) }
 {
-    let mut boards = listed_from(alloc, state, viewer, filter, from)?;
+    let mut boards = listed_from(alloc, showing, viewer, filter, from)?;
     let more = boards.len() > limit as usize;
     boards.truncate(limit as usize);
     Ok(Body::List {

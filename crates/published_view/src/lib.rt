@@ -8,6 +8,7 @@ pub mod laws;
 mod listing;
 mod preface;
 mod query_fault;
+mod showing;
 mod view;
 
 pub use query_fault::{NoEntry, QueryFault};

@@ -1,12 +1,14 @@
 use Rattle.std.proofs.Common.{rules, ◌≡◌, true}
-use Rattle.std.specs.Prelude.{is_some}
+use Rattle.std.specs.Prelude.{not}
 use Rattle.disclosure_rules.specs.declared.fact.Fact.TheVariants as fact
 use Rattle.disclosure_rules.specs.Policy.{first_rule}
-use Rattle.published_view.proofs.AnswerLemmas.{not_listed}
+use Rattle.published_view.proofs.AnswerLemmas.{not_listed, not_seen}
 use Rattle.published_view.proofs.listing.is_listed.Goals as goal
 
-pub returns-then-is_some : goal.returns-then-is_some
-returns-then-is_some c =
-    let forbids : is_some (first_rule c.args.state.now.public c.args.viewer.now (fact.Hands c.args.board)) ≡ true =
-    search rules in
-    not_listed c.args.state.now c.args.viewer.now c.args.board c.args.filter.now forbids
+pub returns-then-not-shows : goal.returns-then-not-shows
+returns-then-not-shows g c =
+    let state = g.S.Showing.seen c.args.showing.now in
+    let viewer = c.args.viewer.now in
+    let hidden : not c.shows.result ≡ true = search rules in
+    not_listed state viewer c.args.board c.args.filter.now
+    (not_seen (first_rule state.public viewer (fact.Hands c.args.board)) c.shows.result c.shows.ensures hidden)

@@ -9,8 +9,8 @@ use Rattle.published_view.proofs.listing.listed_from.Goals as goal
 
 pub returns : goal.returns
 unfolding listed_from
-returns c =
-    let state = c.args.state.now in
+returns g c =
+    let state = (g.S.Showing.seen c.args.showing.now) in
     let section = state.public.movement in
     let last : c.loop-before.before ≡ boards_of section = search rules in
     c.loop-before.invariant
@@ -18,8 +18,8 @@ returns c =
     c.args.filter.now board) (range_with_len 1 n)) last
 
 pub loop-before-preserved : goal.loop-before-preserved
-loop-before-preserved c =
-    let state = c.args.state.now in
+loop-before-preserved g c =
+    let state = (g.S.Showing.seen c.args.showing.now) in
     let before = c.loop-before.before in
     let test : ℕ → Bool = λ board. nat_le c.args.from board && is_listed state.public.movement
     (shown state c.args.viewer.now) c.args.filter.now board in

@@ -6,7 +6,7 @@ use Rattle.published_view.specs.Listing.{is_listed}
 use Rattle.published_view.proofs.listing.listed_from.Given as goal
 
 abbrev pub invariant-loop-before : goal.invariant-loop-before
-invariant-loop-before l =
+invariant-loop-before g l =
     l.boards.items
-    ≡ filter (λ board. nat_le l.from board && is_listed l.state.public.movement (shown l.state l.viewer) l.filter board)
-    (range_with_len 1 l.before)
+    ≡ filter (λ board. nat_le l.from board && is_listed (g.S.Showing.seen l.showing).public.movement
+    (shown (g.S.Showing.seen l.showing) l.viewer) l.filter board) (range_with_len 1 l.before)

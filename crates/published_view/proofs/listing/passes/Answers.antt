@@ -1,6 +1,5 @@
-use Rattle.std.proofs.Common.{rules, ◌≡◌, ◌-◌, ◌≤◌, false, Some, None, length, slice_get, sym, ap, ◌∙◌}
+use Rattle.std.proofs.Common.{rules, ◌≡◌, ◌-◌, false, Some, None, slice_get, sym, ap, ◌∙◌}
 use Rattle.std.specs.Prelude.{is_some}
-use Rattle.movement.specs.Movement.{boards_of}
 use Rattle.disclosure_rules.specs.declared.fact.Fact.TheVariants as fact
 use Rattle.disclosure_rules.specs.Policy.{first_rule}
 use Rattle.query_filter.specs.Holds.{holds}
@@ -10,8 +9,8 @@ use Rattle.published_view.proofs.AnswerLemmas.{listed_by}
 use Rattle.published_view.proofs.listing.passes.Goals as goal
 
 pub returns-in-None : goal.returns-in-None
-returns-in-None c =
-    let state = c.args.state.now in
+returns-in-None g c =
+    let state = (g.S.Showing.seen c.args.showing.now) in
     let free : is_some (first_rule state.public c.args.viewer.now (fact.Hands c.args.board)) ≡ false =
     ap is_some c.requires.allowed in
     let dealt = c.requires.dealt in
@@ -23,8 +22,8 @@ returns-in-None c =
     c.marks-marks.result)) none)
 
 pub returns-in_ok-facts-in-Some : goal.returns-in_ok-facts-in-Some
-returns-in_ok-facts-in-Some c =
-    let state = c.args.state.now in
+returns-in_ok-facts-in-Some g c =
+    let state = (g.S.Showing.seen c.args.showing.now) in
     let free : is_some (first_rule state.public c.args.viewer.now (fact.Hands c.args.board)) ≡ false =
     ap is_some c.requires.allowed in
     let dealt = c.requires.dealt in
