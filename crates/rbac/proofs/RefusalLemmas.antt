@@ -1,31 +1,7 @@
 -- Of the causes of a refusal the first is answered, and where none holds the change is made.
-use Rattle.std.proofs.Common.{
-  ◌≡◌,
-  ◌≢◌,
-  ℕ,
-  ◌<◌,
-  ◌+◌,
-  Bool,
-  true,
-  false,
-  List,
-  [],
-  length,
-  get_or,
-  set,
-  Option,
-  Some,
-  None,
-  inl,
-  inr,
-  sym,
-  ap,
-  subst,
-  ◌∙◌,
-  arith,
-}
-use Rattle.std.specs.Prelude.{◌&&◌, not, All, Contains, find}
-use Rattle.std.specs.Option.{is_some, IfSome, IfNone}
+use Rattle.std.proofs.Common.{◌≡◌, ℕ, ◌<◌, ◌+◌, Bool, true, false, List, [], length, get_or, set, Option, Some, None, inl, inr, sym, ap, subst, ◌∙◌, arith}
+use Rattle.std.specs.Prelude.{◌&&◌, not, Contains, find}
+use Rattle.std.specs.Option.{is_some, IfSome}
 use Rattle.std.specs.Bool.{Decides}
 use Rattle.std.proofs.lemmas.Bool.Decides.{Decides-at}
 use Rattle.std.specs.List.{Any, HoldsAt, list_any}
@@ -152,15 +128,6 @@ module _ (state : RoleData) (name : List ℕ) (role : Role) (place : ℕ) (at : 
   accepted_assignment is (Separation set) broken =
       both_ways _ (none_found (has_both (reached state.pairs (with_role (get_or state.accounts place d).assigned role)))
       is set) (broken_by_itself set broken)
-
-  pub valid_assignment : None ≡ find
-      (has_both (reached state.pairs (with_role (get_or state.accounts place d).assigned role))) separation_sets →
-      IsValid (assign_user state name role)
-  valid_assignment is =
-      valid_change state (λ set. with_role set role) name place at valid d (λ set. listed_roles_that _)
-      (λ set broken. both_ways _
-      (none_found (has_both (reached state.pairs (with_role (get_or state.accounts place d).assigned role))) is set)
-      ((decides_both state.pairs (with_role (get_or state.accounts place d).assigned role) set).1 broken))
 
 -- taking a role away from the user at a place
 still_has : (set : List Role) (role other : Role) → has (without_role set role) other ≡ true → has set other ≡ true
@@ -291,12 +258,6 @@ account_there read accounts name (Some place) same some within found =
     let d : Account = record { name = name; assigned = [] } in
     subst (λ (list : List Account). Any (λ account. account.name ≡ name) list) same
     (place, get_or read place d, within, same_default read place (get_or read place d) d within, found d)
-
-pub no_account_there : (read accounts : List Account) (name : List ℕ) (answer : Option ℕ) → read ≡ accounts →
-    is_some answer ≡ false → IfNone answer (All (λ account. account.name ≢ name) read) →
-    All (λ account. account.name ≢ name) accounts
-no_account_there read accounts name None same none all = subst (All (λ account. account.name ≢ name)) same all
-no_account_there read accounts name (Some place) same none all = absurd (false≢true (sym none))
 
 pub refused_existing : (state : RoleData) (name : List ℕ) → is_user_name name ≡ true → HasAccount state.accounts name →
     IsFirst add_user_place (RefusesUser state name) UserExists

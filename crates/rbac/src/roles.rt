@@ -118,10 +118,7 @@ impl Roles {
         let Ok(name) = Name::new(name) else {
             unreachable!();
         };
-        self.accounts.push_reserved(Account {
-            name,
-            assigned: RoleSet::new(),
-        });
+        self.add_user_unrefused(name);
         Ok(())
     }
 
@@ -143,7 +140,7 @@ impl Roles {
         if let Some(set) = SeparationSet::first_broken_by(self.hierarchy.reached_from(more)) {
             return Err(AssignError::Separation(set));
         }
-        self.accounts[place].assigned = more;
+        self.assign_unrefused(name, role);
         Ok(())
     }
 
@@ -157,11 +154,10 @@ impl Roles {
         let Some(place) = place_of(&self.accounts, name) else {
             return Err(DeassignError::NoSuchUser);
         };
-        let assigned = self.accounts[place].assigned;
-        if !assigned.has(role) {
+        if !self.accounts[place].assigned.has(role) {
             return Err(DeassignError::NotAssigned);
         }
-        self.accounts[place].assigned = assigned.without(role);
+        self.deassign_unrefused(name, role);
         Ok(())
     }
 
@@ -183,8 +179,7 @@ impl Roles {
         if let Some(set) = first_broken(&self.accounts, &hierarchy) {
             return Err(AddInheritanceError::Separation(set));
         }
-        self.pairs.push_reserved(pair);
-        self.hierarchy = hierarchy;
+        self.add_inheritance_unrefused(senior, junior);
         Ok(())
     }
 
@@ -204,8 +199,7 @@ impl Roles {
         if !self.pairs.contains(&pair) {
             return Err(DeleteInheritanceError::NotThere);
         }
-        self.hierarchy = Hierarchy::of_all_but(&self.pairs, pair);
-        pair.remove_from(&mut self.pairs);
+        self.delete_inheritance_unrefused(senior, junior);
         Ok(())
     }
 

@@ -1,5 +1,5 @@
 //! The changes of INCITS 359-2012 for a caller who knows that nothing refuses them. Each stands beside the call of `Roles`
-//! that tests, and there is nothing that it could answer.
+//! that tests, which makes its change by it, and there is nothing that it could answer.
 ghost use Rattle.std.specs.Prelude.{◌≡◌};
 ghost use Rattle.rbac.specs.RoleData.{add_user, assign_user, deassign_user, add_inheritance, delete_inheritance};
 ghost use Rattle.rbac.specs.Refusals.{RefusesUser, RefusesAssignment, RefusesDeassignment, RefusesInheritance, RefusesDeletion};

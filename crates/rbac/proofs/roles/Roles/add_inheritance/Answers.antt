@@ -1,26 +1,13 @@
-use Rattle.std.proofs.Common.{List, sym, ap, subst, ◌∙◌, arith}
+use Rattle.std.proofs.Common.{List, sym, ap, ◌∙◌}
 use Rattle.std.specs.Prelude.{Contains}
 use Rattle.std.proofs.lemmas.Bool.{both_ways}
 use Rattle.session_roles.specs.declared.role.Role.{Role}
-use Rattle.rbac.specs.declared.inheritance.Inheritance.{Inheritance}
 use Rattle.rbac.specs.Kept.{data_of}
 use Rattle.session_roles.specs.Role.{has}
 use Rattle.rbac.specs.Inheritance.{Reaches, pair_of}
 use Rattle.rbac.specs.RoleData.{RoleData}
-use Rattle.rbac.specs.Authorization.{IsValid}
 use Rattle.rbac.proofs.HierarchyLemmas.{closure_push}
-use Rattle.rbac.proofs.PairLemmas.{room_for_pair}
-use Rattle.rbac.proofs.RefusalLemmas.{
-  decides_by_table,
-  refused_cycle,
-  refused_there,
-  decides_there,
-  not_there,
-  refused_inheritance,
-  keeps_apart,
-  accepted_inheritance,
-}
-use Rattle.rbac.proofs.ValidityLemmas.{valid_add_inheritance}
+use Rattle.rbac.proofs.RefusalLemmas.{decides_by_table, refused_cycle, refused_there, decides_there, refused_inheritance, accepted_inheritance}
 use Rattle.rbac.proofs.roles.Roles.add_inheritance.Goals as goal
 
 pub returns-then-has-clause-cause : goal.returns-then-has-clause-cause
@@ -65,17 +52,8 @@ returns-in-Some-clause-cause c =
     (refused_inheritance state c.args.senior c.args.junior c.with-hierarchy.result.reached closure up new c.in-Some.set
     (sym c.in-Some.is ∙ answer))
 
-pub push_reserved-requires : goal.push_reserved-requires
-push_reserved-requires c =
-    let state : RoleData = data_of c.self.inside in
-    let unseen = sym (c.contains.ensures.value) ∙ c.if-contains.false in
-    let other = rw c.deref.ensures.value at unseen in
-    let room = room_for_pair state.pairs (pair_of c.args.senior c.args.junior) c.self.invariant.valid.once
-    (not_there state.pairs (pair_of c.args.senior c.args.junior) other) in
-    omega (arith, room, c.self.invariant.room, c.self.inside.pairs.ok)
-
-pub invariant_of-self : goal.invariant_of-self
-invariant_of-self c =
+pub add_inheritance_unrefused-requires : goal.add_inheritance_unrefused-requires
+add_inheritance_unrefused-requires c =
     let state : RoleData = data_of c.self.inside in
     let no_chain = sym (ap (λ (set : List Role). has set c.args.senior) c.below.ensures) ∙ sym c.has.ensures.has
     ∙ c.if-has.false in
@@ -89,17 +67,9 @@ invariant_of-self c =
     let closure = closure_push state.pairs c.self.inside.hierarchy.reached c.with-hierarchy.result.reached
     (pair_of c.args.senior c.args.junior) c.self.invariant.closure c.with-hierarchy.ensures in
     let answer = rw c.deref-2.ensures.value at c.first_broken.ensures in
-    let keeps = keeps_apart state c.args.senior c.args.junior c.with-hierarchy.result.reached closure up new
-    (sym c.in_default.is ∙ answer) in
-    record {
-      valid = subst (λ (pairs : List Inheritance). IsValid
-          (record { accounts = c.self.inside.accounts.items; pairs = pairs })) (sym c.push_reserved.ensures.items)
-          (valid_add_inheritance state c.args.senior c.args.junior c.self.invariant.valid up
-          (not_there state.pairs (pair_of c.args.senior c.args.junior) other) keeps);
-      closure = rw c.push_reserved.ensures.items closure;
-      users = c.self.invariant.users;
-      room = omega (arith, c.self.invariant.room);
-    }
+    rw (← c.self.view_is)
+    (accepted_inheritance state c.args.senior c.args.junior c.with-hierarchy.result.reached closure up new
+    (sym c.in_default.is ∙ answer))
 
 pub returns-clause-ok : goal.returns-clause-ok
 returns-clause-ok c =

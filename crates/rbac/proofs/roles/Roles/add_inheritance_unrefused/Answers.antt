@@ -1,13 +1,11 @@
-use Rattle.std.proofs.Common.{List, sym, ap, subst, ◌∙◌, arith}
-use Rattle.std.specs.Prelude.{false}
-use Rattle.std.specs.List.{list_any}
+use Rattle.std.proofs.Common.{List, sym, subst, arith}
 use Rattle.rbac.specs.declared.add_inheritance_error.AddInheritanceError.{AddInheritanceError}
 use Rattle.rbac.specs.declared.add_inheritance_error.AddInheritanceError.TheVariants.{Cycle, AlreadyThere, Separation}
 use Rattle.rbac.specs.declared.inheritance.Inheritance.{Inheritance}
 use Rattle.rbac.specs.Kept.{data_of}
 use Rattle.rbac.specs.Inheritance.{pair_of}
 use Rattle.rbac.specs.Refusals.{RefusesInheritance}
-use Rattle.rbac.specs.RoleData.{RoleData, add_inheritance}
+use Rattle.rbac.specs.RoleData.{RoleData}
 use Rattle.rbac.specs.Authorization.{IsValid}
 use Rattle.rbac.proofs.HierarchyLemmas.{closure_push}
 use Rattle.rbac.proofs.PairLemmas.{room_for_pair}

@@ -1,9 +1,9 @@
-use Rattle.std.proofs.Common.{List, ◌∷◌, [], ◌++◌, sym, ap, subst, ◌∙◌, arith}
+use Rattle.std.proofs.Common.{List, ◌∷◌, [], ◌++◌, sym, subst, ◌∙◌, arith}
 use Rattle.rbac.specs.declared.account.Account.{Account}
 use Rattle.rbac.specs.declared.add_user_error.AddUserError.{AddUserError}
 use Rattle.rbac.specs.Kept.{data_of}
 use Rattle.rbac.specs.Refusals.{RefusesUser}
-use Rattle.rbac.specs.RoleData.{RoleData, add_user}
+use Rattle.rbac.specs.RoleData.{RoleData}
 use Rattle.rbac.specs.Authorization.{IsValid}
 use Rattle.rbac.proofs.RefusalLemmas.{room_for_another, valid_added}
 use Rattle.rbac.proofs.roles.Roles.add_user_unrefused.Goals as goal

@@ -1,11 +1,7 @@
-use Rattle.std.proofs.Common.{List, sym, ap, subst, ◌∙◌}
-use Rattle.rbac.specs.declared.account.Account.{Account}
 use Rattle.rbac.specs.Kept.{data_of}
-use Rattle.session_roles.specs.Role.{without_role}
-use Rattle.rbac.specs.RoleData.{RoleData, deassign_user}
-use Rattle.rbac.specs.Authorization.{IsValid}
+use Rattle.rbac.specs.RoleData.{RoleData}
 use Rattle.rbac.proofs.AccountLemmas.{found_at}
-use Rattle.rbac.proofs.RefusalLemmas.{has_there, write_is_change, refused_deassignment, valid_deassignment}
+use Rattle.rbac.proofs.RefusalLemmas.{has_there, refused_deassignment, accepted_deassignment}
 use Rattle.rbac.proofs.roles.Roles.deassign.Goals as goal
 
 pub returns-then-not-has-clause-cause : goal.returns-then-not-has-clause-cause
@@ -19,35 +15,13 @@ returns-then-not-has-clause-cause c =
     (refused_deassignment state c.args.name.now c.args.role c.in-Some.place at c.self.invariant.valid c.index.result.now
     none)
 
-pub invariant_of-self : goal.invariant_of-self
-invariant_of-self c =
+pub deassign_unrefused-requires : goal.deassign_unrefused-requires
+deassign_unrefused-requires c =
     let state : RoleData = data_of c.self.inside in
     let at = found_at c.deref.result.now state.accounts c.args.name.now c.in-Some.place c.deref.ensures.value
     c.in-Some.ensures.within c.in-Some.ensures.found in
-    let write = write_is_change (λ set. without_role set c.args.role) c.args.name.now state.accounts c.in-Some.place at
-    c.self.invariant.valid.names c.index.result.now c.index_mut.result.now c.without.result c.index.ensures
-    c.index_mut.ensures.value c.without.ensures in
-    record {
-      valid = subst (λ (accounts : List Account). IsValid
-          (record { accounts = accounts; pairs = c.self.inside.pairs.items })) (sym write)
-          (valid_deassignment state c.args.name.now c.args.role c.in-Some.place at c.self.invariant.valid
-          c.index.result.now);
-      closure = c.self.invariant.closure;
-      users = c.self.invariant.users;
-      room = c.self.invariant.room;
-    }
-
-pub returns-clause-deassigned : goal.returns-clause-deassigned
-returns-clause-deassigned c =
-    let state : RoleData = data_of c.self.inside in
-    let at = found_at c.deref.result.now state.accounts c.args.name.now c.in-Some.place c.deref.ensures.value
-    c.in-Some.ensures.within c.in-Some.ensures.found in
-    let write = write_is_change (λ set. without_role set c.args.role) c.args.name.now state.accounts c.in-Some.place at
-    c.self.invariant.valid.names c.index.result.now c.index_mut.result.now c.without.result c.index.ensures
-    c.index_mut.ensures.value c.without.ensures in
-    ap (λ (accounts : List Account). let now : RoleData = record {
-      accounts = accounts;
-      pairs =
-          c.self.inside.pairs.items;
-    } in now) write
-    ∙ ap (λ (now : RoleData). deassign_user now c.args.name.now c.args.role) c.self.view_is
+    let there = has_there state.accounts c.in-Some.place c.index.result.now c.args.role c.has.result _ c.index.ensures
+    c.has.ensures.has c.if-not-has.false in
+    rw (← c.self.view_is)
+    (accepted_deassignment state c.args.name.now c.args.role c.in-Some.place at c.self.invariant.valid
+    c.index.result.now there)
