@@ -1,7 +1,7 @@
 ghost use Rattle.std.specs.Prelude.{◌≡◌, ℕ, ◌+◌, ◌-◌, ◌*◌, ◌<◌, ◌≤◌, Any, All, IfOk, OnOk, IfErr, IfSome, IfNone, None, Contains, true, IsTrue, ◌↔◌};
 ghost use Rattle.movement.specs.Movement.{Section, Row, IsSection, IsOfSet, HasCell, IsCell, boards_of, full_rows, is_absent, rows};
 ghost use Rattle.movement.specs.Row.{IsAt, Seats, Plays, board_of_set, IsCellInRange};
-ghost use Rattle.user_names.specs.First.{IsFirst};
+ghost use Rattle.small_sets.specs.First.{IsFirst};
 ghost use Rattle.small_sets.specs.Numbers.{has_number};
 ghost use Rattle.movement.specs.Refusal.{Refuses, number_of};
 ghost use Rattle.table_terms.specs.declared.side.Side.TheVariants.{EastWest};

@@ -27,7 +27,7 @@ use Rattle.session_roles.specs.Separation.{separation_sets, set_number, has_both
 use Rattle.rbac.specs.Account.{most_users, is_user_name, HasAccount, IsAssigned, with_change}
 use Rattle.rbac.specs.RoleData.{RoleData, add_user, assign_user, deassign_user, add_inheritance}
 use Rattle.rbac.specs.Authorization.{IsReached, IsBroken, IsValid, reached}
-use Rattle.user_names.specs.First.{IsFirst}
+use Rattle.small_sets.specs.First.{IsFirst}
 use Rattle.rbac.specs.Refusals.{
   add_user_place,
   RefusesUser,

@@ -12,7 +12,7 @@ ghost use Rattle.rbac.specs.Account.{HasAccount};
 ghost use Rattle.rbac.specs.Inheritance.{opening_pairs};
 ghost use Rattle.rbac.specs.RoleData.{opening_data, add_user, assign_user, deassign_user, add_inheritance, delete_inheritance, after_change};
 ghost use Rattle.rbac.specs.Authorization.{AreAuthorized, HasPermission, IsValid, authorized_roles, has_permission, reached};
-ghost use Rattle.user_names.specs.First.{IsFirst};
+ghost use Rattle.small_sets.specs.First.{IsFirst};
 ghost use Rattle.rbac.specs.Refusals.{add_user_place, RefusesUser, assign_place, RefusesAssignment, deassign_place, RefusesDeassignment, inheritance_place, RefusesInheritance, RefusesDeletion};
 
 use crate::account::Account;

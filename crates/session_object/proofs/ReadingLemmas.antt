@@ -41,7 +41,7 @@ use Rattle.serde_json.specs.View.{view, items_view}
 use Rattle.serde_json.specs.declared.value.Value.{Value}
 use Rattle.json_fields.specs.Form.{first_then, each}
 use Rattle.json_fields.proofs.ListLemmas.{with_front}
-use Rattle.user_names.specs.First.{IsFirst}
+use Rattle.small_sets.specs.First.{IsFirst}
 use Rattle.movement.specs.Movement.{Section, boards_of}
 use Rattle.movement.specs.Refusal.{Refuses, number_of}
 use Rattle.movement.specs.declared.movement_error.MovementError.{MovementError}

@@ -2,7 +2,7 @@
 -- is too long, it is no JSON object, a member is wrong; then those of the movement, and then those of the boards' text.
 use Rattle.std.specs.Prelude.{◌≡◌, ◌≢◌, ℕ, ◌<◌, ◌≤◌, List, length, Option, Some, None, Result, Ok, Err}
 use Rattle.serde_json.specs.Data.{Data}
-use Rattle.user_names.specs.First.{IsFirst}
+use Rattle.small_sets.specs.First.{IsFirst}
 use Rattle.movement.specs.Movement.{Section, boards_of}
 use Rattle.movement.specs.Refusal.{Refuses, number_of}
 use Rattle.movement.specs.declared.movement_error.MovementError.{MovementError}
