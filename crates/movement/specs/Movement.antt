@@ -37,7 +37,12 @@ use Rattle.table_terms.specs.declared.pair.Pair.{Pair}
 use Rattle.table_terms.specs.declared.side.Side.{Side}
 use Rattle.table_terms.specs.declared.side.Side.TheVariants.{NorthSouth, EastWest}
 use Rattle.movement.specs.declared.cell.Cell.{Cell}
-use Rattle.movement.specs.declared.movement.TheConstants.Movement.{MOST_TABLES, MOST_PER_SET, MOST_BOARDS}
+use Rattle.movement.specs.declared.movement.TheConstants.Movement.{
+  LEAST_TABLES,
+  MOST_TABLES,
+  MOST_PER_SET,
+  MOST_BOARDS,
+}
 
 -- a section: its tables, the rounds that are played, the boards in a set, and the pair that isn't there, if one isn't
 pub record Section : Type 0 where
@@ -133,6 +138,10 @@ IsCell section cell = Any (λ row. HasCell section row cell) (rows section)
 abbrev pub most_rounds : ℕ → ℕ
 most_rounds tables = if tables % 2 == 0 then tables - 1 else tables
 
+-- how many tables a section has at least
+abbrev pub least_tables : ℕ
+least_tables = LEAST_TABLES
+
 -- how many tables a section has at most
 abbrev pub most_tables : ℕ
 most_tables = MOST_TABLES
@@ -147,7 +156,7 @@ most_boards = MOST_BOARDS
 
 -- what is kept of every section
 pub record IsSection (section : Section) : Type 0 where
-  pub enough_tables : 3 ≤ section.tables
+  pub enough_tables : least_tables ≤ section.tables
   pub not_too_many_tables : section.tables ≤ most_tables
   pub enough_rounds : 1 ≤ section.rounds
   pub not_too_many_rounds : section.rounds ≤ most_rounds section.tables

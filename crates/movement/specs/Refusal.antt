@@ -1,13 +1,21 @@
 -- When no movement is made: the causes of refusal, in the order in which they are tested.
 use Rattle.std.specs.Prelude.{ℕ, ◌<◌, ◌⊎◌, IsSomeAnd}
-use Rattle.movement.specs.Movement.{Section, most_rounds, boards_of, most_tables, most_per_set, most_boards}
+use Rattle.movement.specs.Movement.{
+  Section,
+  most_rounds,
+  boards_of,
+  least_tables,
+  most_tables,
+  most_per_set,
+  most_boards,
+}
 use Rattle.movement.specs.declared.movement_error.MovementError.{MovementError}
 use Rattle.movement.specs.declared.movement_error.MovementError.TheVariants.{BadTables, BadRounds, BadSets, BadPair}
 
 -- the limit that each refusal says is broken: too few or too many tables, rounds, boards in a set or boards in all; or
 -- no such pair is absent
 abbrev pub Refuses : MovementError → Section → Type 0
-Refuses BadTables section = (section.tables < 3) ⊎ (most_tables < section.tables)
+Refuses BadTables section = (section.tables < least_tables) ⊎ (most_tables < section.tables)
 Refuses BadRounds section = (section.rounds < 1) ⊎ (most_rounds section.tables < section.rounds)
 Refuses BadSets section = (section.per_set < 1) ⊎ ((most_per_set < section.per_set) ⊎ (most_boards < boards_of section))
 Refuses BadPair section = IsSomeAnd section.absent (λ pair. (pair.number < 1) ⊎ (section.tables < pair.number))

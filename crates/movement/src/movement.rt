@@ -36,6 +36,9 @@ impl Model for Movement {
 }
 
 impl Movement {
+    /// How many tables a section has at least.
+    pub const LEAST_TABLES: u8 = 3;
+
     /// How many tables a section has at most.
     pub const MOST_TABLES: u8 = 16;
 
@@ -69,7 +72,7 @@ impl Movement {
         ensures refused { IfErr result (IsFirst number_of (λ error.
             Refuses error (record { tables = tables; rounds = rounds; per_set = per_set; absent = absent }))) }
     {
-        if tables < 3 || tables > Movement::MOST_TABLES {
+        if tables < Movement::LEAST_TABLES || tables > Movement::MOST_TABLES {
             return Err(MovementError::BadTables);
         }
         if rounds < 1 || rounds > mitchell::most_rounds(tables) {
