@@ -26,6 +26,7 @@ PARTS = {
     "session end": MODEL,
     "filters": MODEL,
     "largest": MODEL,
+    "128 boards": MODEL,
     "half table": MODEL,
     "a board that nobody plays": MODEL,
     "one world": MODEL,

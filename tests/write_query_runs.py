@@ -1,6 +1,6 @@
 #!/usr/bin/env python3
 """Writes the parts of the stored runs of crates/bridge_server_stored_runs that ask queries: `queries`, `session end`, `filters`,
-`largest`, `half table`, `a board that nobody plays`, `one world` and `other world`.
+`largest`, `128 boards`, `half table`, `a board that nobody plays`, `one world` and `other world`.
 
     python3 tests/write_query_runs.py
 
@@ -510,17 +510,17 @@ def filters_to_the_end(run):
 PACK = [suit + rank for suit in "SHDC" for rank in "AKQJT98765432"]
 
 
-def largest_run():
-    """Sixteen tables, 64 boards, 256 users with the longest names; 64 of them are seated, and the others have each role but one."""
+def largest_run(per_set=4):
+    """Sixteen tables, 256 users with the longest names; 64 of them are seated, and the others have each role but one."""
     users = [user(f"{side}{pair}{place}".rjust(32, "-"), "Contestant", f"{side}{pair}", place)
              for side in ("NS", "EW") for pair in range(1, 17) for place in side]
     users += [user(f"{number}".rjust(32, "_"), "Administrator") for number in range(192 - len("ds"))]
     for one in users:
         one["roles"] += ["Member", "Spectator"] + ([] if "pair" in one else ["Scorer", "Director"])
     users += [user("d", "Director"), user("s", "Spectator")]
-    pbn = "".join(game(board, "N") for board in range(1, 65))
-    opening = text_of({"budget": 0, "pbn": pbn, "per_set": 4, "rounds": 15, "tables": 16, "users": users})
-    return Run(opening, Session(16, 15, 4, users, [DEALS[0]] * 64))
+    pbn = "".join(game(board, "N") for board in range(1, 16 * per_set + 1))
+    opening = text_of({"budget": 0, "pbn": pbn, "per_set": per_set, "rounds": 15, "tables": 16, "users": users})
+    return Run(opening, Session(16, 15, per_set, users, [DEALS[0]] * 16 * per_set))
 
 
 def everybody_passes_out():
@@ -574,6 +574,38 @@ def write_largest():
     run.ask("d", "list", {"boards": list(range(1, 65)), "more": False})
     run.ask(administrator, "accounts")
     run.write("largest")
+
+
+def write_128_boards():
+    """The same with eight boards in a set: each table rules its boards of each of the fifteen rounds."""
+    run = largest_run(8)
+    pair = "NS16N".rjust(32, "-")
+    run.ask("d", "list", {"boards": list(range(1, 65)), "more": True})
+    run.ask("d", "list", {"boards": list(range(65, 129)), "more": False}, **{"from": 65})
+    run.ask("d", "board", "NoSuchBoard", board=129)
+    run.ask("s", "board", (8, 2), board=128)
+    for number in range(1, 16):
+        if number > 1:
+            run.accept("d", NEXT)
+        cells = [(row[1], (row[2] - 1) * 8 + k) for row in run.session.rows if row[0] == number for k in range(1, 9)]
+        for first in range(0, len(cells), 64):
+            run.accept("d", *[rule(table, board, 60, 30 + number, 99) for table, board in cells[first:first + 64]])
+    run.ask("s", "board", {"deal": DEALS[0], "dealer": "W", "number": 128, "vul": "ew"}, board=128)
+    run.ask("s", "list", {"boards": list(range(65, 129)), "more": False}, **{"from": 65})
+    run.ask("s", "status")
+    for name in ("s", pair, "d"):
+        run.ask(name, "traveller", board=128)
+        run.ask(name, "ranking")
+    for table, board in ((2, 128), (16, 121)):
+        run.accept("d", correct(table, board, FOUR_SPADES, PACK))
+        run.ask(pair, "play", board=board, table=table)
+    run.accept("d", void(2, 128))
+    run.ask("s", "board", (8, 2), board=128)
+    for first in (1, 65):
+        run.accept("d", *[hold(board) for board in range(first, first + 64)])
+    run.ask("s", "list", {"boards": [], "more": False})
+    run.ask("s", "ranking", [[side + str(number), 0, 0] for side in ("NS", "EW") for number in range(1, 17)])
+    run.write("128 boards")
 
 
 # ---- a half table
@@ -638,4 +670,5 @@ if __name__ == "__main__":
     write_session_end()
     write_filters()
     write_largest()
+    write_128_boards()
     write_worlds()

@@ -278,7 +278,8 @@ CHANGES = [
     # too few tables, more rounds than an even number of tables can play, more boards than there is room for
     ('"per_set":1,"rounds":3,"tables":3', '"per_set":1,"rounds":1,"tables":2', "BadTables"),
     ('"per_set":1,"rounds":3,"tables":3', '"per_set":1,"rounds":4,"tables":4', "BadRounds"),
-    ('"per_set":1,"rounds":3,"tables":3', '"per_set":5,"rounds":1,"tables":16', "BadSets"),
+    ('"per_set":1,"rounds":3,"tables":3', '"per_set":8,"rounds":1,"tables":16', "MissingBoard(4)"),
+    ('"per_set":1,"rounds":3,"tables":3', '"per_set":9,"rounds":1,"tables":16', "BadSets"),
     # a pair that is absent
     ('"budget":0', '"absent":"EW3","budget":0', None),
     ('"budget":0', '"absent":"EW4","budget":0', "BadPair"),

@@ -46,7 +46,7 @@ impl Movement {
     pub const MOST_PER_SET: u8 = 8;
 
     /// How many boards a section plays at most.
-    pub const MOST_BOARDS: u8 = 64;
+    pub const MOST_BOARDS: u8 = 128;
 
     /// The movement of a section of 3 to 16 tables, with `per_set` boards in a set, in which every pair is there.
     pub fn new(tables: u8, rounds: u8, per_set: u8) -> Result<Movement, MovementError>

@@ -8,7 +8,7 @@ pub enum MovementError {
     BadTables,
     /// No round, or more rounds than can be played without a pair meeting a set or an opponent again.
     BadRounds,
-    /// Fewer than 1 board in a set, more than 8, or more than 64 boards in all.
+    /// Fewer than 1 board in a set, more than 8, or more than 128 boards in all.
     BadSets,
     /// The absent pair has the number 0, or one above the tables.
     BadPair,

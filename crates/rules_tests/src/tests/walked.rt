@@ -68,13 +68,13 @@ fn is_walked(movement: Movement) -> bool {
     true
 }
 
-/// Whether a movement is as walked, or refused because there are too many rounds, or more than the 64 boards that are
-/// the most. An even number of tables plays a round less than there are tables.
+/// Whether a movement is as walked, or refused because there are too many rounds. An even number of tables plays a round
+/// less than there are tables.
 fn is_walked_or_refused(tables: u8, rounds: u8, per_set: u8) -> bool {
     let most = tables.saturating_sub(1) | 1;
     match Movement::new(tables, rounds, per_set) {
         Ok(movement) => rounds <= most && is_walked(movement),
-        Err(_) => rounds > most || tables > 8 && per_set == 8,
+        Err(_) => rounds > most,
     }
 }
 
@@ -141,6 +141,13 @@ fn whoever_would_meet_an_absent_pair_sits_out(rt: HostRuntime) {
     for tables in 3u8..17 {
         assert!(rt; each_sits_out(tables));
     }
+}
+
+/// The most boards are those of 16 tables with 8 boards in a set.
+#[test]
+fn sixteen_tables_play_up_to_128_boards(rt: HostRuntime) {
+    assert!(rt; matches!(Movement::new(16, 1, 8), Ok(movement) if movement.boards() == 128));
+    assert!(rt; matches!(Movement::new(16, 1, 9), Err(MovementError::BadSets)));
 }
 
 /// Whether the absent pair of three tables has this number's fault.
