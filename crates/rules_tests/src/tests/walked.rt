@@ -89,27 +89,43 @@ fn movements_are_as_walked(rt: HostRuntime) {
     }
 }
 
-/// Whether each table plays in each round just where neither of its pairs is absent, and would play the boards of the full
-/// movement against its East-West pair. The cell of a table and a board is there where the table plays it, and is found
-/// for both of its pairs.
+/// Whether a table plays in a round just where neither of its pairs is absent, and would play the boards of the full movement
+/// against its East-West pair. The cell of the table and its board is there where the table plays it, and is found for both
+/// of its pairs.
+fn sits_out_where_it_must(
+    full: Movement,
+    half: Movement,
+    absent: Pair,
+    table: u8,
+    round: u8,
+) -> bool {
+    let tables = full.tables().min(half.tables());
+    let rounds = full.rounds().min(half.rounds());
+    if table < 1 || tables < table || round < 1 || rounds < round {
+        return false;
+    }
+    let there = Pair {
+        side: Side::NorthSouth,
+        number: table,
+    };
+    let against = full.ew_at(table, round);
+    let board = full.board_at(table, round, 1);
+    let plays = there != absent && against != absent;
+    full.plays(table, round)
+        && half.plays(table, round) == plays
+        && half.board_at(table, round, 1) == board
+        && half.ew_at(table, round) == against
+        && half.cell(table, board).is_some() == plays
+        && half.scheduled(board).contains(table) == plays
+        && half.cell_of(there, board).is_some() == plays
+        && half.cell_of(against, board).is_some() == plays
+}
+
+/// The same of each table in each round.
 fn sits_out(full: Movement, half: Movement, absent: Pair) -> bool {
     for table in 1..=full.tables() {
         for round in 1..=full.rounds() {
-            let there = Pair {
-                side: Side::NorthSouth,
-                number: table,
-            };
-            let against = full.ew_at(table, round);
-            let board = full.board_at(table, round, 1);
-            let plays = there != absent && against != absent;
-            let is_as_it_was = half.plays(table, round) == plays
-                && half.board_at(table, round, 1) == board
-                && half.ew_at(table, round) == against
-                && half.cell(table, board).is_some() == plays
-                && half.scheduled(board).contains(table) == plays
-                && half.cell_of(there, board).is_some() == plays
-                && half.cell_of(against, board).is_some() == plays;
-            if !is_as_it_was || !full.plays(table, round) {
+            if !sits_out_where_it_must(full, half, absent, table, round) {
                 return false;
             }
         }
