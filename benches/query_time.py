@@ -8,6 +8,12 @@
 # queries of a kind (300), and takes the program's processor time for them (/proc/PID/schedstat), reading the lines and
 # writing the answers with it. Prints the least of RUNS runs (3), in microseconds a query; and the same of the largest session once
 # 20,000 commands more were accepted, which hold and release a board.
+#
+#     benches/query_time.py --both-ways crates/display_times/out/display_times [TIMES]
+#
+# Gives the largest session to one run of display_times, which answers each query TIMES times in a row (300) by what the view
+# keeps and as often afresh, in turn. Prints the nanoseconds of the view's own part and of the whole message, each both ways, with
+# the part of the time afresh that the kept way takes.
 import json
 import subprocess
 import sys
@@ -127,7 +133,22 @@ def run(program, size, count, more):
     return took
 
 
+# the largest session's queries, by what a view keeps and afresh, in one run of display_times
+def both_ways(program, times="300"):
+    lines = [compact(session(**LARGEST))]
+    lines += [compact({"as": "d", "do": commands}) for commands in results(**LARGEST)]
+    kinds = list(queries(**LARGEST))
+    told = subprocess.run([program, f"times={times}"], input=b"".join(lines + [line for word, line, wanted in kinds]), stdout=subprocess.PIPE, check=True)
+    rows = told.stdout.decode().splitlines()
+    print(f"{'nanoseconds a query':24}{'kept':>10}{'afresh':>10}{'ratio':>8}{'message':>10}{'afresh':>10}{'ratio':>8}")
+    for (word, line, wanted), row in zip(kinds, rows, strict=True):
+        kept, afresh, message, message_afresh = (int(number) for number in row.split()[1::2])
+        print(f"{word:24}{kept:10}{afresh:10}{kept / afresh:8.3f}{message:10}{message_afresh:10}{message / message_afresh:8.3f}")
+
+
 def main():
+    if sys.argv[1] == "--both-ways":
+        return both_ways(*sys.argv[2:])
     program, count, runs = sys.argv[1], *(int(word) for word in (sys.argv[2:] + ["300", "3"][len(sys.argv) - 2 :]))
     columns = []
     for size, more in ((SMALL, 0), (LARGEST, COMMANDS_MORE)):

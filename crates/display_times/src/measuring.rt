@@ -21,12 +21,13 @@ use std::time::Clock;
 const STACK: usize = 1_048_576;
 
 /// What is to be measured: how many displays, for how many milliseconds, and how many of them the desk waits between two
-/// batches, if there is more than one.
+/// batches, if there is more than one; or else how often in a row each query is answered.
 #[derive(Clone, Copy)]
 pub(crate) struct Plan {
     pub(crate) readers: usize,
     pub(crate) milliseconds: u64,
     pub(crate) pause: Option<u64>,
+    pub(crate) times: Option<usize>,
 }
 
 /// How many queries had a reply and how many had none, and how many batches were told what became of them.
