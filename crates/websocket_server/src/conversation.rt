@@ -10,6 +10,7 @@ use crate::client_terms::{ClientTerms, OriginCheck};
 use crate::message_server::MessageServer;
 use crate::timed_stream::{ANSWER_SECONDS, TimedStream};
 use std::alloc::Global;
+use std::borrow::CowStr;
 use std::io::{Read, Write};
 use std::net::OpenStream;
 use std::sync::Wait;
@@ -148,7 +149,8 @@ fn answer_to<R: Wait, A: MessageServer>(
         × IfOk result (λ message. content_of message ≡ text (sent_text A.memory_text answer)) }
 {
     match server.serve_message(rt, alloc, question) {
-        Ok(answer) => match Message::text(alloc, answer.as_str()) {
+        Ok(CowStr::Borrowed(words)) => Ok(fixed(words)),
+        Ok(CowStr::Owned(answer)) => match Message::text(alloc, answer.as_str()) {
             Ok(message) => Ok(message),
             Err(_) => Err(Error::OutOfMemory),
         },

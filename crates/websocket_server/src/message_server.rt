@@ -1,6 +1,8 @@
-ghost use Rattle.std.specs.Prelude.{◌≡◌, ℕ, List, Option, Some, None, IfOk, OnErr, string_bytes};
+ghost use Rattle.std.specs.Prelude.{◌≡◌, ℕ, List, Option, Some, None, IfOk, OnErr};
+ghost use Rattle.std.specs.Cow.{cow_str_bytes};
 
 use std::alloc::{AllocError, Global};
+use std::borrow::CowStr;
 use std::sync::Wait;
 
 /// What answers the messages of one client after another.
@@ -15,14 +17,15 @@ pub trait MessageServer {
     // What is answered where there is no memory for an answer.
     ghost memory_text: { List ℕ };
 
-    /// The text that answers a text.
+    /// The text that answers a text: one that was written for it, or one that was there before, which is sent without
+    /// memory.
     fn serve_message<R: Wait>(
         &mut self,
         rt: &R,
         alloc: Global,
         message: &[u8],
-    ) -> Result<String, AllocError>
-        ensures answered { IfOk result (λ text. answers self.old message.now (Some (string_bytes text)) self.new) }
+    ) -> Result<CowStr<'static>, AllocError>
+        ensures answered { IfOk result (λ text. answers self.old message.now (Some (cow_str_bytes text)) self.new) }
         ensures without_memory { OnErr result (answers self.old message.now None self.new) };
 
     /// The text that answers a binary message.

@@ -73,6 +73,8 @@ use Rattle.wire.specs.Request.{
   meaning,
   said_of,
   script_meaning,
+  wanted_of,
+  connection_meaning,
   HasFewIn,
   IsSaid,
 }
@@ -170,6 +172,16 @@ text_of_said line (Err fault) said is h = absurd (cc)
 pub said_is_text : (line : List ℕ) (said : ScriptRequest) → script_meaning line ≡ Ok said → is_message_text line ≡ true
 unfolding script_meaning
 said_is_text line said h = text_of_said line (meaning Script line) said refl h
+
+text_of_wanted : (line : List ℕ) (meant : Result Request RequestFault) (wanted : RequestBody)
+    → meaning Connection line ≡ meant → wanted_of meant ≡ Ok wanted → is_message_text line ≡ true
+text_of_wanted line (Ok y) wanted is h = request_is_text Connection line y is
+text_of_wanted line (Err fault) wanted is h = absurd (cc)
+
+pub wanted_is_text : (line : List ℕ) (wanted : RequestBody) → connection_meaning line ≡ Ok wanted → is_message_text line
+    ≡ true
+unfolding connection_meaning
+wanted_is_text line wanted h = text_of_wanted line (meaning Connection line) wanted refl h
 
 -- ---- what is read, is read of an object
 
