@@ -21,6 +21,9 @@ use wire::MOST_MESSAGE_BYTES;
 // A message that is one byte too long is read whole, so that it can be answered.
 const _: () = prove!(LONGEST_MESSAGE == MOST_MESSAGE_BYTES + 1);
 
+// The words may ask for as many displays as a server has at most, and for no more.
+const _: () = prove!(server_words::MOST_DISPLAYS as usize == displays::MOST_DISPLAYS);
+
 /// Serves clients in a session of files, and answers the status after it, or where none could be served.
 pub(crate) fn status_of_serving<
     R: Files + Net + Clock + Wait + Threads + AllocGlobal + Sync,

@@ -2,7 +2,7 @@ ghost use Rattle.std.specs.Prelude.{◌≡◌, true};
 ghost use Rattle.server_words.specs.Words.{AreNumbersInRange};
 
 /// How many displays there are at most.
-pub(crate) const MOST_DISPLAYS: u8 = 32;
+pub const MOST_DISPLAYS: u8 = 32;
 
 /// How many workers there are at most.
 pub(crate) const MOST_WORKERS: u8 = 16;
