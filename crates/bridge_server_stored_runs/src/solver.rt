@@ -3,12 +3,12 @@
 ghost use Rattle.std.specs.Prelude.{◌≤◌, IfSome};
 ghost use Rattle.movement.specs.Movement.{boards_of};
 
-use cards::{Card, Deal};
+use cards::{Card, Deal, Play};
 use double_dummy::{Budget, play_costs, table};
 use movement::Cell;
 use scoring::{Contract, Doubling, Level};
 use session_state::State;
-use solver_results::{DdTable, Play, PlayCosts};
+use solver_results::{DdTable, PlayCosts};
 use std::alloc::Global;
 use table_terms::{Place, Strain};
 

@@ -8,5 +8,6 @@ pub mod HandUnionLemmas
 pub mod HandsLemmas
 pub mod PartsLemmas
 pub mod PlayLemmas
+pub mod PlayPlacesLemmas
 pub mod PositionLemmas
 pub mod ReadBackLemmas

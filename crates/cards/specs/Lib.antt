@@ -8,6 +8,8 @@ pub mod HandText
 pub mod Hands
 pub mod Parts
 pub mod Play
+pub mod PlayPlaces
+pub mod PlayedCards
 pub mod Position
 pub mod Rank
 pub mod Trick

@@ -1,4 +1,5 @@
-//! The cards of duplicate bridge: hands and deals, how they are written and read, and the play of the cards.
+//! The cards of duplicate bridge: hands and deals, how they are written and read, the play of the cards, and what was
+//! played at a table.
 #![tactic(auto)]
 
 mod card;
@@ -11,6 +12,7 @@ mod law44;
 pub mod laws;
 mod pack;
 mod parts;
+mod play;
 mod position;
 mod rank;
 mod trick;
@@ -21,6 +23,7 @@ pub use deal_reading::DealTextError;
 pub use hand::Hand;
 pub use hand_reading::NotAHand;
 pub use law44::{strength, winner};
+pub use play::Play;
 pub use position::{NotAPosition, NotLegal, Position};
 pub use rank::Rank;
 pub use trick::Trick;

@@ -6,10 +6,9 @@ ghost use Rattle.serde_json.specs.View.{view, items_view};
 ghost use Rattle.json_fields.specs.Reading.{wanted, Fails, Gives};
 ghost use Rattle.command_object.specs.Play.{card_named, card_of, cards_of_items, cards_by, play};
 
-use cards::Card;
+use cards::{Card, Play};
 use json_fields::RequestFault;
 use serde_json::Value;
-use solver_results::Play;
 use std::alloc::Global;
 
 fn card_named(text: &str) -> Option<Card>

@@ -3,13 +3,13 @@
 ghost use Rattle.movement.specs.Movement.{IsSection};
 ghost use Rattle.movement.specs.Row.{IsCellInRange};
 
-use cards::Deal;
+use cards::{Deal, Play};
 use movement::Cell;
 use scoring::Outcome;
 use session_commands::CellState;
 use session_state::State;
 use solver_pool::Work;
-use solver_results::{Play, PlayCosts};
+use solver_results::PlayCosts;
 
 /// The costs that are left to find at a table on a board: of a confirmed result with a contract and a play, which aren't
 /// there yet.

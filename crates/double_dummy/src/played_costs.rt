@@ -7,9 +7,9 @@ ghost use Rattle.cards.specs.DoubleDummy.{first_illegal};
 use crate::budget::Budget;
 use crate::card_costs::costs_from;
 use crate::error::{CostsError, SolveError};
-use cards::Deal;
+use cards::{Deal, Play};
 use scoring::Contract;
-use solver_results::{Play, PlayAnswer, PlayCosts};
+use solver_results::{PlayAnswer, PlayCosts};
 use std::alloc::Global;
 
 /// What each card of a play costs, or which is the first that is not legal, kept with the deal, contract and play.

@@ -6,11 +6,10 @@ ghost use Rattle.reply_texts.specs.DataOf.{number_data, list_data, option_data};
 ghost use Rattle.reply_texts.specs.TableText.{card_data, play_data, reason_data};
 
 use crate::to_json::{ToJson, list_value};
-use cards::Card;
+use cards::{Card, Play};
 use json_fields::ObjectWriter;
 use movement::Cell;
 use serde_json::Value;
-use solver_results::Play;
 use std::alloc::{AllocError, Global};
 
 pub(crate) fn play_value(

@@ -2,7 +2,7 @@
 use Rattle.std.specs.Prelude.{Bool, true, false, not, ◌&&◌, ◌||◌, Some, is_some, List}
 use Rattle.std.specs.Cmp.Lexicographic.{pointwise}
 use Rattle.cards.specs.declared.card.Card.{Card}
-use Rattle.solver_results.specs.Play.{has_card, same_card}
+use Rattle.cards.specs.PlayedCards.{has_card, same_card}
 use Rattle.scoring.specs.declared.contract.Contract.{Contract}
 use Rattle.scoring.specs.declared.outcome.Outcome.{Outcome}
 use Rattle.session_commands.specs.declared.cell_state.CellState.{CellState}

@@ -1,9 +1,9 @@
 ghost use Rattle.std.specs.Prelude.{◌≡◌};
 ghost use Rattle.session_commands.specs.CellState.{is_contract_of, same_play};
 
-use cards::Card;
+use cards::{Card, Play};
 use scoring::{Contract, Outcome};
-use solver_results::{Play, PlayCosts};
+use solver_results::PlayCosts;
 
 /// What is known of a board at a table.
 #[derive(Clone, Copy)]

@@ -1,11 +1,12 @@
 use crate::command_word::CommandWord;
 use crate::refusal::Refusal;
 use crate::target::Target;
+use cards::Play;
 use disclosure_rules::Phase;
 use movement::Cell;
 use scoring::Outcome;
 use session_roles::{Operation, Role};
-use solver_results::{DdTable, Play, PlayCosts};
+use solver_results::{DdTable, PlayCosts};
 use table_terms::{Pair, Place};
 use user_names::{Digest, Name};
 

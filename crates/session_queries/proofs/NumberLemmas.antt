@@ -4,7 +4,7 @@ use Rattle.std.specs.Prelude.{Option, Some, None, option_map, if◌then◌else�
 use Rattle.cards.specs.Hands.{Hands}
 use Rattle.cards.specs.declared.card.Card.{Card}
 use Rattle.movement.specs.declared.cell.Cell.{Cell}
-use Rattle.solver_results.specs.Play.{has_card}
+use Rattle.cards.specs.PlayedCards.{has_card}
 use Rattle.query_filter.specs.declared.trick_table.TrickTable.{TrickTable}
 use Rattle.session_state.specs.OwnNumbers.{KeepsOwn}
 use Rattle.session_state.specs.SessionState.{SessionState, cell_at, table_at, IsPlaced}

@@ -20,7 +20,7 @@ use Rattle.solver_results.specs.declared.play_answer.PlayAnswer.TheVariants as a
 use Rattle.session_commands.specs.declared.cell_state.CellState.{CellState}
 use Rattle.session_commands.specs.declared.cell_state.CellState.TheVariants.{Empty, Entered, Confirmed, Ruled}
 use Rattle.session_state.specs.declared.seated.Seated.{Seated}
-use Rattle.solver_results.specs.Play.{has_card}
+use Rattle.cards.specs.PlayedCards.{has_card}
 use Rattle.session_state.specs.Readers.{seats_in_order}
 use Rattle.session_state.specs.SessionState.{SessionState, cell_at, table_at}
 use Rattle.session_queries.specs.declared.card_costs.CardCosts.{CardCosts}

@@ -1,5 +1,5 @@
 use crate::card_costs::CardCosts;
-use cards::Deal;
+use cards::{Deal, Play};
 use denials::Denial;
 use disclosure_rules::{Marks, Public};
 use movement::Cell;
@@ -7,7 +7,6 @@ use query_filter::TrickTable;
 use rbac::{Account, Inheritance};
 use scoring::Standing;
 use session_state::Seated;
-use solver_results::Play;
 use standings::TravellerRow;
 use table_terms::Items;
 

@@ -3,10 +3,11 @@ ghost use Rattle.movement.specs.Movement.{most_boards};
 ghost use Rattle.session_queries.specs.Content.{analysis_of, costs_of, costs_of_play, found_of, play_of, reason_of, result_of, strain_of_deal, tricks_of_deal};
 
 use crate::card_costs::CardCosts;
+use cards::Play;
 use query_filter::{StrainTricks, TrickTable};
 use session_commands::CellState;
 use session_state::State;
-use solver_results::{DdTable, Play, PlayAnswer, PlayCosts};
+use solver_results::{DdTable, PlayAnswer, PlayCosts};
 use standings::CellResult;
 use table_terms::{Place, Strain};
 

@@ -33,7 +33,7 @@ use Rattle.disclosure_rules.specs.Seating.{some_that}
 use Rattle.disclosure_rules.specs.declared.public.Public.{Public}
 use Rattle.movement.specs.declared.cell.Cell.{Cell}
 use Rattle.movement.specs.Movement.{IsSection}
-use Rattle.solver_results.specs.Play.{same_card}
+use Rattle.cards.specs.PlayedCards.{same_card}
 use Rattle.rbac.specs.RoleData.{RoleData}
 use Rattle.scoring.specs.declared.contract.Contract.{Contract}
 use Rattle.scoring.specs.declared.outcome.Outcome.{Outcome}

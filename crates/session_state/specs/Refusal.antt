@@ -98,7 +98,7 @@ use Rattle.session_commands.specs.Command.{is_among}
 use Rattle.session_commands.specs.Refusal.{spoiled}
 use Rattle.session_commands.specs.declared.actor.Actor.{Actor}
 use Rattle.session_commands.specs.declared.actor.Actor.TheVariants.{User, Solver}
-use Rattle.solver_results.specs.Play.{has_card, has_repeat}
+use Rattle.cards.specs.PlayedCards.{has_card, has_repeat}
 use Rattle.session_state.specs.Seats.{is_pair, is_of_side, has_seat, is_taken}
 use Rattle.session_state.specs.SessionState.{SessionState, cell_at, table_at, is_dealt}
 

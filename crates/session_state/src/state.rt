@@ -22,7 +22,7 @@ mod solved;
 
 use crate::acceptance::{hindrance, refusal};
 use crate::seated::Seated;
-use cards::Deal;
+use cards::{Deal, Play};
 use disclosure_rules::{Fact, Marks, Public, Rule, Seat, Viewer, decide};
 use movement::{Cell, Movement};
 use rbac::{Account, Roles};
@@ -30,7 +30,7 @@ use scoring::Outcome;
 use session_commands::room::{filled, with_room};
 use session_commands::{Actor, CellState, Command, Entry, Refusal};
 use session_roles::{Operation, RoleSet};
-use solver_results::{DdTable, Play, PlayCosts};
+use solver_results::{DdTable, PlayCosts};
 use std::alloc::{AllocError, Global};
 use std::marker::Model;
 use user_names::{Digest, Name};

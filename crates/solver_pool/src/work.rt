@@ -1,7 +1,6 @@
-use cards::Deal;
+use cards::{Deal, Play};
 use movement::Cell;
 use scoring::Contract;
-use solver_results::Play;
 
 /// What is to be solved.
 #[derive(Clone, Copy)]

@@ -1,9 +1,8 @@
 ghost use Rattle.std.specs.Prelude.{◌≡◌};
 ghost use Rattle.solver_results.specs.PlayAnswer.{answer_for_play};
 
-use crate::play::Play;
 use crate::play_answer::PlayAnswer;
-use cards::{Card, Deal};
+use cards::{Card, Deal, Play};
 use scoring::Contract;
 use std::marker::Model;
 

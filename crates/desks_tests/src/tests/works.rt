@@ -3,7 +3,7 @@
 use super::serving::{Part, is_served};
 use super::session::FIRST_DEAL;
 use super::texts::told;
-use cards::{Card, Deal, Rank};
+use cards::{Card, Deal, Play, Rank};
 use desks::{Desk, Shared};
 use displays::{Display, Server};
 use double_dummy::{Budget, play_costs};
@@ -11,7 +11,7 @@ use movement::Cell;
 use scoring::{Contract, Doubling, Level};
 use session_book::Answer;
 use solver_pool::Work;
-use solver_results::{Play, PlayCosts};
+use solver_results::PlayCosts;
 use std::alloc::Global;
 use std::sync::Wait;
 use table_terms::{Place, Strain, Suit};

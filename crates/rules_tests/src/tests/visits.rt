@@ -1,9 +1,8 @@
 //! How many visits the solver's calls take: with too few each says so, and has none left; of many most are left.
 
-use cards::{Card, Deal, Position, Rank};
+use cards::{Card, Deal, Play, Position, Rank};
 use double_dummy::{Budget, CostsError, SolveError, costs, play_costs, solve, table};
 use scoring::{Contract, Doubling, Level};
-use solver_results::Play;
 use std::alloc::Global;
 use table_terms::{Place, Strain, Suit};
 

@@ -6,10 +6,10 @@ ghost use Rattle.session_commands.specs.declared.command.Command.TheVariants.{En
 
 use crate::causes::first_cause;
 use crate::state::State;
+use cards::Play;
 use movement::Cell;
 use scoring::Outcome;
 use session_commands::Refusal;
-use solver_results::Play;
 
 pub fn enter_cause(state: &State, cell: Cell, outcome: Outcome, play: &Play) -> Option<Refusal>
     requires { IsPlaced cell }

@@ -7,10 +7,10 @@ ghost use Rattle.session_state.specs.SessionState.{IsPlaced};
 ghost use Rattle.session_commands.specs.declared.command.Command.TheVariants.{Enter, Confirm, Correct, Rule, Void};
 
 use crate::state::{State, cell_index};
+use cards::Play;
 use movement::Cell;
 use scoring::Outcome;
 use session_commands::CellState;
-use solver_results::Play;
 
 impl State {
     // Sets what is entered.

@@ -1,13 +1,13 @@
 //! What a worker finds.
 
 use super::{SUITS, results_of, table_work};
-use cards::{Card, Deal, Position, Rank};
+use cards::{Card, Deal, Play, Position, Rank};
 use crossbeam_channel::Receiver;
 use double_dummy::{Budget, SolveError, solve};
 use movement::Cell;
 use scoring::{Contract, Doubling, Level};
 use solver_pool::{Done, Found, Work};
-use solver_results::{Play, PlayAnswer};
+use solver_results::PlayAnswer;
 use std::alloc::Global;
 use std::sync::Wait;
 use table_terms::{Place, Strain, Suit};

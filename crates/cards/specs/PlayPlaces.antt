@@ -4,7 +4,7 @@ use Rattle.std.proofs.Common.{sym, ap, subst, ◌∙◌, take-append-drop, lengt
 use Rattle.cards.specs.declared.card.Card.{Card}
 use Rattle.table_terms.specs.declared.suit.Suit.TheVariants.{Spades}
 use Rattle.cards.specs.declared.rank.Rank.TheVariants.{Two}
-use Rattle.solver_results.specs.declared.play.Play.TheInside.{Inside}
+use Rattle.cards.specs.declared.play.Play.TheInside.{Inside}
 
 -- what stands in a place that no card fills
 abbrev pub no_card : Card

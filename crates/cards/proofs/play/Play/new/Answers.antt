@@ -1,6 +1,6 @@
 use Rattle.std.proofs.Common.{arith}
-use Rattle.solver_results.proofs.PlayLemmas.{places_filled}
-use Rattle.solver_results.proofs.play.Play.new.Goals as goal
+use Rattle.cards.proofs.PlayPlacesLemmas.{places_filled}
+use Rattle.cards.proofs.play.Play.new.Goals as goal
 
 pub invariant_of-result : goal.invariant_of-result
 invariant_of-result c =

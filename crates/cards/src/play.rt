@@ -1,8 +1,9 @@
 ghost use Rattle.std.specs.Prelude.{◌≡◌, ◌<◌, ◌≤◌, [], length, slice_get, IsTrue, ◌↔◌, IfSome, OnSome, IfNone};
 ghost use Rattle.std.specs.List.{list_any};
-ghost use Rattle.solver_results.specs.Play.{same_card, has_repeat};
+ghost use Rattle.cards.specs.PlayedCards.{same_card, has_repeat};
 
-use cards::{Card, Rank};
+use crate::card::Card;
+use crate::rank::Rank;
 use std::marker::Model;
 use table_terms::Suit;
 
@@ -19,7 +20,7 @@ impl Model for Play {
 
     ghost Value = { List Card };
 
-    ghost use Rattle.solver_results.specs.PlayPlaces.{IsPlayInPlaces, cards_of, card_places, card_places-cards_of};
+    ghost use Rattle.cards.specs.PlayPlaces.{IsPlayInPlaces, cards_of, card_places, card_places-cards_of};
 
     ghost view = { cards_of };
 
@@ -41,7 +42,7 @@ impl Play {
     pub const MOST: usize = 52;
 
     /// No card was noted.
-    #[tactic(auto, using(crate::proofs::PlayLemmas::no_places))]
+    #[tactic(auto, using(crate::proofs::PlayPlacesLemmas::no_places))]
     pub fn none() -> Play
         ensures { result ≡ [] }
     {

@@ -20,7 +20,7 @@ use Rattle.std.proofs.Common.{
 use Rattle.std.proofs.Math.Seq.{drop-append_seam}
 use Rattle.std.proofs.lemmas.List.{drop-replicate}
 use Rattle.cards.specs.declared.card.Card.{Card}
-use Rattle.solver_results.specs.PlayPlaces.{IsPlayInPlaces, no_card}
+use Rattle.cards.specs.PlayPlaces.{IsPlayInPlaces, no_card}
 
 back_up : (n : ℕ) → n ≤ 52 → n + (52 - n) ≡ 52
 back_up n h = omega arith
