@@ -137,13 +137,12 @@ held_after state entry board other from to = by_hindrance (hindrance_of state en
         from to
     by_command (command.Release own) not_it = released_elsewhere state.public.held own board
         (λ same. not_it (ap Some same)) from to
-    by_command (command.Confirm table own outcome) not_it =
-        let cell : Cell = record { table = table; board = own } in
+    by_command (command.Confirm cell outcome) not_it =
         ap (λ held. has_number held board) (confirmed_held state cell (cell_at state cell))
-    by_command (command.Enter table own outcome play) not_it = refl
-    by_command (command.Correct table own outcome play) not_it = refl
-    by_command (command.Rule table own north_south east_west reason) not_it = refl
-    by_command (command.Void table own) not_it = refl
+    by_command (command.Enter cell outcome play) not_it = refl
+    by_command (command.Correct cell outcome play) not_it = refl
+    by_command (command.Rule cell north_south east_west reason) not_it = refl
+    by_command (command.Void cell) not_it = refl
     by_command (command.Seat name pair place) not_it = refl
     by_command (command.Unseat name) not_it = refl
     by_command command.NextRound not_it = refl
@@ -155,7 +154,7 @@ held_after state entry board other from to = by_hindrance (hindrance_of state en
     by_command (command.AddInheritance senior junior) not_it = refl
     by_command (command.DeleteInheritance senior junior) not_it = refl
     by_command (command.Solved own table) not_it = refl
-    by_command (command.Analysed table own costs) not_it = refl
+    by_command (command.Analysed cell costs) not_it = refl
 
     by_hindrance : (found : Option Refusal) → has_number (if is_some found then state else effect state
         entry.command).public.held board ≡ has_number state.public.held board

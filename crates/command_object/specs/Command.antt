@@ -1,6 +1,7 @@
 -- The commands of a batch: objects, each with its word in the member `cmd`.
 use Rattle.std.specs.Prelude.{◌≡◌, ℕ, List, [], ◌∷◌, Bool, false, not, ◌||◌, codes, Option, Some, None, option_and_then}
 use Rattle.serde_json.specs.Data.{Data, Items, no_items, item}
+use Rattle.movement.specs.declared.cell.Cell.{Cell}
 use Rattle.session_commands.specs.declared.command.Command.{Command}
 use Rattle.session_commands.specs.declared.command.Command.TheVariants.{
   Enter,
@@ -48,14 +49,19 @@ senior = role_called (codes "senior")
 abbrev pub junior : Member Role
 junior = role_called (codes "junior")
 
+-- the cell of a table and a board
+abbrev pub cell : ℕ → ℕ → Cell
+cell table board = record { table = table; board = board }
+
 -- each command: its word and its members, of which `play` may be left out
 abbrev pub commands : List (Form Command)
 commands =
-    (form (codes "Enter") Enter with table with board with outcome with play)
-    ∷ (form (codes "Confirm") Confirm with table with board with outcome)
-    ∷ (form (codes "Correct") Correct with table with board with outcome with play)
-    ∷ (form (codes "Rule") Rule with table with board with north_south with east_west with reason)
-    ∷ (form (codes "Void") Void with table with board)
+    (form (codes "Enter") (λ t b o p. Enter (cell t b) o p) with table with board with outcome with play)
+    ∷ (form (codes "Confirm") (λ t b o. Confirm (cell t b) o) with table with board with outcome)
+    ∷ (form (codes "Correct") (λ t b o p. Correct (cell t b) o p) with table with board with outcome with play)
+    ∷ (form (codes "Rule") (λ t b n e r. Rule (cell t b) n e r) with table with board with north_south with east_west
+    with reason)
+    ∷ (form (codes "Void") (λ t b. Void (cell t b)) with table with board)
     ∷ (form (codes "Hold") Hold with board)
     ∷ (form (codes "Release") Release with board)
     ∷ (form (codes "Seat") Seat with user_name with pair with place)

@@ -15,6 +15,7 @@ use json_fields::{
     RequestFault, has_only, is_one_of, name_at, read_board, read_digest, read_pair, read_place,
     read_table, role_named, small_number_at, text_at,
 };
+use movement::Cell;
 use scoring::Outcome;
 use serde_json::Value;
 use session_commands::Command;
@@ -138,8 +139,7 @@ fn enter_of(alloc: Global, value: &Value) -> Result<Command, RequestFault>
     };
     let play = play_of(alloc, value)?;
     Ok(Command::Enter {
-        table,
-        board,
+        cell: Cell { table, board },
         outcome,
         play,
     })
@@ -155,8 +155,7 @@ fn confirm_of(value: &Value) -> Option<Command>
     let board = read_board(value)?;
     let outcome = result_of(value)?;
     Some(Command::Confirm {
-        table,
-        board,
+        cell: Cell { table, board },
         outcome,
     })
 }
@@ -178,8 +177,7 @@ fn correct_of(alloc: Global, value: &Value) -> Result<Command, RequestFault>
     };
     let play = play_of(alloc, value)?;
     Ok(Command::Correct {
-        table,
-        board,
+        cell: Cell { table, board },
         outcome,
         play,
     })
@@ -197,8 +195,7 @@ fn rule_of(value: &Value) -> Option<Command>
     let east_west = east_west_of(value)?;
     let reason = reason_of(value)?;
     Some(Command::Rule {
-        table,
-        board,
+        cell: Cell { table, board },
         north_south,
         east_west,
         reason,
@@ -213,7 +210,9 @@ fn void_of(value: &Value) -> Option<Command>
     }
     let table = read_table(value)?;
     let board = read_board(value)?;
-    Some(Command::Void { table, board })
+    Some(Command::Void {
+        cell: Cell { table, board },
+    })
 }
 
 fn hold_of(value: &Value) -> Option<Command>

@@ -114,18 +114,10 @@ impl<'a, N: Server> Desk<'a, N> {
         costs: PlayCosts,
     ) -> (Answer, Receipt<N>)
         ensures { (before : List Entry) ×
-            IsEntered N.opening before (Analysed cell.table cell.board costs) result.0 result.1 }
+            IsEntered N.opening before (Analysed cell costs) result.0 result.1 }
     {
-        let Cell { table, board } = cell;
         let mut locked = self.lock.lock(rt);
-        locked.submit_found(
-            rt,
-            &Command::Analysed {
-                table,
-                board,
-                costs,
-            },
-        )
+        locked.submit_found(rt, &Command::Analysed { cell, costs })
     }
 
     /// The entries of the journal from a number on, at most so many, for a user who has the permission for the audit; and
@@ -179,10 +171,10 @@ impl<'a, N: Server> Desk<'a, N> {
         unreachable!()
     }
 
-    /// The work that is left at a table on a board: the costs of a confirmed result with a contract and a play, which
-    /// aren't there yet. It takes no memory.
-    pub fn work_of<R: Wait>(&self, rt: &R, table: u8, board: u8) -> Option<Work> {
+    /// The work that is left at a cell: the costs of a confirmed result with a contract and a play, which aren't there
+    /// yet. It takes no memory.
+    pub fn work_of<R: Wait>(&self, rt: &R, cell: Cell) -> Option<Work> {
         let locked = self.lock.lock(rt);
-        work_of(locked.state(), table, board)
+        work_of(locked.state(), cell)
     }
 }

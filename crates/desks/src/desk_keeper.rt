@@ -32,9 +32,9 @@ impl<'a, N: Server> DeskKeeper<'a, N> {
         DeskKeeper { desk, display }
     }
 
-    /// The work that is left at a table on a board.
-    pub fn work_of<R: Wait>(&self, rt: &R, table: u8, board: u8) -> Option<Work> {
-        self.desk.work_of(rt, table, board)
+    /// The work that is left at a cell.
+    pub fn work_of<R: Wait>(&self, rt: &R, cell: Cell) -> Option<Work> {
+        self.desk.work_of(rt, cell)
     }
 }
 
@@ -93,12 +93,7 @@ impl<'a, N: Server, R: Wait> CommandKeeper<R> for DeskKeeper<'a, N> {
     }
 
     fn submit_analysed(&mut self, rt: &R, cell: Cell, costs: PlayCosts) -> Answer {
-        let Cell { table, board } = cell;
-        let command = Command::Analysed {
-            table,
-            board,
-            costs,
-        };
+        let command = Command::Analysed { cell, costs };
         let (answer, receipt) = self.desk.submit_found_from(rt, &self.display, &command);
         self.display.learn(&receipt);
         answer

@@ -11,10 +11,9 @@ use session_state::State;
 use solver_pool::Work;
 use solver_results::PlayCosts;
 
-/// The costs that are left to find at a table on a board: of a confirmed result with a contract and a play, which aren't
-/// there yet.
-pub(crate) fn work_of(state: &State, table: u8, board: u8) -> Option<Work> {
-    let cell = state.public().movement.cell(table, board)?;
+/// The costs that are left to find at a cell: of a confirmed result with a contract and a play, which aren't there yet.
+pub(crate) fn work_of(state: &State, cell: Cell) -> Option<Work> {
+    let cell = state.public().movement.cell(cell.table, cell.board)?;
     work_at(state, cell)
 }
 

@@ -67,12 +67,11 @@ joined_last (first ∷ accounts) account = ap (λ names. first.name ∷ names) (
 
 -- one line for each command
 effect_lasts : (state : SessionState) (command : Command) → Lasts state (effect state command)
-effect_lasts state (Enter table board outcome play) = nobody state _ refl refl
-effect_lasts state (Confirm table board outcome) =
-    let cell : Cell = record { table = table; board = board } in confirmed_lasts state cell (cell_at state cell)
-effect_lasts state (Correct table board outcome play) = nobody state _ refl refl
-effect_lasts state (Rule table board north_south east_west reason) = nobody state _ refl refl
-effect_lasts state (Void table board) = nobody state _ refl refl
+effect_lasts state (Enter cell outcome play) = nobody state _ refl refl
+effect_lasts state (Confirm cell outcome) = confirmed_lasts state cell (cell_at state cell)
+effect_lasts state (Correct cell outcome play) = nobody state _ refl refl
+effect_lasts state (Rule cell north_south east_west reason) = nobody state _ refl refl
+effect_lasts state (Void cell) = nobody state _ refl refl
 effect_lasts state (Hold board) = nobody state _ refl refl
 effect_lasts state (Release board) = nobody state _ refl refl
 effect_lasts state (Seat name pair place) = nobody state _ refl refl
@@ -89,7 +88,7 @@ effect_lasts state (Deassign name role) =
 effect_lasts state (AddInheritance senior junior) = nobody state _ refl refl
 effect_lasts state (DeleteInheritance senior junior) = nobody state _ refl refl
 effect_lasts state (Solved board table) = nobody state _ refl refl
-effect_lasts state (Analysed table board costs) = nobody state _ refl refl
+effect_lasts state (Analysed cell costs) = nobody state _ refl refl
 
 pub apply_lasts : (state : SessionState) (entry : Entry) → Lasts state (apply state entry)
 apply_lasts state entry = by_hindrance (is_some (hindrance_of state entry.command))

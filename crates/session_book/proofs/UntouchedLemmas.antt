@@ -300,22 +300,18 @@ confirmed_elsewhere state cell (Ruled north_south east_west reason) user board f
 effect_shows : (state : SessionState) (command : Command) (user : List ℕ) (board : ℕ) →
     ((cell : Cell) → subject_cell command ≡ Some cell → 1 ≤ cell.board) → 1 ≤ board → board ≤ most_boards →
     is_touched (touched_by command) user board ≡ false → ShowsNoMore state (effect state command) user board
-effect_shows state (Enter table number outcome play) user board from low high untouched =
+effect_shows state (Enter cell outcome play) user board from low high untouched =
     record { movement = refl; roles = λ role. refl; seat = inl refl; held = λ is. is; live = λ place is. is }
-effect_shows state (Confirm table number outcome) user board from low high untouched =
-    let cell : Cell = record { table = table; board = number } in
+effect_shows state (Confirm cell outcome) user board from low high untouched =
     confirmed_elsewhere state cell (cell_at state cell) user board (from cell refl) low
-    (not_equal board number untouched)
-effect_shows state (Correct table number outcome play) user board from low high untouched =
-    let cell : Cell = record { table = table; board = number } in
+    (not_equal board cell.board untouched)
+effect_shows state (Correct cell outcome play) user board from low high untouched =
     result_elsewhere state cell (Confirmed outcome play None) user board (from cell refl) low
-    (not_equal board number untouched)
-effect_shows state (command.Rule table number north_south east_west reason) user board from low high untouched =
-    let cell : Cell = record { table = table; board = number } in
+    (not_equal board cell.board untouched)
+effect_shows state (command.Rule cell north_south east_west reason) user board from low high untouched =
     result_elsewhere state cell (Ruled north_south east_west reason) user board (from cell refl) low
-    (not_equal board number untouched)
-effect_shows state (Void table number) user board from low high untouched =
-    let cell : Cell = record { table = table; board = number } in
+    (not_equal board cell.board untouched)
+effect_shows state (Void cell) user board from low high untouched =
     record {
       movement = refl;
       roles = λ role. refl;
@@ -385,7 +381,7 @@ effect_shows state (DeleteInheritance senior junior) user board from low high un
     absurd (false≢true (sym untouched))
 effect_shows state (Solved number table) user board from low high untouched =
     record { movement = refl; roles = λ role. refl; seat = inl refl; held = λ is. is; live = λ place is. is }
-effect_shows state (Analysed table number costs) user board from low high untouched =
+effect_shows state (Analysed cell costs) user board from low high untouched =
     record { movement = refl; roles = λ role. refl; seat = inl refl; held = λ is. is; live = λ place is. is }
 
 second_free : (a b rest : Option Refusal) → option_or a (option_or b rest) ≡ None → b ≡ None

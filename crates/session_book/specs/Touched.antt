@@ -25,11 +25,11 @@ use Rattle.session_book.specs.ExposureTable.{user_at}
 -- left, a user with no role yet, a round and a phase let nobody see more; nor do the solver's numbers, since no rule
 -- looks at what a fact says
 abbrev pub touched_by : Command → Touched
-touched_by (Enter table board outcome play) = Nothing
-touched_by (Confirm table board outcome) = Board board
-touched_by (Correct table board outcome play) = Board board
-touched_by (Rule table board north_south east_west reason) = Board board
-touched_by (Void table board) = Nothing
+touched_by (Enter cell outcome play) = Nothing
+touched_by (Confirm cell outcome) = Board cell.board
+touched_by (Correct cell outcome play) = Board cell.board
+touched_by (Rule cell north_south east_west reason) = Board cell.board
+touched_by (Void cell) = Nothing
 touched_by (Hold board) = Nothing
 touched_by (Release board) = Board board
 touched_by (Seat name pair place) = User name
@@ -43,7 +43,7 @@ touched_by (Deassign name role) = User name
 touched_by (AddInheritance senior junior) = Everything
 touched_by (DeleteInheritance senior junior) = Everything
 touched_by (Solved board table) = Nothing
-touched_by (Analysed table board costs) = Nothing
+touched_by (Analysed cell costs) = Nothing
 
 -- whether it touches what a user sees of a board
 abbrev pub is_touched : Touched → List ℕ → ℕ → Bool

@@ -328,15 +328,10 @@ impl Book {
 
     /// Tries what the cards cost that were played at a cell, as the solver tells it.
     pub fn submit_analysed(&mut self, cell: Cell, costs: PlayCosts) -> Answer
-        ensures tried { IsTried self.old Solver (Analysed cell.table cell.board costs) result self.new }
+        ensures tried { IsTried self.old Solver (Analysed cell costs) result self.new }
         ensures opening { self.new.opening ≡ self.old.opening }
     {
-        let Cell { table, board } = cell;
-        self.submit_found(&Command::Analysed {
-            table,
-            board,
-            costs,
-        })
+        self.submit_found(&Command::Analysed { cell, costs })
     }
 
     // Tries a command of the solver's.

@@ -22,10 +22,10 @@ pub fn touched_by(command: &Command) -> Touched
     ensures { result ≡ touched_by command.now }
 {
     match *command {
-        Command::Confirm { board, .. }
-        | Command::Correct { board, .. }
-        | Command::Rule { board, .. }
-        | Command::Release { board } => Touched::Board(board),
+        Command::Confirm { cell, .. }
+        | Command::Correct { cell, .. }
+        | Command::Rule { cell, .. } => Touched::Board(cell.board),
+        Command::Release { board } => Touched::Board(board),
         Command::Seat { name, .. }
         | Command::Assign { name, .. }
         | Command::Deassign { name, .. } => Touched::User(name),

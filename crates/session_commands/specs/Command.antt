@@ -25,11 +25,11 @@ use Rattle.session_commands.specs.declared.command.Command.TheVariants.{DeleteIn
 
 -- the operation for which a user needs the permission; the solver's commands have none
 abbrev pub operation_of : Command → Option Operation
-operation_of (Enter table board outcome play) = Some operation.Enter
-operation_of (Confirm table board outcome) = Some operation.Confirm
-operation_of (Correct table board outcome play) = Some operation.Correct
-operation_of (Rule table board north_south east_west reason) = Some operation.Rule
-operation_of (Void table board) = Some operation.Void
+operation_of (Enter cell outcome play) = Some operation.Enter
+operation_of (Confirm cell outcome) = Some operation.Confirm
+operation_of (Correct cell outcome play) = Some operation.Correct
+operation_of (Rule cell north_south east_west reason) = Some operation.Rule
+operation_of (Void cell) = Some operation.Void
 operation_of (Hold board) = Some operation.Hold
 operation_of (Release board) = Some operation.Release
 operation_of (Seat name pair place) = Some operation.Seat
@@ -43,7 +43,7 @@ operation_of (Deassign name role) = Some operation.Deassign
 operation_of (AddInheritance senior junior) = Some operation.AddInheritance
 operation_of (DeleteInheritance senior junior) = Some operation.DeleteInheritance
 operation_of (Solved board table) = None
-operation_of (Analysed table board costs) = None
+operation_of (Analysed cell costs) = None
 
 -- whether it is one of the solver's
 abbrev pub is_solvers : Command → Bool
@@ -55,11 +55,11 @@ any_phase = Running ∷ Closed ∷ Final ∷ []
 
 -- the phases in which it is taken
 abbrev pub phases_of : Command → List Phase
-phases_of (Enter table board outcome play) = Running ∷ []
-phases_of (Confirm table board outcome) = Running ∷ []
-phases_of (Correct table board outcome play) = Running ∷ Closed ∷ []
-phases_of (Rule table board north_south east_west reason) = Running ∷ Closed ∷ []
-phases_of (Void table board) = Running ∷ Closed ∷ []
+phases_of (Enter cell outcome play) = Running ∷ []
+phases_of (Confirm cell outcome) = Running ∷ []
+phases_of (Correct cell outcome play) = Running ∷ Closed ∷ []
+phases_of (Rule cell north_south east_west reason) = Running ∷ Closed ∷ []
+phases_of (Void cell) = Running ∷ Closed ∷ []
 phases_of (Hold board) = Running ∷ Closed ∷ []
 phases_of (Release board) = any_phase
 phases_of (Seat name pair place) = Running ∷ []
@@ -73,15 +73,15 @@ phases_of (Deassign name role) = any_phase
 phases_of (AddInheritance senior junior) = any_phase
 phases_of (DeleteInheritance senior junior) = any_phase
 phases_of (Solved board table) = any_phase
-phases_of (Analysed table board costs) = any_phase
+phases_of (Analysed cell costs) = any_phase
 
 -- the user that it is about, who must have an account
 abbrev pub subject_user : Command → Option (List ℕ)
-subject_user (Enter table board outcome play) = None
-subject_user (Confirm table board outcome) = None
-subject_user (Correct table board outcome play) = None
-subject_user (Rule table board north_south east_west reason) = None
-subject_user (Void table board) = None
+subject_user (Enter cell outcome play) = None
+subject_user (Confirm cell outcome) = None
+subject_user (Correct cell outcome play) = None
+subject_user (Rule cell north_south east_west reason) = None
+subject_user (Void cell) = None
 subject_user (Hold board) = None
 subject_user (Release board) = None
 subject_user (Seat name pair place) = Some name
@@ -95,15 +95,15 @@ subject_user (Deassign name role) = Some name
 subject_user (AddInheritance senior junior) = None
 subject_user (DeleteInheritance senior junior) = None
 subject_user (Solved board table) = None
-subject_user (Analysed table board costs) = None
+subject_user (Analysed cell costs) = None
 
 -- the table and the board that it is about, which must be scheduled
 abbrev pub subject_cell : Command → Option Cell
-subject_cell (Enter table board outcome play) = Some (record { table = table; board = board })
-subject_cell (Confirm table board outcome) = Some (record { table = table; board = board })
-subject_cell (Correct table board outcome play) = Some (record { table = table; board = board })
-subject_cell (Rule table board north_south east_west reason) = Some (record { table = table; board = board })
-subject_cell (Void table board) = Some (record { table = table; board = board })
+subject_cell (Enter cell outcome play) = Some cell
+subject_cell (Confirm cell outcome) = Some cell
+subject_cell (Correct cell outcome play) = Some cell
+subject_cell (Rule cell north_south east_west reason) = Some cell
+subject_cell (Void cell) = Some cell
 subject_cell (Hold board) = None
 subject_cell (Release board) = None
 subject_cell (Seat name pair place) = None
@@ -117,15 +117,15 @@ subject_cell (Deassign name role) = None
 subject_cell (AddInheritance senior junior) = None
 subject_cell (DeleteInheritance senior junior) = None
 subject_cell (Solved board table) = None
-subject_cell (Analysed table board costs) = Some (record { table = table; board = board })
+subject_cell (Analysed cell costs) = Some cell
 
 -- the board that it is about as a whole, which must be one of the session
 abbrev pub subject_board : Command → Option ℕ
-subject_board (Enter table board outcome play) = None
-subject_board (Confirm table board outcome) = None
-subject_board (Correct table board outcome play) = None
-subject_board (Rule table board north_south east_west reason) = None
-subject_board (Void table board) = None
+subject_board (Enter cell outcome play) = None
+subject_board (Confirm cell outcome) = None
+subject_board (Correct cell outcome play) = None
+subject_board (Rule cell north_south east_west reason) = None
+subject_board (Void cell) = None
 subject_board (Hold board) = Some board
 subject_board (Release board) = Some board
 subject_board (Seat name pair place) = None
@@ -139,15 +139,15 @@ subject_board (Deassign name role) = None
 subject_board (AddInheritance senior junior) = None
 subject_board (DeleteInheritance senior junior) = None
 subject_board (Solved board table) = Some board
-subject_board (Analysed table board costs) = None
+subject_board (Analysed cell costs) = None
 
 -- whether it tells a result that was played: a spoiled table may not
 abbrev pub is_told_by_table : Command → Bool
-is_told_by_table (Enter table board outcome play) = true
-is_told_by_table (Confirm table board outcome) = true
-is_told_by_table (Correct table board outcome play) = false
-is_told_by_table (Rule table board north_south east_west reason) = false
-is_told_by_table (Void table board) = false
+is_told_by_table (Enter cell outcome play) = true
+is_told_by_table (Confirm cell outcome) = true
+is_told_by_table (Correct cell outcome play) = false
+is_told_by_table (Rule cell north_south east_west reason) = false
+is_told_by_table (Void cell) = false
 is_told_by_table (Hold board) = false
 is_told_by_table (Release board) = false
 is_told_by_table (Seat name pair place) = false
@@ -161,7 +161,7 @@ is_told_by_table (Deassign name role) = false
 is_told_by_table (AddInheritance senior junior) = false
 is_told_by_table (DeleteInheritance senior junior) = false
 is_told_by_table (Solved board table) = false
-is_told_by_table (Analysed table board costs) = false
+is_told_by_table (Analysed cell costs) = false
 
 -- whether two phases are one
 abbrev pub same_phase : Phase → Phase → Bool

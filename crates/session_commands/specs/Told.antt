@@ -22,11 +22,11 @@ use Rattle.session_commands.specs.declared.target.Target.TheVariants as about
 
 -- how it is called
 abbrev pub word_of : Command → CommandWord
-word_of (Enter table board outcome play) = word.Enter
-word_of (Confirm table board outcome) = word.Confirm
-word_of (Correct table board outcome play) = word.Correct
-word_of (Rule table board north_south east_west reason) = word.Rule
-word_of (Void table board) = word.Void
+word_of (Enter cell outcome play) = word.Enter
+word_of (Confirm cell outcome) = word.Confirm
+word_of (Correct cell outcome play) = word.Correct
+word_of (Rule cell north_south east_west reason) = word.Rule
+word_of (Void cell) = word.Void
 word_of (Hold board) = word.Hold
 word_of (Release board) = word.Release
 word_of (Seat name pair place) = word.Seat
@@ -40,15 +40,15 @@ word_of (Deassign name role) = word.Deassign
 word_of (AddInheritance senior junior) = word.AddInheritance
 word_of (DeleteInheritance senior junior) = word.DeleteInheritance
 word_of (Solved board solution) = word.Solved
-word_of (Analysed table board costs) = word.Analysed
+word_of (Analysed cell costs) = word.Analysed
 
 -- what it is about: a table's board, a board, a user, a user's role, two roles, or the session
 abbrev pub target_of : Command → Target
-target_of (Enter table board outcome play) = about.Cell (record { table = table; board = board })
-target_of (Confirm table board outcome) = about.Cell (record { table = table; board = board })
-target_of (Correct table board outcome play) = about.Cell (record { table = table; board = board })
-target_of (Rule table board north_south east_west reason) = about.Cell (record { table = table; board = board })
-target_of (Void table board) = about.Cell (record { table = table; board = board })
+target_of (Enter cell outcome play) = about.Cell cell
+target_of (Confirm cell outcome) = about.Cell cell
+target_of (Correct cell outcome play) = about.Cell cell
+target_of (Rule cell north_south east_west reason) = about.Cell cell
+target_of (Void cell) = about.Cell cell
 target_of (Hold board) = about.Board board
 target_of (Release board) = about.Board board
 target_of (Seat name pair place) = about.User name
@@ -62,4 +62,4 @@ target_of (Deassign name role) = about.Assignment name role
 target_of (AddInheritance senior junior) = about.Inheritance senior junior
 target_of (DeleteInheritance senior junior) = about.Inheritance senior junior
 target_of (Solved board solution) = about.Board board
-target_of (Analysed table board costs) = about.Cell (record { table = table; board = board })
+target_of (Analysed cell costs) = about.Cell cell

@@ -15,36 +15,31 @@ use user_names::{Digest, Name};
 pub enum Command {
     /// Enters how a board ended at a table, and the cards as they were played, in place of what was entered before.
     Enter {
-        table: u8,
-        board: u8,
+        cell: Cell,
         outcome: Outcome,
         play: Play,
     },
     /// Confirms what is entered of a board at a table.
     Confirm {
-        table: u8,
-        board: u8,
+        cell: Cell,
         outcome: Outcome,
     },
     /// Puts a corrected outcome and play in place of a result (Law 79C).
     Correct {
-        table: u8,
-        board: u8,
+        cell: Cell,
         outcome: Outcome,
         play: Play,
     },
     /// Gives an adjusted score (Law 12C2): a percentage of a top for each side, and the number of a reason.
     Rule {
-        table: u8,
-        board: u8,
+        cell: Cell,
         north_south: u8,
         east_west: u8,
         reason: u8,
     },
     /// Takes a result away.
     Void {
-        table: u8,
-        board: u8,
+        cell: Cell,
     },
     /// Withholds a board from everybody but the directors.
     Hold {
@@ -102,8 +97,7 @@ pub enum Command {
     },
     /// Tells what each card cost that was played of a board at a table: a command of the solver's.
     Analysed {
-        table: u8,
-        board: u8,
+        cell: Cell,
         costs: PlayCosts,
     },
 }
@@ -201,12 +195,12 @@ impl Command {
         ensures { result ≡ subject_cell self.now }
     {
         match *self {
-            Command::Enter { table, board, .. }
-            | Command::Confirm { table, board, .. }
-            | Command::Correct { table, board, .. }
-            | Command::Rule { table, board, .. }
-            | Command::Void { table, board }
-            | Command::Analysed { table, board, .. } => Some(Cell { table, board }),
+            Command::Enter { cell, .. }
+            | Command::Confirm { cell, .. }
+            | Command::Correct { cell, .. }
+            | Command::Rule { cell, .. }
+            | Command::Void { cell }
+            | Command::Analysed { cell, .. } => Some(cell),
             _ => None,
         }
     }
@@ -272,12 +266,12 @@ impl Command {
         ensures { result ≡ target_of self.now }
     {
         match *self {
-            Command::Enter { table, board, .. }
-            | Command::Confirm { table, board, .. }
-            | Command::Correct { table, board, .. }
-            | Command::Rule { table, board, .. }
-            | Command::Void { table, board }
-            | Command::Analysed { table, board, .. } => Target::Cell(Cell { table, board }),
+            Command::Enter { cell, .. }
+            | Command::Confirm { cell, .. }
+            | Command::Correct { cell, .. }
+            | Command::Rule { cell, .. }
+            | Command::Void { cell }
+            | Command::Analysed { cell, .. } => Target::Cell(cell),
             Command::Hold { board } | Command::Release { board } | Command::Solved { board, .. } =>
                 { Target::Board(board) }
             Command::Seat { name, .. } | Command::Unseat { name } | Command::AddUser { name, .. } =>

@@ -42,7 +42,7 @@ pub trait CommandKeeper<H>: Keeper {
             (Self.opening self.new) (Self.journal self.new) }
         ensures accepted { IsAccepted (Self.opening self.new) (Self.journal self.new) }
         ensures tried { TriedOnce Self.others (Self.opening self.new) (Self.journal self.old)
-            (Analysed cell.table cell.board costs) result (Self.journal self.new) };
+            (Analysed cell costs) result (Self.journal self.new) };
 
     /// The entries from a number on, at most so many, for a user who has the permission for the audit.
     fn audit(&mut self, rt: &H, actor: Name, from: usize, limit: usize) -> AuditReceipt

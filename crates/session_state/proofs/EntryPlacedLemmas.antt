@@ -47,12 +47,11 @@ module _ (state : SessionState) (are : ArePlaced state) where
   confirmed_placed cell (Ruled north_south east_west reason) = are
 
   effect_placed : (command : Command) → hindrance_of state command ≡ None → ArePlaced (effect state command)
-  effect_placed (Enter table board outcome play) unhindered = are
-  effect_placed (Confirm table board outcome) unhindered = confirmed_placed _
-      (cell_at state (record { table = table; board = board }))
-  effect_placed (Correct table board outcome play) unhindered = are
-  effect_placed (Rule table board north_south east_west reason) unhindered = are
-  effect_placed (Void table board) unhindered = are
+  effect_placed (Enter cell outcome play) unhindered = are
+  effect_placed (Confirm cell outcome) unhindered = confirmed_placed _ (cell_at state cell)
+  effect_placed (Correct cell outcome play) unhindered = are
+  effect_placed (Rule cell north_south east_west reason) unhindered = are
+  effect_placed (Void cell) unhindered = are
   effect_placed (Hold board) unhindered = are
   effect_placed (Release board) unhindered = are
   effect_placed (command.Seat name pair place) unhindered = seats_still_placed state name pair place unhindered are
@@ -66,7 +65,7 @@ module _ (state : SessionState) (are : ArePlaced state) where
   effect_placed (AddInheritance senior junior) unhindered = are
   effect_placed (DeleteInheritance senior junior) unhindered = are
   effect_placed (Solved board table) unhindered = are
-  effect_placed (Analysed table board costs) unhindered = are
+  effect_placed (Analysed cell costs) unhindered = are
 
 pub entry_placed : (state : SessionState) (entry : Entry) → AreSeatsOf state.public.movement state.seats →
     AreSeatsOf (apply state entry).public.movement (apply state entry).seats

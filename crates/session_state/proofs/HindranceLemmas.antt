@@ -1,10 +1,11 @@
 -- What holds where nothing hinders a command.
-use Rattle.std.proofs.Common.{◌≡◌, ℕ, ◌<◌, Bool, true, false, List, [], ◌∷◌, refl, sym, ◌∙◌, inl, inr}
+use Rattle.std.proofs.Common.{◌≡◌, ◌<◌, Bool, true, false, List, [], ◌∷◌, refl, sym, ◌∙◌, inl, inr}
 use Rattle.std.specs.Prelude.{Option, Some, None, not, nat_le}
 use Rattle.std.specs.Bool.{then_some}
 use Rattle.std.specs.Option.{option_or}
 use Rattle.std.proofs.lemmas.Bool.{false≢true, cases_lt, le-leb}
 use Rattle.cards.specs.declared.card.Card.{Card}
+use Rattle.movement.specs.declared.cell.Cell.{Cell}
 use Rattle.movement.specs.Schedule.{is_scheduled}
 use Rattle.scoring.specs.declared.outcome.Outcome.{Outcome}
 use Rattle.disclosure_rules.specs.Seating.{some_that}
@@ -90,15 +91,15 @@ module _ (state : SessionState) (command : Command) (unhindered : hindrance_of s
       (rest_unmet stranger (no_cell ∷ no_board ∷ other_phase ∷ too_early ∷ own_causes state command) unhindered))))
 
 -- what is entered without a hindrance finds no result
-pub entry_is_free : (state : SessionState) (table board : ℕ) (outcome : Outcome) (play : List Card) → hindrance_of state
-    (Enter table board outcome play) ≡ None →
-    has_result (cell_at state (record { table = table; board = board })) ≡ false
-entry_is_free state table board outcome play unhindered =
-    let free = has_result (cell_at state (record { table = table; board = board })) in
+pub entry_is_free : (state : SessionState) (cell : Cell) (outcome : Outcome) (play : List Card) → hindrance_of state
+    (Enter cell outcome play) ≡ None →
+    has_result (cell_at state cell) ≡ false
+entry_is_free state cell outcome play unhindered =
+    let free = has_result (cell_at state cell) in
     not_met free AlreadyLive
     (rest_none (then_some free AlreadyLive) None
     (rest_unmet (then_some (is_bad_result outcome play) BadResult) (then_some free AlreadyLive ∷ [])
-    (own_unhindered state (Enter table board outcome play) unhindered))).0
+    (own_unhindered state (Enter cell outcome play) unhindered))).0
 
 -- a round that is started without a hindrance is one of the movement
 pub round_is_played : (state : SessionState) → hindrance_of state NextRound ≡ None → state.public.round <

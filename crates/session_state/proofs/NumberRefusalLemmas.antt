@@ -109,11 +109,11 @@ by_spoiler false spoiler met same = absurd cc
 -- the solver's commands are about no user, and none of their own causes is about one
 solvers_not_strange : (state : SessionState) (command : Command) → is_solvers command ≡ true →
     (subject_user command ≡ None) × NoneStrange (own_causes state command)
-solvers_not_strange state (Enter table board outcome play) never = absurd (false≢true never)
-solvers_not_strange state (Confirm table board outcome) never = absurd (false≢true never)
-solvers_not_strange state (Correct table board outcome play) never = absurd (false≢true never)
-solvers_not_strange state (Rule table board north_south east_west reason) never = absurd (false≢true never)
-solvers_not_strange state (Void table board) never = absurd (false≢true never)
+solvers_not_strange state (Enter cell outcome play) never = absurd (false≢true never)
+solvers_not_strange state (Confirm cell outcome) never = absurd (false≢true never)
+solvers_not_strange state (Correct cell outcome play) never = absurd (false≢true never)
+solvers_not_strange state (Rule cell north_south east_west reason) never = absurd (false≢true never)
+solvers_not_strange state (Void cell) never = absurd (false≢true never)
 solvers_not_strange state (Hold board) never = absurd (false≢true never)
 solvers_not_strange state (Release board) never = absurd (false≢true never)
 solvers_not_strange state (Seat name pair place) never = absurd (false≢true never)
@@ -128,7 +128,7 @@ solvers_not_strange state (AddInheritance senior junior) never = absurd (false�
 solvers_not_strange state (DeleteInheritance senior junior) never = absurd (false≢true never)
 solvers_not_strange state (Solved board table) solvers =
     (refl, (other _ StrangeDeal refl, (other _ AlreadySolved refl, tt)))
-solvers_not_strange state (Analysed table board costs) solvers =
+solvers_not_strange state (Analysed cell costs) solvers =
     (refl, (other _ NotLive refl, (other _ StrangePlay refl, (other _ AlreadySolved refl, tt))))
 
 pub numbers_name_nobody : (state : SessionState) (spoiler : Option (List ℕ)) (actor : Actor) (command : Command)

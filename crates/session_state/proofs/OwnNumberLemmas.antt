@@ -161,16 +161,16 @@ counting (Confirmed outcome play (Some old)) costs played free = absurd (false�
 counting (Ruled north_south east_west reason) costs played free = absurd (false≢true played)
 
 -- costs that nothing hinders are of the cell's own
-analysed_own : (state : SessionState) (table board : ℕ) (costs : PlayedDeal) → hindrance_of state
-    (Analysed table board costs) ≡ None →
-    IsCounting state (record { table = table; board = board }) costs
-analysed_own state table board costs unhindered =
-    let known = cell_at state (record { table = table; board = board }) in
+analysed_own : (state : SessionState) (cell : Cell) (costs : PlayedDeal) → hindrance_of state
+    (Analysed cell costs) ≡ None →
+    IsCounting state cell costs
+analysed_own state cell costs unhindered =
+    let known = cell_at state cell in
     let dead = then_some (not (has_result known)) NotLive in
-    let strange = then_some (not (is_dealt state board costs.deal && is_played_as known costs.contract costs.play))
+    let strange = then_some (not (is_dealt state cell.board costs.deal && is_played_as known costs.contract costs.play))
     StrangePlay in
     let solved = then_some (is_counted known) AlreadySolved in
-    let first = rest_none dead (first_cause (strange ∷ solved ∷ [])) (own_unhindered state (Analysed table board costs)
+    let first = rest_none dead (first_cause (strange ∷ solved ∷ [])) (own_unhindered state (Analysed cell costs)
     unhindered) in
     let second = rest_none strange (first_cause (solved ∷ [])) first.1 in
     let third = rest_none solved None second.1 in
@@ -194,7 +194,7 @@ analysed_own state table board costs unhindered =
 pub told_own : (state : SessionState) (command : Command) → hindrance_of state command ≡ None → TellsOwn state command
 told_own state command unhindered = record {
   solved = λ board table is. solved_own state board table (sym (ap (hindrance_of state) is) ∙ unhindered);
-  analysed = λ table board costs is. analysed_own state table board costs (sym (ap (hindrance_of state) is)
+  analysed = λ cell costs is. analysed_own state cell costs (sym (ap (hindrance_of state) is)
       ∙ unhindered);
 }
 
@@ -288,21 +288,21 @@ module _ (state : SessionState) (keeps : KeepsOwn state) where
 
   effect_keeps : IsSection state.public.movement → (command : Command) → hindrance_of state command ≡ None →
       KeepsOwn (effect state command)
-  effect_keeps is_section (Enter table board outcome play) unhindered =
-      with_known _ _ _ (scheduled_placed state _ is_section (cell_unhindered state (Enter table board outcome play)
+  effect_keeps is_section (Enter cell outcome play) unhindered =
+      with_known _ _ _ (scheduled_placed state _ is_section (cell_unhindered state (Enter cell outcome play)
       unhindered)) (costless _ _ (Entered outcome play) refl)
-  effect_keeps is_section (Confirm table board outcome) unhindered =
-      with_confirmed _ _ (scheduled_placed state _ is_section (cell_unhindered state (Confirm table board outcome)
+  effect_keeps is_section (Confirm cell outcome) unhindered =
+      with_confirmed _ _ (scheduled_placed state _ is_section (cell_unhindered state (Confirm cell outcome)
       unhindered))
-  effect_keeps is_section (Correct table board outcome play) unhindered =
-      with_known _ _ _ (scheduled_placed state _ is_section (cell_unhindered state (Correct table board outcome play)
+  effect_keeps is_section (Correct cell outcome play) unhindered =
+      with_known _ _ _ (scheduled_placed state _ is_section (cell_unhindered state (Correct cell outcome play)
       unhindered)) (costless _ _ (Confirmed outcome play None) refl)
-  effect_keeps is_section (Rule table board north_south east_west reason) unhindered =
+  effect_keeps is_section (Rule cell north_south east_west reason) unhindered =
       with_known _ _ _
-      (scheduled_placed state _ is_section (cell_unhindered state (Rule table board north_south east_west reason)
+      (scheduled_placed state _ is_section (cell_unhindered state (Rule cell north_south east_west reason)
       unhindered)) (costless _ _ (Ruled north_south east_west reason) refl)
-  effect_keeps is_section (Void table board) unhindered =
-      with_known _ _ _ (scheduled_placed state _ is_section (cell_unhindered state (Void table board) unhindered))
+  effect_keeps is_section (Void cell) unhindered =
+      with_known _ _ _ (scheduled_placed state _ is_section (cell_unhindered state (Void cell) unhindered))
       (costless _ _ Empty refl)
   effect_keeps is_section (Hold board) unhindered = unchanged _ _ _ _
   effect_keeps is_section (Release board) unhindered = unchanged _ _ _ _
@@ -318,10 +318,10 @@ module _ (state : SessionState) (keeps : KeepsOwn state) where
   effect_keeps is_section (DeleteInheritance senior junior) unhindered = unchanged _ _ _ _
   effect_keeps is_section (Solved board table) unhindered = with_table board table
       (solved_own state board table unhindered).0
-  effect_keeps is_section (Analysed table board costs) unhindered =
-      with_known _ _ _ (scheduled_placed state _ is_section (cell_unhindered state (Analysed table board costs)
+  effect_keeps is_section (Analysed cell costs) unhindered =
+      with_known _ _ _ (scheduled_placed state _ is_section (cell_unhindered state (Analysed cell costs)
       unhindered))
-      (counted _ costs (analysed_own state table board costs unhindered))
+      (counted _ costs (analysed_own state cell costs unhindered))
 
 -- each entry keeps them
 pub entry_keeps : (state : SessionState) (entry : Entry) → IsSection state.public.movement → KeepsOwn state →

@@ -229,11 +229,11 @@ module _ (state : SessionState) where
   confirmed_part cell (Ruled north_south east_west reason) = same Results
 
   effect_part : (command : Command) → IsSameBut (part_of command) state (effect state command)
-  effect_part (Enter table board outcome play) = same_but_cells _ _
-  effect_part (Confirm table board outcome) = confirmed_part _ _
-  effect_part (Correct table board outcome play) = same_but_cells _ _
-  effect_part (Rule table board north_south east_west reason) = same_but_cells _ _
-  effect_part (Void table board) = same_but_cells _ _
+  effect_part (Enter cell outcome play) = same_but_cells _ _
+  effect_part (Confirm cell outcome) = confirmed_part _ _
+  effect_part (Correct cell outcome play) = same_but_cells _ _
+  effect_part (Rule cell north_south east_west reason) = same_but_cells _ _
+  effect_part (Void cell) = same_but_cells _ _
   effect_part (Hold board) = same_but_held _
   effect_part (Release board) = same_but_held _
   effect_part (Seat name pair place) = same_but_seats _
@@ -247,7 +247,7 @@ module _ (state : SessionState) where
   effect_part (AddInheritance senior junior) = same_but_pairs _
   effect_part (DeleteInheritance senior junior) = same_but_pairs _
   effect_part (Solved board table) = same_but_tables _
-  effect_part (Analysed table board costs) = same_but_cells _ _
+  effect_part (Analysed cell costs) = same_but_cells _ _
 
 -- an entry changes one part at most
 pub entry_part : (state : SessionState) (entry : Entry) → IsSameBut (part_of entry.command) state (apply state entry)
@@ -300,15 +300,15 @@ effect_elsewhere state command cell is_section placed_cell unhindered other = by
     by_command : (command : Command) → some_that (subject_cell command)
         (λ own. not (is_scheduled state.public.movement own)) ≡ false →
         subject_cell command ≢ Some cell → cell_at (effect state command) cell ≡ cell_at state cell
-    by_command (Enter table board outcome play) there other = kept_elsewhere state _ cell (own_placed _ there)
+    by_command (Enter own outcome play) there other = kept_elsewhere state _ cell (own_placed _ there)
         placed_cell (no_other _ other) _
-    by_command (Confirm table board outcome) there other = kept_confirmed state _ cell (own_placed _ there) placed_cell
+    by_command (Confirm own outcome) there other = kept_confirmed state _ cell (own_placed _ there) placed_cell
         (no_other _ other) _
-    by_command (Correct table board outcome play) there other = kept_elsewhere state _ cell (own_placed _ there)
+    by_command (Correct own outcome play) there other = kept_elsewhere state _ cell (own_placed _ there)
         placed_cell (no_other _ other) _
-    by_command (Rule table board north_south east_west reason) there other = kept_elsewhere state _ cell
+    by_command (Rule own north_south east_west reason) there other = kept_elsewhere state _ cell
         (own_placed _ there) placed_cell (no_other _ other) _
-    by_command (Void table board) there other = kept_elsewhere state _ cell (own_placed _ there) placed_cell
+    by_command (Void own) there other = kept_elsewhere state _ cell (own_placed _ there) placed_cell
         (no_other _ other) _
     by_command (Hold board) there other = refl
     by_command (Release board) there other = refl
@@ -323,7 +323,7 @@ effect_elsewhere state command cell is_section placed_cell unhindered other = by
     by_command (AddInheritance senior junior) there other = refl
     by_command (DeleteInheritance senior junior) there other = refl
     by_command (Solved board table) there other = refl
-    by_command (Analysed table board costs) there other = kept_elsewhere state _ cell (own_placed _ there) placed_cell
+    by_command (Analysed own costs) there other = kept_elsewhere state _ cell (own_placed _ there) placed_cell
         (no_other _ other) _
 
 -- an entry changes what is known of its own cell alone

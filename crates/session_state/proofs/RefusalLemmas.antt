@@ -230,12 +230,12 @@ none_needed state after = (of _ StillSeated refl, (of _ LastAdministrator refl, 
 
 -- none of a command's own causes
 own_not_apart : (state : SessionState) (command : Command) → NoneApart (own_causes state command)
-own_not_apart state (Enter table board outcome play) = (of _ BadResult refl, (of _ AlreadyLive refl, tt))
-own_not_apart state (Confirm table board outcome) =
+own_not_apart state (Enter cell outcome play) = (of _ BadResult refl, (of _ AlreadyLive refl, tt))
+own_not_apart state (Confirm cell outcome) =
     (of _ AlreadyLive refl, (of _ NothingEntered refl, (of _ Mismatch refl, tt)))
-own_not_apart state (Correct table board outcome play) = (of _ BadResult refl, (of _ NotLive refl, tt))
-own_not_apart state (Rule table board north_south east_west reason) = (of _ BadRuling refl, tt)
-own_not_apart state (Void table board) = (of _ NotLive refl, tt)
+own_not_apart state (Correct cell outcome play) = (of _ BadResult refl, (of _ NotLive refl, tt))
+own_not_apart state (Rule cell north_south east_west reason) = (of _ BadRuling refl, tt)
+own_not_apart state (Void cell) = (of _ NotLive refl, tt)
 own_not_apart state (Hold board) = (of _ AlreadyHeld refl, tt)
 own_not_apart state (Release board) = (of _ NotHeld refl, tt)
 own_not_apart state (Seat name pair place) = (
@@ -256,7 +256,7 @@ own_not_apart state (AddInheritance senior junior) =
 own_not_apart state (DeleteInheritance senior junior) =
     (of _ NotThere refl, none_needed state (delete_inheritance state.roles senior junior))
 own_not_apart state (Solved board table) = (of _ StrangeDeal refl, (of _ AlreadySolved refl, tt))
-own_not_apart state (Analysed table board costs) =
+own_not_apart state (Analysed cell costs) =
     (of _ NotLive refl, (of _ StrangePlay refl, (of _ AlreadySolved refl, tt)))
 
 -- nor of the others

@@ -56,16 +56,12 @@ confirmed state cell (Ruled north_south east_west reason) = state
 -- what each command does
 abbrev pub effect : SessionState → Command → SessionState
 -- to enter is to set what is entered, or to replace it; to confirm makes it the result
-effect state (Enter table board outcome play) =
-    with_cell state (record { table = table; board = board }) (Entered outcome play)
-effect state (Confirm table board outcome) =
-    let cell : Cell = record { table = table; board = board } in confirmed state cell (cell_at state cell)
+effect state (Enter cell outcome play) = with_cell state cell (Entered outcome play)
+effect state (Confirm cell outcome) = confirmed state cell (cell_at state cell)
 -- a correction and a ruling are results, and what was counted of the one before is gone; to void takes the result away
-effect state (Correct table board outcome play) =
-    with_result state (record { table = table; board = board }) (Confirmed outcome play None)
-effect state (Rule table board north_south east_west reason) =
-    with_result state (record { table = table; board = board }) (Ruled north_south east_west reason)
-effect state (Void table board) = without_result state (record { table = table; board = board })
+effect state (Correct cell outcome play) = with_result state cell (Confirmed outcome play None)
+effect state (Rule cell north_south east_west reason) = with_result state cell (Ruled north_south east_west reason)
+effect state (Void cell) = without_result state cell
 effect state (Hold board) =
     with_public state (record state.public { held = with_number most_boards state.public.held board })
 effect state (Release board) =
@@ -84,9 +80,7 @@ effect state (AddInheritance senior junior) = with_roles state (add_inheritance 
 effect state (DeleteInheritance senior junior) = with_roles state (delete_inheritance state.roles senior junior)
 -- what is solved is kept: a board's table for good, a cell's costs until its result is another
 effect state (Solved board table) = record state { tables = slice_set state.tables (board - 1) (Some table) }
-effect state (Analysed table board costs) =
-    let cell : Cell = record { table = table; board = board } in
-    with_cell state cell (with_costs (cell_at state cell) costs)
+effect state (Analysed cell costs) = with_cell state cell (with_costs (cell_at state cell) costs)
 
 -- what an entry does: nothing where the state hinders it
 abbrev pub apply : SessionState → Entry → SessionState

@@ -35,8 +35,8 @@ pub record IsCounting (state : SessionState) (cell : Cell) (costs : PlayedDeal) 
 pub record TellsOwn (state : SessionState) (command : Command) : Type 0 where
   pub solved : (board : ℕ) (table : Hands) → command ≡ Solved board table →
       IsHandsOf state.deals board table × (table_at state board ≡ None)
-  pub analysed : (table board : ℕ) (costs : PlayedDeal) → command ≡ Analysed table board costs →
-      IsCounting state (record { table = table; board = board }) costs
+  pub analysed : (cell : Cell) (costs : PlayedDeal) → command ≡ Analysed cell costs →
+      IsCounting state cell costs
 
 -- each table that is kept is of its board's own hands, and the costs that are kept of a cell are of its own hands,
 -- contract and play

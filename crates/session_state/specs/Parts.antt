@@ -28,11 +28,11 @@ pub data Part : Type 0 where
 
 -- the part that it is about
 abbrev pub part_of : Command → Part
-part_of (Enter table board outcome play) = Results
-part_of (Confirm table board outcome) = Results
-part_of (Correct table board outcome play) = Results
-part_of (Rule table board north_south east_west reason) = Results
-part_of (Void table board) = Results
+part_of (Enter cell outcome play) = Results
+part_of (Confirm cell outcome) = Results
+part_of (Correct cell outcome play) = Results
+part_of (Rule cell north_south east_west reason) = Results
+part_of (Void cell) = Results
 part_of (Hold board) = HeldBoards
 part_of (Release board) = HeldBoards
 part_of (Seat name pair place) = Seats
@@ -46,7 +46,7 @@ part_of (Deassign name role) = Accounts
 part_of (AddInheritance senior junior) = Hierarchy
 part_of (DeleteInheritance senior junior) = Hierarchy
 part_of (Solved board table) = Tables
-part_of (Analysed table board costs) = Results
+part_of (Analysed cell costs) = Results
 
 -- two states differ in one part at most; the movement, the marks and the deals are none
 pub record IsSameBut (part : Part) (before after : SessionState) : Type 0 where

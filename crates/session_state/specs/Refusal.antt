@@ -139,22 +139,22 @@ needed_causes state after =
 
 -- the causes of each command's own, in their order
 abbrev pub own_causes : SessionState → Command → List (Option Refusal)
-own_causes state (Enter table board outcome play) =
-    let known = cell_at state (record { table = table; board = board }) in
+own_causes state (Enter cell outcome play) =
+    let known = cell_at state cell in
     then_some (is_bad_result outcome play) BadResult ∷ then_some (has_result known) AlreadyLive ∷ []
-own_causes state (Confirm table board outcome) =
-    let known = cell_at state (record { table = table; board = board }) in
+own_causes state (Confirm cell outcome) =
+    let known = cell_at state cell in
     then_some (has_result known) AlreadyLive
     ∷ then_some (is_empty known) NothingEntered
     ∷ then_some (is_entered_otherwise known outcome) Mismatch
     ∷ []
-own_causes state (Correct table board outcome play) =
-    let known = cell_at state (record { table = table; board = board }) in
+own_causes state (Correct cell outcome play) =
+    let known = cell_at state cell in
     then_some (is_bad_result outcome play) BadResult ∷ then_some (not (has_result known)) NotLive ∷ []
-own_causes state (Rule table board north_south east_west reason) =
+own_causes state (Rule cell north_south east_west reason) =
     then_some (is_bad_ruling north_south east_west reason) BadRuling ∷ []
-own_causes state (Void table board) =
-    let known = cell_at state (record { table = table; board = board }) in
+own_causes state (Void cell) =
+    let known = cell_at state cell in
     then_some (not (has_result known)) NotLive ∷ []
 own_causes state (Hold board) = then_some (has_number state.public.held board) AlreadyHeld ∷ []
 own_causes state (Release board) = then_some (not (has_number state.public.held board)) NotHeld ∷ []
@@ -195,10 +195,10 @@ own_causes state (Solved board table) =
     then_some (not (is_dealt state board table)) StrangeDeal
     ∷ then_some (is_some (table_at state board)) AlreadySolved
     ∷ []
-own_causes state (Analysed table board costs) =
-    let known = cell_at state (record { table = table; board = board }) in
+own_causes state (Analysed cell costs) =
+    let known = cell_at state cell in
     then_some (not (has_result known)) NotLive
-    ∷ then_some (not (is_dealt state board costs.deal && is_played_as known costs.contract costs.play)) StrangePlay
+    ∷ then_some (not (is_dealt state cell.board costs.deal && is_played_as known costs.contract costs.play)) StrangePlay
     ∷ then_some (is_counted known) AlreadySolved
     ∷ []
 

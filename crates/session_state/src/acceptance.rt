@@ -12,7 +12,6 @@ use crate::causes::{accounts, first_cause, progress, results, seats, solved};
 use crate::schedule::{awaits_round, misses_board, misses_cell};
 use crate::state::State;
 use disclosure_rules::Seat;
-use movement::Cell;
 use session_commands::{Actor, Command, Refusal};
 use session_roles::Operation;
 use user_names::Name;
@@ -110,29 +109,23 @@ fn own_cause(state: &State, command: &Command) -> Option<Refusal>
 {
     match command {
         Command::Enter {
-            table,
-            board,
+            cell,
             outcome,
             play,
-        } => results::enter_cause(state, at(*table, *board), *outcome, play),
-        Command::Confirm {
-            table,
-            board,
-            outcome,
-        } => results::confirm_cause(state, at(*table, *board), *outcome),
+        } => results::enter_cause(state, *cell, *outcome, play),
+        Command::Confirm { cell, outcome } => results::confirm_cause(state, *cell, *outcome),
         Command::Correct {
-            table,
-            board,
+            cell,
             outcome,
             play,
-        } => results::correct_cause(state, at(*table, *board), *outcome, play),
+        } => results::correct_cause(state, *cell, *outcome, play),
         Command::Rule {
             north_south,
             east_west,
             reason,
             ..
         } => results::rule_cause(*north_south, *east_west, *reason),
-        Command::Void { table, board } => results::void_cause(state, at(*table, *board)),
+        Command::Void { cell } => results::void_cause(state, *cell),
         Command::Hold { board } => progress::hold_cause(state, *board),
         Command::Release { board } => progress::release_cause(state, *board),
         Command::Seat { name, pair, place } => seats::seat_cause(
@@ -156,16 +149,6 @@ fn own_cause(state: &State, command: &Command) -> Option<Refusal>
             accounts::delete_inheritance_cause(state, *senior, *junior)
         }
         Command::Solved { board, table } => solved::solved_cause(state, *board, table),
-        Command::Analysed {
-            table,
-            board,
-            costs,
-        } => solved::analysed_cause(state, at(*table, *board), costs),
+        Command::Analysed { cell, costs } => solved::analysed_cause(state, *cell, costs),
     }
-}
-
-fn at(table: u8, board: u8) -> Cell
-    ensures { result ≡ record { table = table; board = board } }
-{
-    Cell { table, board }
 }

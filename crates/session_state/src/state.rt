@@ -316,30 +316,23 @@ impl State {
     {
         match *command {
             Command::Enter {
-                table,
-                board,
+                cell,
                 outcome,
                 play,
-            } => self.enter(Cell { table, board }, outcome, play),
-            Command::Confirm {
-                table,
-                board,
-                outcome,
-            } => self.confirm(Cell { table, board }, outcome),
+            } => self.enter(cell, outcome, play),
+            Command::Confirm { cell, outcome } => self.confirm(cell, outcome),
             Command::Correct {
-                table,
-                board,
+                cell,
                 outcome,
                 play,
-            } => self.correct(Cell { table, board }, outcome, play),
+            } => self.correct(cell, outcome, play),
             Command::Rule {
-                table,
-                board,
+                cell,
                 north_south,
                 east_west,
                 reason,
-            } => self.rule(Cell { table, board }, north_south, east_west, reason),
-            Command::Void { table, board } => self.void(Cell { table, board }),
+            } => self.rule(cell, north_south, east_west, reason),
+            Command::Void { cell } => self.void(cell),
             Command::Hold { board } => self.hold(board),
             Command::Release { board } => self.release(board),
             Command::Seat { name, pair, place } => self.take_seat(name, Seat { pair, place }),
@@ -355,11 +348,7 @@ impl State {
                 self.delete_inheritance(senior, junior)
             }
             Command::Solved { board, table } => self.solve(board, table),
-            Command::Analysed {
-                table,
-                board,
-                costs,
-            } => self.analyse(Cell { table, board }, costs),
+            Command::Analysed { cell, costs } => self.analyse(cell, costs),
         }
     }
 }

@@ -50,8 +50,8 @@ impl<'a, N: Server> AnalysingKeeper<'a, N> {
         if let Answer::Refused(_) = answer {
             return;
         }
-        if let Some((table, board)) = result_of(command)
-            && let Some(work) = self.keeper.work_of(rt, table, board)
+        if let Some(cell) = result_of(command)
+            && let Some(work) = self.keeper.work_of(rt, cell)
         {
             queue.add(rt, work);
         }
@@ -110,12 +110,10 @@ impl<'a, N: Server, R: Wait> CommandKeeper<R> for AnalysingKeeper<'a, N> {
     }
 }
 
-// The table and the board of a result that a command makes.
-fn result_of(command: &Command) -> Option<(u8, u8)> {
+// The cell of a result that a command makes.
+fn result_of(command: &Command) -> Option<Cell> {
     match command {
-        Command::Confirm { table, board, .. } | Command::Correct { table, board, .. } => {
-            Some((*table, *board))
-        }
+        Command::Confirm { cell, .. } | Command::Correct { cell, .. } => Some(*cell),
         _ => None,
     }
 }

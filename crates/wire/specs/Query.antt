@@ -1,16 +1,12 @@
 -- The queries: objects, each with its word in the member `ask`.
 use Rattle.std.specs.Prelude.{ℕ, List, [], ◌∷◌, codes, Option, IsSome}
 use Rattle.serde_json.specs.Data.{Data}
-use Rattle.movement.specs.declared.cell.Cell.{Cell}
 use Rattle.session_queries.specs.declared.query.Query.{Query}
 use Rattle.session_queries.specs.declared.query.Query.TheVariants as query
 use Rattle.json_fields.specs.Form.{Form, form, ◌with◌, by_word}
 use Rattle.json_fields.specs.Message.{table, board}
+use Rattle.command_object.specs.Command.{cell}
 use Rattle.wire.specs.List.{filter, from, limit}
-
--- the cell of a table and a board
-abbrev pub cell : ℕ → ℕ → Cell
-cell table board = record { table = table; board = board }
 
 -- each query: its word and its members; those of `list` may be left out
 abbrev pub queries : List (Form Query)

@@ -129,7 +129,7 @@ fn leaves<N: Server, R: Wait>(
     if told(rt, alloc, desk, message).is_none() {
         return false;
     }
-    match desk.work_of(rt, table, board) {
+    match desk.work_of(rt, Cell { table, board }) {
         Some(work) => is_left && is_of_the_lead(work),
         None => !is_left,
     }
@@ -158,8 +158,9 @@ fn is_found<N: Server, R: Wait>(rt: &R, alloc: Global, desk: &Desk<'_, N>) -> bo
     let Some(costs) = costs_of(alloc) else {
         return false;
     };
-    let (answer, _) = desk.submit_analysed(rt, Cell { table: 1, board: 1 }, costs);
-    matches!(answer, Answer::Accepted) && desk.work_of(rt, 1, 1).is_none()
+    let cell = Cell { table: 1, board: 1 };
+    let (answer, _) = desk.submit_analysed(rt, cell, costs);
+    matches!(answer, Answer::Accepted) && desk.work_of(rt, cell).is_none()
 }
 
 #[test]

@@ -1,5 +1,6 @@
 //! Why a command on a result is refused.
-ghost use Rattle.std.specs.Prelude.{◌≡◌, ℕ};
+ghost use Rattle.std.specs.Prelude.{◌≡◌};
+ghost use Rattle.movement.specs.declared.cell.Cell.{Cell};
 ghost use Rattle.session_state.specs.Refusal.{first_cause, is_bad_result, is_bad_ruling, own_causes};
 ghost use Rattle.session_state.specs.SessionState.{SessionState, IsPlaced};
 ghost use Rattle.session_commands.specs.declared.command.Command.TheVariants.{Enter, Confirm, Correct, Rule, Void};
@@ -13,7 +14,7 @@ use session_commands::Refusal;
 
 pub fn enter_cause(state: &State, cell: Cell, outcome: Outcome, play: &Play) -> Option<Refusal>
     requires { IsPlaced cell }
-    ensures { result ≡ first_cause (own_causes state.now (Enter cell.table cell.board outcome play.now)) }
+    ensures { result ≡ first_cause (own_causes state.now (Enter cell outcome play.now)) }
 {
     first_cause(&[
         is_bad_result(outcome, play).then_some(Refusal::BadResult),
@@ -26,7 +27,7 @@ pub fn enter_cause(state: &State, cell: Cell, outcome: Outcome, play: &Play) -> 
 
 pub fn confirm_cause(state: &State, cell: Cell, outcome: Outcome) -> Option<Refusal>
     requires { IsPlaced cell }
-    ensures { result ≡ first_cause (own_causes state.now (Confirm cell.table cell.board outcome)) }
+    ensures { result ≡ first_cause (own_causes state.now (Confirm cell outcome)) }
 {
     let known = state.cell(cell);
     first_cause(&[
@@ -40,7 +41,7 @@ pub fn confirm_cause(state: &State, cell: Cell, outcome: Outcome) -> Option<Refu
 
 pub fn correct_cause(state: &State, cell: Cell, outcome: Outcome, play: &Play) -> Option<Refusal>
     requires { IsPlaced cell }
-    ensures { result ≡ first_cause (own_causes state.now (Correct cell.table cell.board outcome play.now)) }
+    ensures { result ≡ first_cause (own_causes state.now (Correct cell outcome play.now)) }
 {
     first_cause(&[
         is_bad_result(outcome, play).then_some(Refusal::BadResult),
@@ -49,15 +50,15 @@ pub fn correct_cause(state: &State, cell: Cell, outcome: Outcome, play: &Play) -
 }
 
 pub fn rule_cause(north_south: u8, east_west: u8, reason: u8) -> Option<Refusal>
-    ensures { (state : SessionState) (table board : ℕ) →
-        result ≡ first_cause (own_causes state (Rule table board north_south east_west reason)) }
+    ensures { (state : SessionState) (cell : Cell) →
+        result ≡ first_cause (own_causes state (Rule cell north_south east_west reason)) }
 {
     is_bad_ruling(north_south, east_west, reason).then_some(Refusal::BadRuling)
 }
 
 pub fn void_cause(state: &State, cell: Cell) -> Option<Refusal>
     requires { IsPlaced cell }
-    ensures { result ≡ first_cause (own_causes state.now (Void cell.table cell.board)) }
+    ensures { result ≡ first_cause (own_causes state.now (Void cell)) }
 {
     (!state.cell(cell).has_result()).then_some(Refusal::NotLive)
 }

@@ -25,7 +25,7 @@ pub fn solved_cause(state: &State, board: u8, table: &DdTable) -> Option<Refusal
 
 pub fn analysed_cause(state: &State, cell: Cell, costs: &PlayCosts) -> Option<Refusal>
     requires { IsPlaced cell }
-    ensures { result ≡ first_cause (own_causes state.now (Analysed cell.table cell.board costs.now)) }
+    ensures { result ≡ first_cause (own_causes state.now (Analysed cell costs.now)) }
 {
     let known = state.cell(cell);
     let own = state.is_dealt(cell.board, costs.deal())

@@ -16,8 +16,8 @@ impl State {
     // Sets what is entered.
     pub(super) fn enter(&mut self, cell: Cell, outcome: Outcome, play: Play)
         requires placed { IsPlaced cell }
-        requires unhindered { hindrance_of self.old (Enter cell.table cell.board outcome play) ≡ None }
-        ensures { self.new ≡ effect self.old (Enter cell.table cell.board outcome play) }
+        requires unhindered { hindrance_of self.old (Enter cell outcome play) ≡ None }
+        ensures { self.new ≡ effect self.old (Enter cell outcome play) }
     {
         let place = cell_index(cell);
         self.cells[place] = CellState::Entered { outcome, play };
@@ -26,7 +26,7 @@ impl State {
     // Makes what is entered the result.
     pub(super) fn confirm(&mut self, cell: Cell, outcome: Outcome)
         requires placed { IsPlaced cell }
-        ensures { self.new ≡ effect self.old (Confirm cell.table cell.board outcome) }
+        ensures { self.new ≡ effect self.old (Confirm cell outcome) }
     {
         if let CellState::Entered { outcome, play } = self.cell(cell) {
             let costs = None;
@@ -44,7 +44,7 @@ impl State {
     // Puts a corrected outcome and play in place of a result.
     pub(super) fn correct(&mut self, cell: Cell, outcome: Outcome, play: Play)
         requires placed { IsPlaced cell }
-        ensures { self.new ≡ effect self.old (Correct cell.table cell.board outcome play) }
+        ensures { self.new ≡ effect self.old (Correct cell outcome play) }
     {
         let costs = None;
         self.set_result(
@@ -60,7 +60,7 @@ impl State {
     // Makes a ruling the result.
     pub(super) fn rule(&mut self, cell: Cell, north_south: u8, east_west: u8, reason: u8)
         requires placed { IsPlaced cell }
-        ensures { self.new ≡ effect self.old (Rule cell.table cell.board north_south east_west reason) }
+        ensures { self.new ≡ effect self.old (Rule cell north_south east_west reason) }
     {
         self.set_result(
             cell,
@@ -75,7 +75,7 @@ impl State {
     // Takes the result away.
     pub(super) fn void(&mut self, cell: Cell)
         requires placed { IsPlaced cell }
-        ensures { self.new ≡ effect self.old (Void cell.table cell.board) }
+        ensures { self.new ≡ effect self.old (Void cell) }
     {
         let place = cell_index(cell);
         self.cells[place] = CellState::Empty;

@@ -21,7 +21,7 @@ impl State {
     // Keeps what the cards of a cell cost.
     pub(super) fn analyse(&mut self, cell: Cell, costs: PlayCosts)
         requires { IsPlaced cell }
-        ensures { self.new ≡ effect self.old (Analysed cell.table cell.board costs) }
+        ensures { self.new ≡ effect self.old (Analysed cell costs) }
     {
         let place = cell_index(cell);
         let known = self.cell(cell);

@@ -4,7 +4,7 @@ use Rattle.session_state.proofs.acceptance.own_cause.Goals as goal
 
 pub returns-in-Rule : goal.returns-in-Rule
 returns-in-Rule c =
-    c.rule_cause.ensures c.args.state.now c.in-Rule.table c.in-Rule.board
+    c.rule_cause.ensures c.args.state.now c.in-Rule.cell
     ∙ ap (λ command. first_cause (own_causes c.args.state.now command)) (sym c.in-Rule.is)
 
 pub returns-in-AddUser : goal.returns-in-AddUser

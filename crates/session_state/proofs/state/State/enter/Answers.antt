@@ -24,8 +24,8 @@ invariant_of-self c =
       c.cell_index-place.ensures.below,
     ) in
     let free : has_result (cell_at (the_view inside) cell) ≡ false =
-    entry_is_free (the_view inside) cell.table cell.board c.args.outcome c.args.play
-    (ap (λ state. hindrance_of state (Enter cell.table cell.board c.args.outcome c.args.play)) c.self.view_is
+    entry_is_free (the_view inside) cell c.args.outcome c.args.play
+    (ap (λ state. hindrance_of state (Enter cell c.args.outcome c.args.play)) c.self.view_is
     ∙ c.requires.unhindered) in
     record {
       cells = kept.cells;
