@@ -22,7 +22,7 @@ use wire::MOST_MESSAGE_BYTES;
 const _: () = prove!(LONGEST_MESSAGE == MOST_MESSAGE_BYTES + 1);
 
 // The words may ask for as many displays as a server has at most, and for no more.
-const _: () = prove!(server_words::MOST_DISPLAYS as usize == displays::MOST_DISPLAYS);
+const _: () = prove!(server_words::DISPLAYS_AT_MOST as usize == displays::MOST_DISPLAYS);
 
 /// Serves clients in a session of files, and answers the status after it, or where none could be served.
 pub(crate) fn status_of_serving<

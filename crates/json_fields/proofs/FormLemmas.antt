@@ -41,7 +41,7 @@ use Rattle.json_fields.specs.Form.{
   Form,
   read_if_there,
   IsIfThere,
-  optional,
+  if_there,
   applied,
   form,
   ◌with◌,
@@ -111,22 +111,22 @@ never_none : {A : Type 0} (o : Option A) → ¬ (option_map (λ (y : A). Some y)
 never_none None h = absurd (cc)
 never_none (Some y) h = absurd (cc)
 
-optional_read : {A : Type 0} (m : Member A) → Agrees m → (o : Option Data) (x : Option A) →
+if_there_read : {A : Type 0} (m : Member A) → Agrees m → (o : Option Data) (x : Option A) →
     read_if_there m.value o ≡ Some x → IsIfThere m.Is o x
-optional_read m agrees None None h = tt
-optional_read m agrees None (Some x) h = absurd (cc)
-optional_read m agrees (Some d) None h = absurd (never_none (m.value (Some d)) h)
-optional_read m agrees (Some d) (Some x) h = agrees.read (Some d) x (inside (m.value (Some d)) x h)
+if_there_read m agrees None None h = tt
+if_there_read m agrees None (Some x) h = absurd (cc)
+if_there_read m agrees (Some d) None h = absurd (never_none (m.value (Some d)) h)
+if_there_read m agrees (Some d) (Some x) h = agrees.read (Some d) x (inside (m.value (Some d)) x h)
 
-optional_reads : {A : Type 0} (m : Member A) → Agrees m → (o : Option Data) (x : Option A) → IsIfThere m.Is o x →
+if_there_reads : {A : Type 0} (m : Member A) → Agrees m → (o : Option Data) (x : Option A) → IsIfThere m.Is o x →
     read_if_there m.value o ≡ Some x
-optional_reads m agrees None None is = refl
-optional_reads m agrees None (Some x) is = absurd is
-optional_reads m agrees (Some d) None is = absurd is
-optional_reads m agrees (Some d) (Some x) is = ap (option_map (λ y. Some y)) (agrees.reads (Some d) x is)
+if_there_reads m agrees None None is = refl
+if_there_reads m agrees None (Some x) is = absurd is
+if_there_reads m agrees (Some d) None is = absurd is
+if_there_reads m agrees (Some d) (Some x) is = ap (option_map (λ y. Some y)) (agrees.reads (Some d) x is)
 
-pub optional_agrees : {A : Type 0} (m : Member A) → Agrees m → Agrees (optional m)
-optional_agrees m agrees = record { read = optional_read m agrees; reads = optional_reads m agrees }
+pub if_there_agrees : {A : Type 0} (m : Member A) → Agrees m → Agrees (if_there m)
+if_there_agrees m agrees = record { read = if_there_read m agrees; reads = if_there_reads m agrees }
 
 -- a value that is kept where a test passes
 pub kept : {A : Type 0} (b : Bool) (o : Option A) (x : A) → cond b o None ≡ Some x → (b ≡ true) × (o ≡ Some x)

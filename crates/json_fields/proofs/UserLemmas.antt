@@ -80,7 +80,7 @@ use Rattle.json_fields.specs.User.{
   place,
 }
 use Rattle.json_fields.proofs.LetterLemmas.{place_found, place_reads, find_nothing, found_passes}
-use Rattle.json_fields.proofs.FormLemmas.{Agrees, named_agrees, listed_agrees, optional_agrees}
+use Rattle.json_fields.proofs.FormLemmas.{Agrees, named_agrees, listed_agrees, if_there_agrees}
 
 -- ---- digests
 
@@ -295,4 +295,4 @@ pub pair_agrees : Agrees pair
 pair_agrees = paired_agrees _
 
 pub absent_agrees : Agrees absent
-absent_agrees = optional_agrees (paired (codes "absent")) (paired_agrees (codes "absent"))
+absent_agrees = if_there_agrees (paired (codes "absent")) (paired_agrees (codes "absent"))

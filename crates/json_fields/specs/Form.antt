@@ -43,8 +43,8 @@ IsIfThere Is (Some d) None = ⊥
 IsIfThere Is (Some d) (Some x) = Is (Some d) x
 
 -- a member that may be missing
-abbrev pub optional : {A : Type 0} → Member A → Member (Option A)
-optional m = record { name = m.name; value = read_if_there m.value; Is = IsIfThere m.Is }
+abbrev pub if_there : {A : Type 0} → Member A → Member (Option A)
+if_there m = record { name = m.name; value = read_if_there m.value; Is = IsIfThere m.Is }
 
 -- a form: its word, the names of its members, the value that they make, and when they make a value
 pub record Form (A : Type 0) : Type 1 where

@@ -32,7 +32,7 @@ use Rattle.table_terms.specs.Place.{place_letter}
 use Rattle.session_roles.specs.declared.role.Role.{Role}
 use Rattle.session_roles.specs.Role.{roles, role_name}
 use Rattle.user_names.specs.declared.digest.Digest.{Digest}
-use Rattle.json_fields.specs.Form.{Member, optional}
+use Rattle.json_fields.specs.Form.{Member, if_there}
 use Rattle.json_fields.specs.Field.{text, called, named, listed}
 use Rattle.json_fields.specs.Letter.{place_named}
 
@@ -103,7 +103,7 @@ pair = paired (codes "pair")
 
 -- the pair of a session that is absent, if one is
 abbrev pub absent : Member (Option Pair)
-absent = optional (paired (codes "absent"))
+absent = if_there (paired (codes "absent"))
 
 -- and the place
 abbrev pub place : Member Place

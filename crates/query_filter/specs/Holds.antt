@@ -40,13 +40,13 @@ abbrev pub is_same_strain : Strain → Strain → Bool
 is_same_strain a b = strain_letter a == strain_letter b
 
 -- the result is a contract that was played, and it passes the test
-abbrev pub is_played : (Contract → ℕ → Bool) → Outcome → Bool
-is_played test PassedOut = false
-is_played test (Played contract tricks) = test contract tricks
+abbrev pub is_contract_that : (Contract → ℕ → Bool) → Outcome → Bool
+is_contract_that test PassedOut = false
+is_contract_that test (Played contract tricks) = test contract tricks
 
 -- some shown result is a contract that was played, and it passes the test
 abbrev pub some_played : (Contract → ℕ → Bool) → BoardFacts → Bool
-some_played test facts = list_any (is_played test) facts.outcomes
+some_played test facts = list_any (is_contract_that test) facts.outcomes
 
 -- the tricks that were won fulfil the contract
 abbrev pub is_made : Contract → ℕ → Bool

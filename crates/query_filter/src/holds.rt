@@ -5,7 +5,7 @@ ghost use Rattle.std.specs.Bool.{beq};
 ghost use Rattle.scoring.specs.Doubling.{times_doubled};
 ghost use Rattle.query_filter.specs.Bounds.{is_between};
 ghost use Rattle.query_filter.specs.Formula.{formula, formulas};
-ghost use Rattle.query_filter.specs.Holds.{atom_holds, holds, all_hold, any_holds, is_played, is_same_strain, is_made, table_has};
+ghost use Rattle.query_filter.specs.Holds.{atom_holds, holds, all_hold, any_holds, is_contract_that, is_same_strain, is_made, table_has};
 ghost use Rattle.query_filter.specs.declared.atom.Atom.TheVariants as the_atom;
 
 use crate::atom::Atom;
@@ -82,7 +82,7 @@ fn some_level(facts: &BoardFacts, levels: Bounds) -> bool
 }
 
 fn is_of_level(outcome: &Outcome, levels: Bounds) -> bool
-    ensures { result ≡ is_played (λ contract tricks. is_between levels contract.level) outcome.now }
+    ensures { result ≡ is_contract_that (λ contract tricks. is_between levels contract.level) outcome.now }
 {
     match outcome {
         Outcome::Played { contract, .. } => levels.contains(contract.level.number()),
@@ -101,7 +101,7 @@ fn some_strain(facts: &BoardFacts, strain: Strain) -> bool
 }
 
 fn is_of_strain(outcome: &Outcome, strain: Strain) -> bool
-    ensures { result ≡ is_played (λ contract tricks. is_same_strain contract.strain strain) outcome.now }
+    ensures { result ≡ is_contract_that (λ contract tricks. is_same_strain contract.strain strain) outcome.now }
 {
     match outcome {
         Outcome::Played { contract, .. } => contract.strain == strain,
@@ -120,7 +120,7 @@ fn some_doubling(facts: &BoardFacts, doubling: Doubling) -> bool
 }
 
 fn is_doubled(outcome: &Outcome, doubling: Doubling) -> bool
-    ensures { result ≡ is_played (λ contract tricks. times_doubled contract.doubling == times_doubled doubling) outcome.now }
+    ensures { result ≡ is_contract_that (λ contract tricks. times_doubled contract.doubling == times_doubled doubling) outcome.now }
 {
     match outcome {
         Outcome::Played { contract, .. } => contract.doubling == doubling,
@@ -139,7 +139,7 @@ fn some_made(facts: &BoardFacts, made: bool) -> bool
 }
 
 fn is_made(outcome: &Outcome, made: bool) -> bool
-    ensures { result ≡ is_played (λ contract tricks. beq (is_made contract tricks) made) outcome.now }
+    ensures { result ≡ is_contract_that (λ contract tricks. beq (is_made contract tricks) made) outcome.now }
 {
     match outcome {
         Outcome::Played { contract, tricks } => (contract.level.number() + 6 <= tricks.number())

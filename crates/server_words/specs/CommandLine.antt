@@ -2,7 +2,7 @@
 -- with options, of which each has a value. `clap` adds its help.
 use Rattle.std.specs.Prelude.{ℕ, ℤ, [], ◌∷◌, Some, true, pos, codes}
 use Rattle.clap.specs.Words.{App, Rule, Text, new_app, new_rule, with_rule, with_subcommand}
-use Rattle.server_words.specs.declared.words.TheConstants.{MOST_DISPLAYS, MOST_WORKERS, MOST_CONNECTIONS}
+use Rattle.server_words.specs.declared.words.TheConstants.{DISPLAYS_AT_MOST, MOST_WORKERS, MOST_CONNECTIONS}
 use Rattle.clap.specs.declared.builder.value_parser.ValueParser.TheVariants.{Signed}
 
 -- own: each number's limits
@@ -16,7 +16,7 @@ abbrev pub least_displays : ℕ
 least_displays = 1
 
 abbrev pub most_displays : ℕ
-most_displays = MOST_DISPLAYS
+most_displays = DISPLAYS_AT_MOST
 
 abbrev pub most_workers : ℕ
 most_workers = MOST_WORKERS

@@ -5,7 +5,7 @@ ghost use Rattle.clap.specs.Words.{app_of, new_app, rule_of, shape_of, with_rule
 ghost use Rattle.clap.specs.declared.builder.command.Command.TheViews.{out-Command};
 ghost use Rattle.server_words.specs.CommandLine.{command_line, needing_one, serve_line, with_files, with_counts, with_clients, option_rule, port_rule, file_rule, number_rule, default_rule};
 
-use crate::words::{MOST_CONNECTIONS, MOST_DISPLAYS, MOST_IDLE, MOST_WORKERS};
+use crate::words::{DISPLAYS_AT_MOST, MOST_CONNECTIONS, MOST_IDLE, MOST_WORKERS};
 use clap::builder::ValueParser;
 use clap::{Arg, Command};
 use std::alloc::{AllocError, Global};
@@ -83,7 +83,7 @@ fn add_counts(alloc: Global, command: &mut Command<'_>) -> Result<(), AllocError
         alloc,
         command,
         "displays",
-        (1, MOST_DISPLAYS as i64),
+        (1, DISPLAYS_AT_MOST as i64),
         "4",
         "How many clients are served at once",
     )?;

@@ -11,4 +11,4 @@ mod words;
 pub use called::called_with;
 pub use reading::read_words;
 pub use statuses::status_of_words;
-pub use words::{MOST_DISPLAYS, Serving, Words};
+pub use words::{DISPLAYS_AT_MOST, Serving, Words};

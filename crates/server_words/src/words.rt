@@ -2,7 +2,7 @@ ghost use Rattle.std.specs.Prelude.{◌≡◌, true};
 ghost use Rattle.server_words.specs.Words.{AreNumbersInRange};
 
 /// How many displays there are at most.
-pub const MOST_DISPLAYS: u8 = 32;
+pub const DISPLAYS_AT_MOST: u8 = 32;
 
 /// How many workers there are at most.
 pub(crate) const MOST_WORKERS: u8 = 16;
@@ -49,7 +49,7 @@ impl Serving<'_> {
         ensures { result ≡ true → AreNumbersInRange self.now }
     {
         1 <= self.port
-            && (1..=MOST_DISPLAYS).contains(&self.displays)
+            && (1..=DISPLAYS_AT_MOST).contains(&self.displays)
             && self.workers <= MOST_WORKERS
             && self.connections <= MOST_CONNECTIONS
             && (1..=MOST_IDLE).contains(&self.idle)
