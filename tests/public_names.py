@@ -13,8 +13,7 @@ ROOT = pathlib.Path(__file__).resolve().parent.parent / "crates"
 
 # the member `table` of a message is the number of a table; `double_dummy::table` solves a deal, and has the name of
 # what it gives
-# `is_played` is said of a row of a movement and of how a board ended; an `optional` member is read as nothing, or as a value
-SAID_TWICE = {"table", "is_played", "optional"}
+SAID_TWICE = {"table"}
 
 DEFINITION = re.compile(r"(?:abbrev |unfoldable )?pub (?:record |data )?([^\s:({]+)")
 BLOCK = re.compile(r"(?:abbrev |unfoldable )?(?:module|mutual)\b")
