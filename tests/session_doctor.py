@@ -171,8 +171,6 @@ def check_movement(tables, rounds, per_set, absent):
         raise Refused("BadRounds", f"{rounds} rounds are played, and at {tables} tables may be 1 to {most}")
     if not 1 <= per_set <= 8:
         raise Refused("BadSets", f"a table plays {per_set} boards in a round, and may play 1 to 8")
-    if tables * per_set > 128:
-        raise Refused("BadSets", f"{tables} sets of {per_set} boards are {tables * per_set}, and may be 128 together")
     if absent is not None and int(absent[2:]) > tables:
         raise Refused("BadPair", f"{absent} is absent, and at {tables} tables the pairs are NS1 to NS{tables} and EW1 to EW{tables}")
 
