@@ -4,7 +4,7 @@
     python3 tests/failing_devices.py crates/bridge_server/out/bridge_server
 
 Runs `bridge_server script` on a session and messages with its input and its output moved a byte at a time: first each call succeeds; then the
-Nth read fails, for each N, and then the Nth write. What each of these must do, as docs/RUNNING.md says of a script:
+Nth read fails, for each N, and then the Nth write. What each of these must do:
 
 - A failed read: exactly the lines are answered whose end was read, and the status is 3. The end of the input is read as well.
 - A failed write: exactly the bytes before it were written, and the status is 3.
