@@ -69,8 +69,8 @@ test("where a pair is absent, whoever would meet it sits out", () => {
   assert.deepEqual(cells, [[1, 1, 1], [1, 2, 2], [2, 2, 3], [2, 3, 1], [3, 1, 3], [3, 3, 2]]);
   assert.equal(tableOfPair(half, "NS1", 2), 0);
   assert.deepEqual(awaitedTables(half, 1), []);
-  const one_round = publicFacts({ ...status, absent: "EW3", rounds: 1 });
-  assert.equal(isComplete(one_round, 3), true);
+  const oneRound = publicFacts({ ...status, absent: "EW3", rounds: 1 });
+  assert.equal(isComplete(oneRound, 3), true);
 });
 
 test("what is awaited is told by the tables without a result", () => {
