@@ -159,6 +159,35 @@ fn whoever_would_meet_an_absent_pair_sits_out(rt: HostRuntime) {
     }
 }
 
+/// Whether a board is scheduled at just these tables.
+fn is_scheduled_at(movement: Movement, board: u8, tables: &[u8]) -> bool {
+    let scheduled = movement.scheduled(board);
+    for table in 1u8..17 {
+        if scheduled.contains(table) != tables.contains(&table) {
+            return false;
+        }
+    }
+    true
+}
+
+/// Three tables without the third East-West pair.
+fn half_table(rounds: u8) -> Result<Movement, MovementError> {
+    let absent = Pair {
+        side: Side::EastWest,
+        number: 3,
+    };
+    Movement::with_absent(3, rounds, 1, Some(absent))
+}
+
+/// Over three rounds each board is played at two of the three tables, and in the first round the third one sits out.
+#[test]
+fn a_half_table_plays_each_board_at_two_tables(rt: HostRuntime) {
+    assert!(rt; matches!(half_table(3), Ok(half) if is_scheduled_at(half, 1, &[1, 3])));
+    assert!(rt; matches!(half_table(3), Ok(half) if is_scheduled_at(half, 2, &[2, 3])));
+    assert!(rt; matches!(half_table(3), Ok(half) if is_scheduled_at(half, 3, &[1, 2])));
+    assert!(rt; matches!(half_table(1), Ok(half) if is_scheduled_at(half, 3, &[])));
+}
+
 /// The most boards are those of 16 tables with 8 boards in a set.
 #[test]
 fn sixteen_tables_play_up_to_128_boards(rt: HostRuntime) {
