@@ -11,9 +11,9 @@ use std::thread;
 use std::thread::Threads;
 use std::time::{Clock, Duration};
 
-/// Two workers with a visit for each job, and their gate. It holds job 1 until job 2 is done, for at most a thousand
-/// turns of a millisecond. Job 2 is done once the gate is told of it, where the gate was passed before with as many
-/// jobs, and no more than the result of job 3 was sent by then.
+/// Two workers with a visit for each job, and their gate. It holds job 1 until job 2 is done, for at most twenty
+/// thousand turns of a millisecond, since a busy machine may need some. Job 2 is done once the gate is told of it, where
+/// the gate was passed before with as many jobs, and no more than the result of job 3 was sent by then.
 #[derive(Drop)]
 struct HoldsFirst<'a, R: Wait + Clock> {
     rt: &'a R,
@@ -33,7 +33,7 @@ impl<R: Wait + Clock> HoldsFirst<'_, R> {
     }
 
     fn awaits_second(&self) -> bool {
-        for _ in 0..1_000 {
+        for _ in 0..20_000 {
             if self.second_is_done.load(Ordering::SeqCst) {
                 return true;
             }
