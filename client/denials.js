@@ -1,12 +1,22 @@
-// Checking a denial: the twelve rules of docs/POLICY.md, in their order, over a status and the user's own seat. The server
-// makes the same test with the user's roles beside it. No query tells a user the own roles, so this page tries all roles
-// that agree with what it knows, and says where the verdict hangs on them.
+// Checking a denial: the rules of docs/POLICY.md, in their order, over a status and the user's own seat. The server makes
+// the same test with the user's roles beside it. No query tells a user the own roles, so this page tries all roles that
+// agree with what it knows, and says where the verdict hangs on them.
 
 import { awaitedTables, isHeld, isLive, seatOf, tableOfPair } from "./public_facts.js";
 
 /** @typedef {"public"|"accounts"|"hands"|"analysis"|"play"|"costs"|"reason"} Kind */
 /** @typedef {{kind: Kind, board: number, table: number}} Fact the board and the table are 0 where the fact has none */
-/** @typedef {{contestant: boolean, spectator: boolean, director: boolean, administrator: boolean}} Roles */
+/** @typedef {"contestant"|"spectator"|"director"|"administrator"|"commentator"} Role */
+/** @typedef {Record<Role, boolean>} Roles */
+
+// The rules of the second edition by name, in their order; the first has all but the embargo's.
+const rules = [
+  "account", "member", "accounts", "embargo", "held", "stillToPlay", "notPlayed", "neither", "incomplete", "analysis", "play",
+  "reason", "noResult",
+];
+
+/** The name of a rule by its number in an edition. */
+export const ruleOf = (edition, number) => rules[edition === 2 || number <= 3 ? number - 1 : number];
 
 const kinds = {
   board: "hands",
@@ -35,11 +45,12 @@ export function denialOf(facts, pair, roles, fact) {
   if (fact.kind === "public") return null;
   if (fact.kind === "accounts") return roles.administrator || roles.director ? null : { rule: 3, board: 0, table: 0 };
   if (roles.director) return null;
-  const forbidding = secretRules(facts, pair, roles, fact).find(([, forbids]) => forbids);
-  return forbidding ? { rule: forbidding[0], board: fact.board, table: forbidding[2] } : null;
+  const found = secretRules(facts, pair, roles, fact);
+  const first = found.findIndex(([forbids]) => forbids);
+  return first < 0 ? null : { rule: first + 4, board: fact.board, table: found[first][1] };
 }
 
-/** Rules 4 to 12: the number, whether it forbids, the table that it names. */
+/** The rules from the fourth on: whether it forbids, the table that it names. */
 function secretRules(facts, pair, roles, { kind, board, table }) {
   const own = pair ? tableOfPair(facts, pair, board) : 0;
   const awaited = awaitedTables(facts, board);
@@ -48,29 +59,31 @@ function secretRules(facts, pair, roles, { kind, board, table }) {
   const sitsThere = own !== 0 && own === table;
   const isAboutPlay = kind === "play" || kind === "costs";
   return [
-    [4, isHeld(facts, board), 0],
-    [5, roles.contestant && own !== 0 && awaited.includes(own), own],
-    [6, roles.contestant && own === 0 && isIncomplete, least],
-    [7, !roles.contestant && !roles.spectator, 0],
-    [8, !roles.contestant && isIncomplete, least],
-    [9, (kind === "analysis" || kind === "costs") && isIncomplete, least],
-    [10, isAboutPlay && !sitsThere && facts.phase === "Running", table],
-    [11, kind === "reason" && !sitsThere, table],
-    [12, table !== 0 && !isLive(facts, table, board), table],
+    ...(facts.edition === 2 ? [[facts.embargo, 0]] : []),
+    [isHeld(facts, board), 0],
+    [roles.contestant && own !== 0 && awaited.includes(own), own],
+    [roles.contestant && own === 0 && isIncomplete, least],
+    [!roles.contestant && !roles.spectator, 0],
+    [!roles.contestant && !roles.commentator && isIncomplete, least],
+    [(kind === "analysis" || kind === "costs") && !roles.commentator && isIncomplete, least],
+    [isAboutPlay && !sitsThere && facts.phase === "Running", table],
+    [kind === "reason" && !sitsThere, table],
+    [table !== 0 && !isLive(facts, table, board), table],
   ];
 }
 
 /**
- * The roles that a member may have for all that the status tells. Who has a seat is a contestant, and a contestant is
- * neither director nor administrator: the server refuses what would make it otherwise.
+ * The roles that a member may have for all that the status tells. Whoever has a seat is a contestant, and a contestant is
+ * neither director, administrator nor commentator: the server refuses what would make it otherwise. The first edition has
+ * no commentator.
  * @returns {Roles[]}
  */
-export function possibleRoles(seat) {
-  const both = [true, false];
-  if (seat) return both.map((spectator) => ({ contestant: true, spectator, director: false, administrator: false }));
-  const all = both.flatMap((contestant) => both.flatMap((spectator) => both.flatMap((director) =>
-    both.map((administrator) => ({ contestant, spectator, director, administrator })))));
-  return all.filter((roles) => !(roles.contestant && (roles.director || roles.administrator)));
+export function possibleRoles(seat, edition = 1) {
+  const one = { contestant: true, spectator: true, director: true, administrator: true, commentator: edition === 2 };
+  const all = Object.keys(one).reduce((made, role) => made.flatMap((roles) =>
+    (one[role] ? [true, false] : [false]).map((has) => ({ ...roles, [role]: has }))), [{}]);
+  const isKeptApart = (roles) => roles.director || roles.administrator || roles.commentator;
+  return all.filter((roles) => (roles.contestant ? !isKeptApart(roles) : !seat));
 }
 
 /**
@@ -85,7 +98,7 @@ export function checkDenial(facts, name, query, denied) {
   if (denied.rule <= 2) return { verdict: "unseen", evidence: [] };
   const seat = seatOf(facts, name);
   const fact = factOf(query);
-  const agrees = possibleRoles(seat).map((roles) => isSame(denialOf(facts, seat?.pair ?? null, roles, fact), denied));
+  const agrees = possibleRoles(seat, facts.edition).map((roles) => isSame(denialOf(facts, seat?.pair ?? null, roles, fact), denied));
   const evidence = evidenceOf(facts, seat, fact, denied);
   if (!agrees.includes(true)) return { verdict: "contradicted", evidence };
   if (denied.rule === 3) return { verdict: "unseen", evidence };
@@ -98,32 +111,38 @@ function isSame(found, denied) {
 
 /** The public facts on which a rule rests: a word of `texts.evidence` each, with its values. */
 function evidenceOf(facts, seat, fact, denied) {
-  const { board, table, rule } = denied;
+  const { board, table } = denied;
   const own = seat ? tableOfPair(facts, seat.pair, board) : 0;
   const sits = own ? [
     "playsAt",
     { pair: seat.pair, board, table: own },
   ] : seat ? ["playsNot", { pair: seat.pair, board }] : ["noSeat", {}];
-  const held = [isHeld(facts, board) ? "held" : "notHeld", { board }];
+  const embargo = [facts.embargo ? "embargo" : "noEmbargo", {}];
+  const shut = [...(facts.edition === 2 ? [embargo] : []), [isHeld(facts, board) ? "held" : "notHeld", { board }]];
   const at = (cell) => [isLive(facts, cell, board) ? "live" : "notLive", { board, table: cell }];
   const awaited = ["awaited", { board, tables: awaitedTables(facts, board) }];
   const phase = ["phase", { phase: facts.phase }];
   const listed = {
-    3: [], 4: [held], 5: [held, sits, at(own)], 6: [held, sits, awaited], 7: [held, sits], 8: [held, sits, awaited],
-    9: [held, ...(own ? [at(own)] : []), awaited], 10: [sits, phase], 11: [sits], 12: [sits, at(table)],
-  }[rule] ?? [];
+    embargo: [embargo], held: shut, stillToPlay: [...shut, sits, at(own)], notPlayed: [...shut, sits, awaited],
+    neither: [...shut, sits], incomplete: [...shut, sits, awaited], analysis: [...shut, ...(own ? [at(own)] : []), awaited],
+    play: [sits, phase], reason: [sits], noResult: [sits, at(table)],
+  }[ruleOf(facts.edition, denied.rule)] ?? [];
   return listed.map(([text, values]) => ({ text, values }));
 }
 
-/** Which roles a verdict hangs on where the user has no seat. */
-export const rolesBehind = {
-  3: "neitherAdministratorNorDirector",
-  4: "notDirector",
-  6: "contestant",
-  7: "neither",
-  8: "spectator",
-  9: "someViewer",
-  10: "someViewer",
-  11: "someViewer",
-  12: "someViewer",
+const behind = {
+  accounts: "neitherAdministratorNorDirector",
+  embargo: "notDirector",
+  held: "notDirector",
+  notPlayed: "contestant",
+  neither: "neither",
+  incomplete: "spectator",
+  analysis: "someViewer",
+  play: "someViewer",
+  reason: "someViewer",
+  noResult: "someViewer",
 };
+
+/** Which roles a verdict hangs on where the user has no seat. */
+export const rolesBehind = (edition, rule) =>
+  (edition === 2 ? { ...behind, incomplete: "noCommentator", analysis: "viewerNoCommentator" } : behind)[rule];

@@ -11,6 +11,8 @@
  * What every member may see.
  * @typedef {object} Status
  * @property {string} [absent] the pair that isn't there, where one isn't
+ * @property {2} [edition] in the second edition alone, as is the next
+ * @property {boolean} [embargo] whether the session is under embargo
  * @property {number[]} held the boards that the director holds
  * @property {number[][]} live for each board, from 1 on, the tables that have a result on it
  * @property {string[]} marks for each board its dealer and who is vulnerable, as "E ns"
@@ -38,7 +40,10 @@
 /** @typedef {{inherits: [string, string][], users: [string, string[]][]}} Accounts */
 /** @typedef {[number, string|null, string, string]} AuditRow number, user (null: the solver), word, what it is about */
 
-export const roles = ["Member", "Spectator", "Contestant", "Scorer", "Director", "Administrator"];
+const roles = ["Member", "Spectator", "Contestant", "Scorer", "Director", "Administrator"];
+
+/** The roles of an edition. */
+export const rolesOf = (edition) => (edition === 2 ? [...roles, "Commentator"] : roles);
 
 /** @typedef {{ask: string, board?: number, table?: number, filter?: object, from?: number, limit?: number}} Query */
 
@@ -76,6 +81,8 @@ export const command = {
   nextRound: bare("NextRound"),
   close: bare("Close"),
   finalise: bare("Finalise"),
+  embargo: bare("Embargo"),
+  lift: bare("Lift"),
   addUser: (name, digest) => ({ cmd: "AddUser", name, digest }),
   assign: withRole("Assign"),
   deassign: withRole("Deassign"),

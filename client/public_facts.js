@@ -9,7 +9,7 @@ import { boardsOf, movementOf, rowOfPair, rowsOfBoard } from "./movement.js";
 export function publicFacts(status) {
   const rows = movementOf(status.tables, status.rounds, status.absent);
   const boards = Array.from({ length: status.tables * status.per_set }, (_, index) => index + 1);
-  return { ...status, rows, boards };
+  return { edition: 1, embargo: false, ...status, rows, boards };
 }
 
 /** @typedef {ReturnType<typeof publicFacts>} Facts */

@@ -8,6 +8,7 @@ import { boardsNeeds, boardsView } from "./views/boards.js";
 import { denialView } from "./views/denial.js";
 import { directorNeeds, directorView } from "./views/director.js";
 import { findNeeds, findView } from "./views/find.js";
+import { embargoView } from "./views/frame.js";
 import { heading, waiting } from "./views/marks.js";
 import { papersNeeds, papersView } from "./views/papers.js";
 import { rankingNeeds, rankingView } from "./views/ranking.js";
@@ -36,7 +37,7 @@ export function viewNeeds(page) {
 
 export function viewNodes(page) {
   if (!page.state.facts) return [heading(texts.session.title), waiting()];
-  return views[page.route.view][0](page, page.route);
+  return [embargoView(page), views[page.route.view][0](page, page.route)];
 }
 
 /** Who isn't a member sees nothing but why. */

@@ -25,6 +25,7 @@ CHECKS = (
     ("tests/headline_definitions.py", "--check"),
     ("tests/definitions_index.py", "--check"),
     ("tests/session_doctor.py", "--check"),
+    ("tests/model_runs.py",),
     ("tests/links.py",),
 )
 NODE = 20
@@ -83,12 +84,15 @@ def has_node():
     return bool(number) and int(number[1]) >= NODE
 
 
-# the checks of built programs, one of which reads a stored run's script
+# the checks of built programs, two of which read a stored run's script, one of each edition
 def built_checks(folder):
-    script = pathlib.Path(folder, "desk")
-    with script.open("w", encoding="utf-8") as file:
-        subprocess.run([sys.executable, "tests/stored_runs.py", "desk"], cwd=ROOT, stdout=file, check=True)
-    return [(sys.executable, ("tests/refuse_growths.py", SERVER, str(script))), *BUILT]
+    refused = []
+    for part in ("desk", "embargo"):
+        script = pathlib.Path(folder, part)
+        with script.open("w", encoding="utf-8") as file:
+            subprocess.run([sys.executable, "tests/stored_runs.py", part], cwd=ROOT, stdout=file, check=True)
+        refused.append((sys.executable, ("tests/refuse_growths.py", SERVER, str(script))))
+    return [*refused, *BUILT]
 
 
 def main():

@@ -1,12 +1,12 @@
 #!/usr/bin/env python3
-"""Writes the part `exposure` of the stored runs of crates/bridge_server_stored_runs: a session in which users are shown boards and then
-sit down to play them.
+"""Writes the parts `exposure` and `exposure, second edition` of the stored runs of crates/bridge_server_stored_runs: sessions in which
+users are shown boards and then sit down to play them.
 
     tests/exposure_rows.py
 
 Each row below has its answer, worked by hand from the laws of the session and the policy, and why. A plain model of the
-session then works each answer out once more: it keeps the whole journal, and looks for a user's exposure through every state
-that the journal led through, at every secret fact of the board, by the twelve rules. Nothing of the program is used.
+session then works each answer out once more: it looks for a user's exposure in every state that the journal led through, at
+every secret fact of the board, by the rules of the edition. Nothing of the program is used.
 """
 import json
 
@@ -24,13 +24,15 @@ MARKS = {1: ("N", "none"), 2: ("E", "ns"), 3: ("S", "ew")}
 R420 = {"by": "N", "doubled": 0, "level": 4, "strain": "S", "tricks": 10}
 # who plays what: round, table, board, the number of the East-West pair; North-South pair k stays at table k
 ROWS = [(1, 1, 1, 1), (1, 2, 2, 2), (1, 3, 3, 3), (2, 1, 2, 3), (2, 2, 3, 1), (2, 3, 1, 2), (3, 1, 3, 2), (3, 2, 1, 3), (3, 3, 2, 1)]
+# why, by the number of the rule in the second edition; the first hasn't the fourth
 WHY = {
     2: "not a member",
-    4: "the board is held",
-    5: "your pair has still to play this board",
-    6: "the board isn't complete and you don't play it",
-    7: "neither a contestant nor a spectator",
-    8: "the board isn't complete",
+    4: "the session is under embargo",
+    5: "the board is held",
+    6: "your pair has still to play this board",
+    7: "the board isn't complete and you don't play it",
+    8: "neither a contestant nor a spectator",
+    9: "the board isn't complete",
 }
 USERS = [
     ("a", "Administrator", None),
@@ -49,6 +51,8 @@ INHERITS = [
     ("Director", "Scorer"),
     ("Director", "Spectator"),
 ]
+# the second edition has a role more
+COMMENTATOR, COMMENTS = ("c", "Commentator", None), ("Commentator", "Spectator")
 
 
 def enter(table, board):
@@ -103,7 +107,7 @@ def disinherit(senior, junior):
     return {"cmd": "DeleteInheritance", "junior": junior, "senior": senior}
 
 
-NEXT = {"cmd": "NextRound"}
+NEXT, EMBARGO, LIFT = {"cmd": "NextRound"}, {"cmd": "Embargo"}, {"cmd": "Lift"}
 OK = "ok"
 
 
@@ -217,12 +221,85 @@ SCRIPT = [
     do("k", enter(2, 1), "Spoiled(u)"),
 ]
 
+# The same session in the second edition, with a commentator c.
+SECOND_SCRIPT = [
+    # Whoever commented on the session plays no board of it.
+    ask("c", 3, "shown"),
+    do("a", assign("c", "Contestant"), "Separation(S4)"),
+    do("a", deassign("c", "Commentator"), assign("c", "Contestant"), OK, OK),
+    do("d", seat("c", "NS3", "N"), OK),
+    ask("c", 3, (6, 3)),
+    do("k", enter(3, 3), "Spoiled(c)"),
+    do("d", unseat("c"), OK),
+    # What a pair was shown before an embargo stays shown.
+    do("k", enter(1, 1), confirm(1, 1), OK, OK),
+    do("d", EMBARGO, void(1, 1), OK, OK),
+    ask("n1", 1, (4, 0)),
+    do("k", enter(1, 1), "Spoiled(n1)"),
+    # What becomes a result under the embargo shows its pair nothing: after a Void it is entered anew.
+    do("k", enter(2, 2), confirm(2, 2), OK, OK),
+    ask("n2", 2, (4, 0)),
+    do("d", void(2, 2), OK),
+    do("k", enter(2, 2), confirm(2, 2), OK, OK),
+    # Lifted and embargoed again in one batch, it was shown for one version: that is enough.
+    do("d", LIFT, EMBARGO, OK, OK),
+    ask("n2", 2, (4, 0)),
+    do("d", void(2, 2), OK),
+    do("k", enter(2, 2), "Spoiled(n2)"),
+    # A user who is a commentator, and scorers who are, under the embargo alone are shown nothing.
+    do("a", add("v"), assign("v", "Commentator"), inherit("Scorer", "Commentator"), OK, OK, OK),
+    ask("v", 3, (4, 0)),
+    ask("k", 3, (4, 0)),
+    ask("d", 3, "shown"),
+    do("a", disinherit("Scorer", "Commentator"), deassign("v", "Commentator"), assign("v", "Contestant"), OK, OK, OK),
+    do("d", seat("v", "NS3", "N"), OK),
+    do("d", enter(3, 3), confirm(3, 3), void(3, 3), enter(3, 3), confirm(3, 3), OK, OK, OK, OK, OK),
+    do("a", deassign("k", "Scorer"), assign("k", "Contestant"), OK, OK),
+    do("d", seat("k", "EW3", "E"), void(3, 3), enter(3, 3), confirm(3, 3), OK, OK, OK, OK),
+    # The lifting shows each pair at once what it has played, and an embargo after it takes nothing back.
+    do("d", LIFT, OK),
+    ask("v", 3, "shown"),
+    ask("k", 3, "shown"),
+    ask("n1", 3, (6, 1)),
+    do("d", EMBARGO, void(3, 3), OK, OK),
+    do("d2", enter(3, 3), unseat("k"), enter(3, 3), "Spoiled(k)", OK, "Spoiled(v)"),
+    do("d", unseat("v"), LIFT, OK, OK),
+    # While there is no embargo a spectator who is a commentator for one version is shown every board that isn't held.
+    do("d", hold(2), OK),
+    ask("s", 1, (9, 1)),
+    do("a", assign("s", "Commentator"), deassign("s", "Commentator"), OK, OK),
+    ask("s", 1, (9, 1)),
+    do("a", assign("s", "Contestant"), OK),
+    do("d", release(2), unseat("n1"), unseat("n2"), seat("s", "NS1", "N"), OK, OK, OK, OK),
+    do("d", enter(1, 1), "Spoiled(s)"),
+    do("d", unseat("s"), seat("s", "NS2", "N"), OK, OK),
+    do("d", enter(2, 2), confirm(2, 2), OK, OK),
+    # A pair of the hierarchy makes administrators commentators, and is deleted again.
+    do("a", add("w"), assign("w", "Administrator"), OK, OK),
+    ask("w", 1, (8, 0)),
+    do("a", inherit("Administrator", "Commentator"), OK),
+    ask("w", 1, "shown"),
+    do("a", disinherit("Administrator", "Commentator"), deassign("w", "Administrator"), assign("w", "Contestant"), OK, OK, OK),
+    do("d", seat("w", "EW1", "W"), OK),
+    do("d", enter(1, 1), "Spoiled(w)"),
+    # A commentator who isn't a spectator is shown nothing, and one who has never been more plays.
+    do("a", disinherit(*COMMENTS), inherit("Commentator", "Member"), OK, OK),
+    do("a", add("y"), assign("y", "Commentator"), OK, OK),
+    ask("y", 1, (8, 0)),
+    do("a", deassign("y", "Commentator"), assign("y", "Contestant"), OK, OK),
+    do("d", unseat("w"), seat("y", "EW1", "W"), OK, OK),
+    do("d", enter(1, 1), confirm(1, 1), OK, OK),
+    ask("y", 1, "shown"),
+]
+
 
 class Model:
-    def __init__(self):
-        self.assigned = {name: {role} for name, role, _ in USERS}
-        self.inherits = set(INHERITS)
-        self.seats = {name: at for name, _, at in USERS if at}
+    def __init__(self, edition):
+        users = USERS + [COMMENTATOR] * (edition - 1)
+        self.edition, self.embargo = edition, False
+        self.assigned = {name: {role} for name, role, _ in users}
+        self.inherits = set(INHERITS + [COMMENTS] * (edition - 1))
+        self.seats = {name: at for name, _, at in users if at}
         self.round, self.held, self.live, self.entered = 1, set(), set(), set()
         self.version, self.exposed = 0, set()
         self.look()
@@ -238,7 +315,8 @@ class Model:
     def cells(self, board):
         return sorted((table, f"NS{table}", f"EW{east_west}") for _, table, at, east_west in ROWS if at == board)
 
-    # The first rule that forbids a secret fact, with the table of the evidence. A fact is its kind, its board and its table.
+    # The first rule that forbids a secret fact, by its number in the second edition, with the table of the evidence. A fact is
+    # its kind, its board and its table.
     def denied(self, name, kind, board, table):
         if name not in self.assigned:
             return 1, 0
@@ -252,17 +330,18 @@ class Model:
         pair = self.seats.get(name, (None,))[0]
         own = [at for at, north_south, east_west in cells if pair in (north_south, east_west)]
         sits_there = table in own
-        contestant = "Contestant" in roles
+        contestant, commentator = "Contestant" in roles, "Commentator" in roles
         rules = [
-            (4, board in self.held, 0),
-            (5, contestant and bool(own) and own[0] in waiting, own[0] if own else 0),
-            (6, contestant and not own and bool(waiting), min(waiting, default=0)),
-            (7, not contestant and "Spectator" not in roles, 0),
-            (8, not contestant and bool(waiting), min(waiting, default=0)),
-            (9, kind in ("Analysis", "Cost") and bool(waiting), min(waiting, default=0)),
-            (10, kind in ("Play", "Cost") and not sits_there, table),
-            (11, kind == "Reason" and not sits_there, table),
-            (12, bool(table) and (table, board) not in self.live, table),
+            (4, self.embargo, 0),
+            (5, board in self.held, 0),
+            (6, contestant and bool(own) and own[0] in waiting, own[0] if own else 0),
+            (7, contestant and not own and bool(waiting), min(waiting, default=0)),
+            (8, not contestant and "Spectator" not in roles, 0),
+            (9, not contestant and not commentator and bool(waiting), min(waiting, default=0)),
+            (10, kind in ("Analysis", "Cost") and not commentator and bool(waiting), min(waiting, default=0)),
+            (11, kind in ("Play", "Cost") and not sits_there, table),
+            (12, kind == "Reason" and not sits_there, table),
+            (13, bool(table) and (table, board) not in self.live, table),
         ]
         return next(((number, at) for number, forbids, at in rules if forbids), None)
 
@@ -285,8 +364,7 @@ class Model:
             assert "Scorer" in self.roles(actor) and cell not in self.live
             assert next(r for r, table, board, _ in ROWS if (table, board) == cell) <= self.round
             assert kind == "Enter" or cell in self.entered
-            name = self.spoiler(*cell)
-            if name:
+            if name := self.spoiler(*cell):
                 return f"Spoiled({name})"
             if kind == "Enter":
                 self.entered.add(cell)
@@ -296,11 +374,15 @@ class Model:
             return OK
         needed = "Administrator" if kind in ("AddUser", "Assign", "Deassign", "AddInheritance", "DeleteInheritance") else "Director"
         assert needed in self.roles(actor)
+        if kind in ("Assign", "AddInheritance") and self.comments_and_plays(command):
+            return "Separation(S4)"
         {
             "Rule": lambda: (self.entered.discard(cell), self.live.add(cell)),
             "Void": lambda: self.live.remove(cell),
             "Hold": lambda: self.held.add(command["board"]),
             "Release": lambda: self.held.remove(command["board"]),
+            "Embargo": lambda: setattr(self, "embargo", True),
+            "Lift": lambda: setattr(self, "embargo", False),
             "NextRound": lambda: setattr(self, "round", self.round + 1),
             "Seat": lambda: self.seats.__setitem__(command["name"], (command["pair"], command["place"])),
             "Unseat": lambda: self.seats.pop(command["name"]),
@@ -311,6 +393,12 @@ class Model:
             "DeleteInheritance": lambda: self.inherits.remove((command["senior"], command["junior"])),
         }[kind]()
         return OK
+
+    # whether a role more makes the user a commentator and a contestant; no pair that is added here does
+    def comments_and_plays(self, command):
+        if command["cmd"] == "AddInheritance":
+            return False
+        return {"Commentator", "Contestant"} <= self.roles(command["name"]) | {command["role"]}
 
     def do(self, actor, commands):
         answers, before = [], self.version
@@ -327,7 +415,8 @@ class Model:
         denied = self.denied(name, "Hands", board, 0)
         if denied:
             number, table = denied
-            return {"denied": {"board": board if number > 3 else 0, "rule": number, "table": table, "why": WHY[number]}, "version": self.version}
+            told = number if self.edition == 2 or number < 4 else number - 1
+            return {"denied": {"board": board if number > 3 else 0, "rule": told, "table": table, "why": WHY[number]}, "version": self.version}
         dealer, vulnerability = MARKS[board]
         return {"board": {"deal": SHOWN[board], "dealer": dealer, "number": board, "vul": vulnerability}, "version": self.version}
 
@@ -336,15 +425,17 @@ def compact(value):
     return json.dumps(value, separators=(",", ":"), sort_keys=True) + "\n"
 
 
-def session():
-    users = [{"digest": DIGEST, "name": name, "roles": [role], **({"pair": at[0], "place": at[1]} if at else {})} for name, role, at in USERS]
+def session(edition):
+    users = [{"digest": DIGEST, "name": name, "roles": [role], **({"pair": at[0], "place": at[1]} if at else {})}
+             for name, role, at in USERS + [COMMENTATOR] * (edition - 1)]
     pbn = "".join(f'[Board "{board}"]\n[Deal "{deal}"]\n\n' for board, deal in DEALS.items())
-    return {"budget": 0, "pbn": pbn, "per_set": 1, "rounds": 3, "tables": 3, "users": users}
+    second = {"edition": 2} if edition == 2 else {}
+    return {"budget": 0, **second, "pbn": pbn, "per_set": 1, "rounds": 3, "tables": 3, "users": users}
 
 
-def main():
-    model, script, answers = Model(), [compact(session())], []
-    for name, what, by_hand in SCRIPT:
+def write(part, edition, rows):
+    model, script, answers = Model(edition), [compact(session(edition))], []
+    for name, what, by_hand in rows:
         if isinstance(what, list):
             answer = model.do(name, what)
             assert answer["answers"] == by_hand, (name, what, answer, by_hand)
@@ -355,7 +446,8 @@ def main():
             assert ((denied["rule"], denied["table"]) if denied else "shown") == by_hand, (name, what, answer, by_hand)
             script.append(compact({"as": name, "ask": "board", "board": what}))
         answers.append(compact(answer))
-    put("exposure", "".join(script), "".join(answers))
+    put(part, "".join(script), "".join(answers))
 
 
-main()
+write("exposure", 1, SCRIPT)
+write("exposure, second edition", 2, SECOND_SCRIPT)

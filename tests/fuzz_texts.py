@@ -23,7 +23,7 @@ import random
 import subprocess
 import sys
 
-from many_clients import BOARDS, PER_SET, ROUNDS, TABLES, USERS, JudgedSession, Sender, deal_text, pbn_text, some_hands
+from many_clients import BOARDS, SECOND_USERS, USERS, Sender, SolvedSession, deal_text, pbn_text, session_of, some_hands
 from message_reader import Fault, read_line
 from session_doctor import check_session, refusal_of
 from write_stored_runs import text_of
@@ -31,12 +31,14 @@ from write_stored_runs import text_of
 PROGRAM = sys.argv[1] if len(sys.argv) > 1 else "crates/bridge_server/out/bridge_server"
 SEED, MESSAGES, OBJECTS = (int(word) for word in [*sys.argv[2:5], *(["2026", "100000", "2000"][len(sys.argv[2:5]):])])
 SENDERS = ["d", "k", "a", "n1", "e2", "s", "m", "d2", "k2", "a2"]
+# those who send in a session of the second edition, where half of the messages are
+SECOND_SENDERS = [*SENDERS, "t", "t2"]
 # What stands in place of a value; the texts between @ are written as they are, and no JSON writer would write some of them so.
 VALUES = [0, 1, 2, 13, 14, 255, 256, 2**64 - 1, 2**64, -1, -10_000, -10_001, None, True, False, [], {}, "", "pass", "N", "NS1", "NS01",
-          "NS256", "SA", "s" * 32, "s" * 33, "Zo\u00eb", "\u6c34" * 11, "a b", "\0", "board", "Director", [0], {"min": 0, "max": 13},
+          "NS256", "SA", "Embargo", "Commentator", "s" * 32, "s" * 33, "Zo\u00eb", "\u6c34" * 11, "a b", "\0", "board", "Director", [0], {"min": 0, "max": 13},
           "@-0@", "@1.0@", "@1e3@", "@1e400@", "@01@", "@+1@", "@.5@", "@1.@", "@0x1@", "@NaN@", "@-Infinity@", "@'x'@",
           '@"\\ud800"@', '@"\\u0061"@', '@"\t"@', "@" + "9" * 30 + "@", "@" + "9" * 400 + "@", "@" + "[" * 130 + "]" * 130 + "@"]
-NAMES = ["as", "ask", "do", "audit", "hello", "token", "board", "table", "since", "filter", "from", "limit", "cmd", "name", "Board", "", "play"]
+NAMES = ["as", "ask", "do", "audit", "hello", "token", "board", "table", "since", "filter", "from", "limit", "cmd", "name", "Board", "", "play", "edition", "absent", "role"]
 failed = []
 
 
@@ -131,28 +133,24 @@ def some_message(rng, senders):
 def answer_of(model, line):
     """What the plain reader and the model answer to a line, and what kind of message it is."""
     try:
-        actor, message = read_line(line)
+        actor, message = read_line(line, model.edition)
     except Fault as fault:
         return {"error": str(fault)}, str(fault)
-    if "do" in message:
-        return model.batch(actor, message["do"]), "batches"
-    if "audit" in message:
-        if not {"Director", "Administrator"} & set(model.authorized(actor)):
-            return {"error": "NotPermitted"}, "audits"
-        return model.audit(message["audit"]["from"], message["audit"]["limit"]), "audits"
-    return model.reply(actor, message), "queries"
+    kind = "batches" if "do" in message else "audits" if "audit" in message else "queries"
+    return model.answer(actor, message), kind
 
 
 def messages(seed, count):
-    """So many messages of one script."""
+    """So many messages of one script, of the second edition where the seed is odd."""
     rng = random.Random(seed)
     hands = [some_hands(rng) for _ in BOARDS]
     deals = [deal_text(one) for one in hands]
-    senders = [Sender(name, hands, rng.random()) for name in SENDERS]
-    session = {"budget": 0, "pbn": pbn_text(deals), "per_set": PER_SET, "rounds": ROUNDS, "tables": TABLES, "users": USERS}
+    edition = 1 + seed % 2
+    senders = [Sender(name, hands, rng.random(), edition) for name in (SECOND_SENDERS if edition == 2 else SENDERS)]
+    session = session_of(edition, pbn=pbn_text(deals))
     lines = [some_message(rng, senders) for _ in range(count)]
     ran = subprocess.run([PROGRAM, "script"], input=b"\n".join([text_of(session).encode(), *lines]) + b"\n", capture_output=True, check=False)
-    model, kinds, strange = JudgedSession(hands), collections.Counter(), []
+    model, kinds, strange = SolvedSession(hands, edition), collections.Counter(), []
     answers = ran.stdout.split(b"\n")
     for number, line in enumerate(lines):
         wanted, kind = answer_of(model, line)
@@ -201,6 +199,10 @@ def small_session(pbn):
     return {"budget": 0, "pbn": pbn, "per_set": 1, "rounds": 3, "tables": 3, "users": USERS[:12]}
 
 
+def second_session(pbn):
+    return {**small_session(pbn), "edition": 2, "users": [*USERS[:11], SECOND_USERS[-1]]}
+
+
 TEXT = "{ a note } % no escape\n%an escape [\n[Event \"#\"]\n[Board \"1\"]\n[Dealer \"N\"]\n[Vulnerable \"None\"]\n"
 
 
@@ -218,7 +220,7 @@ def fuzz_openings():
     compare_openings("changed PBN texts", texts)
     objects = []
     while len(objects) < OBJECTS:
-        value = small_session(pbn_text([deal_text(one) for one in hands]))
+        value = rng.choice([small_session, second_session])(pbn_text([deal_text(one) for one in hands]))
         while rng.random() < 0.7:
             value = changed(rng, value)
             if not isinstance(value, (dict, list)):

@@ -7,7 +7,8 @@
 It needs Debian's package python3-websockets (10.4 or later), and is not part of the gate. It takes about half a minute. The parts are
 `8`, `32`, `silent`, `closing`, `solver`, `memory` and `handshake`; without a word all of them run.
 
-In `8` and `32` so many clients are served at once. Some send batches, the others ask queries of every kind as fast as they can.
+In `8` and `32` so many clients are served at once, in a session of the first edition and of the second. Some send batches, the others
+ask queries of every kind as fast as they can.
 Afterwards the batches are put in the order of their receipts and replayed in the model: it must answer each batch as the server
 did, and each reply must be, byte for byte, what the model replies at the version that the reply names. What the clients send comes
 from the seed; how they fall among one another doesn't, so a run can't be had again.
@@ -34,7 +35,8 @@ import time
 
 import websockets
 
-from session_model import DEALERS, ROLES, Session
+from judged_session import JudgedSession
+from session_model import DEALERS, Session, roles_of
 from write_query_runs import CLOSE, FINALISE, NEXT, correct, hold, release, rule, void
 from write_stored_runs import DIGEST, RANKS, SUITS, WHOLE_SUITS, confirm, contract, enter, text_of, user
 
@@ -47,16 +49,20 @@ USERS = [
     *(user(f"e{table}", "Contestant", f"EW{table}", "E") for table in (1, 2, 3)),
     user("c", "Contestant"), user("c2", "Contestant"),
 ]
+SECOND_USERS = [*USERS, user("t", "Commentator"), user("t2", "Commentator")]
 # Whose roles and seats the writers change; the others keep theirs, so that there is always who directs, scores and looks at an audit.
 CHANGED = ["s2", "m", "c", "c2", "n2", "n4", "e2", "e3", "x1", "x2", "x3"]
+SECOND_CHANGED = [*CHANGED, "t2", "t2"]
 AUDITORS = ["a", "a2", "d", "d2"]
 SCORERS = {"k", "k2", "k3"}
 # Who writes and who reads. A `*` greets as another user now and then.
 CLIENTS = {
     8: (["d", "k", "a"], ["n1", "e2", "s", "d2", "*"]),
     32: (["d", "d2", "k", "k2", "k3", "a"],
-         ["n1", "n1", "n2", "n3", "n4", "e1", "e1", "e2", "e3", "s", "s", "s2", "m", "c", "c2", "d", "d2", "k", "a", "a2", *"******"]),
+         ["n1", "t", "n2", "n3", "n4", "e1", "t", "e2", "e3", "s", "t2", "s2", "m", "c", "c2", "d", "d2", "k", "a", "a2", *"******"]),
 }
+EDITIONS = {8: 1, 32: 2}
+EMBARGO, LIFT = {"cmd": "Embargo"}, {"cmd": "Lift"}
 PROCESSES = 3
 SEATS_IN_TURN = "NESW"
 failed = []
@@ -129,57 +135,24 @@ def some_play(rng, hands, outcome):
     return play
 
 
-# ---- the model, with what it refuses
+# ---- the session, and the model with what its solver finds without a visit
 
-SEPARATED = [("S1", "Director", "Contestant"), ("S2", "Scorer", "Contestant"), ("S3", "Administrator", "Contestant")]
-NEEDS = {**dict.fromkeys(["Enter", "Confirm"], "Scorer"),
-         **dict.fromkeys(["AddUser", "Assign", "Deassign", "AddInheritance", "DeleteInheritance"], "Administrator")}
-PHASES = {**dict.fromkeys(["Enter", "Confirm", "Seat", "NextRound", "Close"], ["Running"]),
-          **dict.fromkeys(["Correct", "Rule", "Void", "Hold"], ["Running", "Closed"]), "Finalise": ["Closed"]}
-ABOUT_CELLS = ["Enter", "Confirm", "Correct", "Rule", "Void"]
+def users_of(edition):
+    return SECOND_USERS if edition == 2 else USERS
 
 
-class JudgedSession(Session):
-    """The plain model; besides, why it refuses a command, who was shown something of which board, and its journal."""
+def session_of(edition, **more):
+    """The session object; one of the first edition names none."""
+    named = {"edition": 2} if edition == 2 else {}
+    return {"budget": 0, **named, "per_set": PER_SET, "rounds": ROUNDS, "tables": TABLES, "users": users_of(edition), **more}
 
-    def __init__(self, hands):
-        self.known = {}
-        super().__init__(TABLES, ROUNDS, PER_SET, USERS, [deal_text(one) for one in hands])
-        self.hands, self.journal, self.shown = hands, [], set()
-        self.look(self.users, self.boards)
 
-    def denial(self, name, kind, board=0, table=0):
-        fact = name, kind, board, table
-        if fact not in self.known:
-            self.known[fact] = super().denial(*fact)
-        return self.known[fact]
+class SolvedSession(JudgedSession):
+    """The plain model of this session, whose solver finds no more than which card couldn't be played."""
 
-    def reply(self, name, query):
-        """The reply to a query, with the version."""
-        key = name, text_of({word: value for word, value in query.items() if word != "since"})
-        if self.version < query.get("since", 0) or key not in self.known:
-            reply = {**super().reply(name, query), "version": self.version}
-            if reply.get("error") == "Behind":
-                return reply
-            self.known[key] = reply
-        return self.known[key]
-
-    def audit(self, first, limit):
-        return {"audit": self.journal[first - 1:first - 1 + limit], "version": self.version}
-
-    # ---- a batch, and what the solver enters
-
-    def batch(self, actor, commands):
-        """The receipt of a batch whose turn has come."""
-        before, answers = self.version, []
-        for command in commands:
-            answers.append(self.refusal(actor, command) or "ok")
-            if answers[-1] == "ok":
-                self.accept(command)
-                self.note(actor, command["cmd"], about(command))
-                self.look([command["name"]] if "name" in command else self.users, [command["board"]] if "board" in command else self.boards)
-        first, last = (before + 1, self.version) if self.version > before else (0, 0)
-        return {"answers": answers, "first": first, "last": last, "version": self.version}
+    def __init__(self, hands, edition):
+        super().__init__(TABLES, ROUNDS, PER_SET, users_of(edition), [deal_text(one) for one in hands], edition=edition)
+        self.hands = hands
 
     def analyse(self, table, board):
         """What the solver finds of a play without a single visit: that a card of it couldn't be played."""
@@ -190,157 +163,9 @@ class JudgedSession(Session):
         self.known.clear()
         self.note(None, "Analysed", f"{table}/{board}")
 
-    def note(self, actor, word, subject):
-        self.journal.append([self.version, actor, word, subject])
-
-    def accept(self, command):
-        super().accept(command)
-        self.known.clear()
-
     def ask_costs(self, name, query):
         costs = self.results.get((query["table"], query["board"]), {}).get("costs")
         return {"board": query["board"], "costs": costs, "table": query["table"]} if costs else super().ask_costs(name, query)
-
-    def look(self, users, boards):
-        """Who is allowed the hands of a board now was shown something of it from now on."""
-        self.shown |= {(name, board) for name in users for board in boards
-                       if board in self.boards and (name, board) not in self.shown and self.sees(name, "Hands", board)}
-
-    # ---- refusals, the first of them that applies
-
-    def refusal(self, actor, command):
-        word, name, cell, board = command["cmd"], command.get("name"), (command.get("table"), command.get("board")), command.get("board")
-        row = next((row for row in self.scheduled.get(board, []) if row[1] == cell[0]), None)
-        causes = [
-            ("NotPermitted", NEEDS.get(word, "Director") not in self.authorized(actor)),
-            ("NoSuchUser", word in ("Seat", "Unseat", "Assign", "Deassign") and name not in self.users),
-            ("NoSuchCell", word in ABOUT_CELLS and row is None),
-            ("NoSuchBoard", word in ("Hold", "Release") and board not in self.boards),
-            ("WrongPhase", self.phase not in PHASES.get(word, [self.phase])),
-            ("RoundNotStarted", row is not None and self.round < row[0]),
-        ]
-        return (next((cause for cause, applies in causes if applies), None) or getattr(self, "why_" + word.lower(), lambda _: None)(command)
-                or (self.spoiled(row, board) if word in ("Enter", "Confirm") else None))
-
-    def spoiled(self, row, board):
-        """The first user who sits there and was shown something of the board."""
-        there = [name for name in self.users if self.seats.get(name, ("", ""))[0] in row[3:]]
-        return next((f"Spoiled({name})" for name in there if (name, board) in self.shown), None)
-
-    def bad_result(self, command):
-        play = command.get("play", [])
-        return len(set(play)) < len(play) or (command["result"] == "pass" and play != [])
-
-    def live(self, command):
-        return (command["table"], command["board"]) in self.results
-
-    def why_enter(self, command):
-        return "BadResult" if self.bad_result(command) else "AlreadyLive" if self.live(command) else None
-
-    def why_confirm(self, command):
-        entered = self.entered.get((command["table"], command["board"]))
-        if self.live(command):
-            return "AlreadyLive"
-        return "NothingEntered" if entered is None else "Mismatch" if entered[0] != command["result"] else None
-
-    def why_correct(self, command):
-        return "BadResult" if self.bad_result(command) else None if self.live(command) else "NotLive"
-
-    def why_rule(self, command):
-        return "BadRuling" if max(command["ns"], command["ew"]) > 100 or not 1 <= command["reason"] <= 99 else None
-
-    def why_void(self, command):
-        return None if self.live(command) else "NotLive"
-
-    def why_hold(self, command):
-        return "AlreadyHeld" if command["board"] in self.held else None
-
-    def why_release(self, command):
-        return None if command["board"] in self.held else "NotHeld"
-
-    def why_seat(self, command):
-        name, pair, place = command["name"], command["pair"], command["place"]
-        causes = [
-            ("NoSuchPair", int(pair[2:]) > self.tables),
-            ("WrongDirection", place not in pair[:2]),
-            ("NotContestant", "Contestant" not in self.authorized(name)),
-            ("AlreadySeated", name in self.seats),
-            ("SeatTaken", (pair, place) in self.seats.values()),
-        ]
-        return next((cause for cause, applies in causes if applies), None)
-
-    def why_unseat(self, command):
-        return None if command["name"] in self.seats else "NotSeated"
-
-    def why_nextround(self, command):
-        return "NoMoreRounds" if self.round == self.rounds else None
-
-    def why_close(self, command):
-        return "NotAllLive" if any(self.awaited(board) for board in self.boards) else None
-
-    why_finalise = why_close
-
-    def why_adduser(self, command):
-        return "BadName" if not re.fullmatch("[A-Za-z0-9_-]{1,32}", command["name"]) else "UserExists" if command["name"] in self.users else None
-
-    def why_assign(self, command):
-        has = self.users[command["name"]]
-        if command["role"] in has:
-            return "AlreadyAssigned"
-        return self.tried(lambda: has.add(command["role"]), self.broken, lambda: has.remove(command["role"]))
-
-    def why_deassign(self, command):
-        has = self.users[command["name"]]
-        if command["role"] not in has:
-            return "NotAssigned"
-        return self.tried(lambda: has.remove(command["role"]), self.needed, lambda: has.add(command["role"]))
-
-    def why_addinheritance(self, command):
-        pair = command["senior"], command["junior"]
-        if pair[0] in self.below(pair[1]):
-            return "Cycle"
-        return "AlreadyThere" if pair in self.pairs else self.tried(lambda: self.pairs.append(pair), self.broken, self.pairs.pop)
-
-    def why_deleteinheritance(self, command):
-        pair = command["senior"], command["junior"]
-        if pair not in self.pairs:
-            return "NotThere"
-        place = self.pairs.index(pair)
-        return self.tried(lambda: self.pairs.pop(place), self.needed, lambda: self.pairs.insert(place, pair))
-
-    def tried(self, change, cause, undo):
-        change()
-        found = cause()
-        undo()
-        return found
-
-    def below(self, role):
-        """The role, and all that it inherits."""
-        found = {role}
-        while more := {junior for senior, junior in self.pairs if senior in found} - found:
-            found |= more
-        return found
-
-    def broken(self):
-        held = [self.authorized(name) for name in self.users]
-        return next((f"Separation({number})" for number, one, other in SEPARATED if any({one, other} <= roles for roles in held)), None)
-
-    def needed(self):
-        if any("Contestant" not in self.authorized(name) for name in self.seats):
-            return "StillSeated"
-        return None if any("Administrator" in self.authorized(name) for name in self.users) else "LastAdministrator"
-
-
-def about(command):
-    """What an audit tells that a command is about."""
-    word = command["cmd"]
-    if word in ABOUT_CELLS:
-        return f"{command['table']}/{command['board']}"
-    if word in ("Assign", "Deassign"):
-        return f"{command['name']}:{command['role']}"
-    if word in ("AddInheritance", "DeleteInheritance"):
-        return f"{command['senior']}>{command['junior']}"
-    return str(command.get("board", command.get("name", "")))
 
 
 # ---- what clients send
@@ -348,8 +173,8 @@ def about(command):
 class Sender:
     """A client of a seed of its own, that remembers the newest version and the newest status that it was told."""
 
-    def __init__(self, name, hands, seed):
-        self.name, self.hands, self.rng = name, hands, random.Random(seed)
+    def __init__(self, name, hands, seed, edition=1):
+        self.name, self.hands, self.rng, self.edition = name, hands, random.Random(seed), edition
         self.rows = Session(TABLES, ROUNDS, PER_SET, USERS, []).rows
         self.cells = [(row[1], board, row[0]) for row in self.rows for board in BOARDS if (board - 1) // PER_SET + 1 == row[2]]
         self.version, self.round, self.live, self.phase = 0, 1, set(), "Running"
@@ -476,7 +301,7 @@ class Sender:
     def directing(self):
         rng = self.rng
         table, board = self.some_cell(True)
-        name = rng.choice(CHANGED + ["n1", "d2", "zz"])
+        name = rng.choice(self.changed() + ["n1", "d2", "zz"])
         pair = rng.choice(["NS", "EW"]) + str(rng.randint(1, 7))
         place = rng.choice(pair[:2] if rng.random() < 0.9 else SEATS_IN_TURN)
         return [rng.choice([
@@ -485,17 +310,21 @@ class Sender:
             rule(*self.some_cell(False), 60, 40, 7), hold(rng.randint(1, 12)), release(rng.randint(1, 13)), release(rng.randint(0, 12)),
             {"cmd": "Seat", "name": name, "pair": pair, "place": place}, {"cmd": "Seat", "name": name, "pair": pair, "place": place},
             {"cmd": "Unseat", "name": name}, NEXT if rng.random() < 0.05 else hold(rng.randint(1, 12)),
-            CLOSE if rng.random() < 0.2 else FINALISE,
+            CLOSE if rng.random() < 0.2 else FINALISE, *([EMBARGO, LIFT, LIFT] if self.edition == 2 else []),
         ])]
+
+    def changed(self):
+        return SECOND_CHANGED if self.edition == 2 else CHANGED
 
     def administering(self):
         rng = self.rng
-        name, role = rng.choice(CHANGED + ["d", "zz"]), rng.choice(ROLES)
+        name, role = rng.choice(self.changed() + ["d", "zz"]), rng.choice(roles_of(self.edition))
         if name == "d":
             role = "Contestant"
-        senior, junior = rng.sample(ROLES, 2)
+        senior, junior = rng.sample(roles_of(self.edition), 2)
         pair = {"junior": junior, "senior": senior}
-        lasting = rng.choice([("Contestant", "Member"), ("Administrator", "Spectator"), ("Scorer", "Member")])
+        lasting = rng.choice([("Contestant", "Member"), ("Administrator", "Spectator"), ("Scorer", "Member"),
+                              *([("Commentator", "Spectator")] * 2 if self.edition == 2 else [])])
         for_a_while = {"junior": lasting[1], "senior": lasting[0]}
         return rng.choice([
             [{"cmd": "AddUser", "digest": DIGEST, "name": rng.choice(["x1", "x2", "x3", "a b", f"y{rng.randint(1, 60)}"])}],
@@ -611,7 +440,7 @@ class Conversation:
         rng = self.sender.rng
         while time.time() < until:
             if greets and rng.random() < 0.03:
-                name = rng.choice([account["name"] for account in USERS])
+                name = rng.choice([account["name"] for account in users_of(self.sender.edition)])
                 await self.client.send(text_of({"hello": name, "token": "abc"}))
                 answer = await self.client.recv()
                 assert answer == text_of({"hello": name}), answer
@@ -629,12 +458,12 @@ class Conversation:
             await asyncio.sleep(sender.rng.random() * 0.03)
 
 
-async def converse(address, hands, clients, all_in, seconds):
+async def converse(address, hands, clients, edition, all_in, seconds):
     """What these clients said and heard. Each is (its name, whether it writes, its seed)."""
     talks = []
     for name, writes, seed in clients:
         first = "a2" if name == "*" else name
-        talks.append((Conversation(Sender(first, hands, seed), await signed_in(address, first)), name, writes))
+        talks.append((Conversation(Sender(first, hands, seed, edition), await signed_in(address, first)), name, writes))
     all_in.wait(30)
     begin = time.time()
     until = begin + seconds
@@ -652,13 +481,13 @@ def in_a_process(pipe, *words):
         pipe.send(repr(fault))
 
 
-def conversations(address, hands, clients, seconds):
+def conversations(address, hands, clients, edition, seconds):
     """The conversations of all these clients, which several processes hold; nobody begins before all are signed in."""
     context = multiprocessing.get_context("fork")
     all_in, started = context.Barrier(PROCESSES), []
     for number in range(PROCESSES):
         own, other = context.Pipe()
-        process = context.Process(target=in_a_process, args=(other, address, hands, clients[number::PROCESSES], all_in, seconds))
+        process = context.Process(target=in_a_process, args=(other, address, hands, clients[number::PROCESSES], edition, all_in, seconds))
         process.start()
         started.append((process, own))
     told = [own.recv() if own.poll(seconds + 60) else "a process said nothing" for _, own in started]
@@ -681,7 +510,7 @@ async def whole_audit(address):
 
 # ---- the comparison
 
-def compare(title, talks, audit, hands):
+def compare(title, talks, audit, hands, edition=1):
     """Replays the batches in the order of their receipts, and compares all that was said."""
     said = [entry for talk in talks for entry in talk]
     accepted, refused, looks = [], collections.defaultdict(list), collections.defaultdict(list)
@@ -697,7 +526,7 @@ def compare(title, talks, audit, hands):
     accepted.sort(key=lambda batch: batch[:2])
     check_order(title, accepted, len(audit))
     check_connections(title, talks)
-    model, published, wrong = JudgedSession(hands), [0], collections.defaultdict(list)
+    model, published, wrong = SolvedSession(hands, edition), [0], collections.defaultdict(list)
     counts = collections.Counter()
     compare_version(model, refused.pop(0, []), looks.pop(0, []), wrong, counts)
     for first, last, name, message, answer in accepted:
@@ -722,7 +551,7 @@ def compare(title, talks, audit, hands):
 
 def compare_batch(model, name, message, answer, wrong, counts):
     before = model.version
-    wanted = text_of(model.batch(name, message["do"]))
+    wanted = text_of(model.answer(name, message))
     counts["batches"] += 1
     if wanted != answer:
         wrong["batches"].append((f"after {before}", name, message, "wanted", wanted, "got", answer))
@@ -733,15 +562,11 @@ def compare_version(model, refused, looks, wrong, counts):
     for name, message, answer in refused:
         compare_batch(model, name, message, answer, wrong, counts)
     for name, message, answer in looks:
-        wanted = text_of(model.audit(**named(message["audit"])) if "audit" in message else model.reply(name, message))
+        wanted = text_of(model.answer(name, message))
         counts["replies"] += 1
         counts["not empty"] += '"error"' not in answer and '"denied"' not in answer
         if wanted != answer:
             wrong["replies"].append((f"at {model.version}", name, message, "wanted", wanted, "got", answer))
-
-
-def named(audit):
-    return {"first": audit["from"], "limit": audit["limit"]}
 
 
 def check_order(title, accepted, entries):
@@ -796,15 +621,14 @@ def many(count, seed, seconds):
     rng = random.Random(seed * 100 + count)
     hands = [some_hands(rng) for _ in BOARDS]
     clients = [(name, number < len(writers), rng.random()) for number, name in enumerate(writers + readers)]
-    session = {"budget": 0, "per_set": PER_SET, "rounds": ROUNDS, "tables": TABLES, "users": USERS}
-    title = f"{count} clients"
-    with Server(session, [deal_text(one) for one in hands], "--displays", count, "--workers", 2) as server:
-        told = conversations(server.address(), hands, clients, seconds)
+    title, edition = f"{count} clients", EDITIONS[count]
+    with Server(session_of(edition), [deal_text(one) for one in hands], "--displays", count, "--workers", 2) as server:
+        told = conversations(server.address(), hands, clients, edition, seconds)
         check(f"{title}: all were signed in at once, and each was served to its end", [], [one for one in told if isinstance(one, str)])
         talks = [talk for one in told if not isinstance(one, str) for talk in one]
         audit = asyncio.run(whole_audit(server.address()))
         check(f"{title}: the program still runs", None, server.process.poll())
-    compare(title, talks, audit, hands)
+    compare(title, talks, audit, hands, edition)
 
 
 # ---- the other parts

@@ -1,4 +1,4 @@
-"""What a line of a script is, by the tables of docs/PROTOCOL.md: a message, or the first fault that applies.
+"""What a line of a script is, by the tables of docs/PROTOCOL.md: a message, or the first fault that applies, in either edition.
 
 A plain reader beside the program's own. It reads JSON by Python's reader, as tests/session_doctor.py does.
 """
@@ -6,7 +6,7 @@ import json
 import re
 
 from session_doctor import MOST_LEVELS, Number, depth_of, finite, no_constant, texts_in
-from session_model import ROLES
+from session_model import roles_of
 
 MOST_BYTES, MOST_COMMANDS, MOST_CARDS = 65_536, 64, 52
 MOST_DEPTH, MOST_ATOMS, MOST_MEMBERS = 8, 32, 32
@@ -86,7 +86,6 @@ def byte(value):
 READ = {
     "board": byte, "table": byte, "ns": byte, "ew": byte, "reason": byte, "result": result, "name": name, "pair": pair, "digest": digest,
     "play": lambda value: [one(card, CARDS) for card in listed(value, MOST_CARDS)], "place": lambda value: one(value, PLACES),
-    **dict.fromkeys(["role", "senior", "junior"], lambda value: one(value, ROLES)),
 }
 COMMANDS = {
     "Enter": ["table", "board", "result"], "Confirm": ["table", "board", "result"], "Correct": ["table", "board", "result"],
@@ -94,17 +93,27 @@ COMMANDS = {
     "Seat": ["name", "pair", "place"], "Unseat": ["name"], "NextRound": [], "Close": [], "Finalise": [], "AddUser": ["name", "digest"],
     "Assign": ["name", "role"], "Deassign": ["name", "role"], "AddInheritance": ["senior", "junior"], "DeleteInheritance": ["senior", "junior"],
 }
+SECOND = {"Embargo": [], "Lift": []}
 QUERIES = {
     "status": [], "ranking": [], "accounts": [], "board": ["board"], "traveller": ["board"], "analysis": ["board"],
     "play": ["table", "board"], "costs": ["table", "board"], "reason": ["table", "board"], "list": [],
 }
 
 
-def command(found):
+def commands_of(edition):
+    """The members of each command of an edition."""
+    return {**COMMANDS, **SECOND} if edition == 2 else COMMANDS
+
+
+def member(word, value, edition):
+    return one(value, roles_of(edition)) if word in ("role", "senior", "junior") else READ[word](value)
+
+
+def command(found, edition):
     need(isinstance(found, dict) and "cmd" in found and is_text(found["cmd"]))
     free = ["play"] if found["cmd"] in ("Enter", "Correct") else []
-    members(found, ["cmd", *COMMANDS[found["cmd"]]], free)
-    read = {"cmd": found["cmd"], **{word: READ[word](value) for word, value in found.items() if word != "cmd"}}
+    members(found, ["cmd", *commands_of(edition)[found["cmd"]]], free)
+    read = {"cmd": found["cmd"], **{word: member(word, value, edition) for word, value in found.items() if word != "cmd"}}
     if read.get("play") == []:
         del read["play"]
     return read
@@ -168,7 +177,7 @@ def object_of(line):
     return found
 
 
-def read_line(line):
+def read_line(line, edition=1):
     """In whose name a line is sent, and what it asks; a fault is raised."""
     if len(line) > MOST_BYTES:
         raise Fault("TooLong")
@@ -180,7 +189,7 @@ def read_line(line):
         raise Fault("UnknownRequest")
     if kinds == ["do"] and isinstance(found["do"], list):
         words = [inner["cmd"] for inner in found["do"] if isinstance(inner, dict) and "cmd" in inner]
-        if any(is_text(word) and word not in COMMANDS for word in words):
+        if any(is_text(word) and word not in commands_of(edition) for word in words):
             raise Fault("UnknownRequest")
     need("as" in found)
     actor = name(found["as"])
@@ -189,6 +198,6 @@ def read_line(line):
         return actor, query(found)
     members(found, ["as", *kinds])
     if kinds == ["do"]:
-        return actor, {"do": [command(inner) for inner in listed(found["do"], MOST_COMMANDS)]}
+        return actor, {"do": [command(inner, edition) for inner in listed(found["do"], MOST_COMMANDS)]}
     members(found["audit"], ["from", "limit"])
     return actor, {"audit": {"from": number(found["audit"]["from"], 1, WORD), "limit": number(found["audit"]["limit"], 1, 1000)}}

@@ -11,7 +11,7 @@ import time
 
 import websockets
 from selenium import webdriver
-from selenium.common.exceptions import JavascriptException, StaleElementReferenceException
+from selenium.common.exceptions import ElementNotInteractableException, JavascriptException, StaleElementReferenceException
 from selenium.webdriver.common.action_chains import ActionChains
 from selenium.webdriver.common.by import By
 from selenium.webdriver.common.keys import Keys
@@ -47,19 +47,23 @@ def listens(port):
 
 
 class Server:
-    """The program with the example session, at one port."""
+    """The program with the example session, or one of its own, at one port."""
 
     def __init__(self, program, workers):
-        files = ["--session", EXAMPLES / "session.json", "--deals", EXAMPLES / "club.pbn"]
-        self.words = [program, "serve", *files, "--displays", "4", "--workers", str(workers)]
+        self.words = [program, "serve", "--deals", EXAMPLES / "club.pbn", "--displays", "4", "--workers", str(workers)]
+        self.session = EXAMPLES / "session.json"
         self.port = free_port()
         self.process = None
+
+    def keep_session(self, path):
+        """From its next start on, the session of this file."""
+        self.session = path
 
     def start(self):
         def is_up():
             if self.process is None or self.process.poll() is not None:
-                self.process = subprocess.Popen([*self.words, "--port", str(self.port)], stdin=subprocess.DEVNULL, stdout=subprocess.DEVNULL,
-                                                stderr=subprocess.DEVNULL)
+                words = [*self.words, "--session", self.session, "--port", str(self.port)]
+                self.process = subprocess.Popen(words, stdin=subprocess.DEVNULL, stdout=subprocess.DEVNULL, stderr=subprocess.DEVNULL)
                 time.sleep(0.1)
             return listens(self.port)
         until("the server listens", is_up, 90)
@@ -260,7 +264,7 @@ class Browser:
                 self.driver.execute_script("arguments[0].scrollIntoView({block: 'center'})", element)
                 element.click()
                 return True
-            except (StaleElementReferenceException, JavascriptException):
+            except (StaleElementReferenceException, ElementNotInteractableException, JavascriptException):
                 return False
         until(f"{identity} can be pressed", pressed)
 
@@ -271,7 +275,7 @@ class Browser:
                 element.clear()
                 element.send_keys(text)
                 return True
-            except (StaleElementReferenceException, AttributeError):
+            except (StaleElementReferenceException, ElementNotInteractableException, AttributeError):
                 return False
         until(f"{identity} can be typed into", typed)
 

@@ -1,5 +1,6 @@
 #!/usr/bin/env python3
-"""Plays the example session on the page, in a real browser, and says what it found, a line a check.
+"""Plays the example session on the page, in a real browser, and says what it found, a line a check; in the end one of the second
+edition.
 
     /usr/bin/python3 tests/page_session.py crates/bridge_server/out/bridge_server [workers, else 1 [seconds, else 900]]
 
@@ -19,6 +20,7 @@ import time
 from page_checks import FAILED, FIVE_CLUBS, PASSED, OutOfTime, THREE_NO_TRUMP, check, console, holds, part, type_result
 from page_desks import administrator, audit, correct_and_void, director, end_of_play, ruling, seats, spoiled
 from page_devices import Browser, Hostile, Keys, Nginx, Server, until
+from page_edition import second_edition
 from page_layout import keyboard_player, laid_out, on_paper
 from page_servers import all_displays_taken, connections, hostile_texts, over_tls, played_numbers, restart
 
@@ -312,6 +314,7 @@ def play(server, nginx, downloads, has_workers):
     hostile_texts(vera, nginx)
     check("no hostile text reached a console", [], console([vera]))
     over_tls(nginx, server)
+    second_edition(address, server, downloads)
 
 
 def stop_in_time(signal_number, frame):

@@ -4,8 +4,8 @@
     python3 tests/protocol_types.py    # says how many were compared, and what doesn't fit; status 1 where anything doesn't
 
 Each answer must have the type of an answer to its message, with no number above 2^53, and each message that was read the type
-of a message. What was answered UnknownRequest must have no message's type; of BadField it is only counted how much fits, since
-types tell no ranges. Each fenced example on the page must be a message of some run, but for its `as`, with its answer.
+of a message. What was answered UnknownRequest must have no message's type, but for commands of the second edition in a session of
+the first; of BadField it is only counted how much fits, since types tell no ranges. Each fenced example on the page must be a message of some run, but for its `as`, with its answer.
 
 It knows the part of TypeScript that the page uses: aliases, literals, templates, unions, intersections, objects, lists, tuples
 and the type of a member. An object may have no member that isn't listed.
@@ -21,6 +21,7 @@ from stored_runs import read
 PAGE = pathlib.Path(__file__).resolve().parent.parent / "docs" / "PROTOCOL.md"
 TOKEN = re.compile(r'\s+|//[^\n]*|(?P<text>"[^"]*")|(?P<template>`[^`]*`)|(?P<number>[0-9]+)|(?P<name>[A-Za-z_]\w*)'
                    r'|(?P<mark>[{}()\[\]|&:;,?=])')
+SECOND = ("Embargo", "Lift")
 UNREAD = ("TooLong", "Malformed", "UnknownRequest", "BadField")
 LARGEST = 2**53
 
@@ -186,24 +187,38 @@ class Types:
         return self.fits(value, ("name", name))
 
 
+def kind_of(part):
+    return part.split(", ")[0]
+
+
 def lines_of(part, text):
     """The messages of a part, as its answers stand."""
     lines = text.split("\n")[1:]
     last = lines.pop()
-    if part in ("connections", "solver"):
+    if kind_of(part) in ("connections", "solver"):
         return lines
     if part == "full journal":
         return [line.split(" ", 1)[1] for line in lines]
     return [line for line in (line.removesuffix("\r") for line in lines) if line] + [last][:len(last)]
 
 
+def edition_of(text):
+    return json.loads(text.split("\n", 1)[0]).get("edition", 1)
+
+
+def names_second(said):
+    """Whether commands are asked for that the second edition alone has."""
+    commands = said.get("do")
+    return isinstance(commands, list) and any(isinstance(one, dict) and one.get("cmd") in SECOND for one in commands)
+
+
 def runs():
-    """Each part's messages with their answers, but for what is no message, and for answers that are only counted."""
+    """Each part's edition, and its messages with their answers, but for what is no message, and for answers that are only counted."""
     given, wanted = read("stdin"), read("stdout")
     for part in given:
-        if part != "session objects" and not part.startswith("both ways"):
+        if kind_of(part) not in ("session objects", "both ways"):
             pairs = list(zip(lines_of(part, given[part]), wanted[part].split("\n")[:-1], strict=True))
-            yield part, [pair for pair in pairs if pair[1].startswith("{")]
+            yield part, edition_of(given[part]), [pair for pair in pairs if pair[1].startswith("{")]
 
 
 def is_exact(value):
@@ -225,7 +240,7 @@ def is_answer(types, message, answer):
 
 class Comparison:
     def __init__(self, types):
-        self.types, self.passed, self.failed, self.out_of_range = types, 0, 0, 0
+        self.types, self.passed, self.failed, self.out_of_range, self.unknown_to_first = types, 0, 0, 0, 0
 
     def check(self, holds, where, text):
         self.passed += bool(holds)
@@ -233,16 +248,18 @@ class Comparison:
         if not holds:
             print(f"FAILED  {where}: {text[:200]}")
 
-    def compare(self, part, message, answer):
+    def compare(self, part, edition, message, answer):
         told = json.loads(answer)
         unread = told.get("error") if set(told) == {"error"} and told["error"] in UNREAD else None
         self.check(self.types.is_one(told, "Reply") and is_exact(told), f"{part}, an answer", answer)
         if unread in ("TooLong", "Malformed"):
             return
         said = json.loads(message)
-        kind = "Message" if part == "connections" else "ScriptMessage"
+        kind = "Message" if kind_of(part) == "connections" else "ScriptMessage"
         if unread == "BadField":
             self.out_of_range += self.types.is_one(said, kind)
+        elif unread and edition == 1 and names_second(said):
+            self.unknown_to_first += 1
         elif unread:
             self.check(not self.types.is_one(said, kind), f"{part}, a message that is unknown", message)
         else:
@@ -266,15 +283,17 @@ def main():
     page = PAGE.read_text()
     [block] = re.findall(r"^```ts\n(.*?)^```$", page, re.DOTALL | re.MULTILINE)
     comparison, met = Comparison(Types(block)), set()
-    for part, pairs in runs():
+    for part, edition, pairs in runs():
         for message, answer in pairs:
-            comparison.compare(part, message, answer)
+            comparison.compare(part, edition, message, answer)
             met.add((without_user(message), answer))
     for frame in re.findall(r"^```json\n(.*?)^```$", page, re.DOTALL | re.MULTILINE):
         lines = frame.splitlines()
         for message, answer in zip(lines[::2], lines[1::2], strict=True):
             comparison.check((without_user(message), answer) in met, "no run has this example", message)
-    print(f"{comparison.out_of_range} messages that are BadField fit the types: a number, a length or a depth is out of range")
+    print(f"{comparison.out_of_range} messages that are BadField fit the types: a number, a length or a depth is out of range, or a role "
+          "is the second edition's")
+    print(f"{comparison.unknown_to_first} messages that are UnknownRequest have commands of the second edition")
     print(f"{comparison.passed} passed, {comparison.failed} failed")
     sys.exit(comparison.failed > 0)
 

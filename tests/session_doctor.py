@@ -15,17 +15,17 @@ import re
 import shlex
 import sys
 
-from session_model import OPENING_PAIRS, ROLES
+from session_model import SEPARATED, opening_pairs, roles_of
 from stored_runs import read as stored
 
 ROOT = pathlib.Path(__file__).resolve().parent.parent
 MOST_BYTES, MOST_VISITS, MOST_LEVELS, MOST_USERS, MOST_DEALS_BYTES = 1_048_576, 10**18, 127, 256, 16_777_216
 MEMBERS = ["budget", "per_set", "rounds", "tables", "users"]
-SEPARATED = {"S1": ("Director", "Contestant"), "S2": ("Scorer", "Contestant"), "S3": ("Administrator", "Contestant")}
 USED = (b"Board", b"Dealer", b"Vulnerable", b"Deal")
 RANKS = b"AKQJT98765432"
 # The user whom each refusal of a user in the part `session objects` is about, in its order.
-WHOM = ["n1", "a b", "", "", "a", "a", "s", "d", "d", "k", "a", "n1", "n1", "n1", "s", "n2", "u254"]
+WHOM = ["n1", "a b", "", "", "a", "a", "s", "d", "d", "k", "a", "n1", "n1", "n1", "s", "n2", "u254",
+        "c", "c", "c", "n1", "c", "c"]
 
 
 class Refused(Exception):
@@ -125,7 +125,7 @@ def is_pair(value):
     return is_text(value) and bool(re.fullmatch("(NS|EW)[1-9][0-9]{0,2}", value)) and int(value[2:]) <= 255
 
 
-def check_user(found, number):
+def check_user(found, number, edition):
     if not isinstance(found, dict):
         raise bad(f"user {number}", "a user is an object")
     user = found["name"] if is_text(found.get("name")) else None
@@ -138,8 +138,8 @@ def check_user(found, number):
     if not isinstance(found["roles"], list):
         raise bad(where, "`roles` is a list", user)
     for role in found["roles"]:
-        if not is_text(role) or role not in ROLES:
-            raise bad(where, f"{quoted(role)} is no role", user)
+        if not is_text(role) or role not in roles_of(edition):
+            raise bad(where, f"{quoted(role)} is no role of edition {edition}", user)
     if "pair" in found:
         if not is_pair(found["pair"]):
             raise bad(where, "`pair` is NS or EW and a number from 1 to 255, as NS1", user)
@@ -147,11 +147,17 @@ def check_user(found, number):
             raise bad(where, "`place` is N, E, S or W", user)
 
 
+def edition_of(found):
+    return int(found.get("edition", 1))
+
+
 def check_members(found, deals):
-    may_be_missing = ["absent"] if "absent" in found else []
+    may_be_missing = [name for name in ("absent", "edition") if name in found]
     check_names(found, MEMBERS + may_be_missing + (["pbn"] if deals is None else []), "the session object")
-    if may_be_missing and not is_pair(found["absent"]):
+    if "absent" in found and not is_pair(found["absent"]):
         raise bad("the session object", "`absent` is a pair: NS or EW and a number from 1 to 255, as EW9")
+    if "edition" in found and not (isinstance(found["edition"], Number) and found["edition"] in ("1", "2")):
+        raise bad("the session object", "`edition` is 1 or 2, without quotes or point")
     whole(found, "budget", MOST_VISITS)
     if deals is None and not is_text(found["pbn"]):
         raise bad("the session object", "`pbn` is a text")
@@ -159,7 +165,7 @@ def check_members(found, deals):
     if not isinstance(found["users"], list):
         raise bad("the session object", "`users` is a list")
     for number, user in enumerate(found["users"], 1):
-        check_user(user, number)
+        check_user(user, number, edition_of(found))
     return numbers
 
 
@@ -333,14 +339,14 @@ def check_boards(text, boards):
 
 # ---- the users, one after another
 
-def authorized(roles):
+def authorized(roles, edition):
     found = set(roles)
-    while more := {junior for senior, junior in OPENING_PAIRS if senior in found} - found:
+    while more := {junior for senior, junior in opening_pairs(edition) if senior in found} - found:
         found |= more
     return found
 
 
-def check_account(user, number, before):
+def check_account(user, number, before, edition):
     name, where = user["name"], at_user(number, user["name"])
     if not re.fullmatch("[A-Za-z0-9_-]{1,32}", name):
         raise Refused("BadName", f"{where}: a name is 1 to 32 letters, digits, `-` and `_`", name)
@@ -352,33 +358,34 @@ def check_account(user, number, before):
     for role in user["roles"]:
         if user["roles"].count(role) > 1:
             raise Refused("AlreadyAssigned", f"{where} has the role {role} twice", name)
-    for separation, pair in SEPARATED.items():
-        if authorized(user["roles"]) >= set(pair):
+    for separation, role in SEPARATED.items():
+        if authorized(user["roles"], edition) >= {role, "Contestant"}:
             assigned = ", ".join(user["roles"])
-            raise Refused(f"Separation({separation})", f"{where} is authorized for {pair[0]} and {pair[1]}, by: {assigned}", name)
+            raise Refused(f"Separation({separation})", f"{where} is authorized for {role} and Contestant, by: {assigned}", name)
 
 
-def check_seat(user, number, before, tables, absent):
+def check_seat(user, number, before, found):
     name, where, pair, place = user["name"], at_user(number, user["name"]), user["pair"], user["place"]
-    if int(pair[2:]) > tables:
-        raise Refused("NoSuchPair", f"{where}: there is no pair {pair} at {tables} tables", name)
-    if pair == absent:
+    if int(pair[2:]) > int(found["tables"]):
+        raise Refused("NoSuchPair", f"{where}: there is no pair {pair} at {found['tables']} tables", name)
+    if pair == found.get("absent"):
         raise Refused("NoSuchPair", f"{where}: the pair {pair} is absent", name)
     if place not in pair[:2]:
         raise Refused("WrongDirection", f"{where} sits {place} in {pair}", name)
-    if "Contestant" not in authorized(user["roles"]):
+    if "Contestant" not in authorized(user["roles"], edition_of(found)):
         raise Refused("NotContestant", f"{where} has a seat and isn't a contestant", name)
     for other, earlier in enumerate(before, 1):
         if (earlier.get("pair"), earlier.get("place")) == (pair, place):
             raise Refused("SeatTaken", f"{where} has the seat of {at_user(other, earlier['name'])}: {place} in {pair}", name)
 
 
-def check_users(users, tables, absent):
+def check_users(found):
+    users, edition = found["users"], edition_of(found)
     for place, user in enumerate(users):
-        check_account(user, place + 1, users[:place])
+        check_account(user, place + 1, users[:place], edition)
         if "pair" in user:
-            check_seat(user, place + 1, users[:place], tables, absent)
-    if not any("Administrator" in authorized(user["roles"]) for user in users):
+            check_seat(user, place + 1, users[:place], found)
+    if not any("Administrator" in authorized(user["roles"], edition) for user in users):
         raise Refused("LastAdministrator", "no user is authorized for Administrator")
 
 
@@ -388,7 +395,7 @@ def check_session(line, deals=None):
     tables, rounds, per_set = check_members(found, deals)
     check_movement(tables, rounds, per_set, found.get("absent"))
     check_boards(found["pbn"].encode() if deals is None else deals, tables * per_set)
-    check_users(found["users"], tables, found.get("absent"))
+    check_users(found)
     return f"opens: {tables} tables, {rounds} rounds, boards 1 to {tables * per_set}, {len(found['users'])} users"
 
 

@@ -1,15 +1,18 @@
-"""A plain model of a session, for the stored runs: what each command does, and what each query is answered.
+"""A plain model of a session of either edition, for the stored runs: what each command does, and what each query is answered.
 
 It follows docs/POLICY.md and docs/PROTOCOL.md rule by rule, with the Laws of Duplicate Bridge 2017 where they name them, and
-keeps nothing but what a session's commands say. It is slow and knows nothing of the program.
+keeps nothing but what a session's commands say. It is slow and knows nothing of the program. What a command is refused for is in
+tests/judged_session.py.
 """
 from functools import cmp_to_key
 
-OPENING_PAIRS = [("Spectator", "Member"), ("Contestant", "Member"), ("Scorer", "Member"), ("Administrator", "Member"),
-                 ("Director", "Scorer"), ("Director", "Spectator")]
-ROLES = ["Member", "Spectator", "Contestant", "Scorer", "Director", "Administrator"]
+# The last of each is the second edition's alone, and so is the fourth rule.
+PAIRS = [("Spectator", "Member"), ("Contestant", "Member"), ("Scorer", "Member"), ("Administrator", "Member"),
+         ("Director", "Scorer"), ("Director", "Spectator"), ("Commentator", "Spectator")]
+ROLES = ["Member", "Spectator", "Contestant", "Scorer", "Director", "Administrator", "Commentator"]
+SEPARATED = {"S1": "Director", "S2": "Scorer", "S3": "Administrator", "S4": "Commentator"}
 WHY = [
-    "no such account", "not a member", "accounts are for administrators and directors", "the board is held",
+    "no such account", "not a member", "accounts are for administrators and directors", "the session is under embargo", "the board is held",
     "your pair has still to play this board", "the board isn't complete and you don't play it",
     "neither a contestant nor a spectator", "the board isn't complete", "analysis waits until the board is complete",
     "the play of others waits until the session is closed", "reasons are for the pairs concerned", "there is no result here",
@@ -18,6 +21,19 @@ WHY = [
 DEALERS = "NESW"
 VULNERABLE = {"none": (1, 8, 11, 14), "ns": (2, 5, 12, 15), "ew": (3, 6, 9, 16), "both": (4, 7, 10, 13)}
 HANDS_OF = {"board": "Hands", "traveller": "Hands", "analysis": "Analysis", "play": "Play", "costs": "Cost", "reason": "Reason"}
+
+
+def roles_of(edition):
+    return ROLES if edition == 2 else ROLES[:-1]
+
+
+def opening_pairs(edition):
+    return list(PAIRS if edition == 2 else PAIRS[:-1])
+
+
+def why(edition, rule):
+    """The text of a rule by its number."""
+    return WHY[rule - 1 if edition == 2 or rule < 4 else rule]
 
 
 def dealer_of(board):
@@ -79,15 +95,16 @@ def movement_of(tables, rounds):
 
 
 class Session:
-    def __init__(self, tables, rounds, per_set, users, deals, absent=None):
+    def __init__(self, tables, rounds, per_set, users, deals, absent=None, edition=1):
         self.tables, self.rounds, self.per_set, self.deals, self.absent = tables, rounds, per_set, deals, absent
+        self.edition, self.embargo = edition, False
         self.boards = range(1, tables * per_set + 1)
         self.rows = [row for row in movement_of(tables, rounds) if absent not in row[3:]]
         self.scheduled = {board: [row for row in sorted(self.rows, key=lambda row: row[1]) if row[2] == (board - 1) // per_set + 1]
                           for board in self.boards}
         self.users = {user["name"]: set(user["roles"]) for user in users}
         self.seats = {user["name"]: (user["pair"], user["place"]) for user in users if "pair" in user}
-        self.pairs = list(OPENING_PAIRS)
+        self.pairs = opening_pairs(edition)
         self.phase, self.round, self.version = "Running", 1, 0
         self.held, self.entered, self.results = set(), {}, {}
 
@@ -157,6 +174,12 @@ class Session:
     def do_deleteinheritance(self, command):
         self.pairs.remove((command["senior"], command["junior"]))
 
+    def do_embargo(self, command):
+        self.embargo = True
+
+    def do_lift(self, command):
+        self.embargo = False
+
     # ---- who may see what
 
     def authorized(self, name):
@@ -183,20 +206,21 @@ class Session:
             return None
         pair = self.seats.get(name, ("none", "none"))[0]
         own = [row[1] for row in self.scheduled[board] if pair in row[3:]]
-        awaited, contestant = self.awaited(board), "Contestant" in roles
+        awaited, contestant, commentator = self.awaited(board), "Contestant" in roles, "Commentator" in roles
         least, first_own = min(awaited, default=0), own[0] if own else 0
         rules = [
-            (4, board in self.held, 0),
-            (5, contestant and first_own in awaited, first_own),
-            (6, contestant and not own and awaited, least),
-            (7, not contestant and "Spectator" not in roles, 0),
-            (8, not contestant and awaited, least),
-            (9, kind in ("Analysis", "Cost") and awaited, least),
-            (10, kind in ("Play", "Cost") and table not in own and self.phase == "Running", table),
-            (11, kind == "Reason" and table not in own, table),
-            (12, table and (table, board) not in self.results, table),
+            *([(self.embargo, 0)] if self.edition == 2 else []),
+            (board in self.held, 0),
+            (contestant and first_own in awaited, first_own),
+            (contestant and not own and awaited, least),
+            (not contestant and "Spectator" not in roles, 0),
+            (not contestant and not commentator and awaited, least),
+            (kind in ("Analysis", "Cost") and not commentator and awaited, least),
+            (kind in ("Play", "Cost") and table not in own and self.phase == "Running", table),
+            (kind == "Reason" and table not in own, table),
+            (table and (table, board) not in self.results, table),
         ]
-        return next(((number, named) for number, forbids, named in rules if forbids), None)
+        return next(((number, named) for number, (forbids, named) in enumerate(rules, 4) if forbids), None)
 
     def sees(self, name, kind, board, table=0):
         return self.denial(name, kind, board, table) is None
@@ -220,15 +244,17 @@ class Session:
         denied = self.denial(name, kind, board, table or 0)
         if denied:
             rule, named = denied
-            return {"denied": {"board": board if rule > 3 else 0, "rule": rule, "table": named, "why": WHY[rule - 1]}}
+            return {"denied": {"board": board if rule > 3 else 0, "rule": rule, "table": named, "why": why(self.edition, rule)}}
         return {ask: getattr(self, "ask_" + ask)(name, query)}
 
     def ask_status(self, name, query):
         live = [[row[1] for row in self.scheduled[board] if (row[1], board) in self.results] for board in self.boards]
         seats = [[name, *self.seats[name]] for name in self.users if name in self.seats]
         half_table = {} if self.absent is None else {"absent": self.absent}
-        return {**half_table, "held": sorted(self.held), "live": live, "marks": [f"{dealer_of(b)} {vulnerability_of(b)}" for b in self.boards],
-                "per_set": self.per_set, "phase": self.phase, "round": self.round, "rounds": self.rounds, "seats": seats, "tables": self.tables}
+        second = {"edition": 2, "embargo": self.embargo} if self.edition == 2 else {}
+        marks = [f"{dealer_of(board)} {vulnerability_of(board)}" for board in self.boards]
+        return {**half_table, **second, "held": sorted(self.held), "live": live, "marks": marks, "per_set": self.per_set,
+                "phase": self.phase, "round": self.round, "rounds": self.rounds, "seats": seats, "tables": self.tables}
 
     def ask_board(self, name, query):
         board = query["board"]

@@ -6,7 +6,7 @@ wanted.
     tests/stored_runs.py desk               # the script of a part, for `bridge_server script`
     tests/stored_runs.py desk answers       # the answers to it
 
-The last six parts are no scripts: the program knows them by their names.
+The last ten parts are no scripts: the program knows them by their names, up to a comma.
 
 The crate's files stdin and stdout have one form: before each part stand an LF and a line with its name, `== desk`. So a script
 may end without an LF of its own, and no message begins so.
@@ -18,6 +18,9 @@ CRATES = pathlib.Path(__file__).resolve().parent.parent / "crates"
 CRATE = CRATES / "bridge_server_stored_runs"
 RULES = "worked by hand, from the rules of docs/POLICY.md and docs/PROTOCOL.md"
 MODEL = "tests/write_query_runs.py: from the plain model of tests/session_model.py, and by hand"
+EDITIONS = "tests/write_edition_runs.py: by hand, and from the plain model of tests/judged_session.py"
+CONNECTIONS = "tests/write_connection_run.py: by hand, from docs/PROTOCOL.md and docs/POLICY.md"
+SOLVER = "tests/write_solved_run.py: by hand, of deals that give each player a whole suit"
 # Each part, and where its answers come from: never from the program.
 PARTS = {
     "messages": "tests/write_stored_runs.py: from the rules of docs/POLICY.md and docs/PROTOCOL.md",
@@ -32,6 +35,7 @@ PARTS = {
     "one world": MODEL,
     "other world": MODEL,
     "exposure": "tests/exposure_rows.py: by hand, from the laws of the session and the policy, and from a plain model",
+    "exposure, second edition": "tests/exposure_rows.py: the same",
     "protocol": "tests/protocol_examples.py: from docs/PROTOCOL.md, and the plain model of tests/session_model.py",
     "desk": RULES,
     **{short: RULES for short in (
@@ -40,10 +44,17 @@ PARTS = {
         "roles", "pairs at their tables")},
     "audit": "worked out apart, from the words of docs/PROTOCOL.md",
     "traveller": "worked out apart, from the printed tables of Law 77 and Law 78A",
-    "connections": "tests/write_connection_run.py: by hand, from docs/PROTOCOL.md and docs/POLICY.md",
-    "solver": "tests/write_solved_run.py: by hand, of deals that give each player a whole suit",
+    **{part: EDITIONS for part in (
+        "second edition", "embargo", "every role and an embargo", "a commentator who plays", "a commentator's roles",
+        "second edition's end", "half table of the second edition", "first edition", "first edition by its number")},
+    "connections": CONNECTIONS,
+    "connections, second edition": CONNECTIONS,
+    "connections, first edition": CONNECTIONS,
+    "solver": SOLVER,
+    "solver, second edition": SOLVER,
     "both ways": "tests/write_both_ways_run.py: how many commands the rules accept, and that no reply differs",
     "both ways, 2,000 commands": "tests/write_both_ways_run.py: the same, of commands that are drawn with a fixed seed",
+    "both ways, second edition": "tests/write_both_ways_run.py: the same, also with embargoes and with who comments",
     "session objects": "tests/write_stored_runs.py: from the rules of docs/SESSION.md",
     "full journal": RULES,
 }

@@ -1,17 +1,21 @@
 #!/usr/bin/env python3
-"""Writes the parts `both ways` and `both ways, 2,000 commands` of the stored runs of crates/bridge_server_stored_runs: sessions in which
-every question is answered from what a view keeps and afresh, after each command, for every user and for a stranger.
+"""Writes the parts `both ways`, `both ways, 2,000 commands` and `both ways, second edition` of the stored runs of
+crates/bridge_server_stored_runs: sessions in which every question is answered from what a view keeps and afresh, after each command,
+for every user and for a stranger.
 
     python3 tests/write_both_ways_run.py
 
 What is wanted is how many commands are accepted, and how many replies are the same. Every command that is given is one that the rules
-accept, and the second part's are drawn with a fixed seed: a table's first result is entered and confirmed, and from then on it is corrected,
-ruled or voided and ruled again, since contestants who were shown a board spoil what is entered there later.
+accept (tests/judged_session.py), and those of the later parts are drawn with a fixed seed: a table's first result is entered and
+confirmed, and from then on it is corrected, ruled or voided and ruled again, since contestants who were shown a board spoil what is
+entered there later.
 """
 import random
 
+from judged_session import JudgedSession
 from stored_runs import put
-from write_stored_runs import SESSION, text_of
+from write_query_runs import DEALS
+from write_stored_runs import SECOND_SESSION, SECOND_USERS, SESSION, USERS, text_of
 
 NAMES = ["a", "d", "d2", "k", "s", "n1", "n2", "stranger"]
 TABLES = BOARDS = ROUNDS = 3
@@ -30,10 +34,14 @@ def questions(boards, cells):
     return [text_of({"as": "d", **each}) for each in asked]
 
 
-def write(part, asked, commands):
-    given = "\n".join([SESSION, " ".join(NAMES), *asked, "", *(text_of({"as": name, "do": [command]}) for name, command in commands)])
+def write(part, asked, commands, edition=1):
+    opening, names, users = (SESSION, NAMES, USERS) if edition == 1 else (SECOND_SESSION, [*NAMES, "c"], SECOND_USERS)
+    session = JudgedSession(TABLES, ROUNDS, 1, users, DEALS, edition=edition)
+    for name, command in commands:
+        assert session.batch(name, [command])["answers"] == ["ok"], (name, command)
+    given = "\n".join([opening, " ".join(names), *asked, "", *(text_of({"as": name, "do": [command]}) for name, command in commands)])
     moments = len(commands) + 1
-    put(part, given + "\n", f"{len(commands)} commands, {moments * len(asked) * len(NAMES)} replies the same\n")
+    put(part, given + "\n", f"{len(commands)} commands, {moments * len(asked) * len(names)} replies the same\n")
 
 
 def round_of(table, board):
@@ -115,7 +123,33 @@ class Drawn:
         return {"Enter": "k", "Confirm": "k", "Assign": "a", "Deassign": "a"}.get(word, "d"), named
 
 
-drawn = Drawn(20261126)
+class SecondDrawn(Drawn):
+    """The same in the second edition, with embargoes and with changes of who comments, and of whether commentators are spectators."""
+
+    def __init__(self, seed):
+        super().__init__(seed)
+        self.embargo, self.roles, self.pair = False, {"c": {"Commentator"}, "s": {"Spectator"}}, True
+
+    def command(self):
+        kind = self.draw.random()
+        if kind < 0.1:
+            self.embargo = not self.embargo
+            return "d", {"cmd": "Embargo" if self.embargo else "Lift"}
+        if kind < 0.14:
+            self.pair = not self.pair
+            return "a", {"cmd": "AddInheritance" if self.pair else "DeleteInheritance", "junior": "Spectator", "senior": "Commentator"}
+        if kind < 0.22:
+            name, role = self.draw.choice("cs"), self.draw.choice(["Commentator", "Commentator", "Spectator", "Director"])
+            if (name, role) != ("s", "Spectator"):
+                has = role in self.roles[name]
+                self.roles[name] ^= {role}
+                return "a", {"cmd": "Deassign" if has else "Assign", "name": name, "role": role}
+        return super().command()
+
+
+drawn, second_drawn = Drawn(20261126), SecondDrawn(20261127)
+SOME = [text_of({"as": "d", "ask": "ranking"}), text_of({"as": "d", "ask": "list"}), text_of({"as": "d", "ask": "traveller", "board": 1})]
 write("both ways", questions((1, 2, 3), ((1, 1), (2, 1), (3, 2))), played())
-write("both ways, 2,000 commands", [text_of({"as": "d", "ask": "ranking"}), text_of({"as": "d", "ask": "list"}), text_of({"as": "d", "ask": "traveller", "board": 1})],
-      [drawn.command() for _ in range(2000)])
+write("both ways, 2,000 commands", SOME, [drawn.command() for _ in range(2000)])
+write("both ways, second edition", [*SOME, text_of({"as": "d", "ask": "board", "board": 2}), text_of({"as": "d", "ask": "play", "board": 1, "table": 2})],
+      [second_drawn.command() for _ in range(200)], 2)

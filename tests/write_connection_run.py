@@ -1,6 +1,6 @@
 #!/usr/bin/env python3
-"""Writes the part `connections` of the stored runs of crates/bridge_server_stored_runs: messages on connections, and what each is
-answered.
+"""Writes the parts `connections` and `connections, second edition` of the stored runs of crates/bridge_server_stored_runs: messages
+on connections, and what each is answered.
 
     python3 tests/write_connection_run.py
 
@@ -8,14 +8,17 @@ It gives the same text each time. The answers are written here by hand, by the r
 state, and not by the program.
 """
 from stored_runs import put
-from write_stored_runs import DIGEST, FOUR_SPADES, SESSION, confirm, enter, text_of
+from write_stored_runs import DIGEST, FOUR_SPADES, SECOND_SESSION, SESSION, confirm, enter, text_of
 
 MOST_BYTES = 65536
 
 
+BOARD_1 = {"deal": "N:AKQJT98765432... .AKQJT98765432.. ..AKQJT98765432. ...AKQJT98765432", "dealer": "N", "number": 1, "vul": "none"}
+
+
 class Run:
-    def __init__(self):
-        self.asked, self.told = [SESSION], []
+    def __init__(self, session):
+        self.asked, self.told = [session], []
 
     def say(self, message, answer):
         """A message, as text or as data, and the answer's text or data."""
@@ -113,8 +116,7 @@ def scorer(run):
     run.does([enter(1, 2, FOUR_SPADES)], ["RoundNotStarted"], 0, 0, 2)
     # a second greeting changes who is signed in
     run.hello("n1")
-    shown = {"board": {"deal": "N:AKQJT98765432... .AKQJT98765432.. ..AKQJT98765432. ...AKQJT98765432", "dealer": "N", "number": 1, "vul": "none"}, "version": 2}
-    run.say({"ask": "board", "board": 1}, shown)
+    run.say({"ask": "board", "board": 1}, {"board": BOARD_1, "version": 2})
     run.hello("d")
     run.say({"audit": {"from": 1, "limit": 10}}, {"audit": [[1, "k", "Enter", "1/1"], [2, "k", "Confirm", "1/1"]], "version": 2})
     run.does([{"board": 1, "cmd": "Hold"}, {"board": 1, "cmd": "Release"}] * 32, ["ok"] * 64, 3, 66, 66)
@@ -129,13 +131,62 @@ def newcomer(run):
     run.say({"ask": "status"}, {"denied": {"board": 0, "rule": 2, "table": 0, "why": "not a member"}, "version": 67})
 
 
-def main():
-    run = Run()
-    for number, part in enumerate([first_connection, contestant, scorer, newcomer]):
+def commentator(run):
+    """In the second edition a commentator is shown what is still played, until a director's embargo."""
+    run.fails({"do": [{"cmd": "Embargo"}]}, "NotSignedIn")
+    run.fails({"do": [{"cmd": "Embargo", "board": 1}]}, "BadField")
+    run.hello("c")
+    run.say({"ask": "board", "board": 1}, {"board": BOARD_1, "version": 0})
+    run.does([{"cmd": "Embargo"}, {"cmd": "Lift"}], ["NotPermitted"] * 2, 0, 0, 0)
+    run.fails({"audit": {"from": 1, "limit": 10}}, "NotPermitted")
+    run.hello("d")
+    run.does([{"cmd": "Lift"}, {"cmd": "Embargo"}, {"cmd": "Embargo"}], ["NotEmbargoed", "ok", "AlreadyEmbargoed"], 1, 1, 1)
+    run.say({"ask": "board", "board": 1}, {"board": BOARD_1, "version": 1})
+    run.hello("c")
+    run.say({"ask": "board", "board": 1}, {"denied": {"board": 1, "rule": 4, "table": 0, "why": "the session is under embargo"}, "version": 1})
+    run.say({"ask": "list"}, {"list": {"boards": [], "more": False}, "version": 1})
+
+
+def other_roles(run):
+    """The embargo is lifted, an administrator takes the role away on the connection of the next."""
+    run.hello("d")
+    run.does([{"cmd": "Lift"}, {"cmd": "Hold", "board": 1}], ["ok", "ok"], 2, 3, 3)
+    run.hello("c")
+    run.say({"ask": "board", "board": 1}, {"denied": {"board": 1, "rule": 5, "table": 0, "why": "the board is held"}, "version": 3})
+    run.hello("n1")
+    run.say({"ask": "board", "board": 2},
+            {"denied": {"board": 2, "rule": 6, "table": 1, "why": "your pair has still to play this board"}, "version": 3})
+    run.hello("a")
+    run.does([{"cmd": "Assign", "name": "n1", "role": "Commentator"}, {"cmd": "Deassign", "name": "c", "role": "Commentator"}], ["Separation(S4)", "ok"], 4, 4, 4)
+    run.hello("c")
+    run.say({"ask": "status"}, {"denied": {"board": 0, "rule": 2, "table": 0, "why": "not a member"}, "version": 4})
+    run.hello("d")
+    run.say({"audit": {"from": 1, "limit": 10}},
+            {"audit": [[1, "d", "Embargo", ""], [2, "d", "Lift", ""], [3, "d", "Hold", "1"], [4, "a", "Deassign", "c:Commentator"]], "version": 4})
+
+
+def first_edition(run):
+    """What the first edition says to what it hasn't, before anybody has signed in and after."""
+    run.fails({"do": [{"cmd": "Embargo"}]}, "UnknownRequest")
+    run.fails({"do": [{"cmd": "Assign", "name": "s", "role": "Commentator"}]}, "BadField")
+    run.hello("d")
+    run.fails({"do": [{"cmd": "Hold", "board": 1}, {"cmd": "Lift"}]}, "UnknownRequest")
+    run.fails({"do": [{"cmd": "AddInheritance", "junior": "Spectator", "senior": "Commentator"}]}, "BadField")
+
+
+def write(part, session, connections):
+    run = Run(session)
+    for number, connection in enumerate(connections):
         if number:
             run.end()
-        part(run)
-    put("connections", "".join(line + "\n" for line in run.asked), "".join(line + "\n" for line in run.told))
+        connection(run)
+    put(part, "".join(line + "\n" for line in run.asked), "".join(line + "\n" for line in run.told))
+
+
+def main():
+    write("connections", SESSION, [first_connection, contestant, scorer, newcomer])
+    write("connections, second edition", SECOND_SESSION, [commentator, other_roles])
+    write("connections, first edition", SESSION, [first_edition])
 
 
 if __name__ == "__main__":

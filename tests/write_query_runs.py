@@ -70,7 +70,7 @@ class Run(Script):
     def ask(self, name, ask, by_hand=None, since=None, **members):
         """A query. By hand it is answered what stands under its word, or a denial's rule and table, or the name of an error."""
         query = {"ask": ask, **members, **({} if since is None else {"since": since})}
-        reply = self.session.reply(name, query)
+        reply = {word: value for word, value in self.session.reply(name, query).items() if word != "version"}
         if isinstance(by_hand, tuple):
             assert (reply.get("denied", {}).get("rule"), reply.get("denied", {}).get("table")) == by_hand, (name, query, reply)
         elif isinstance(by_hand, str):

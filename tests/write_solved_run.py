@@ -1,6 +1,6 @@
 #!/usr/bin/env python3
-"""Writes the part `solver` of the stored runs of crates/bridge_server_stored_runs: what a solver tells a session, between its
-messages.
+"""Writes the parts `solver` and `solver, second edition` of the stored runs of crates/bridge_server_stored_runs: what a solver tells a
+session, between its messages.
 
     python3 tests/write_solved_run.py
 
@@ -8,7 +8,7 @@ The deals give each player a whole suit, so every number is worked by hand: who 
 trumps the side that leads takes all. Each line that is given stands beside the line that is wanted.
 """
 from stored_runs import put
-from write_stored_runs import SESSION, text_of
+from write_stored_runs import SECOND_SESSION, SESSION, text_of
 
 RESULT = {"by": "N", "doubled": 0, "level": 4, "strain": "S", "tricks": 10}
 CELL = {"table": 1, "board": 1}
@@ -111,4 +111,44 @@ told("solve 2 2", "ok")
 asked("a", {"audit": [[3, None, "Analysed", "1/1"], [4, None, "Solved", "1"], [5, "d", "Correct", "1/1"]]}, 11, audit={"from": 3, "limit": 3})
 asked("a", {"audit": [[11, None, "Solved", "2"]]}, 11, audit={"from": 11, "limit": 1000})
 
-put("solver", SESSION + "\n" + "".join(line + "\n" for line, _ in rows), "".join(wanted + "\n" for _, wanted in rows))
+
+
+def write(part, session):
+    put(part, session + "\n" + "".join(line + "\n" for line, _ in rows), "".join(wanted + "\n" for _, wanted in rows))
+
+
+write("solver", SESSION)
+
+# In the second edition rules have other numbers from the fourth on, and a table is shown to a commentator as soon as it is found.
+rows.clear()
+for line, holds in (("n1 1 6 1", "true"), ("n1 1 5 1", "false"), ("n1 1 6 2", "false"), ("s 1 9 1", "true"), ("s 1 8 1", "false"), ("k 1 8 0", "true"),
+                    ("c 1 9 1", "false"), ("c 1 4 0", "false"), ("c 1 13 1", "false")):
+    told(f"check {line}", holds)
+for name, decided in (("n1", "rule 6"), ("s", "rule 9"), ("k", "rule 8"), ("c", "allowed"), ("d", "allowed"), ("stranger", "rule 1")):
+    told(f"decide {name} 1", decided)
+told("solve 1 1", "ok")
+asked("c", {"analysis": {"board": 1, "tricks": TABLE}}, 1, ask="analysis", board=1)
+asked("s", {"denied": {"board": 1, "rule": 9, "table": 1, "why": "the board isn't complete"}}, 1, ask="analysis", board=1)
+listed("c", [1], 1, **many("S", True))
+listed("c", [2, 3], 1, **many("S", False))
+listed("s", [], 1, **many("S", False))
+done("k", 3, {"cmd": "Enter", "play": RUFF, "result": RESULT, **CELL}, {"cmd": "Confirm", "result": RESULT, **CELL})
+told("analyse 1 1 1 " + " ".join(RUFF), "ok")
+costs([0, 0, 0, 0], 4)
+asked("c", {"denied": {"board": 1, "rule": 11, "table": 1, "why": "the play of others waits until the session is closed"}}, 4, ask="costs", **CELL)
+asked("n1", {"denied": {"board": 1, "rule": 10, "table": 2, "why": "analysis waits until the board is complete"}}, 4, ask="analysis", board=1)
+# Under an embargo the solver tells on, and the directors alone see it.
+done("d", 5, {"cmd": "Embargo"})
+told("solve 2 2", "ok")
+for line, holds in (("c 1 4 0", "true"), ("c 1 4 1", "false"), ("n1 1 4 0", "true"), ("n1 1 6 1", "false"), ("d 1 4 0", "false")):
+    told(f"check {line}", holds)
+for name, decided in (("n1", "rule 4"), ("s", "rule 4"), ("k", "rule 4"), ("c", "rule 4"), ("d", "allowed")):
+    told(f"decide {name} 1", decided)
+listed("c", [], 6, **many("S", False))
+listed("d", [1], 6, **many("S", True))
+asked("c", {"denied": {"board": 1, "rule": 4, "table": 0, "why": "the session is under embargo"}}, 6, ask="analysis", board=1)
+done("d2", 7, {"cmd": "Lift"})
+listed("c", [1], 7, **many("S", True))
+asked("a", {"audit": [[4, None, "Analysed", "1/1"], [5, "d", "Embargo", ""], [6, None, "Solved", "2"], [7, "d2", "Lift", ""]]}, 7,
+      audit={"from": 4, "limit": 9})
+write("solver, second edition", SECOND_SESSION)

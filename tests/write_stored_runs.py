@@ -33,6 +33,9 @@ BOARDS = game(1, "N") + game(2, "E") + game(3, "S")
 USERS = [user("a", "Administrator"), user("d", "Director"), user("d2", "Director"), user("k", "Scorer"), user("s", "Spectator"),
          user("n1", "Contestant", "NS1", "N"), user("n2", "Contestant", "NS2", "N")]
 SESSION = text_of({"budget": 0, "pbn": BOARDS, "per_set": 1, "rounds": 3, "tables": 3, "users": USERS})
+# the same in the second edition, with a commentator
+SECOND_USERS = [*USERS, user("c", "Commentator")]
+SECOND_SESSION = text_of({"budget": 0, "edition": 2, "pbn": BOARDS, "per_set": 1, "rounds": 3, "tables": 3, "users": SECOND_USERS})
 
 
 class Script:
@@ -298,7 +301,7 @@ CHANGES = [
     ('"budget":0', '"budget":"x","budget":7', None),
     ('"budget":0', '"budget":-0', "BadField"),
     ('"budget":0', '"budget":1000000000000000001', "BadField"),
-    ('"budget":0', '"budget":0,"edition":1', "BadField"),
+    ('"budget":0', '"budget":0,"edition":1', None),
     ('"budget":0,', "", "BadField"),
     # names and digests
     ('"name":"n1"', '"name":"a b"', "BadName"),
@@ -350,6 +353,43 @@ TEXTS = [
     (BOARDS.replace('[Board "3"]', "[Board 3]"), "[Board 3", "BadTag"),
 ]
 
+# An edition that is another than 1 or 2 is none, and it is looked at before what the session would play.
+EDITIONS = [
+    ('"budget":0', '"budget":0,"edition":2', None),
+    ('"budget":0', '"budget":0,"edition":2,"edition":1', None),
+    ('"budget":0', '"budget":0,"edition":0', "BadField"),
+    ('"budget":0', '"budget":0,"edition":3', "BadField"),
+    ('"budget":0', '"budget":0,"edition":"1"', "BadField"),
+    ('"budget":0', '"budget":0,"edition":1.0', "BadField"),
+    ('"budget":0', '"budget":0,"edition":-0', "BadField"),
+    ('"budget":0', '"budget":0,"edition":01', "Malformed"),
+    ('"budget":0', '"budget":0,"edition":null', "BadField"),
+    ('"budget":0', '"budget":0,"edition":true', "BadField"),
+    ('"budget":0', '"budget":0,"edition":[2]', "BadField"),
+    ('"budget":0', '"Edition":2,"budget":0', "BadField"),
+    ('"per_set":1,"rounds":3,"tables":3', '"edition":3,"per_set":1,"rounds":3,"tables":2', "BadField"),
+    ('"per_set":1,"rounds":3,"tables":3', '"edition":2,"per_set":1,"rounds":3,"tables":2', "BadTables"),
+]
+# A commentator, whom the first edition doesn't know: S4 keeps Contestant from Commentator.
+COMMENTATORS = [
+    ('"edition":2', '"edition":2', None),
+    ('"edition":2', '"absent":"EW3","edition":2', None),
+    ('"edition":2', '"edition":1', "BadField"),
+    ('"edition":2,', "", "BadField"),
+    ('"edition":2', '"edition":2,"edition":1', "BadField"),
+    ('["Commentator"]', '["commentator"]', "BadField"),
+    ('["Commentator"]', '"Commentator"', "BadField"),
+    ('["Commentator"]', '["Commentator","Spectator"]', None),
+    ('["Commentator"]', '["Commentator","Scorer","Director","Administrator"]', None),
+    ('["Commentator"]', '["Commentator","Commentator"]', "AlreadyAssigned"),
+    ('["Commentator"]', '["Commentator","Contestant","Commentator"]', "AlreadyAssigned"),
+    ('["Commentator"]', '["Commentator","Contestant"]', "Separation(S4)"),
+    ('["Contestant"]', '["Contestant","Commentator"]', "Separation(S4)"),
+    ('["Commentator"]', '["Commentator","Contestant","Scorer"]', "Separation(S2)"),
+    ('["Administrator"]', '["Commentator"]', "LastAdministrator"),
+    ('"name":"c"', '"name":"c","pair":"NS3","place":"N"', "NotContestant"),
+]
+
 
 def write_openings():
     given, wanted = [], []
@@ -359,9 +399,12 @@ def write_openings():
         ended = '0 {"error":"NoSuchBoard","version":0}' if fault is None else f"1 bridge_server: {fault}"
         wanted.append(ended + "\n")
 
-    for old, new, fault in CHANGES:
-        assert old in SESSION
-        row(SESSION.replace(old, new, 1), fault)
+    def changed_rows(session, changes):
+        for old, new, fault in changes:
+            assert old in session
+            row(session.replace(old, new, 1), fault)
+
+    changed_rows(SESSION, CHANGES)
     for text, part, fault in TEXTS:
         place = "" if part is None else f"({text.index(part)})"
         row(SESSION.replace(text_of(BOARDS), text_of(text)), fault + place)
@@ -369,6 +412,8 @@ def write_openings():
     row('{"budget":0', "Malformed")
     row(largest(255), "TooManyUsers")
     row(largest(254), None)
+    changed_rows(SESSION, EDITIONS)
+    changed_rows(SECOND_SESSION, COMMENTATORS)
     put("session objects", "".join(given), "".join(wanted))
 
 

@@ -48,6 +48,31 @@ test("each rule's denial is found to hold where it does, and the next board's, t
   }
 });
 
+test("in the second edition rules have other numbers from the fourth on, which is the embargo's", () => {
+  const second = { edition: 2, embargo: false };
+  const played = { ...second, live: [[1], [], [], []] };
+  const rows = [
+    [{ ...second, embargo: true }, "n1", ask.board(1), denied(4, 1, 0)],
+    [{ ...played, embargo: true, held: [1] }, "n1", ask.play(4, 1), denied(4, 1, 0)],
+    [{ ...second, held: [1] }, "n1", ask.board(1), denied(5, 1, 0)],
+    [second, "n1", ask.board(1), denied(6, 1, 1)],
+    [played, "n3", ask.board(1), denied(7, 1, 4)],
+    [played, "n1", ask.analysis(1), denied(10, 1, 4)],
+    [played, "n1", ask.play(4, 1), denied(11, 1, 4)],
+    [{ ...played, live: [[1, 4], [], [], []] }, "n1", ask.reason(4, 1), denied(12, 1, 4)],
+    [{ ...played, phase: "Closed" }, "n1", ask.play(4, 1), denied(13, 1, 4)],
+  ];
+  for (const [changes, name, query, denial] of rows) {
+    const row = JSON.stringify([changes, query, denial]);
+    assert.equal(verdict(changes, name, query, denial), "holds", row);
+    assert.equal(verdict(changes, name, query, { ...denial, rule: denial.rule === 4 ? 5 : denial.rule - 1 }), "contradicted", row);
+  }
+  assert.equal(verdict(second, "n1", ask.board(1), denied(4, 1, 0)), "contradicted", "there is no embargo");
+  assert.equal(verdict({ embargo: true }, "n1", ask.board(1), denied(4, 1, 0)), "contradicted", "the first edition has none");
+  assert.equal(verdict({ ...second, embargo: true }, "s", ask.board(1), denied(4, 1, 0)), "roles", "it may be a director");
+  assert.equal(verdict(second, "s", ask.board(1), denied(9, 1, 1)), "roles", "it may be a commentator");
+});
+
 test("a denial is contradicted where the public facts forbid nothing", () => {
   const complete = { live: [[1, 4], [], [], []] };
   assert.equal(verdict({ live: [[1], [], [], []] }, "n1", ask.board(1), denied(5, 1, 1)), "contradicted");
@@ -69,23 +94,35 @@ test("where a rule rests on roles the page says so", () => {
   for (const rule of [1, 2]) assert.equal(verdict({}, "s", ask.status(), denied(rule, 0, 0)), "unseen");
 });
 
+test("the roles that a member may have are those that are kept apart in neither edition", () => {
+  assert.equal(possibleRoles(null).length, 10);
+  assert.equal(possibleRoles(null, 2).length, 18);
+  assert.ok(possibleRoles(null).every((roles) => !roles.commentator));
+  assert.ok(possibleRoles(null, 2).every((roles) => !(roles.contestant && roles.commentator)));
+  assert.deepEqual(possibleRoles("NS1"), possibleRoles("NS1", 2));
+  assert.ok(possibleRoles("NS1", 2).every((roles) => roles.contestant && !roles.director));
+});
+
 /** The rules once more, as the page's reader would write them down: a sentence of POLICY each. */
 function ruleByRule(now, pair, roles, { kind, board, table }) {
   const cells = now.rows.filter((row) => row.set === board);
   const isThere = (number) => now.live[board - 1].includes(number);
   const mine = cells.find((row) => pair !== null && [row.ns, row.ew].includes(pair));
   const waiting = cells.map((row) => row.table).filter((number) => !isThere(number)).sort((one, other) => one - other);
+  const second = now.edition === 2;
+  const named = (number, at) => [second ? number + 1 : number, at];
   if (roles.director) return null;
-  if (now.held.includes(board)) return [4, 0];
-  if (roles.contestant && mine && !isThere(mine.table)) return [5, mine.table];
-  if (roles.contestant && !mine && waiting.length) return [6, waiting[0]];
-  if (!roles.contestant && !roles.spectator) return [7, 0];
-  if (!roles.contestant && waiting.length) return [8, waiting[0]];
-  if (["analysis", "costs"].includes(kind) && waiting.length) return [9, waiting[0]];
+  if (second && now.embargo) return [4, 0];
+  if (now.held.includes(board)) return named(4, 0);
+  if (roles.contestant && mine && !isThere(mine.table)) return named(5, mine.table);
+  if (roles.contestant && !mine && waiting.length) return named(6, waiting[0]);
+  if (!roles.contestant && !roles.spectator) return named(7, 0);
+  if (!roles.contestant && !roles.commentator && waiting.length) return named(8, waiting[0]);
+  if (["analysis", "costs"].includes(kind) && !roles.commentator && waiting.length) return named(9, waiting[0]);
   const sitsHere = mine !== undefined && mine.table === table;
-  if (["play", "costs"].includes(kind) && !sitsHere && now.phase === "Running") return [10, table];
-  if (kind === "reason" && !sitsHere) return [11, table];
-  if (["play", "costs", "reason"].includes(kind) && !isThere(table)) return [12, table];
+  if (["play", "costs"].includes(kind) && !sitsHere && now.phase === "Running") return named(10, table);
+  if (kind === "reason" && !sitsHere) return named(11, table);
+  if (["play", "costs", "reason"].includes(kind) && !isThere(table)) return named(12, table);
   return null;
 }
 
@@ -98,21 +135,23 @@ test("the first rule that forbids is named, for all roles, results, phases and f
   ];
   let count = 0;
   const phases = ["Running", "Closed", "Final"];
-  const resultsHeldPhases = [[], [1], [4], [1, 4]].flatMap((live) => [[], [1]].flatMap((held) => phases.map((phase) => [live, held, phase])));
-  for (const [live, held, phase] of resultsHeldPhases) {
-    const now = facts({ live: [live, [], [], []], held, phase });
+  const editions = [{}, { edition: 2, embargo: false }, { edition: 2, embargo: true }];
+  const resultsHeldPhases = [[], [1], [4], [1, 4]].flatMap((live) => [[], [1]].flatMap((held) =>
+    phases.flatMap((phase) => editions.map((edition) => [live, held, phase, edition]))));
+  for (const [live, held, phase, edition] of resultsHeldPhases) {
+    const now = facts({ live: [live, [], [], []], held, phase, ...edition });
     const pairs = [null, "NS1", "EW1", "NS4", "EW4", "NS2", "EW3"];
-    const viewers = pairs.flatMap((pair) => possibleRoles(pair).flatMap((roles) => queries.map((query) => [pair, roles, query])));
+    const viewers = pairs.flatMap((pair) => possibleRoles(pair, now.edition).flatMap((roles) => queries.map((query) => [pair, roles, query])));
     for (const [pair, roles, query] of viewers) {
       const expected = ruleByRule(now, pair, roles, factOf(query));
       const found = denialOf(now, pair, roles, factOf(query));
       assert.deepEqual(
         found && [found.rule, found.table],
         expected,
-        JSON.stringify([live, held, phase, pair, roles, query]),
+        JSON.stringify([live, held, phase, edition, pair, roles, query]),
       );
       count += 1;
     }
   }
-  assert.ok(count > 3000);
+  assert.ok(count > 15000);
 });

@@ -73,6 +73,12 @@ test("where a pair is absent, whoever would meet it sits out", () => {
   assert.equal(isComplete(oneRound, 3), true);
 });
 
+test("a status that names no edition is of the first, without an embargo", () => {
+  assert.deepEqual([facts.edition, facts.embargo], [1, false]);
+  const second = publicFacts({ ...status, edition: 2, embargo: true });
+  assert.deepEqual([second.edition, second.embargo], [2, true]);
+});
+
 test("what is awaited is told by the tables without a result", () => {
   assert.deepEqual([1, 2, 3].map((board) => awaitedTables(facts, board)), [[2], [1, 2, 3], [1, 2]]);
   assert.equal(isComplete(facts, 1), false);

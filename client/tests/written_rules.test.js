@@ -2,6 +2,7 @@
 import assert from "node:assert/strict";
 import { readFileSync, readdirSync } from "node:fs";
 import { test } from "node:test";
+import { ruleOf } from "../denials.js";
 import { texts } from "../texts.js";
 
 const folder = new URL("../", import.meta.url);
@@ -54,6 +55,20 @@ test("every text that a view names is in the table", () => {
   }
 });
 
+test("every rule and every edition has a sentence and a condition of its own", () => {
+  for (const [edition, count] of [[1, 12], [2, 13]]) {
+    const told = Array.from({ length: count }, (_, index) => {
+      const denied = { rule: index + 1, board: 7, table: 3, why: "" };
+      const name = ruleOf(edition, denied.rule);
+      assert.match(texts.denial.condition(name, denied, edition), new RegExp(`^Rule ${denied.rule} forbids [^$]{20}`, "u"));
+      return texts.denial.sentence(name, denied, texts.denial.thing.board);
+    });
+    assert.equal(new Set(told).size, count);
+    for (const sentence of told) assert.doesNotMatch(sentence, /denied by rule|undefined/u);
+  }
+  assert.notEqual(texts.denial.condition("incomplete", { rule: 9 }, 2), texts.denial.condition("incomplete", { rule: 9 }, 1));
+});
+
 test("every refusal of docs/PROTOCOL.md has words of its own", () => {
   const protocol = readFileSync(new URL("../../docs/PROTOCOL.md", import.meta.url), "utf8");
   const [begins, ends] = ["| Refusal | When |", "Where several hold, the first of this order"].map((words) => protocol.indexOf(words));
@@ -64,5 +79,5 @@ test("every refusal of docs/PROTOCOL.md has words of its own", () => {
   for (const name of names) assert.doesNotMatch(texts.refusal(name), /The server refused/u, name);
   assert.match(texts.refusal("Spoiled(anna)"), /^anna sits/u);
   assert.match(texts.refusal("constructor"), /The server refused: constructor/u);
-  for (const set of ["S1", "S2", "S3"]) assert.match(texts.refusal(`Separation(${set})`), /Contestant/u);
+  for (const set of ["S1", "S2", "S3", "S4"]) assert.match(texts.refusal(`Separation(${set})`), /Contestant/u);
 });

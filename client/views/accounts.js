@@ -1,7 +1,7 @@
 // The administrator's desk: users and their roles, inheritance, and new users with a token.
 
 import { button, choice, element, field } from "../dom.js";
-import { ask, command, roles } from "../messages.js";
+import { ask, command, rolesOf } from "../messages.js";
 import { texts } from "../texts.js";
 import { canDigest, digestOf, isDigest, newToken } from "../tokens.js";
 import { answerView } from "./denial.js";
@@ -26,7 +26,7 @@ function usersSection(page, accounts) {
 
 function userItem(page, name, assigned) {
   if (!page.state.permissions?.administer) return element("li", {}, element("b", {}, name), " ", assigned.join(", "));
-  const free = roles.filter((role) => !assigned.includes(role));
+  const free = rolesOf(page.state.facts.edition).filter((role) => !assigned.includes(role));
   return element(
     "li",
     {},
@@ -87,7 +87,7 @@ function inheritanceItem(page, [senior, junior], mayChange) {
 
 function newInheritance(page) {
   const form = page.forms.inheritance;
-  const options = roles.map((role) => [role, role]);
+  const options = rolesOf(page.state.facts.edition).map((role) => [role, role]);
   const set = (part) => (role) => {
     form[part] = role;
     page.draw();
@@ -118,7 +118,7 @@ function newUserSection(page) {
       choice(
         "new-role",
         texts.accounts.role,
-        [["", texts.accounts.noRole], ...roles.map((role) => [role, role])],
+        [["", texts.accounts.noRole], ...rolesOf(page.state.facts.edition).map((role) => [role, role])],
         form.role,
         (value) => { form.role = value; page.draw(); },
       ),

@@ -1,6 +1,6 @@
 // A denial: a sentence, and on demand the public facts by which the rule holds here, with the page's own verdict.
 
-import { checkDenial, rolesBehind } from "../denials.js";
+import { checkDenial, rolesBehind, ruleOf } from "../denials.js";
 import { button, element } from "../dom.js";
 import { keyOf } from "../messages.js";
 import { texts } from "../texts.js";
@@ -16,13 +16,14 @@ export function denialView(page, query, denied, version) {
   const isOpen = page.opened.has(key);
   const id = `check-${query.ask}-${query.table ?? 0}-${query.board ?? 0}`;
   const { rule, board, table } = denied;
+  const name = ruleOf(page.state.facts?.edition ?? 1, rule);
   return element("div", { class: "denial", "data-rule": rule, "data-board": board, "data-table": table },
     element(
       "p",
       { class: "denial-sentence" },
-      texts.denial.sentence(denied, texts.denial.thing[query.ask] ?? texts.denial.thing.board),
+      texts.denial.sentence(name, denied, texts.denial.thing[query.ask] ?? texts.denial.thing.board),
     ),
-    element("p", { class: "note" }, texts.denial.rule(denied), " ", texts.denial.serverSays(denied.why)),
+    element("p", { class: "note" }, texts.denial.rule(name, denied), " ", texts.denial.serverSays(denied.why)),
     button(
       id,
       isOpen ? texts.denial.hideCheck : texts.denial.check,
@@ -39,13 +40,15 @@ export function denialView(page, query, denied, version) {
 function evidence(page, query, denied, version) {
   const { facts, user } = page.state;
   if (denied.rule > 2 && (!facts || page.state.version !== version)) return element("p", {}, texts.denial.movedOn);
+  const edition = facts?.edition ?? 1;
+  const name = ruleOf(edition, denied.rule);
   const { verdict, evidence: found } = denied.rule <= 2 ? {
     verdict: "unseen",
     evidence: [],
   } : checkDenial(facts, user, query, denied);
   return [
     element("p", { class: `verdict verdict-${verdict}`, "data-verdict": verdict }, texts.denial.verdict[verdict]),
-    element("p", {}, texts.denial.condition[denied.rule]),
+    element("p", {}, texts.denial.condition(name, denied, edition)),
     found.length > 0 && element("p", {}, texts.denial.factsOf(version)),
     found.length > 0 && element(
       "ul",
@@ -55,7 +58,7 @@ function evidence(page, query, denied, version) {
     (verdict === "roles" || verdict === "unseen") && element(
       "p",
       { class: "note" },
-      texts.denial.roles[rolesBehind[denied.rule]] ?? texts.denial.roles.account,
+      texts.denial.roles[rolesBehind(edition, name)] ?? texts.denial.roles.account,
     ),
   ];
 }

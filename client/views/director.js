@@ -17,7 +17,9 @@ export function directorView(page, { table, board }) {
   if (table && board) return cellDeskView(page, table, board);
   return [
     heading(texts.director.title),
-    roundSection(page), resultSection(page), heldSection(page), seatsSection(page),
+    roundSection(page), resultSection(page), heldSection(page),
+    page.state.facts.edition === 2 && embargoSection(page),
+    seatsSection(page),
   ];
 }
 
@@ -89,6 +91,26 @@ function resultSection(page) {
         "open-cell",
         texts.director.open,
         () => page.setRoute({ view: "director", table: form.table, board: form.board }),
+      )));
+}
+
+function embargoSection(page) {
+  const { embargo, phase } = page.state.facts;
+  return section(texts.director.embargo,
+    element("p", {}, texts.director.embargoExplained),
+    element("p", { id: "embargo-state" }, embargo ? texts.director.underEmbargo : texts.director.noEmbargo),
+    element("div", { class: "actions" },
+      !embargo && phase !== "Final" && page.twoStep(
+        "embargo",
+        texts.director.putUnder,
+        texts.director.putUnderSure,
+        () => page.perform([command.embargo()], texts.director.putUnderDone),
+      ),
+      embargo && page.twoStep(
+        "lift",
+        texts.director.lift,
+        texts.director.liftSure,
+        () => page.perform([command.lift()], texts.director.lifted),
       )));
 }
 

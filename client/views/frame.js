@@ -60,6 +60,13 @@ export function footView(page) {
       texts.frame.letters)));
 }
 
+/** Above every view, as long as a director withholds all boards. */
+export const embargoView = (page) => page.state.facts.embargo && element(
+  "p",
+  { id: "embargo-notice", class: "notice" },
+  texts.frame.embargo,
+);
+
 export function offlineView(page) {
   if (page.isSlow) return element("p", {}, texts.frame.slow);
   if (!page.offlineFor) return null;

@@ -93,7 +93,7 @@ impl BothWays {
         message: &str,
         writer: &mut O,
     ) -> bool {
-        let Ok(said) = read_script_request(alloc, message.as_bytes()) else {
+        let Ok(said) = read_script_request(alloc, message.as_bytes(), self.view.edition()) else {
             return false;
         };
         let UserRequest::Batch { commands } = &said.request else {
@@ -140,7 +140,7 @@ impl BothWays {
                 request: UserRequest::Query { query, since },
                 ..
             },
-        ) = read_script_request(alloc, question.as_bytes())
+        ) = read_script_request(alloc, question.as_bytes(), self.view.edition())
         else {
             return false;
         };

@@ -1,8 +1,8 @@
 //! The results server once more, for a stored run of words that it doesn't understand, and of many sessions. Called
 //! with words that aren't understood it first explains them as `bridge_server` does, and ends with that status.
 //! Standard input has parts, and each is an LF, a line with its name and then its text. Most parts are a whole script,
-//! which begins with a session object of its own; of five kinds that are none, the name says which it is. Where a part
-//! isn't answered to its end, whatever the cause, nothing follows, and the status is 1.
+//! which begins with a session object of its own; of five kinds that are none, the name up to a comma says which it is.
+//! Where a part isn't answered to its end, whatever the cause, nothing follows, and the status is 1.
 #![tactic(auto)]
 
 mod both_ways;
@@ -91,10 +91,14 @@ fn answer_part<R: Runtime + Wait + AllocGlobal, O: Write>(
     text: &str,
     writer: &mut O,
 ) -> bool {
-    match name {
+    let kind = match name.split_once(", ") {
+        Some((kind, _)) => kind,
+        None => name,
+    };
+    match kind {
         "connections" => answer_connections(rt, text, writer),
         "solver" => answer_beside_solver(rt.alloc(), text, writer),
-        "both ways" | "both ways, 2,000 commands" => answer_both_ways(rt.alloc(), text, writer),
+        "both ways" => answer_both_ways(rt.alloc(), text, writer),
         "session objects" => open_all(rt.alloc(), text, writer),
         "full journal" => answer_repeated(rt.alloc(), text, writer),
         _ => run_script(rt.alloc(), &mut text.as_bytes(), writer).is_ok(),

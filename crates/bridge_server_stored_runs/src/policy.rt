@@ -4,6 +4,7 @@
 use crate::solver::number_in;
 use denials::{Denial, check};
 use disclosure_rules::{Fact, Rule};
+use session_roles::Edition;
 use session_state::State;
 use std::alloc::Global;
 use user_names::Name;
@@ -17,14 +18,17 @@ pub(crate) fn decided_text(alloc: Global, state: &State, words: &str) -> Option<
         return None;
     };
     match state.copy(alloc) {
-        Ok(copy) => rule_text(alloc, copy.decide(user, Fact::Hands(board))),
+        Ok(copy) => {
+            let rule = copy.decide(user, Fact::Hands(board));
+            rule_text(alloc, rule, copy.public().edition)
+        }
         Err(_) => None,
     }
 }
 
-fn rule_text(alloc: Global, rule: Option<Rule>) -> Option<String> {
+fn rule_text(alloc: Global, rule: Option<Rule>, edition: Edition) -> Option<String> {
     match rule {
-        Some(rule) => format!(in alloc; "rule {}", rule.number()).ok(),
+        Some(rule) => format!(in alloc; "rule {}", rule.number(edition)).ok(),
         None => String::from_str(alloc, "allowed").ok(),
     }
 }
@@ -34,7 +38,8 @@ pub(crate) fn checked_text(alloc: Global, state: &State, words: &str) -> Option<
     let Some((user, words)) = words.split_once(" ") else {
         return None;
     };
-    let (Ok(user), Some(denial)) = (Name::new(user), denial_of(words)) else {
+    let (Ok(user), Some(denial)) = (Name::new(user), denial_of(words, state.public().edition))
+    else {
         return None;
     };
     let hands = Fact::Hands(denial.board);
@@ -43,19 +48,26 @@ pub(crate) fn checked_text(alloc: Global, state: &State, words: &str) -> Option<
 }
 
 // The denial of a board by the rule of a number, with a table.
-fn denial_of(words: &str) -> Option<Denial> {
+fn denial_of(words: &str, edition: Edition) -> Option<Denial> {
     let Some((board, words)) = number_in(words) else {
         return None;
     };
     let Some((rule, words)) = number_in(words) else {
         return None;
     };
-    match (rule_numbered(rule), words.parse::<u8>()) {
-        (Some(rule), Ok(table)) => Some(Denial { rule, board, table }),
+    match (rule_numbered(rule, edition), words.parse::<u8>()) {
+        (Some(rule), Ok(table)) => Some(Denial {
+            rule,
+            board,
+            table,
+            edition,
+        }),
         _ => None,
     }
 }
 
-fn rule_numbered(number: u8) -> Option<Rule> {
-    Rule::ALL.into_iter().find(|rule| rule.number() == number)
+fn rule_numbered(number: u8, edition: Edition) -> Option<Rule> {
+    Rule::ALL
+        .into_iter()
+        .find(|rule| rule.number(edition) == number)
 }

@@ -11,7 +11,7 @@ use crate::solver::{costs_told, table_told};
 use request_answers::answer_request;
 use session_book::Answer;
 use session_commands::Refusal;
-use session_keeper::{CommandKeeper, PlainKeeper};
+use session_keeper::{CommandKeeper, Keeper, PlainKeeper};
 use std::alloc::Global;
 use std::io::Write;
 use wire::read_script_request;
@@ -98,7 +98,7 @@ impl Session {
 
     // The answer to a message.
     fn answer(&mut self, alloc: Global, line: &str) -> Option<String> {
-        match read_script_request(alloc, line.as_bytes()) {
+        match read_script_request(alloc, line.as_bytes(), self.keeper.edition()) {
             Ok(said) => {
                 answer_request(&(), alloc, &mut self.keeper, said.user, &said.request).ok()
             }

@@ -43,7 +43,8 @@ use Rattle.std.specs.Option.{option_map, option_or}
 use Rattle.std.proofs.lemmas.Bool.{cases_eq, ne_eqb}
 use Rattle.std.proofs.lemmas.Bool.Decides.{same_from_decides}
 use Rattle.std.proofs.lemmas.List.Sums.{sum_by-cons}
-use Rattle.session_roles.specs.declared.role.Role.TheVariants.{Contestant, Director}
+use Rattle.session_roles.specs.declared.role.Role.TheVariants.{Contestant, Director, Commentator}
+use Rattle.session_roles.specs.Edition.{is_second}
 use Rattle.movement.specs.declared.cell.Cell.{Cell}
 use Rattle.movement.specs.Movement.{Section, IsSection, IsCell, Row, rows, boards_of, most_boards}
 use Rattle.movement.specs.Row.{Plays}
@@ -51,11 +52,13 @@ use Rattle.movement.specs.Schedule.{is_scheduled, plays}
 use Rattle.movement.proofs.CellLemmas.{cell_in_range}
 use Rattle.movement.proofs.RowLemmas.{in_range}
 use Rattle.disclosure_rules.specs.declared.fact.Fact.TheVariants.{Hands}
+use Rattle.disclosure_rules.specs.declared.public.Public.{Public}
 use Rattle.disclosure_rules.specs.declared.rule.Rule.{Rule}
 use Rattle.disclosure_rules.specs.declared.rule.Rule.TheVariants.{
   NoAccount,
   NotAMember,
   AccountsAreClosed,
+  SessionIsEmbargoed,
   BoardIsHeld,
   StillToPlay,
   OthersStillPlay,
@@ -83,6 +86,7 @@ use Rattle.disclosure_rules.specs.Seating.{
 use Rattle.small_sets.proofs.NumbersLemmas.{has_number-numbers_that}
 use Rattle.disclosure_rules.proofs.SeatingTests.{still_decides, complete_decides}
 use Rattle.session_state.specs.Apply.{apply, effect, confirmed}
+use Rattle.session_state.specs.Parts.{part_of, Embargoes}
 use Rattle.session_commands.specs.declared.cell_state.CellState.{CellState}
 use Rattle.session_commands.specs.declared.cell_state.CellState.TheVariants.{Empty, Entered, Confirmed, Ruled}
 use Rattle.session_state.specs.Refusal.{hindrance_of}
@@ -98,7 +102,7 @@ use Rattle.standings.specs.declared.earning.Earning.{Earning}
 use Rattle.session_queries.specs.Content.{result_of}
 use Rattle.session_queries.specs.Facts.{cell_on, boards}
 use Rattle.session_queries.specs.Reading.{result_at}
-use Rattle.class_views.specs.Classes.{member_of, sees_board}
+use Rattle.class_views.specs.Classes.{member_of, sees_board, without_embargo}
 use Rattle.class_views.specs.declared.user_class.UserClass.{UserClass}
 use Rattle.session_queries.specs.Results.{live_result, live_results}
 use Rattle.class_views.specs.Totals.{earnings_with, earnings_on, counted_on, counted_for, told_board, IsSameOn}
@@ -155,6 +159,8 @@ held_after state entry board other from to = by_hindrance (hindrance_of state en
     by_command (command.DeleteInheritance senior junior) not_it = refl
     by_command (command.Solved own table) not_it = refl
     by_command (command.Analysed cell costs) not_it = refl
+    by_command command.Embargo not_it = refl
+    by_command command.Lift not_it = refl
 
     by_hindrance : (found : Option Refusal) → has_number (if is_some found then state else effect state
         entry.command).public.held board ≡ has_number state.public.held board
@@ -176,6 +182,7 @@ same_elsewhere state entry board is_section other from to live live_after =
     record {
       movement = part.movement;
       marks = part.marks;
+      edition = part.edition;
       held = held_after state entry board other from to;
       live = λ table low high.
           live_after (cell_on board table) (there table low high)
@@ -192,6 +199,10 @@ same_elsewhere state entry board is_section other from to live live_after =
         (about_its_board entry.command (cell_on board table) other)
 
 -- ---- what is the same on such a board
+
+-- the public facts, with an embargo or without one
+abbrev with_embargo : Bool → Public → Public
+with_embargo embargo public = record public { embargo = embargo }
 
 module _ (before after : SessionState) (board : ℕ) (same : IsSameOn before after board)
     (is_section : IsSection before.public.movement) where
@@ -261,10 +272,11 @@ module _ (before after : SessionState) (board : ℕ) (same : IsSameOn before aft
           (record { table = cell.table; board = b })) (sym own)
           (same.live cell.table there.from_table (omega (arith, there.to_table, is_section.not_too_many_tables)))
 
-  -- the policy says the same of its hands
-  pub same_sees : (viewer : Viewer) → sees_board after.public viewer board ≡ sees_board before.public viewer board
-  unfolding first_rule
-  same_sees viewer = ap is_none (same_find _ _ rules each)
+  -- the policy says the same of its hands, where there is an embargo before and after or neither before nor after
+  same_sees_under : (was is : Bool) → is ≡ was → (viewer : Viewer) → sees_board (with_embargo is after.public) viewer
+      board ≡ sees_board (with_embargo was before.public) viewer board
+  unfolding first_rule has_still_to_play plays_board is_complete
+  same_sees_under was is so viewer = ap is_none (same_find _ _ rules each)
     where
       both : (test other : ℕ → Bool) → test board ≡ other board → some_that (guarded viewer (Some board)) test ≡
           some_that (guarded viewer (Some board)) other
@@ -287,21 +299,28 @@ module _ (before after : SessionState) (board : ℕ) (same : IsSameOn before aft
           by true = refl
           by false = refl
 
-      each : (rule : Rule) → forbids rule after.public viewer (Hands board) ≡ forbids rule before.public viewer
-          (Hands board)
+      each : (rule : Rule) → forbids rule (with_embargo is after.public) viewer (Hands board) ≡ forbids rule
+          (with_embargo was before.public) viewer (Hands board)
       each NoAccount = refl
       each NotAMember = refl
       each AccountsAreClosed = refl
+      each SessionIsEmbargoed = both _ _ (λ i. is_second (same.edition i) && so i)
       each BoardIsHeld = both _ _ same.held
       each StillToPlay = both _ _ (ap (λ b. is_authorized viewer.roles Contestant && b) (same_still viewer))
       each OthersStillPlay = both _ _ (λ i. is_authorized viewer.roles Contestant &&
           (not (same_plays viewer i) && not (same_complete i)))
       each NeitherContestantNorSpectator = both _ _ refl
-      each BoardIsIncomplete = both _ _ (ap (λ b. not (is_authorized viewer.roles Contestant) && not b) same_complete)
+      each BoardIsIncomplete = both _ _ (λ i. not (is_authorized viewer.roles Contestant) &&
+          (not (is_second (same.edition i) && is_authorized viewer.roles Commentator) && not (same_complete i)))
       each AnalysisWaits = both _ _ refl
       each PlayWaits = no_cell _ _
       each ReasonIsForThePairs = no_cell _ _
       each NoResult = no_cell _ _
+
+  -- so without an embargo it does
+  pub same_sees : (viewer : Viewer) → sees_board (without_embargo after.public) viewer board ≡ sees_board
+      (without_embargo before.public) viewer board
+  same_sees = same_sees_under false false refl
 
   -- and its results count the same
   same_result : (table : ℕ) → 1 ≤ table → table ≤ 16 → live_result after board table ≡ live_result before board table
@@ -325,10 +344,12 @@ module _ (before after : SessionState) (board : ℕ) (same : IsSameOn before aft
       ∙ ap (earnings_with before.public.movement (slice_get before.public.marks (board - 1)))
       (same_results 1 before.public.movement.tables (omega arith) (omega (arith, tables)))
 
-  pub same_counted : (count : Earning → ℕ) (class : Option UserClass) → counted_on count after class board ≡ counted_on
-      count before class board
-  same_counted count None = refl
-  same_counted count (Some class) = λ i. if same_sees (member_of class) i then sum_by count (same_earnings i) else 0
+  pub same_counted : after.public.embargo ≡ before.public.embargo → (count : Earning → ℕ) (class : Option UserClass) →
+      counted_on count after class board ≡ counted_on count before class board
+  same_counted so count None = refl
+  same_counted so count (Some class) =
+      λ i. if same_sees_under before.public.embargo after.public.embargo so (member_of class) i
+      then sum_by count (same_earnings i) else 0
 
 -- ---- what all boards count
 
@@ -378,6 +399,34 @@ sum_changed f g first (suc n) board from to same =
           )
     ]
 
+-- there is no board where there is none
+no_board : (board : ℕ) → None ≢ Some board
+no_board board same = absurd cc
+
+-- a command about a board is about no embargo
+about_no_embargo : (c : Command) (board : ℕ) → told_board c ≡ Some board → part_of c ≢ Embargoes
+about_no_embargo (command.Enter cell outcome play) board about is = absurd cc
+about_no_embargo (command.Confirm cell outcome) board about is = absurd cc
+about_no_embargo (command.Correct cell outcome play) board about is = absurd cc
+about_no_embargo (command.Rule cell north_south east_west reason) board about is = absurd cc
+about_no_embargo (command.Void cell) board about is = absurd cc
+about_no_embargo (command.Hold own) board about is = absurd cc
+about_no_embargo (command.Release own) board about is = absurd cc
+about_no_embargo (command.Seat name pair place) board about is = absurd cc
+about_no_embargo (command.Unseat name) board about is = absurd cc
+about_no_embargo command.NextRound board about is = absurd cc
+about_no_embargo command.Close board about is = absurd cc
+about_no_embargo command.Finalise board about is = absurd cc
+about_no_embargo (command.AddUser name digest) board about is = absurd cc
+about_no_embargo (command.Assign name role) board about is = absurd cc
+about_no_embargo (command.Deassign name role) board about is = absurd cc
+about_no_embargo (command.AddInheritance senior junior) board about is = absurd cc
+about_no_embargo (command.DeleteInheritance senior junior) board about is = absurd cc
+about_no_embargo (command.Solved own table) board about is = absurd cc
+about_no_embargo (command.Analysed cell costs) board about is = absurd cc
+about_no_embargo command.Embargo board about is = absurd (no_board board about)
+about_no_embargo command.Lift board about is = absurd (no_board board about)
+
 -- an entry changes what all boards count by what its own board counts
 pub counted_after : (count : Earning → ℕ) (state : SessionState) (entry : Entry) (class : Option UserClass)
     (board : ℕ) → IsSection state.public.movement →
@@ -395,36 +444,8 @@ counted_after count state entry class board is_section live live_after from to a
     (λ m other low high.
     same_counted state (apply state entry) m
     (same_elsewhere state entry m is_section (λ it. other (some_injective (sym it ∙ about))) low
-    (omega (arith, high, is_section.not_too_many_boards)) live live_after) is_section count class)
+    (omega (arith, high, is_section.not_too_many_boards)) live live_after) is_section
+    (boards_same.embargo (about_no_embargo entry.command board about)) count class)
   where
     some_injective : {m n : ℕ} → Some m ≡ Some n → m ≡ n
     some_injective same = cc
-
--- an entry about no board changes nothing of it
-pub counted_kept : (count : Earning → ℕ) (state : SessionState) (entry : Entry) (class : Option UserClass) →
-    IsSection state.public.movement →
-    AreLive state.public.live state.cells → AreLive (apply state entry).public.live (apply state entry).cells →
-    told_board entry.command ≡ None →
-    counted_for count (apply state entry) class ≡ counted_for count state class
-unfolding counted_for
-counted_kept count state entry class is_section live live_after none =
-    let boards_same = entry_part state entry in
-    ap (λ (section : Section). sum_by (counted_on count (apply state entry) class) (boards section))
-    boards_same.movement
-    ∙ each 1 (boards_of state.public.movement) (omega arith) (omega arith)
-  where
-    each : (first n : ℕ) → 1 ≤ first → first + n ≤ boards_of state.public.movement + 1 →
-        sum_by (counted_on count (apply state entry) class) (range_with_len first n) ≡ sum_by
-        (counted_on count state class) (range_with_len first n)
-    each first zero from to = refl
-    each first (suc n) from to =
-        sum_by-cons (counted_on count (apply state entry) class) first (range_with_len (first + 1) n)
-        ∙ ((λ i.
-        same_counted state (apply state entry) first
-        (same_elsewhere state entry first is_section (λ it. absurd (nothing (sym it ∙ none))) from
-        (omega (arith, to, is_section.not_too_many_boards)) live live_after) is_section count class i
-        + each (first + 1) n (omega (arith, from)) (omega (arith, to)) i)
-        ∙ sym (sum_by-cons (counted_on count state class) first (range_with_len (first + 1) n)))
-      where
-        nothing : {m : ℕ} → Some m ≡ None → ⊥
-        nothing same = absurd cc

@@ -26,7 +26,7 @@ use Rattle.std.specs.List.{find, list_any}
 use Rattle.std.proofs.lemmas.Bool.{cases_Bool, false≢true, le-leb, false_from_ne_true}
 use Rattle.table_terms.specs.declared.pair.Pair.{Pair}
 use Rattle.session_roles.specs.declared.role.Role.{Role}
-use Rattle.session_roles.specs.declared.role.Role.TheVariants.{Member, Spectator, Director}
+use Rattle.session_roles.specs.declared.role.Role.TheVariants.{Member, Spectator, Director, Commentator}
 use Rattle.movement.specs.Movement.{IsSection, Section, rows, Row}
 use Rattle.movement.specs.Row.{Seats, Plays}
 use Rattle.movement.specs.Schedule.{plays}
@@ -38,6 +38,7 @@ use Rattle.disclosure_rules.specs.declared.rule.Rule.TheVariants.{
   NoAccount,
   NotAMember,
   AccountsAreClosed,
+  SessionIsEmbargoed,
   BoardIsHeld,
   StillToPlay,
   OthersStillPlay,
@@ -50,14 +51,40 @@ use Rattle.disclosure_rules.specs.declared.rule.Rule.TheVariants.{
 }
 use Rattle.disclosure_rules.specs.declared.seat.Seat.{Seat}
 use Rattle.disclosure_rules.specs.declared.viewer.Viewer.{Viewer}
-use Rattle.disclosure_rules.specs.Policy.{is_authorized, is_contestant, guarded, forbids, first_rule, rules}
+use Rattle.session_roles.specs.Edition.{is_second}
+use Rattle.disclosure_rules.specs.Policy.{
+  is_authorized,
+  is_contestant,
+  is_embargoed,
+  comments,
+  guarded,
+  forbids,
+  first_rule,
+  rules,
+}
 use Rattle.disclosure_rules.specs.Seating.{some_that, plays_board, has_still_to_play, is_complete, cell_in}
 use Rattle.disclosure_rules.specs.LiveCells.{is_live}
 use Rattle.disclosure_rules.proofs.SeatingTests.{plays_board_decides, still_decides}
 use Rattle.disclosure_rules.proofs.FirstLemmas.{no_first, none_forbids}
-use Rattle.class_views.specs.Classes.{member_of, is_kept_pair, class_of_seat, class_of, sees_board, class_sees}
+use Rattle.class_views.specs.Classes.{
+  member_of,
+  is_kept_pair,
+  class_of_seat,
+  class_of_spectator,
+  class_of,
+  sees_board,
+  class_sees,
+  is_shown_boards,
+  without_embargo,
+}
 use Rattle.class_views.specs.declared.user_class.UserClass.{UserClass}
-use Rattle.class_views.specs.declared.user_class.UserClass.TheVariants.{OfPair, Unseated, Spectators, Directors}
+use Rattle.class_views.specs.declared.user_class.UserClass.TheVariants.{
+  OfPair,
+  Unseated,
+  Spectators,
+  Directors,
+  Commentators,
+}
 
 -- whether something is found by tests that agree
 pub same_find : (p q : Rule → Bool) (xs : List Rule) → ((rule : Rule) → p rule ≡ q rule) → find p xs ≡ find q xs
@@ -105,6 +132,7 @@ director_sees public viewer board member director = ap is_none (no_first public 
     allowed NoAccount = has_account viewer.roles Member member
     allowed NotAMember = ap not member
     allowed AccountsAreClosed = refl
+    allowed SessionIsEmbargoed = unguarded_so viewer (Some board) _ director
     allowed BoardIsHeld = unguarded_so viewer (Some board) _ director
     allowed StillToPlay = unguarded_so viewer (Some board) _ director
     allowed OthersStillPlay = unguarded_so viewer (Some board) _ director
@@ -128,6 +156,8 @@ pub record Alike (public : Public) (viewer other : Viewer) (board : ℕ) : Type 
       (is_contestant other && has_still_to_play public other board)
   pub plays : (is_contestant viewer && (not (plays_board public viewer board) && not (is_complete public board))) ≡
       (is_contestant other && (not (plays_board public other board) && not (is_complete public board)))
+  pub waits : (not (is_contestant viewer) && (not (comments public viewer) && not (is_complete public board))) ≡
+      (not (is_contestant other) && (not (comments public other) && not (is_complete public board)))
 
 -- users who are alike are shown the same
 alike_see : (public : Public) (viewer other : Viewer) (board : ℕ) → Alike public viewer other board →
@@ -145,11 +175,12 @@ alike_see public viewer other board alike = same_rules public viewer other board
         ∙ sym (has_account other.roles Member alike.other_member)
     same NotAMember = ap not alike.member ∙ sym (ap not alike.other_member)
     same AccountsAreClosed = refl
+    same SessionIsEmbargoed = both _ _ refl
     same BoardIsHeld = both _ _ refl
     same StillToPlay = both _ _ alike.still
     same OthersStillPlay = both _ _ alike.plays
     same NeitherContestantNorSpectator = both _ _ alike.watches
-    same BoardIsIncomplete = both _ _ (ap (λ b. not b && not (is_complete public board)) alike.contestant)
+    same BoardIsIncomplete = both _ _ alike.waits
     same AnalysisWaits = both _ _ refl
     same PlayWaits = no_cell viewer _ ∙ sym (no_cell other _)
     same ReasonIsForThePairs = no_cell viewer _ ∙ sym (no_cell other _)
@@ -269,6 +300,9 @@ module _ (public : Public) (viewer : Viewer) (board : ℕ) (is_section : IsSecti
           ∙ sym (ap (λ b. not b && not (is_authorized other.roles Spectator)) other_too);
       still = and_same _ _ _ _ (plays_too ∙ sym other_too) still;
       plays = and_same _ _ _ _ (plays_too ∙ sym other_too) (ap (λ b. not b && not (is_complete public board)) plays);
+      waits =
+          ap (λ b. not b && (not (comments public viewer) && not (is_complete public board))) plays_too
+          ∙ sym (ap (λ b. not b && (not (comments public other) && not (is_complete public board))) other_too);
     }
 
     pub contestant_alike : is_contestant viewer ≡ true → (seat : Option Seat) → viewer.seat ≡ seat →
@@ -297,23 +331,46 @@ module _ (public : Public) (viewer : Viewer) (board : ℕ) (is_section : IsSecti
     contestant_sees contestant seat sits =
         alike_see public viewer (member_of (class_of_seat seat)) board (contestant_alike contestant seat sits)
 
-    -- a spectator is like any other
-    pub spectator_alike : is_contestant viewer ≡ false → is_authorized viewer.roles Spectator ≡ true → Alike public viewer
-        (member_of Spectators) board
-    spectator_alike none spectator = record {
+    -- a spectator is like any other who comments or doesn't
+    spectator_like : (other : Viewer) → is_authorized other.roles Member ≡ true → is_authorized other.roles Director ≡
+        false → is_contestant other ≡ false → is_authorized other.roles Spectator ≡ true →
+        is_authorized viewer.roles Commentator ≡ is_authorized other.roles Commentator →
+        is_contestant viewer ≡ false → is_authorized viewer.roles Spectator ≡ true → Alike public viewer other board
+    spectator_like other other_member other_free other_none other_spectator commentator none spectator = record {
       member = member;
-      other_member = refl;
+      other_member = other_member;
       no_director = no_director;
-      other_no_director = refl;
-      contestant = none;
-      watches = (λ i. not (none i) && not (spectator i));
-      still = ap (λ b. b && has_still_to_play public viewer board) none;
-      plays = ap (λ b. b && (not (plays_board public viewer board) && not (is_complete public board))) none;
+      other_no_director = other_free;
+      contestant = none ∙ sym other_none;
+      watches = (λ i. not (none i) && not (spectator i)) ∙ sym (λ i. not (other_none i) && not (other_spectator i));
+      still =
+          ap (λ b. b && has_still_to_play public viewer board) none
+          ∙ sym (ap (λ b. b && has_still_to_play public other board) other_none);
+      plays =
+          ap (λ b. b && (not (plays_board public viewer board) && not (is_complete public board))) none
+          ∙ sym (ap (λ b. b && (not (plays_board public other board) && not (is_complete public board))) other_none);
+      waits = λ i. not ((none ∙ sym other_none) i)
+          && (not (is_second public.edition && commentator i) && not (is_complete public board));
     }
 
+    pub spectator_alike : is_contestant viewer ≡ false → is_authorized viewer.roles Spectator ≡ true → Alike public viewer
+        (member_of (class_of_spectator viewer)) board
+    spectator_alike none spectator =
+        elim (cases_Bool (is_authorized viewer.roles Commentator)) [
+          | inl commentator ↦
+              subst (λ b. Alike public viewer (member_of (if b then Commentators else Spectators)) board)
+              (sym commentator)
+              (spectator_like (member_of Commentators) refl refl refl refl commentator none spectator)
+          | inr no_commentator ↦
+              subst (λ b. Alike public viewer (member_of (if b then Commentators else Spectators)) board)
+              (sym no_commentator)
+              (spectator_like (member_of Spectators) refl refl refl refl no_commentator none spectator)
+        ]
+
     spectator_sees : is_contestant viewer ≡ false → is_authorized viewer.roles Spectator ≡ true → sees_board public viewer
-        board ≡ sees_board public (member_of Spectators) board
-    spectator_sees none spectator = alike_see public viewer (member_of Spectators) board (spectator_alike none spectator)
+        board ≡ sees_board public (member_of (class_of_spectator viewer)) board
+    spectator_sees none spectator = alike_see public viewer (member_of (class_of_spectator viewer)) board
+        (spectator_alike none spectator)
 
     -- who neither plays nor watches sees nothing
     stranger_sees : is_contestant viewer ≡ false → is_authorized viewer.roles Spectator ≡ false → sees_board public viewer
@@ -331,7 +388,8 @@ same_class_sees public viewer board is_section = by_member (is_authorized viewer
   where
     by_spectator : is_authorized viewer.roles Member ≡ true → is_authorized viewer.roles Director ≡ false →
         is_contestant viewer ≡ false → (b : Bool) → is_authorized viewer.roles Spectator ≡ b →
-        sees_board public viewer board ≡ class_sees public (if b then Some Spectators else None) board
+        sees_board public viewer board ≡ class_sees public (if b then Some (class_of_spectator viewer)
+        else None) board
     by_spectator member free none true is = spectator_sees public viewer board is_section member free none is
     by_spectator member free none false is = stranger_sees public viewer board is_section member free none is
 
@@ -339,14 +397,14 @@ same_class_sees public viewer board is_section = by_member (is_authorized viewer
         (b : Bool) → is_contestant viewer ≡ b →
         sees_board public viewer board ≡ class_sees public
         (if b then Some (class_of_seat viewer.seat) else if is_authorized viewer.roles Spectator then Some
-        Spectators else None) board
+        (class_of_spectator viewer) else None) board
     by_contestant member free true is = contestant_sees public viewer board is_section member free is viewer.seat refl
     by_contestant member free false is = by_spectator member free is (is_authorized viewer.roles Spectator) refl
 
     by_director : is_authorized viewer.roles Member ≡ true → (b : Bool) → is_authorized viewer.roles Director ≡ b →
         sees_board public viewer board
         ≡ class_sees public (if b then Some Directors else if is_contestant viewer then Some (class_of_seat viewer.seat)
-        else if is_authorized viewer.roles Spectator then Some Spectators else None) board
+        else if is_authorized viewer.roles Spectator then Some (class_of_spectator viewer) else None) board
     by_director member true is = director_sees public viewer board member is
         ∙ sym (director_sees public (member_of Directors) board refl refl)
     by_director member false is = by_contestant member is (is_contestant viewer) refl
@@ -358,10 +416,71 @@ same_class_sees public viewer board is_section = by_member (is_authorized viewer
         ∙ ap (λ (class : Option UserClass). class_sees public class board)
         (sym (ap (λ b. if not b then None else if is_authorized viewer.roles Director then Some Directors
         else if is_contestant viewer then Some (class_of_seat viewer.seat) else if is_authorized viewer.roles
-        Spectator then Some Spectators else None) is))
+        Spectator then Some (class_of_spectator viewer) else None) is))
     by_member false is =
         forbidden_sees public viewer board NotAMember (ap not is)
         ∙ ap (λ (class : Option UserClass). class_sees public class board)
         (sym (ap (λ b. if not b then None else if is_authorized viewer.roles Director then Some Directors
         else if is_contestant viewer then Some (class_of_seat viewer.seat) else if is_authorized viewer.roles
-        Spectator then Some Spectators else None) is))
+        Spectator then Some (class_of_spectator viewer) else None) is))
+
+-- ---- embargoes
+
+module _ (public : Public) (board : ℕ) where
+  -- where there is no embargo, the rules say the same as without one
+  no_embargo_sees : (viewer : Viewer) → is_embargoed public ≡ false → sees_board public viewer board ≡ sees_board
+      (without_embargo public) viewer board
+  unfolding first_rule has_still_to_play plays_board is_complete
+  no_embargo_sees viewer none = ap is_none (same_find _ _ rules same)
+    where
+      no_other : is_embargoed public ≡ (is_second public.edition && false)
+      no_other = none ∙ never (is_second public.edition)
+        where
+          never : (b : Bool) → false ≡ (b && false)
+          never true = refl
+          never false = refl
+
+      same : (rule : Rule) → forbids rule public viewer (Hands board) ≡ forbids rule (without_embargo public) viewer
+          (Hands board)
+      same NoAccount = refl
+      same NotAMember = refl
+      same AccountsAreClosed = refl
+      same SessionIsEmbargoed = ap (λ b. some_that (guarded viewer (Some board)) (λ _. b)) no_other
+      same BoardIsHeld = refl
+      same StillToPlay = refl
+      same OthersStillPlay = refl
+      same NeitherContestantNorSpectator = refl
+      same BoardIsIncomplete = refl
+      same AnalysisWaits = refl
+      same PlayWaits = refl
+      same ReasonIsForThePairs = refl
+      same NoResult = refl
+
+  -- under an embargo who is no director is shown nothing
+  embargo_sees : (viewer : Viewer) → is_authorized viewer.roles Director ≡ false → is_embargoed public ≡ true →
+      sees_board public viewer board ≡ false
+  embargo_sees viewer free embargo =
+      forbidden_sees public viewer board SessionIsEmbargoed
+      (guarded_so viewer (Some board) (λ _. is_embargoed public) free ∙ embargo)
+
+  not_director : (viewer : Viewer) → is_authorized viewer.roles Director ≡ false → sees_board public viewer board ≡
+      (not (is_embargoed public) && sees_board (without_embargo public) viewer board)
+  not_director viewer free =
+      elim (cases_Bool (is_embargoed public)) [
+        | inl embargo ↦
+            embargo_sees viewer free embargo
+            ∙ sym (ap (λ b. not b && sees_board (without_embargo public) viewer board) embargo)
+        | inr none ↦
+            no_embargo_sees viewer none
+            ∙ sym (ap (λ b. not b && sees_board (without_embargo public) viewer board) none)
+      ]
+
+  -- a class is shown what it would be without an embargo, where it may be shown boards at all
+  pub class_sees_now : (class : UserClass) → class_sees public (Some class) board ≡
+      (is_shown_boards public class && class_sees (without_embargo public) (Some class) board)
+  class_sees_now Directors = director_sees public (member_of Directors) board refl refl
+      ∙ sym (director_sees (without_embargo public) (member_of Directors) board refl refl)
+  class_sees_now (OfPair pair) = not_director (member_of (OfPair pair)) refl
+  class_sees_now Unseated = not_director (member_of Unseated) refl
+  class_sees_now Spectators = not_director (member_of Spectators) refl
+  class_sees_now Commentators = not_director (member_of Commentators) refl

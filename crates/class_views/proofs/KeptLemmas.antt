@@ -43,7 +43,7 @@ use Rattle.session_commands.specs.declared.entry.Entry.{Entry}
 use Rattle.session_state.proofs.PartLemmas.{entry_part}
 use Rattle.standings.specs.declared.earning.Earning.{Earning}
 use Rattle.standings.specs.Ranking.{earned_by, top_for, standing_of}
-use Rattle.class_views.specs.Classes.{class_sees, member_of}
+use Rattle.class_views.specs.Classes.{class_sees, member_of, without_embargo}
 use Rattle.class_views.specs.Totals.{IsSameOn, earnings_on, told_board}
 use Rattle.class_views.specs.Kept.{
   AreWithinBoard,
@@ -211,9 +211,10 @@ module _ (state : SessionState) (own : ℕ) (from : 1 ≤ own) (to : own ≤ boa
     (old new row : List Standing) where
   -- a board is taken in
   pub kept_changed : IsKept (boards_of state.public.movement) sees earned classes rows →
-      IsBoardOf state own (boards_of state.public.movement) sees sees_now earned earned_now → length classes_now ≡ 35 →
-      ((place : ℕ) (d : ClassView) → place < 35 → IsClassWith own (class_sees state.public (Some (class_at place)) own)
-      old new (get_or classes place d) (get_or classes_now place d)) →
+      IsBoardOf state own (boards_of state.public.movement) sees sees_now earned earned_now → length classes_now ≡ 36 →
+      ((place : ℕ) (d : ClassView) → place < 36 → IsClassWith own
+      (class_sees (without_embargo state.public) (Some (class_at place)) own) old new (get_or classes place d)
+      (get_or classes_now place d)) →
       ((d : List Standing) → old ≡ get_or rows (own - 1) d) → AreStandings (earnings_on state own) new → AreStandings
       (earnings_on state own) row → AreWithinBoard row →
       IsKept (boards_of state.public.movement) sees_now earned_now classes_now (set rows (own - 1) row)
@@ -344,9 +345,9 @@ nothing_counted : (count : Earning → ℕ) (n : ℕ) → counted_to count (λ b
 unfolding counted_to
 nothing_counted count n = no_sum 1 n
 
-pub nothing_kept : (boards : ℕ) (classes : List ClassView) (rows : List (List Standing)) → length classes ≡ 35 →
+pub nothing_kept : (boards : ℕ) (classes : List ClassView) (rows : List (List Standing)) → length classes ≡ 36 →
     length rows ≡ boards →
-    ((place : ℕ) (d : ClassView) → place < 35 → IsNothing (get_or classes place d)) →
+    ((place : ℕ) (d : ClassView) → place < 36 → IsNothing (get_or classes place d)) →
     ((place : ℕ) (d : List Standing) → place < boards → AreStandings [] (get_or rows place d)) →
     ((place : ℕ) (d : List Standing) → place < boards → AreWithinBoard (get_or rows place d)) →
     IsKept boards (λ class board. false) (λ board. []) classes rows

@@ -6,7 +6,13 @@ use Rattle.table_terms.specs.declared.side.Side.TheVariants.{NorthSouth, EastWes
 use Rattle.standings.specs.Ranking.{pair_on}
 use Rattle.class_views.specs.Places.{pair_at, class_at}
 use Rattle.class_views.specs.declared.user_class.UserClass.{UserClass}
-use Rattle.class_views.specs.declared.user_class.UserClass.TheVariants.{OfPair, Unseated, Spectators, Directors}
+use Rattle.class_views.specs.declared.user_class.UserClass.TheVariants.{
+  OfPair,
+  Unseated,
+  Spectators,
+  Directors,
+  Commentators,
+}
 
 pub north_south_place : (number : ℕ) → 1 ≤ number → number ≤ 16 → pair_at (number - 1) ≡ pair_on NorthSouth number
 unfolding pair_at
@@ -30,7 +36,9 @@ east_west_place number from to =
 
 -- the class at a place, where it is one of the pairs', and where not
 later_class : ℕ → UserClass
-later_class place = if nat_eq place 32 then Unseated else if nat_eq place 33 then Spectators else Directors
+later_class place =
+    if nat_eq place 32 then Unseated else if nat_eq place 33 then Spectators else if nat_eq place 34 then Directors
+    else Commentators
 
 pub pair_class : (place : ℕ) → place < 32 → class_at place ≡ OfPair (pair_at place)
 unfolding class_at later_class
@@ -48,10 +56,16 @@ pub spectators_class : (place : ℕ) → place ≡ 33 → Spectators ≡ class_a
 unfolding class_at
 spectators_class place is = sym (ap class_at is)
 
-pub directors_class : (place : ℕ) → 34 ≤ place → Directors ≡ class_at place
+pub directors_class : (place : ℕ) → place ≡ 34 → Directors ≡ class_at place
+unfolding class_at
+directors_class place is = sym (ap class_at is)
+
+pub commentators_class : (place : ℕ) → 35 ≤ place → Commentators ≡ class_at place
 unfolding later_class
-directors_class place from =
+commentators_class place from =
     sym (after_pairs place (omega (arith, from))
     ∙ ((λ i. cond (ne_eqb place 32 (λ is. absurd (omega (arith, is, from))) i) Unseated
-    (if nat_eq place 33 then Spectators else Directors))
-    ∙ (λ i. cond (ne_eqb place 33 (λ is. absurd (omega (arith, is, from))) i) Spectators Directors)))
+    (if nat_eq place 33 then Spectators else if nat_eq place 34 then Directors else Commentators))
+    ∙ ((λ i. cond (ne_eqb place 33 (λ is. absurd (omega (arith, is, from))) i) Spectators
+    (if nat_eq place 34 then Directors else Commentators))
+    ∙ (λ i. cond (ne_eqb place 34 (λ is. absurd (omega (arith, is, from))) i) Directors Commentators))))

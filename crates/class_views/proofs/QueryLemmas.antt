@@ -27,7 +27,7 @@ use Rattle.std.proofs.Common.{
   ◌∙◌,
   arith,
 }
-use Rattle.std.specs.Prelude.{Option, Some, None, is_none}
+use Rattle.std.specs.Prelude.{Option, Some, None, is_none, ◌&&◌, if◌then◌else◌}
 use Rattle.std.specs.List.{range_with_len, sum_by}
 use Rattle.std.proofs.lemmas.List.{map-append}
 use Rattle.std.proofs.lemmas.List.Elements.{filter-append}
@@ -43,13 +43,13 @@ use Rattle.disclosure_rules.specs.declared.viewer.Viewer.{Viewer}
 use Rattle.session_state.specs.SessionState.{SessionState}
 use Rattle.standings.specs.declared.earning.Earning.{Earning}
 use Rattle.standings.specs.Ranking.{earned_by, top_for, pair_on, pairs_on}
-use Rattle.class_views.specs.Classes.{class_of, class_sees}
-use Rattle.class_views.specs.Kept.{IsKeptOf, counted_to}
+use Rattle.class_views.specs.Classes.{class_of, class_sees, is_shown_boards, without_embargo}
+use Rattle.class_views.specs.Kept.{IsKeptOf, counted_to, seen_in}
 use Rattle.class_views.specs.Places.{class_at, pair_at}
-use Rattle.class_views.specs.Totals.{counted_for, total_for}
+use Rattle.class_views.specs.Totals.{counted_for, earnings_on, total_for}
 use Rattle.class_views.specs.declared.class_view.ClassView.{ClassView}
 use Rattle.class_views.specs.declared.user_class.UserClass.{UserClass}
-use Rattle.class_views.proofs.ClassLemmas.{same_class_sees}
+use Rattle.class_views.proofs.ClassLemmas.{same_class_sees, class_sees_now}
 
 -- a board of a section is one from 1 to its boards
 pub board_from : (section : Section) (board : ℕ) → has_board section board ≡ true → 1 ≤ board
@@ -60,36 +60,58 @@ board_to section board has = search rules
 
 module _ (state : SessionState) (classes : List ClassView) (rows : List (List Standing))
     (kept : IsKeptOf state classes rows) where
-  -- what a class sees
-  pub sees_kept : (viewer : Viewer) (class : UserClass) (place board : ℕ) (d : ClassView) →
-      IsSection state.public.movement → class_of viewer ≡ Some class → class_at place ≡ class → place < 35 →
-      1 ≤ board → board ≤ boards_of state.public.movement → has_number (get_or classes place d).boards board ≡ is_none
-      (first_rule state.public viewer (Hands board))
-  sees_kept viewer class place board d is_section of_class at below from to =
-      (kept.classes_kept place d below).seen board from to
-      ∙ (ap (λ (class : UserClass). class_sees state.public (Some class) board) at
-      ∙ (ap (λ (class : Option UserClass). class_sees state.public class board) (sym of_class)
-      ∙ sym (same_class_sees state.public viewer board is_section)))
+  -- what a class would see without an embargo, and so what it sees
+  pub sees_kept : (class : UserClass) (place board : ℕ) (d : ClassView) → class_at place ≡ class → place < 36 →
+      1 ≤ board → board ≤ boards_of state.public.movement →
+      (is_shown_boards state.public class && has_number (get_or classes place d).boards board)
+      ≡ class_sees state.public (Some class) board
+  sees_kept class place board d at below from to =
+      ap (λ b. is_shown_boards state.public class && b)
+      ((kept.classes_kept place d below).seen board from to
+      ∙ ap (λ (class : UserClass). class_sees (without_embargo state.public) (Some class) board) at)
+      ∙ sym (class_sees_now state.public board class)
 
-  -- how a pair stands for a class
-  pub total_kept : (class : UserClass) (pair : Pair) (place at : ℕ) (d : ClassView) (e : Standing) →
-      class_at place ≡ class → place < 35 → pair_at at ≡ pair → at < 32 →
-      get_or (get_or classes place d).totals at e ≡ total_for state (Some class) pair
+  -- how a pair stands for a class that may be shown boards
+  counted_now : (class : UserClass) → is_shown_boards state.public class ≡ true → (count : Earning → ℕ) →
+      counted_to count (seen_in state class) (earnings_on state) (boards_of state.public.movement) ≡ counted_for count
+      state (Some class)
   unfolding counted_for counted_to
-  total_kept class pair place at d e is_class below is_pair within =
-      (kept.classes_kept place d below).totals at e within
-      ∙ (λ i. record {
-        pair = is_pair i;
-        earned = counted_for (earned_by (is_pair i)) state (Some (is_class i));
-        tops = counted_for (top_for (is_pair i)) state (Some (is_class i));
-      })
+  counted_now class shown count =
+      λ i. sum_by (λ board. if sees board i then sum_by count (earnings_on state board) else 0)
+      (range_with_len 1 (boards_of state.public.movement))
+    where
+      sees : (board : ℕ) → class_sees (without_embargo state.public) (Some class) board ≡ class_sees state.public
+          (Some class) board
+      sees board = sym (class_sees_now state.public board class
+          ∙ ap (λ b. b && class_sees (without_embargo state.public) (Some class) board) shown)
 
--- who is in no class is shown no hands
-pub sees_none : (state : SessionState) (viewer : Viewer) (board : ℕ) → IsSection state.public.movement →
-    class_of viewer ≡ None →
-    false ≡ is_none (first_rule state.public viewer (Hands board))
-sees_none state viewer board is_section none =
-    ap (λ (class : Option UserClass). class_sees state.public class board) (sym none)
+  pub total_kept : (class : UserClass) (pair : Pair) (place at : ℕ) (d : ClassView) (e : Standing) →
+      class_at place ≡ class → place < 36 → pair_at at ≡ pair → at < 32 → is_shown_boards state.public class ≡ true →
+      get_or (get_or classes place d).totals at e ≡ total_for state (Some class) pair
+  total_kept class pair place at d e is_class below is_pair within shown =
+      (kept.classes_kept place d below).totals at e within
+      ∙ ((λ i. record {
+        pair = is_pair i;
+        earned =
+            counted_to (earned_by (is_pair i)) (seen_in state (is_class i)) (earnings_on state)
+            (boards_of state.public.movement);
+        tops =
+            counted_to (top_for (is_pair i)) (seen_in state (is_class i)) (earnings_on state)
+            (boards_of state.public.movement);
+      })
+      ∙ (λ i. record {
+        pair = pair;
+        earned = counted_now class shown (earned_by pair) i;
+        tops =
+            counted_now class shown (top_for pair) i;
+      }))
+
+-- a user is shown what the user's class is, and who is in no class is shown no hands
+pub sees_by_class : (state : SessionState) (viewer : Viewer) (board : ℕ) → IsSection state.public.movement →
+    (class : Option UserClass) → class_of viewer ≡ class →
+    class_sees state.public class board ≡ is_none (first_rule state.public viewer (Hands board))
+sees_by_class state viewer board is_section class is =
+    ap (λ (class : Option UserClass). class_sees state.public class board) (sym is)
     ∙ sym (same_class_sees state.public viewer board is_section)
 
 -- and for who is in none no pair stands anywhere
@@ -102,9 +124,40 @@ nothing_from first (suc n) = omega (
       (range_with_len (first + 1) n),
 )
 
-pub nothing_for : (count : Earning → ℕ) (state : SessionState) → 0 ≡ counted_for count state None
+nothing_for : (count : Earning → ℕ) (state : SessionState) → 0 ≡ counted_for count state None
 unfolding counted_for
 nothing_for count state = sym (nothing_from 1 (boards_of state.public.movement))
+
+-- nor for a class that may be shown no boards
+pub closed_sees : (state : SessionState) (class : UserClass) (board : ℕ) → is_shown_boards state.public class ≡ false →
+    class_sees state.public (Some class) board ≡ false
+closed_sees state class board closed =
+    class_sees_now state.public board class
+    ∙ ap (λ b. b && class_sees (without_embargo state.public) (Some class) board) closed
+
+nothing_shown : (state : SessionState) (class : UserClass) → is_shown_boards state.public class ≡ false →
+    (count : Earning → ℕ) → 0 ≡ counted_for count state (Some class)
+unfolding counted_for
+nothing_shown state class closed count =
+    sym ((λ i. sum_by (λ board. if closed_sees state class board closed i then sum_by count (earnings_on state board)
+    else 0) (range_with_len 1 (boards_of state.public.movement)))
+    ∙ nothing_from 1 (boards_of state.public.movement))
+
+pub nothing_total : (state : SessionState) (pair : Pair) → record { pair = pair; earned = 0; tops = 0 } ≡ total_for
+    state None pair
+nothing_total state pair = λ i. record {
+  pair = pair;
+  earned = nothing_for (earned_by pair) state i;
+  tops = nothing_for (top_for pair) state i;
+}
+
+pub nothing_total_shown : (state : SessionState) (class : UserClass) (pair : Pair) → is_shown_boards state.public
+    class ≡ false → record { pair = pair; earned = 0; tops = 0 } ≡ total_for state (Some class) pair
+nothing_total_shown state class pair closed = λ i. record {
+  pair = pair;
+  earned = nothing_shown state class closed (earned_by pair) i;
+  tops = nothing_shown state class closed (top_for pair) i;
+}
 
 -- one number more
 range_more : (first n : ℕ) → range_with_len first (n + 1) ≡ range_with_len first n ++ (first + n) ∷ []

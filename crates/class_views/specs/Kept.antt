@@ -1,4 +1,5 @@
--- What is kept beside a state, as it would be worked out afresh.
+-- What is kept beside a state, as it would be worked out afresh. An embargo is no matter to it: it is asked for when
+-- what is kept is read.
 use Rattle.std.specs.Prelude.{
   ◌≡◌,
   ◌≢◌,
@@ -26,7 +27,7 @@ use Rattle.small_sets.specs.Numbers.{has_number, with_number, without_number}
 use Rattle.session_state.specs.SessionState.{SessionState}
 use Rattle.standings.specs.declared.earning.Earning.{Earning}
 use Rattle.standings.specs.Ranking.{earned_by, top_for, standing_of}
-use Rattle.class_views.specs.Classes.{class_sees}
+use Rattle.class_views.specs.Classes.{class_sees, without_embargo}
 use Rattle.class_views.specs.Places.{class_at, class_places, pair_places, pair_at}
 use Rattle.class_views.specs.Totals.{earnings_on}
 use Rattle.class_views.specs.declared.class_view.ClassView.{ClassView}
@@ -87,9 +88,9 @@ pub record IsKept (boards : ℕ) (sees : UserClass → ℕ → Bool) (earned : �
       AreStandings (earned (place + 1)) (get_or rows place d)
   pub rows_small : (place : ℕ) (d : List Standing) → place < boards → AreWithinBoard (get_or rows place d)
 
--- whether a class is shown a board of a state
+-- whether a class would be shown a board of a state without an embargo
 abbrev pub seen_in : SessionState → UserClass → ℕ → Bool
-seen_in state class board = class_sees state.public (Some class) board
+seen_in state class board = class_sees (without_embargo state.public) (Some class) board
 
 -- the same of the first so many boards alone, and what these earn
 abbrev pub seen_to : SessionState → ℕ → UserClass → ℕ → Bool

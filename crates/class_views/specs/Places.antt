@@ -6,13 +6,14 @@ use Rattle.movement.specs.Movement.{most_tables}
 use Rattle.standings.specs.Ranking.{pair_on}
 use Rattle.class_views.specs.declared.user_class.UserClass.{UserClass}
 use Rattle.class_views.specs.declared.user_class.UserClass.TheVariants.{OfPair, Unseated, Spectators, Directors}
+use Rattle.class_views.specs.declared.user_class.UserClass.TheVariants.{Commentators}
 
--- how many pairs a section has at most, and how many classes there are: one of each pair, and three
+-- how many pairs a section has at most, and how many classes there are: one of each pair, and four
 abbrev pub pair_places : ℕ
 pair_places = 32
 
 abbrev pub class_places : ℕ
-class_places = 35
+class_places = 36
 
 -- the pair at a place, counted from 0: North-South 1, 2, .. and then East-West 1, 2, ..
 unfoldable pub pair_at : ℕ → Pair
@@ -25,4 +26,5 @@ class_at place =
     if nat_lt place pair_places then OfPair (pair_at place)
     else if nat_eq place 32 then Unseated
     else if nat_eq place 33 then Spectators
-    else Directors
+    else if nat_eq place 34 then Directors
+    else Commentators

@@ -43,10 +43,11 @@ counted_for count state class = sum_by (counted_on count state class) (boards st
 abbrev pub told_board : Command → Option ℕ
 told_board command = option_or (option_map (λ (cell : Cell). cell.board) (subject_cell command)) (subject_board command)
 
--- two states are the same on a board: the policy says the same of it, and its results are the same
+-- two states are the same on a board: but for an embargo the policy says the same of it, and its results are the same
 pub record IsSameOn (before after : SessionState) (board : ℕ) : Type 0 where
   pub movement : after.public.movement ≡ before.public.movement
   pub marks : after.public.marks ≡ before.public.marks
+  pub edition : after.public.edition ≡ before.public.edition
   pub held : has_number after.public.held board ≡ has_number before.public.held board
   pub live : (table : ℕ) → 1 ≤ table → table ≤ 16 →
       is_live after.public.live (cell_on board table) ≡ is_live before.public.live (cell_on board table)

@@ -1,6 +1,6 @@
 ghost use Rattle.std.specs.Prelude.{◌≡◌, ◌≤◌, ◌<◌, ℕ, Some, length, get_or, IfOk, [], vec_len};
 ghost use Rattle.movement.specs.Movement.{most_boards};
-ghost use Rattle.class_views.specs.Classes.{class_sees};
+ghost use Rattle.class_views.specs.Classes.{class_sees, is_shown_boards, without_embargo};
 ghost use Rattle.class_views.specs.declared.class_view.ClassView.{ClassView};
 ghost use Rattle.class_views.specs.Kept.{AreStandings, IsClassWith, boards_with};
 ghost use Rattle.class_views.specs.Places.{class_at, class_places};
@@ -53,7 +53,8 @@ fn put_board(boards: &mut Boards, board: u8, sees: bool)
     }
 }
 
-/// Each class takes in what a board counts now in place of what it counted, and whether it is seen now.
+/// Each class takes in what a board counts now in place of what it counted, and whether it would be seen now without an
+/// embargo.
 pub(crate) fn change_each(
     classes: &mut Vec<ClassView>,
     public: &Public,
@@ -66,11 +67,12 @@ pub(crate) fn change_each(
     requires each { vec_len classes.old ≡ class_places }
     ensures each { vec_len classes.new ≡ class_places }
     ensures classes { (place : ℕ) (d : ClassView) → place < class_places →
-        IsClassWith board (class_sees public.now (Some (class_at place)) board) old.now new.now
+        IsClassWith board (class_sees (without_embargo public.now) (Some (class_at place)) board) old.now new.now
         (get_or classes.old.items place d) (get_or classes.new.items place d) }
 {
+    let lifted = without_embargo(public);
     for place in 0..CLASSES {
-        let sees = sees(public, UserClass::at(place), board);
+        let sees = sees(&lifted, UserClass::at(place), board);
         classes[place as usize].change(board, sees, old, new);
     }
 }
@@ -80,4 +82,26 @@ fn sees(public: &Public, class: UserClass, board: u8) -> bool
     ensures { result ≡ class_sees public.now (Some class) board }
 {
     decide(public, &class.member(), Fact::Hands(board)).is_none()
+}
+
+/// The public facts as they would be without an embargo.
+fn without_embargo(public: &Public) -> Public
+    ensures { result ≡ without_embargo public.now }
+{
+    let mut lifted = public.copy();
+    lifted.embargo = false;
+    lifted
+}
+
+/// Whether the users of a class may be shown boards at all: under an embargo directors alone may.
+pub(crate) fn is_shown_boards(public: &Public, class: UserClass) -> bool
+    ensures { result ≡ is_shown_boards public.now class }
+{
+    match class {
+        UserClass::Directors => true,
+        UserClass::OfPair(_)
+        | UserClass::Unseated
+        | UserClass::Spectators
+        | UserClass::Commentators => !public.is_embargoed(),
+    }
 }

@@ -9,6 +9,7 @@ ghost use Rattle.standings.specs.Ranking.{pairs_on, pairs_of};
 ghost use Rattle.class_views.specs.Classes.{class_of, is_kept_class, is_kept_pair};
 ghost use Rattle.class_views.specs.Totals.{told_board, total_for};
 
+use crate::class_view::is_shown_boards;
 use crate::kept::Kept;
 use crate::user_class::{UserClass, place_of};
 use disclosure_rules::Viewer;
@@ -76,9 +77,13 @@ impl ClassViews {
         ensures { result ≡ is_none (first_rule self.now.public viewer.now (fact.Hands board)) }
     {
         match UserClass::of(viewer) {
-            Some(class) => self.kept.classes[class.place() as usize]
-                .boards
-                .contains(board),
+            Some(class) => {
+                // what is kept knows no embargo, so that the end of one changes nothing of it
+                is_shown_boards(self.state.public(), class)
+                    && self.kept.classes[class.place() as usize]
+                        .boards
+                        .contains(board)
+            }
             None => false,
         }
     }
@@ -106,15 +111,35 @@ impl ClassViews {
         ensures { result ≡ total_for self.now class pair }
     {
         match class {
-            Some(class) => self.kept.classes[class.place() as usize]
-                .totals
-                .at(place_of(pair)),
-            None => Standing {
-                pair,
-                earned: 0,
-                tops: 0,
-            },
+            Some(class) => self.class_total(class, pair),
+            None => nothing_earned(pair),
         }
+    }
+
+    // How a pair stands by the boards that the users of a class are shown.
+    fn class_total(&self, class: UserClass, pair: Pair) -> Standing
+        requires class { is_kept_class class ≡ true }
+        requires pair { is_kept_pair pair ≡ true }
+        ensures { result ≡ total_for self.now (Some class) pair }
+    {
+        if is_shown_boards(self.state.public(), class) {
+            self.kept.classes[class.place() as usize]
+                .totals
+                .at(place_of(pair))
+        } else {
+            nothing_earned(pair)
+        }
+    }
+}
+
+/// How a pair stands by no board.
+fn nothing_earned(pair: Pair) -> Standing
+    ensures { result ≡ record { pair = pair; earned = 0; tops = 0 } }
+{
+    Standing {
+        pair,
+        earned: 0,
+        tops: 0,
     }
 }
 

@@ -1,5 +1,6 @@
 ghost use Rattle.std.specs.Prelude.{◌≡◌, ◌<◌, true, IfSome};
-ghost use Rattle.class_views.specs.Classes.{class_of, class_of_seat, is_kept_class, is_kept_pair, member_of};
+ghost use Rattle.class_views.specs.Classes.{class_of, class_of_seat, class_of_spectator, member_of};
+ghost use Rattle.class_views.specs.Classes.{is_kept_class, is_kept_pair};
 ghost use Rattle.class_views.specs.Places.{class_at, pair_at, class_places, pair_places};
 
 use disclosure_rules::{Seat, Viewer};
@@ -14,9 +15,11 @@ pub enum UserClass {
     OfPair(Pair),
     /// Contestants who don't sit in a pair that a section can have.
     Unseated,
-    /// Spectators who are no contestants.
+    /// Spectators who are neither contestants nor commentators.
     Spectators,
     Directors,
+    /// Commentators who are spectators and no contestants.
+    Commentators,
 }
 
 impl UserClass {
@@ -32,7 +35,7 @@ impl UserClass {
         } else if viewer.is_authorized(Role::Contestant) {
             Some(class_of_seat(viewer.seat))
         } else if viewer.is_authorized(Role::Spectator) {
-            Some(UserClass::Spectators)
+            Some(class_of_spectator(viewer))
         } else {
             None
         }
@@ -54,6 +57,9 @@ impl UserClass {
             UserClass::Unseated => unseated(member.with(Role::Contestant)),
             UserClass::Spectators => unseated(member.with(Role::Spectator)),
             UserClass::Directors => unseated(member.with(Role::Director)),
+            UserClass::Commentators => {
+                unseated(member.with(Role::Spectator).with(Role::Commentator))
+            }
         }
     }
 
@@ -67,7 +73,8 @@ impl UserClass {
         match place - PAIRS {
             0 => UserClass::Unseated,
             1 => UserClass::Spectators,
-            _ => UserClass::Directors,
+            2 => UserClass::Directors,
+            _ => UserClass::Commentators,
         }
     }
 
@@ -82,6 +89,7 @@ impl UserClass {
             UserClass::Unseated => PAIRS,
             UserClass::Spectators => PAIRS + 1,
             UserClass::Directors => PAIRS + 2,
+            UserClass::Commentators => PAIRS + 3,
         }
     }
 }
@@ -90,7 +98,7 @@ impl UserClass {
 pub(crate) const PAIRS: u8 = 2 * Movement::MOST_TABLES;
 
 /// How many classes there are.
-pub(crate) const CLASSES: u8 = PAIRS + 3;
+pub(crate) const CLASSES: u8 = PAIRS + 4;
 
 /// The class of contestants with this seat, if they sit.
 fn class_of_seat(seat: Option<Seat>) -> UserClass
@@ -100,6 +108,18 @@ fn class_of_seat(seat: Option<Seat>) -> UserClass
     match seat {
         Some(seat) if is_kept_pair(seat.pair) => UserClass::OfPair(seat.pair),
         _ => UserClass::Unseated,
+    }
+}
+
+/// The class of a spectator who is neither a director nor a contestant.
+fn class_of_spectator(viewer: &Viewer) -> UserClass
+    ensures class { result ≡ class_of_spectator viewer.now }
+    ensures kept { is_kept_class result ≡ true }
+{
+    if viewer.is_authorized(Role::Commentator) {
+        UserClass::Commentators
+    } else {
+        UserClass::Spectators
     }
 }
 

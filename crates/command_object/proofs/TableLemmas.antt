@@ -5,6 +5,7 @@ use Rattle.std.proofs.Common.{
   List,
   [],
   ◌∷◌,
+  true,
   false,
   not,
   ◌||◌,
@@ -19,19 +20,19 @@ use Rattle.std.proofs.Common.{
 }
 use Rattle.serde_json.specs.Data.{Data, Items, no_items, item}
 use Rattle.session_commands.specs.declared.command.Command.{Command}
-use Rattle.json_fields.specs.Form.{HasFormOf, AreEach}
+use Rattle.session_roles.specs.declared.edition.Edition.{Edition}
+use Rattle.session_roles.specs.declared.edition.Edition.TheVariants.{First, Second}
+use Rattle.json_fields.specs.Form.{words, HasFormOf, AreEach}
 use Rattle.json_fields.specs.Field.{text, text_at}
 use Rattle.json_fields.specs.Message.{table, board}
-use Rattle.json_fields.specs.User.{user_name, pair, place, digest, role_named}
+use Rattle.json_fields.specs.User.{user_name, pair, place, digest}
 use Rattle.command_object.specs.Command.{
+  added_commands,
   commands,
   north_south,
   east_west,
   reason,
   role_called,
-  role,
-  senior,
-  junior,
   command_called,
   command_of,
   is_other_word,
@@ -42,20 +43,24 @@ use Rattle.command_object.specs.Command.{
 use Rattle.command_object.specs.Result.{outcome}
 use Rattle.command_object.specs.Play.{play}
 use Rattle.json_fields.proofs.FormLemmas.{Agrees, form_agrees, with_agrees, numbered_agrees, called_agrees}
-use Rattle.json_fields.proofs.TableLemmas.{AllAgree, is_word, by_word_read, by_word_reads}
-use Rattle.json_fields.proofs.UserLemmas.{pair_agrees, place_agrees, digest_agrees, role_at, role_back}
+use Rattle.json_fields.proofs.TableLemmas.{AllAgree, are_apart, is_word, by_word_read, by_word_reads}
+use Rattle.json_fields.proofs.UserLemmas.{pair_agrees, place_agrees, digest_agrees, role_read, role_reads}
 use Rattle.command_object.proofs.MemberLemmas.{outcome_agrees, play_agrees}
 
 -- ---- what each form of the table says is what it is
 
-role_called_agrees : (name : List ℕ) → Agrees (role_called name)
-role_called_agrees name = record {
-  read = λ o role h. role_at (text o) role h;
-  reads = λ o role is. ap (option_and_then role_named) is ∙ role_back role;
+role_called_agrees : (edition : Edition) (name : List ℕ) → Agrees (role_called edition name)
+role_called_agrees edition name = record {
+  read = λ o role h. role_read edition (text o) role h;
+  reads = λ o role is. role_reads edition (text o) role is;
 }
 
-pub commands_agree : AllAgree commands
-commands_agree = (
+added_agree : (edition : Edition) → AllAgree (added_commands edition)
+added_agree First = tt
+added_agree Second = (form_agrees _ _, (form_agrees _ _, tt))
+
+pub commands_agree : (edition : Edition) → AllAgree (commands edition)
+commands_agree edition = (
   (with_agrees _ play
       (with_agrees _ outcome (with_agrees _ board (with_agrees _ table (form_agrees _ _) (numbered_agrees _))
       (numbered_agrees _)) outcome_agrees) play_agrees),
@@ -92,18 +97,18 @@ commands_agree = (
                           (with_agrees _ digest (with_agrees _ user_name (form_agrees _ _) (called_agrees _))
                               digest_agrees),
                           (
-                            (with_agrees _ role (with_agrees _ user_name (form_agrees _ _) (called_agrees _))
-                                (role_called_agrees _)),
+                            (with_agrees _ _ (with_agrees _ user_name (form_agrees _ _) (called_agrees _))
+                                (role_called_agrees edition _)),
                             (
-                              (with_agrees _ role (with_agrees _ user_name (form_agrees _ _) (called_agrees _))
-                                  (role_called_agrees _)),
+                              (with_agrees _ _ (with_agrees _ user_name (form_agrees _ _) (called_agrees _))
+                                  (role_called_agrees edition _)),
                               (
-                                (with_agrees _ junior (with_agrees _ senior (form_agrees _ _) (role_called_agrees _))
-                                    (role_called_agrees _)),
+                                (with_agrees _ _ (with_agrees _ _ (form_agrees _ _) (role_called_agrees edition _))
+                                    (role_called_agrees edition _)),
                                 (
-                                  (with_agrees _ junior (with_agrees _ senior (form_agrees _ _) (role_called_agrees _))
-                                      (role_called_agrees _)),
-                                  tt,
+                                  (with_agrees _ _ (with_agrees _ _ (form_agrees _ _) (role_called_agrees edition _))
+                                      (role_called_agrees edition _)),
+                                  added_agree edition,
                                 ),
                               ),
                             ),
@@ -124,29 +129,37 @@ commands_agree = (
 
 -- ---- a command by its word
 
-command_at : (o : Option (List ℕ)) (d : Data) (command : Command)
-    → option_and_then (λ word. command_called word d) o ≡ Some command
-    → (word : List ℕ) × (o ≡ Some word) × HasFormOf (codes "cmd" ∷ []) commands word d command
-command_at None d command h = absurd (cc)
-command_at (Some word) d command h =
-    (word, refl, by_word_read (codes "cmd" ∷ []) commands commands_agree word d command h)
+apart : (edition : Edition) → are_apart (words (commands edition)) ≡ true
+apart First = refl
+apart Second = refl
 
-pub command_read : (d : Data) (command : Command) → command_of d ≡ Some command → IsCommand d command
-unfolding command_of
-command_read d command h = command_at (text_at (codes "cmd") d) d command h
+module _ (edition : Edition) where
+  command_at : (o : Option (List ℕ)) (d : Data) (command : Command)
+      → option_and_then (λ word. command_called edition word d) o ≡ Some command
+      → (word : List ℕ) × (o ≡ Some word) × HasFormOf (codes "cmd" ∷ []) (commands edition) word d command
+  command_at None d command h = absurd (cc)
+  command_at (Some word) d command h =
+      (word, refl, by_word_read (codes "cmd" ∷ []) (commands edition) (commands_agree edition) word d command h)
 
-pub command_reads : (d : Data) (command : Command) → IsCommand d command → command_of d ≡ Some command
-unfolding command_of
-command_reads d command is =
-    ap (option_and_then (λ word. command_called word d)) is.1
-    ∙ by_word_reads (codes "cmd" ∷ []) commands commands_agree refl is.0 d command is.2
+  pub command_read : (d : Data) (command : Command) → command_of edition d ≡ Some command → IsCommand edition d command
+  unfolding command_of
+  command_read d command h = command_at (text_at (codes "cmd") d) d command h
 
-known : (d : Data) (command : Command) → IsCommand d command → is_unknown d ≡ false
-unfolding is_unknown
-known d command is = ap is_other_word is.1 ∙ ap not (is_word (codes "cmd" ∷ []) commands is.0 d command is.2)
+  pub command_reads : (d : Data) (command : Command) → IsCommand edition d command → command_of edition d ≡ Some command
+  unfolding command_of
+  command_reads d command is =
+      ap (option_and_then (λ word. command_called edition word d)) is.1
+      ∙ by_word_reads (codes "cmd" ∷ []) (commands edition) (commands_agree edition) (apart edition) is.0 d command is.2
 
-pub all_known : (ds : Items) (xs : List Command) → AreEach IsCommand ds xs → has_unknown ds ≡ false
-all_known no_items [] all = refl
-all_known no_items (x ∷ xs) all = absurd all
-all_known (item d ds) [] all = absurd all
-all_known (item d ds) (x ∷ xs) all = ap (λ b. b || has_unknown ds) (known d x all.0) ∙ all_known ds xs all.1
+  known : (d : Data) (command : Command) → IsCommand edition d command → is_unknown edition d ≡ false
+  unfolding is_unknown
+  known d command is =
+      ap (is_other_word edition) is.1
+      ∙ ap not (is_word (codes "cmd" ∷ []) (commands edition) is.0 d command is.2)
+
+  pub all_known : (ds : Items) (xs : List Command) → AreEach (IsCommand edition) ds xs → has_unknown edition ds ≡ false
+  all_known no_items [] all = refl
+  all_known no_items (x ∷ xs) all = absurd all
+  all_known (item d ds) [] all = absurd all
+  all_known (item d ds) (x ∷ xs) all =
+      ap (λ b. b || has_unknown edition ds) (known d x all.0) ∙ all_known ds xs all.1

@@ -14,15 +14,16 @@ use Rattle.session_commands.specs.declared.command.Command.TheVariants.{
 }
 use Rattle.session_commands.specs.declared.command.Command.TheVariants.{Seat, Unseat, NextRound, Close, Finalise}
 use Rattle.session_commands.specs.declared.command.Command.TheVariants.{AddUser, Assign, Deassign, AddInheritance}
-use Rattle.session_commands.specs.declared.command.Command.TheVariants.{DeleteInheritance}
+use Rattle.session_commands.specs.declared.command.Command.TheVariants.{DeleteInheritance, Embargo, Lift}
+use Rattle.session_roles.specs.declared.edition.Edition.{Edition}
+use Rattle.session_roles.specs.declared.edition.Edition.TheVariants.{First, Second}
 use Rattle.session_roles.specs.declared.role.Role.{Role}
-use Rattle.session_roles.specs.Role.{role_name}
 use Rattle.json_fields.specs.Form.{Member, Form, form, ◌with◌, is_word_of, by_word, HasFormOf, each}
-use Rattle.json_fields.specs.Field.{text_at, numbered, named}
+use Rattle.json_fields.specs.Field.{text, text_at, numbered}
 use Rattle.json_fields.specs.Message.{table, board}
 use Rattle.command_object.specs.Result.{outcome}
 use Rattle.command_object.specs.Play.{play}
-use Rattle.json_fields.specs.User.{user_name, digest, role_named, pair, place}
+use Rattle.json_fields.specs.User.{user_name, digest, role_named, IsRole, pair, place}
 
 -- a ruling: a percentage for each side, and the number of its reason
 abbrev pub north_south : Member ℕ
@@ -34,28 +35,37 @@ east_west = numbered (codes "ew")
 abbrev pub reason : Member ℕ
 reason = numbered (codes "reason")
 
--- a member of this name that is the name of a role
-abbrev pub role_called : List ℕ → Member Role
-role_called name = named name role_named role_name
+-- a member of this name that is the name of a role, of those that an edition of the policy knows
+abbrev pub role_called : Edition → List ℕ → Member Role
+role_called edition name = record {
+  name = name;
+  value = λ o. option_and_then (role_named edition) (text o);
+  Is = λ o role. IsRole edition (text o) role;
+}
 
 -- the role that is assigned, or taken away
-abbrev pub role : Member Role
-role = role_called (codes "role")
+abbrev pub role : Edition → Member Role
+role edition = role_called edition (codes "role")
 
 -- the two roles of an inheritance pair
-abbrev pub senior : Member Role
-senior = role_called (codes "senior")
+abbrev pub senior : Edition → Member Role
+senior edition = role_called edition (codes "senior")
 
-abbrev pub junior : Member Role
-junior = role_called (codes "junior")
+abbrev pub junior : Edition → Member Role
+junior edition = role_called edition (codes "junior")
 
 -- the cell of a table and a board
 abbrev pub cell : ℕ → ℕ → Cell
 cell table board = record { table = table; board = board }
 
--- each command: its word and its members, of which `play` may be left out
-abbrev pub commands : List (Form Command)
-commands =
+-- the commands that an edition has beside those of the first
+abbrev pub added_commands : Edition → List (Form Command)
+added_commands First = []
+added_commands Second = form (codes "Embargo") Embargo ∷ form (codes "Lift") Lift ∷ []
+
+-- each command of an edition: its word and its members, of which `play` may be left out
+abbrev pub commands : Edition → List (Form Command)
+commands edition =
     (form (codes "Enter") (λ t b o p. Enter (cell t b) o p) with table with board with outcome with play)
     ∷ (form (codes "Confirm") (λ t b o. Confirm (cell t b) o) with table with board with outcome)
     ∷ (form (codes "Correct") (λ t b o p. Correct (cell t b) o p) with table with board with outcome with play)
@@ -70,39 +80,40 @@ commands =
     ∷ form (codes "Close") Close
     ∷ form (codes "Finalise") Finalise
     ∷ (form (codes "AddUser") AddUser with user_name with digest)
-    ∷ (form (codes "Assign") Assign with user_name with role)
-    ∷ (form (codes "Deassign") Deassign with user_name with role)
-    ∷ (form (codes "AddInheritance") AddInheritance with senior with junior)
-    ∷ (form (codes "DeleteInheritance") DeleteInheritance with senior with junior)
-    ∷ []
+    ∷ (form (codes "Assign") Assign with user_name with role edition)
+    ∷ (form (codes "Deassign") Deassign with user_name with role edition)
+    ∷ (form (codes "AddInheritance") AddInheritance with senior edition with junior edition)
+    ∷ (form (codes "DeleteInheritance") DeleteInheritance with senior edition with junior edition)
+    ∷ added_commands edition
 
 -- the command of a word
-abbrev pub command_called : List ℕ → Data → Option Command
-command_called word d = by_word (codes "cmd" ∷ []) commands word d
+abbrev pub command_called : Edition → List ℕ → Data → Option Command
+command_called edition word d = by_word (codes "cmd" ∷ []) (commands edition) word d
 
 -- a command, by the word in its member `cmd`
-unfoldable pub command_of : Data → Option Command
-command_of d = option_and_then (λ word. command_called word d) (text_at (codes "cmd") d)
+unfoldable pub command_of : Edition → Data → Option Command
+command_of edition d = option_and_then (λ word. command_called edition word d) (text_at (codes "cmd") d)
 
 -- a command for each element
-abbrev pub commands_in : Items → Option (List Command)
-commands_in ds = each command_of ds
+abbrev pub commands_in : Edition → Items → Option (List Command)
+commands_in edition ds = each (command_of edition) ds
 
 -- a text that stands there and names no command
-abbrev pub is_other_word : Option (List ℕ) → Bool
-is_other_word None = false
-is_other_word (Some word) = not (is_word_of commands word)
+abbrev pub is_other_word : Edition → Option (List ℕ) → Bool
+is_other_word edition None = false
+is_other_word edition (Some word) = not (is_word_of (commands edition) word)
 
 -- an object whose `cmd` is a text that names no command
-unfoldable pub is_unknown : Data → Bool
-is_unknown d = is_other_word (text_at (codes "cmd") d)
+unfoldable pub is_unknown : Edition → Data → Bool
+is_unknown edition d = is_other_word edition (text_at (codes "cmd") d)
 
 -- some element is such an object
-abbrev pub has_unknown : Items → Bool
-has_unknown no_items = false
-has_unknown (item d ds) = is_unknown d || has_unknown ds
+abbrev pub has_unknown : Edition → Items → Bool
+has_unknown edition no_items = false
+has_unknown edition (item d ds) = is_unknown edition d || has_unknown edition ds
 
 -- its word is the command's, and its members are those of the command
-abbrev pub IsCommand : Data → Command → Type 0
-IsCommand d command =
-    (word : List ℕ) × (text_at (codes "cmd") d ≡ Some word) × HasFormOf (codes "cmd" ∷ []) commands word d command
+abbrev pub IsCommand : Edition → Data → Command → Type 0
+IsCommand edition d command =
+    (word : List ℕ) × (text_at (codes "cmd") d ≡ Some word)
+    × HasFormOf (codes "cmd" ∷ []) (commands edition) word d command

@@ -6,7 +6,6 @@ use Rattle.std.specs.Prelude.{
   ◌≤◌,
   List,
   [],
-  ◌∷◌,
   ◌&&◌,
   nat_le,
   if◌then◌else◌,

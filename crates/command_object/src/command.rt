@@ -6,7 +6,8 @@ ghost use Rattle.serde_json.specs.View.{view, items_view};
 ghost use Rattle.json_fields.specs.Reading.{wanted, Fails, Gives};
 ghost use Rattle.json_fields.specs.Form.{by_word, is_word_of};
 ghost use Rattle.json_fields.specs.User.{user_name};
-ghost use Rattle.command_object.specs.Command.{commands, north_south, east_west, reason, role_called, role, senior, junior, is_unknown, has_unknown, command_called, command_of, commands_in};
+ghost use Rattle.session_roles.specs.declared.edition.Edition.TheVariants.{First, Second};
+ghost use Rattle.command_object.specs.Command.{added_commands, commands, north_south, east_west, reason, role_called, role, senior, junior, is_unknown, has_unknown, command_called, command_of, commands_in};
 
 use crate::commands::Commands;
 use crate::play::play_of;
@@ -19,13 +20,13 @@ use movement::Cell;
 use scoring::Outcome;
 use serde_json::Value;
 use session_commands::Command;
-use session_roles::Role;
+use session_roles::{Edition, Role};
 use std::alloc::Global;
 use user_names::Name;
 
 // Whether a command is called so.
-fn is_command_word(word: &str) -> bool
-    ensures { result ≡ is_word_of commands word.now }
+fn is_command_word(word: &str, edition: Edition) -> bool
+    ensures { result ≡ is_word_of (commands edition) word.now }
 {
     is_one_of(
         word,
@@ -48,25 +49,35 @@ fn is_command_word(word: &str) -> bool
             "AddInheritance",
             "DeleteInheritance",
         ],
-    )
+    ) || is_added_word(word, edition)
+}
+
+// Whether a command is called so that the first edition doesn't have.
+fn is_added_word(word: &str, edition: Edition) -> bool
+    ensures { result ≡ is_word_of (added_commands edition) word.now }
+{
+    match edition {
+        Edition::First => false,
+        Edition::Second => is_one_of(word, &["Embargo", "Lift"]),
+    }
 }
 
 #[tactic(auto, unfolding(crate::specs::Command::is_unknown))]
-fn is_unknown(value: &Value) -> bool
-    ensures { result ≡ is_unknown (view value.now) }
+fn is_unknown(value: &Value, edition: Edition) -> bool
+    ensures { result ≡ is_unknown edition (view value.now) }
 {
     match text_at(value, "cmd") {
-        Some(word) => !is_command_word(word),
+        Some(word) => !is_command_word(word, edition),
         None => false,
     }
 }
 
-/// Whether a word in the list names no command.
-pub fn has_unknown(list: &[Value]) -> bool
-    ensures { result ≡ has_unknown (items_view list.now) }
+/// Whether a word in the list names no command of an edition.
+pub fn has_unknown(list: &[Value], edition: Edition) -> bool
+    ensures { result ≡ has_unknown edition (items_view list.now) }
 {
     for value in list {
-        if is_unknown(value) {
+        if is_unknown(value, edition) {
             return true;
         }
     }
@@ -80,28 +91,28 @@ fn user_name_of(value: &Value) -> Option<Name>
     name_at(value, "name")
 }
 
-fn role_at(value: &Value, name: &str) -> Option<Role>
-    ensures { result ≡ (role_called name.now).value (get name.now (view value.now)) }
+fn role_at(value: &Value, name: &str, edition: Edition) -> Option<Role>
+    ensures { result ≡ (role_called edition name.now).value (get name.now (view value.now)) }
 {
-    role_named(text_at(value, name)?)
+    role_named(text_at(value, name)?, edition)
 }
 
-fn role_of(value: &Value) -> Option<Role>
-    ensures { result ≡ role.value (get role.name (view value.now)) }
+fn role_of(value: &Value, edition: Edition) -> Option<Role>
+    ensures { result ≡ (role edition).value (get (role edition).name (view value.now)) }
 {
-    role_at(value, "role")
+    role_at(value, "role", edition)
 }
 
-fn senior_of(value: &Value) -> Option<Role>
-    ensures { result ≡ senior.value (get senior.name (view value.now)) }
+fn senior_of(value: &Value, edition: Edition) -> Option<Role>
+    ensures { result ≡ (senior edition).value (get (senior edition).name (view value.now)) }
 {
-    role_at(value, "senior")
+    role_at(value, "senior", edition)
 }
 
-fn junior_of(value: &Value) -> Option<Role>
-    ensures { result ≡ junior.value (get junior.name (view value.now)) }
+fn junior_of(value: &Value, edition: Edition) -> Option<Role>
+    ensures { result ≡ (junior edition).value (get (junior edition).name (view value.now)) }
 {
-    role_at(value, "junior")
+    role_at(value, "junior", edition)
 }
 
 fn north_south_of(value: &Value) -> Option<u8>
@@ -123,7 +134,7 @@ fn reason_of(value: &Value) -> Option<u8>
 }
 
 fn enter_of(alloc: Global, value: &Value) -> Result<Command, RequestFault>
-    ensures { Gives result (wanted (command_called (codes "Enter") (view value.now))) }
+    ensures { Gives result (wanted (command_called First (codes "Enter") (view value.now))) }
 {
     if !has_only(value, &["cmd", "table", "board", "result", "play"]) {
         return Err(RequestFault::BadField);
@@ -146,7 +157,7 @@ fn enter_of(alloc: Global, value: &Value) -> Result<Command, RequestFault>
 }
 
 fn confirm_of(value: &Value) -> Option<Command>
-    ensures { result ≡ command_called (codes "Confirm") (view value.now) }
+    ensures { result ≡ command_called First (codes "Confirm") (view value.now) }
 {
     if !has_only(value, &["cmd", "table", "board", "result"]) {
         return None;
@@ -161,7 +172,7 @@ fn confirm_of(value: &Value) -> Option<Command>
 }
 
 fn correct_of(alloc: Global, value: &Value) -> Result<Command, RequestFault>
-    ensures { Gives result (wanted (command_called (codes "Correct") (view value.now))) }
+    ensures { Gives result (wanted (command_called First (codes "Correct") (view value.now))) }
 {
     if !has_only(value, &["cmd", "table", "board", "result", "play"]) {
         return Err(RequestFault::BadField);
@@ -184,7 +195,7 @@ fn correct_of(alloc: Global, value: &Value) -> Result<Command, RequestFault>
 }
 
 fn rule_of(value: &Value) -> Option<Command>
-    ensures { result ≡ command_called (codes "Rule") (view value.now) }
+    ensures { result ≡ command_called First (codes "Rule") (view value.now) }
 {
     if !has_only(value, &["cmd", "table", "board", "ns", "ew", "reason"]) {
         return None;
@@ -203,7 +214,7 @@ fn rule_of(value: &Value) -> Option<Command>
 }
 
 fn void_of(value: &Value) -> Option<Command>
-    ensures { result ≡ command_called (codes "Void") (view value.now) }
+    ensures { result ≡ command_called First (codes "Void") (view value.now) }
 {
     if !has_only(value, &["cmd", "table", "board"]) {
         return None;
@@ -216,7 +227,7 @@ fn void_of(value: &Value) -> Option<Command>
 }
 
 fn hold_of(value: &Value) -> Option<Command>
-    ensures { result ≡ command_called (codes "Hold") (view value.now) }
+    ensures { result ≡ command_called First (codes "Hold") (view value.now) }
 {
     if !has_only(value, &["cmd", "board"]) {
         return None;
@@ -226,7 +237,7 @@ fn hold_of(value: &Value) -> Option<Command>
 }
 
 fn release_of(value: &Value) -> Option<Command>
-    ensures { result ≡ command_called (codes "Release") (view value.now) }
+    ensures { result ≡ command_called First (codes "Release") (view value.now) }
 {
     if !has_only(value, &["cmd", "board"]) {
         return None;
@@ -236,7 +247,7 @@ fn release_of(value: &Value) -> Option<Command>
 }
 
 fn seat_of(value: &Value) -> Option<Command>
-    ensures { result ≡ command_called (codes "Seat") (view value.now) }
+    ensures { result ≡ command_called First (codes "Seat") (view value.now) }
 {
     if !has_only(value, &["cmd", "name", "pair", "place"]) {
         return None;
@@ -248,7 +259,7 @@ fn seat_of(value: &Value) -> Option<Command>
 }
 
 fn unseat_of(value: &Value) -> Option<Command>
-    ensures { result ≡ command_called (codes "Unseat") (view value.now) }
+    ensures { result ≡ command_called First (codes "Unseat") (view value.now) }
 {
     if !has_only(value, &["cmd", "name"]) {
         return None;
@@ -258,7 +269,7 @@ fn unseat_of(value: &Value) -> Option<Command>
 }
 
 fn next_round_of(value: &Value) -> Option<Command>
-    ensures { result ≡ command_called (codes "NextRound") (view value.now) }
+    ensures { result ≡ command_called First (codes "NextRound") (view value.now) }
 {
     if !has_only(value, &["cmd"]) {
         return None;
@@ -267,7 +278,7 @@ fn next_round_of(value: &Value) -> Option<Command>
 }
 
 fn close_of(value: &Value) -> Option<Command>
-    ensures { result ≡ command_called (codes "Close") (view value.now) }
+    ensures { result ≡ command_called First (codes "Close") (view value.now) }
 {
     if !has_only(value, &["cmd"]) {
         return None;
@@ -276,7 +287,7 @@ fn close_of(value: &Value) -> Option<Command>
 }
 
 fn finalise_of(value: &Value) -> Option<Command>
-    ensures { result ≡ command_called (codes "Finalise") (view value.now) }
+    ensures { result ≡ command_called First (codes "Finalise") (view value.now) }
 {
     if !has_only(value, &["cmd"]) {
         return None;
@@ -285,7 +296,7 @@ fn finalise_of(value: &Value) -> Option<Command>
 }
 
 fn add_user_of(value: &Value) -> Option<Command>
-    ensures { result ≡ command_called (codes "AddUser") (view value.now) }
+    ensures { result ≡ command_called First (codes "AddUser") (view value.now) }
 {
     if !has_only(value, &["cmd", "name", "digest"]) {
         return None;
@@ -295,58 +306,81 @@ fn add_user_of(value: &Value) -> Option<Command>
     Some(Command::AddUser { name, digest })
 }
 
-fn assign_of(value: &Value) -> Option<Command>
-    ensures { result ≡ command_called (codes "Assign") (view value.now) }
+fn assign_of(value: &Value, edition: Edition) -> Option<Command>
+    ensures { result ≡ command_called edition (codes "Assign") (view value.now) }
 {
     if !has_only(value, &["cmd", "name", "role"]) {
         return None;
     }
     let name = user_name_of(value)?;
-    let role = role_of(value)?;
+    let role = role_of(value, edition)?;
     Some(Command::Assign { name, role })
 }
 
-fn deassign_of(value: &Value) -> Option<Command>
-    ensures { result ≡ command_called (codes "Deassign") (view value.now) }
+fn deassign_of(value: &Value, edition: Edition) -> Option<Command>
+    ensures { result ≡ command_called edition (codes "Deassign") (view value.now) }
 {
     if !has_only(value, &["cmd", "name", "role"]) {
         return None;
     }
     let name = user_name_of(value)?;
-    let role = role_of(value)?;
+    let role = role_of(value, edition)?;
     Some(Command::Deassign { name, role })
 }
 
-fn add_inheritance_of(value: &Value) -> Option<Command>
-    ensures { result ≡ command_called (codes "AddInheritance") (view value.now) }
+fn add_inheritance_of(value: &Value, edition: Edition) -> Option<Command>
+    ensures { result ≡ command_called edition (codes "AddInheritance") (view value.now) }
 {
     if !has_only(value, &["cmd", "senior", "junior"]) {
         return None;
     }
-    let senior = senior_of(value)?;
-    let junior = junior_of(value)?;
+    let senior = senior_of(value, edition)?;
+    let junior = junior_of(value, edition)?;
     Some(Command::AddInheritance { senior, junior })
 }
 
-fn delete_inheritance_of(value: &Value) -> Option<Command>
-    ensures { result ≡ command_called (codes "DeleteInheritance") (view value.now) }
+fn delete_inheritance_of(value: &Value, edition: Edition) -> Option<Command>
+    ensures { result ≡ command_called edition (codes "DeleteInheritance") (view value.now) }
 {
     if !has_only(value, &["cmd", "senior", "junior"]) {
         return None;
     }
-    let senior = senior_of(value)?;
-    let junior = junior_of(value)?;
+    let senior = senior_of(value, edition)?;
+    let junior = junior_of(value, edition)?;
     Some(Command::DeleteInheritance { senior, junior })
 }
 
+fn embargo_of(value: &Value) -> Option<Command>
+    ensures { result ≡ command_called Second (codes "Embargo") (view value.now) }
+{
+    if !has_only(value, &["cmd"]) {
+        return None;
+    }
+    Some(Command::Embargo)
+}
+
+fn lift_of(value: &Value) -> Option<Command>
+    ensures { result ≡ command_called Second (codes "Lift") (view value.now) }
+{
+    if !has_only(value, &["cmd"]) {
+        return None;
+    }
+    Some(Command::Lift)
+}
+
 // The command of a word. Memory is taken for a play alone.
-fn command_called(alloc: Global, word: &str, value: &Value) -> Result<Command, RequestFault>
-    ensures { Gives result (wanted (command_called word.now (view value.now))) }
+fn command_called(
+    alloc: Global,
+    word: &str,
+    value: &Value,
+    edition: Edition,
+) -> Result<Command, RequestFault>
+    ensures { Gives result (wanted (command_called edition word.now (view value.now))) }
 {
     match word {
         "Enter" => enter_of(alloc, value),
         "Correct" => correct_of(alloc, value),
-        _ => match board_command(word, value) {
+        _ => match board_command(word, value, edition) {
             Some(command) => Ok(command),
             None => Err(RequestFault::BadField),
         },
@@ -354,8 +388,9 @@ fn command_called(alloc: Global, word: &str, value: &Value) -> Result<Command, R
 }
 
 // The others, in the order of the table: what is done at a board first.
-fn board_command(word: &str, value: &Value) -> Option<Command>
-    ensures { result ≡ by_word (codes "cmd" ∷ []) (take 1 (drop 1 commands) ++ drop 3 commands) word.now (view value.now) }
+fn board_command(word: &str, value: &Value, edition: Edition) -> Option<Command>
+    ensures { result ≡ by_word (codes "cmd" ∷ []) (take 1 (drop 1 (commands edition)) ++ drop 3 (commands edition))
+        word.now (view value.now) }
 {
     match word {
         "Confirm" => confirm_of(value),
@@ -363,13 +398,13 @@ fn board_command(word: &str, value: &Value) -> Option<Command>
         "Void" => void_of(value),
         "Hold" => hold_of(value),
         "Release" => release_of(value),
-        _ => round_command(word, value),
+        _ => round_command(word, value, edition),
     }
 }
 
 // Then who sits where, and the rounds.
-fn round_command(word: &str, value: &Value) -> Option<Command>
-    ensures { result ≡ by_word (codes "cmd" ∷ []) (drop 7 commands) word.now (view value.now) }
+fn round_command(word: &str, value: &Value, edition: Edition) -> Option<Command>
+    ensures { result ≡ by_word (codes "cmd" ∷ []) (drop 7 (commands edition)) word.now (view value.now) }
 {
     match word {
         "Seat" => seat_of(value),
@@ -377,42 +412,66 @@ fn round_command(word: &str, value: &Value) -> Option<Command>
         "NextRound" => next_round_of(value),
         "Close" => close_of(value),
         "Finalise" => finalise_of(value),
-        _ => user_command(word, value),
+        _ => user_command(word, value, edition),
     }
 }
 
 // Then users and their roles.
-fn user_command(word: &str, value: &Value) -> Option<Command>
-    ensures { result ≡ by_word (codes "cmd" ∷ []) (drop 12 commands) word.now (view value.now) }
+fn user_command(word: &str, value: &Value, edition: Edition) -> Option<Command>
+    ensures { result ≡ by_word (codes "cmd" ∷ []) (drop 12 (commands edition)) word.now (view value.now) }
 {
     match word {
         "AddUser" => add_user_of(value),
-        "Assign" => assign_of(value),
-        "Deassign" => deassign_of(value),
-        "AddInheritance" => add_inheritance_of(value),
-        "DeleteInheritance" => delete_inheritance_of(value),
+        "Assign" => assign_of(value, edition),
+        "Deassign" => deassign_of(value, edition),
+        "AddInheritance" => add_inheritance_of(value, edition),
+        "DeleteInheritance" => delete_inheritance_of(value, edition),
+        _ => added_command(word, value, edition),
+    }
+}
+
+// Then those that the first edition doesn't have.
+fn added_command(word: &str, value: &Value, edition: Edition) -> Option<Command>
+    ensures { result ≡ by_word (codes "cmd" ∷ []) (added_commands edition) word.now (view value.now) }
+{
+    match edition {
+        Edition::First => None,
+        Edition::Second => second_command(word, value),
+    }
+}
+
+fn second_command(word: &str, value: &Value) -> Option<Command>
+    ensures { result ≡ by_word (codes "cmd" ∷ []) (added_commands Second) word.now (view value.now) }
+{
+    match word {
+        "Embargo" => embargo_of(value),
+        "Lift" => lift_of(value),
         _ => None,
     }
 }
 
 #[tactic(auto, unfolding(crate::specs::Command::command_of))]
-fn command_of(alloc: Global, value: &Value) -> Result<Command, RequestFault>
-    ensures { Gives result (wanted (command_of (view value.now))) }
+fn command_of(alloc: Global, value: &Value, edition: Edition) -> Result<Command, RequestFault>
+    ensures { Gives result (wanted (command_of edition (view value.now))) }
 {
     match text_at(value, "cmd") {
-        Some(word) => command_called(alloc, word, value),
+        Some(word) => command_called(alloc, word, value, edition),
         None => Err(RequestFault::BadField),
     }
 }
 
-/// The commands of a list.
-pub fn commands_in(alloc: Global, list: &[Value]) -> Result<Commands, RequestFault>
-    ensures commands { IfOk result (λ commands. commands_in (items_view list.now) ≡ Some commands) }
-    ensures fault { IfErr result (λ fault. Fails fault (wanted (commands_in (items_view list.now)))) }
+/// The commands of a list, as an edition has them.
+pub fn commands_in(
+    alloc: Global,
+    list: &[Value],
+    edition: Edition,
+) -> Result<Commands, RequestFault>
+    ensures commands { IfOk result (λ commands. commands_in edition (items_view list.now) ≡ Some commands) }
+    ensures fault { IfErr result (λ fault. Fails fault (wanted (commands_in edition (items_view list.now)))) }
 {
     let mut commands = Vec::new(alloc);
     for value in list {
-        let command = command_of(alloc, value)?;
+        let command = command_of(alloc, value, edition)?;
         // The borrow checker's proof knows of a type inside a command only where a value of it stands.
         let _outcome = Outcome::PassedOut;
         commands.push(command)?;

@@ -32,8 +32,8 @@ record IsTurnFor (Others : List Entry → List Entry → Type 0) (no_entry : Typ
   turn : Turn
   takes : TakesTurn Others before.opening before.journal turn after.journal
   accepted : IsAccepted before.opening after.journal
-  answered : (user : List ℕ) (request : UserRequest) (text : List ℕ) → connection_meaning message ≡ Ok
-      (OfUser request) →
+  answered : (user : List ℕ) (request : UserRequest) (text : List ℕ) →
+      connection_meaning before.opening.public.edition message ≡ Ok (OfUser request) →
       before.user ≡ Some user → answer ≡ Some text →
       (turn ≡ Answered user request text) ⊎ (no_entry × (text ≡ connection_fault_text NoEntry))
 
@@ -45,7 +45,8 @@ module _ (Others : List Entry → List Entry → Type 0) (no_entry : Type 0) (be
 
   -- a text for what was read
   module _ (text : List ℕ) where
-    at_user : (request : UserRequest) → connection_meaning message ≡ Ok (OfUser request) →
+    at_user : (request : UserRequest) → connection_meaning before.opening.public.edition message ≡ Ok
+        (OfUser request) →
         (signed_in : Option (List ℕ)) →
         before.user ≡ signed_in → ForUser Others no_entry before after request text signed_in →
         IsTurnFor Others no_entry before message (Some text) after
@@ -69,7 +70,8 @@ module _ (Others : List Entry → List Entry → Type 0) (no_entry : Type 0) (be
       answered = λ user asked said also is_user is_text. inr (unserved.1, cc);
     }
 
-    at_read : (read : Result RequestBody RequestFault) → connection_meaning message ≡ read →
+    at_read : (read : Result RequestBody RequestFault) →
+        connection_meaning before.opening.public.edition message ≡ read →
         ServesRead Others no_entry before after text read → IsTurnFor Others no_entry before message (Some text) after
     at_read (Ok (OfUser request)) means serves = at_user request means before.user refl serves
     at_read (Ok (Hello name token)) means greets = record {
@@ -132,8 +134,9 @@ module _ (Others : List Entry → List Entry → Type 0) (no_entry : Type 0) (be
   turn_for : (answer : Option (List ℕ)) → IsExchanged Others no_entry before message answer after →
       IsTurnFor Others no_entry before message answer after
   unfolding Serves HasNoAnswer
-  turn_for (Some text) serves = at_read text (connection_meaning message) refl serves
-  turn_for None (stays, leaves) = left stays.later.same (connection_meaning message) leaves
+  turn_for (Some text) serves = at_read text (connection_meaning before.opening.public.edition message) refl serves
+  turn_for None (stays, leaves) =
+      left stays.later.same (connection_meaning before.opening.public.edition message) leaves
 
 -- the stops of a conversation on connections
 record Conversed (Others : List Entry → List Entry → Type 0) (no_entry : Type 0) (opening : SessionState)

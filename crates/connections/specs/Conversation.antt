@@ -43,8 +43,8 @@ AreExchanged Others no_entry opening (exchange ∷ earlier) =
 pub record IsStopOf (no_entry : Type 0) (exchange : Exchange) (stop : Stop) : Type 0 where
   pub journal : stop.journal ≡ exchange.after.journal
   pub answered : (user : List ℕ) (request : UserRequest) (text : List ℕ) →
-      connection_meaning exchange.message ≡ Ok (OfUser request) → exchange.before.user ≡ Some user →
-      exchange.answer ≡ Some text →
+      connection_meaning exchange.before.opening.public.edition exchange.message ≡ Ok (OfUser request) →
+      exchange.before.user ≡ Some user → exchange.answer ≡ Some text →
       (stop.turn ≡ Answered user request text) ⊎ (no_entry × (text ≡ connection_fault_text NoEntry))
 
 -- each stop is that of its exchange

@@ -96,10 +96,10 @@ abbrev pub ServesRead : (List Entry → List Entry → Type 0) → Type 0 → Li
 ServesRead Others no_entry before after text (Ok wanted) = ServesBody Others no_entry before after text wanted
 ServesRead Others no_entry before after text (Err fault) = (text ≡ fault_text fault) × (after ≡ before)
 
--- what is answered to a message
+-- what is answered to a message, which is read by the session's edition of the policy
 unfoldable pub Serves : (List Entry → List Entry → Type 0) → Type 0 → Linked → Linked → List ℕ → List ℕ → Type 0
 Serves Others no_entry before after message text =
-    ServesRead Others no_entry before after text (connection_meaning message)
+    ServesRead Others no_entry before after text (connection_meaning before.opening.public.edition message)
 
 -- ---- messages to which memory was refused
 
@@ -124,7 +124,8 @@ Leaves Others before after (Err fault) = after.journal ≡ before.journal
 
 -- memory was refused to a message: who was signed in still is
 unfoldable pub HasNoAnswer : (List Entry → List Entry → Type 0) → Linked → Linked → List ℕ → Type 0
-HasNoAnswer Others before after message = StaysOn before after × Leaves Others before after (connection_meaning message)
+HasNoAnswer Others before after message =
+    StaysOn before after × Leaves Others before after (connection_meaning before.opening.public.edition message)
 
 -- ---- for private clauses
 

@@ -12,6 +12,7 @@ use published_view::QueryFault;
 use request_answers::{answer_query, answer_request};
 use session_keeper::{CommandKeeper, Keeper};
 use session_queries::Query;
+use session_roles::Edition;
 use sha2::{Digest, Sha256};
 use std::alloc::Global;
 use std::marker::Model;
@@ -52,6 +53,13 @@ impl<K: Keeper> Connection<K> {
     {
         let Connection { keeper, .. } = self;
         keeper
+    }
+
+    // The edition of the policy that the session is of, by which messages are read.
+    pub(crate) fn edition(&self) -> Edition
+        ensures { result ≡ self.now.opening.public.edition }
+    {
+        self.keeper.edition()
     }
 
     /// Who has signed in.

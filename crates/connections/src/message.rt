@@ -37,7 +37,7 @@ impl<K: Keeper> Connection<K> {
         ensures refused { OnErr result (HasNoAnswer K.others self.old self.new message.now) }
         ensures memory { OnErr result (is_message_text message.now ≡ true) }
     {
-        match read_connection_request(alloc, message) {
+        match read_connection_request(alloc, message, self.edition()) {
             Ok(body) => self.serve_body(rt, alloc, &body),
             Err(RequestFault::OutOfMemory) => Err(AllocError),
             Err(fault) => Ok(CowStr::Borrowed(fault_text(fault))),

@@ -18,6 +18,7 @@ use Rattle.disclosure_rules.specs.declared.rule.Rule.TheVariants.{
   NoAccount,
   NotAMember,
   AccountsAreClosed,
+  SessionIsEmbargoed,
   BoardIsHeld,
   StillToPlay,
   OthersStillPlay,
@@ -167,14 +168,16 @@ module _ (public : Public) (viewer : Viewer) (fact : Fact) where
   named is_section NoAccount forbidden waits = absurd (false≢true waits)
   named is_section NotAMember forbidden waits = absurd (false≢true waits)
   named is_section AccountsAreClosed forbidden waits = absurd (false≢true waits)
+  named is_section SessionIsEmbargoed forbidden waits = absurd (false≢true waits)
   named is_section BoardIsHeld forbidden waits = absurd (false≢true waits)
   named is_section StillToPlay forbidden waits = let own = at_own is_section forbidden in own.awaited
   named is_section OthersStillPlay forbidden waits =
       at_board _ (λ b test. not-true _ (and_parts _ _ (and_parts _ _ test).1).1) forbidden
   named is_section NeitherContestantNorSpectator forbidden waits = absurd (false≢true waits)
-  named is_section BoardIsIncomplete forbidden waits = at_board _ (λ b test. not-true _ (and_parts _ _ test).1)
-      forbidden
-  named is_section AnalysisWaits forbidden waits = at_board _ (λ b test. not-true _ (and_parts _ _ test).1) forbidden
+  named is_section BoardIsIncomplete forbidden waits =
+      at_board _ (λ b test. not-true _ (and_parts _ _ (and_parts _ _ test).1).1) forbidden
+  named is_section AnalysisWaits forbidden waits =
+      at_board _ (λ b test. not-true _ (and_parts _ _ (and_parts _ _ test).1).1) forbidden
   named is_section PlayWaits forbidden waits = absurd (false≢true waits)
   named is_section ReasonIsForThePairs forbidden waits = absurd (false≢true waits)
   named is_section NoResult forbidden waits = absurd (false≢true waits)

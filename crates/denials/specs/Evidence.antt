@@ -14,7 +14,8 @@ use Rattle.disclosure_rules.specs.declared.fact.Fact.{Fact}
 use Rattle.disclosure_rules.specs.declared.public.Public.{Public}
 use Rattle.disclosure_rules.specs.declared.seat.Seat.{Seat}
 use Rattle.disclosure_rules.specs.declared.rule.Rule.{Rule}
-use Rattle.disclosure_rules.specs.declared.rule.Rule.TheVariants.{NoAccount, NotAMember, AccountsAreClosed, BoardIsHeld}
+use Rattle.disclosure_rules.specs.declared.rule.Rule.TheVariants.{NoAccount, NotAMember, AccountsAreClosed}
+use Rattle.disclosure_rules.specs.declared.rule.Rule.TheVariants.{SessionIsEmbargoed, BoardIsHeld}
 use Rattle.disclosure_rules.specs.declared.rule.Rule.TheVariants.{StillToPlay, OthersStillPlay}
 use Rattle.disclosure_rules.specs.declared.rule.Rule.TheVariants.{NeitherContestantNorSpectator, BoardIsIncomplete}
 use Rattle.disclosure_rules.specs.declared.rule.Rule.TheVariants.{AnalysisWaits, PlayWaits, ReasonIsForThePairs}
@@ -57,6 +58,7 @@ abbrev pub board_named : Rule → Fact → ℕ
 board_named NoAccount fact = 0
 board_named NotAMember fact = 0
 board_named AccountsAreClosed fact = 0
+board_named SessionIsEmbargoed fact = denied_board fact
 board_named BoardIsHeld fact = denied_board fact
 board_named StillToPlay fact = denied_board fact
 board_named OthersStillPlay fact = denied_board fact
@@ -72,6 +74,7 @@ abbrev pub table_named : Rule → Public → Option Seat → Fact → ℕ
 table_named NoAccount public seat fact = 0
 table_named NotAMember public seat fact = 0
 table_named AccountsAreClosed public seat fact = 0
+table_named SessionIsEmbargoed public seat fact = 0
 table_named BoardIsHeld public seat fact = 0
 table_named StillToPlay public seat fact = own_table public.movement seat (denied_board fact)
 table_named OthersStillPlay public seat fact = awaited_table public.movement public.live (denied_board fact)
@@ -87,6 +90,7 @@ abbrev pub waits_for_results : Rule → Bool
 waits_for_results NoAccount = false
 waits_for_results NotAMember = false
 waits_for_results AccountsAreClosed = false
+waits_for_results SessionIsEmbargoed = false
 waits_for_results BoardIsHeld = false
 waits_for_results StillToPlay = true
 waits_for_results OthersStillPlay = true
@@ -97,10 +101,14 @@ waits_for_results PlayWaits = false
 waits_for_results ReasonIsForThePairs = false
 waits_for_results NoResult = false
 
--- the denial of a fact by a rule, with its evidence
+-- the denial of a fact by a rule, with its evidence, and with the edition in which the rule has its number
 abbrev pub denial_by : Public → Option Seat → Fact → Rule → Denial
-denial_by public seat fact rule =
-    record { rule = rule; board = board_named rule fact; table = table_named rule public seat fact }
+denial_by public seat fact rule = record {
+  rule = rule;
+  board = board_named rule fact;
+  table = table_named rule public seat fact;
+  edition = public.edition;
+}
 
 -- the denial of a fact by the first rule that forbids it, if one does
 unfoldable pub denial_of : Public → Viewer → Fact → Option Denial
@@ -111,6 +119,7 @@ abbrev pub explanation : Rule → List ℕ
 explanation NoAccount = codes "no such account"
 explanation NotAMember = codes "not a member"
 explanation AccountsAreClosed = codes "accounts are for administrators and directors"
+explanation SessionIsEmbargoed = codes "the session is under embargo"
 explanation BoardIsHeld = codes "the board is held"
 explanation StillToPlay = codes "your pair has still to play this board"
 explanation OthersStillPlay = codes "the board isn't complete and you don't play it"

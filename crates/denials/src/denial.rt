@@ -2,6 +2,7 @@ ghost use Rattle.std.specs.Prelude.{◌≡◌};
 ghost use Rattle.denials.specs.Evidence.{explanation};
 
 use disclosure_rules::Rule;
+use session_roles::Edition;
 
 /// Why a user is denied a fact.
 #[derive(Clone, Copy, PartialEq, Eq)]
@@ -12,6 +13,8 @@ pub struct Denial {
     pub board: u8,
     /// The table that the rule names, from 1, or 0 where it names none.
     pub table: u8,
+    /// The edition of the policy, by which the rule has its number.
+    pub edition: Edition,
 }
 
 /// What the user is told.
@@ -22,6 +25,7 @@ pub fn explain(denial: Denial) -> &'static str
         Rule::NoAccount => "no such account",
         Rule::NotAMember => "not a member",
         Rule::AccountsAreClosed => "accounts are for administrators and directors",
+        Rule::SessionIsEmbargoed => "the session is under embargo",
         Rule::BoardIsHeld => "the board is held",
         Rule::StillToPlay => "your pair has still to play this board",
         Rule::OthersStillPlay => "the board isn't complete and you don't play it",

@@ -31,6 +31,7 @@ fn denial_by(public: &Public, seat: &Option<Seat>, fact: Fact, rule: Rule) -> De
         rule,
         board: board_named(rule, fact),
         table: table_named(rule, public, seat, fact),
+        edition: public.edition,
     }
 }
 
@@ -40,7 +41,8 @@ fn board_named(rule: Rule, fact: Fact) -> u8
 {
     match rule {
         Rule::NoAccount | Rule::NotAMember | Rule::AccountsAreClosed => 0,
-        Rule::BoardIsHeld
+        Rule::SessionIsEmbargoed
+        | Rule::BoardIsHeld
         | Rule::StillToPlay
         | Rule::OthersStillPlay
         | Rule::NeitherContestantNorSpectator
@@ -59,7 +61,7 @@ fn table_named(rule: Rule, public: &Public, seat: &Option<Seat>, fact: Fact) -> 
     let board = fact.board().unwrap_or(0);
     match rule {
         Rule::NoAccount | Rule::NotAMember | Rule::AccountsAreClosed => 0,
-        Rule::BoardIsHeld | Rule::NeitherContestantNorSpectator => 0,
+        Rule::SessionIsEmbargoed | Rule::BoardIsHeld | Rule::NeitherContestantNorSpectator => 0,
         Rule::StillToPlay => own_table(public.movement, seat, board),
         Rule::OthersStillPlay | Rule::BoardIsIncomplete | Rule::AnalysisWaits => {
             awaited_table(public, board)

@@ -10,6 +10,7 @@ use session_book::{Answer, Submission};
 use session_commands::Command;
 use session_keeper::{AuditReceipt, BatchReceipt, CommandKeeper, Keeper};
 use session_queries::{Query, Reply};
+use session_roles::Edition;
 use solver_pool::Work;
 use solver_results::{DdTable, PlayCosts};
 use std::alloc::{AllocError, Global};
@@ -49,6 +50,10 @@ impl<'a, N: Server> Keeper for DeskKeeper<'a, N> {
     ghost others = { λ before after. IsPrefix before after };
 
     ghost no_entry = { Unit {0} };
+
+    fn edition(&self) -> Edition {
+        self.display.edition()
+    }
 
     fn query(
         &mut self,

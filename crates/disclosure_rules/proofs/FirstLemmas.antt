@@ -4,8 +4,6 @@ use Rattle.std.proofs.Common.{
   ℕ,
   zero,
   suc,
-  ◌+◌,
-  ◌-◌,
   ◌<◌,
   Bool,
   true,
@@ -24,11 +22,14 @@ use Rattle.std.proofs.Common.{
   inl,
   inr,
 }
-use Rattle.std.specs.Prelude.{Option, Some, None, cond, if◌then◌else◌}
+use Rattle.std.specs.Prelude.{Option, Some, None, cond, ◌&&◌, if◌then◌else◌}
 use Rattle.std.specs.Option.{unwrap_or}
 use Rattle.std.specs.List.{find}
-use Rattle.std.proofs.lemmas.Bool.{cases_Bool}
+use Rattle.std.proofs.lemmas.Bool.{cases_Bool, false≢true}
+use Rattle.session_roles.specs.declared.edition.Edition.{Edition}
+use Rattle.session_roles.specs.declared.edition.Edition.TheVariants.{First}
 use Rattle.session_roles.specs.declared.role.Role.TheVariants.{Director}
+use Rattle.session_roles.specs.Edition.{is_second}
 use Rattle.disclosure_rules.specs.declared.fact.Fact.{Fact}
 use Rattle.disclosure_rules.specs.declared.fact.Fact.TheVariants.{Hands}
 use Rattle.disclosure_rules.specs.declared.fact.Fact.TheVariants as the_fact
@@ -38,6 +39,7 @@ use Rattle.disclosure_rules.specs.declared.rule.Rule.TheVariants.{
   NoAccount,
   NotAMember,
   AccountsAreClosed,
+  SessionIsEmbargoed,
   BoardIsHeld,
   StillToPlay,
   OthersStillPlay,
@@ -50,9 +52,19 @@ use Rattle.disclosure_rules.specs.declared.rule.Rule.TheVariants.{
 }
 use Rattle.disclosure_rules.specs.declared.viewer.Viewer.{Viewer}
 use Rattle.disclosure_rules.specs.Fact.{board_of_fact}
-use Rattle.disclosure_rules.specs.Policy.{is_authorized, guarded, guarding, forbids, rules, rule_number, first_rule}
+use Rattle.disclosure_rules.specs.Policy.{
+  is_authorized,
+  is_embargoed,
+  guarded,
+  guarding,
+  forbids,
+  rules,
+  rule_place,
+  rule_number,
+  first_rule,
+}
 use Rattle.disclosure_rules.specs.Seating.{some_that}
-use Rattle.disclosure_rules.proofs.RuleLemmas.{at_number, number_within, number_at}
+use Rattle.disclosure_rules.proofs.RuleLemmas.{at_place, place_within, place_at, numbered, earlier}
 
 -- an element that passes a test where no element before it does is the one that is found
 pub find_place : {X : Type 0} (p : X → Bool) (xs : List X) (k : ℕ) (d : X) → k < length xs → p (get_or xs k d) ≡ true →
@@ -161,24 +173,54 @@ module _ (public : Public) (viewer : Viewer) (fact : Fact) where
   first_forbids rule found = let first : IsFound test rules NoAccount rule = found_at test rules NoAccount rule found in
       first.passes
 
+  -- a test that fails guards nothing
+  fails_all : (f : Fact) (asked : ℕ → Bool) → ((b : ℕ) → asked b ≡ false) → guarding viewer f asked ≡ false
+  fails_all f asked never = either (is_authorized viewer.roles Director) (board_of_fact f)
+    where
+      either : (director : Bool) (o : Option ℕ) → some_that (if director then None else o) asked ≡ false
+      either true o = refl
+      either false None = refl
+      either false (Some b) = never b
+
+  -- the rule that the first edition is without never forbids there
+  pub no_embargo : (rule : Rule) → (public.edition ≡ First) × (rule ≡ SessionIsEmbargoed) → test rule ≡ false
+  no_embargo rule (first, is) =
+      ap test is
+      ∙ fails_all fact (λ _. is_embargoed public) (λ _. ap (λ (edition : Edition). is_second edition && public.embargo)
+      first)
+
   -- and no rule with a lower number does
-  pub none_before : (rule other : Rule) → first_rule public viewer fact ≡ Some rule → rule_number other < rule_number
-      rule → test other ≡ false
+  pub none_before : (rule other : Rule) → first_rule public viewer fact ≡ Some rule →
+      rule_number public.edition other < rule_number public.edition rule → test other ≡ false
   unfolding first_rule
   none_before rule other found less =
-      let first : IsFound test rules NoAccount rule = found_at test rules NoAccount rule found in
-      let within = number_within other in
-      let number : rule_number rule ≡ first.place + 1 = ap rule_number (sym first.here) ∙ number_at first.place
-      NoAccount first.below in
-      subst (λ r. test r ≡ false) (at_number other) (first.least (rule_number other - 1) (omega arith))
+      elim (earlier public.edition other rule less) [
+        | inl without ↦ no_embargo other without
+        | inr before ↦ at_earlier before
+      ]
+    where
+      at_earlier : rule_place other < rule_place rule → test other ≡ false
+      at_earlier before =
+          let first : IsFound test rules NoAccount rule = found_at test rules NoAccount rule found in
+          let place : rule_place rule ≡ first.place = ap rule_place (sym first.here)
+          ∙ place_at first.place NoAccount first.below in
+          subst (λ r. test r ≡ false) (at_place other) (first.least (rule_place other) (omega (arith, before, place)))
+
+  -- the first rule is one that the edition has
+  pub first_numbered : (rule : Rule) → first_rule public viewer fact ≡ Some rule →
+      0 < rule_number public.edition rule
+  first_numbered rule found =
+      elim (numbered public.edition rule) [
+        | inl without ↦ absurd (false≢true (sym (no_embargo rule without) ∙ first_forbids rule found))
+        | inr has_number ↦ has_number
+      ]
 
   -- where there is no first, no rule forbids
   pub none_forbids : first_rule public viewer fact ≡ None → (rule : Rule) → test rule ≡ false
   unfolding first_rule
   none_forbids none rule =
-      let within = number_within rule in
-      subst (λ r. test r ≡ false) (at_number rule) (none_found test rules NoAccount none (rule_number rule - 1)
-      (omega arith))
+      subst (λ r. test r ≡ false) (at_place rule) (none_found test rules NoAccount none (rule_place rule)
+      (omega (arith, place_within rule)))
 
   -- what belongs to no board or table is guarded from nobody
   unguarded : {A : Type 0} (asked : A → Bool) → some_that (guarded viewer None) asked ≡ false
@@ -201,6 +243,7 @@ module _ (public : Public) (viewer : Viewer) (fact : Fact) where
       of_public NoAccount = none_forbids none NoAccount
       of_public NotAMember = none_forbids none NotAMember
       of_public AccountsAreClosed = refl
+      of_public SessionIsEmbargoed = unguarded _
       of_public BoardIsHeld = unguarded _
       of_public StillToPlay = unguarded _
       of_public OthersStillPlay = unguarded _
@@ -221,13 +264,6 @@ module _ (public : Public) (viewer : Viewer) (fact : Fact) where
       guarded_same : (asked : ℕ → Bool) → guarding viewer (Hands board) asked ≡ guarding viewer fact asked
       guarded_same asked = ap (λ (o : Option ℕ). some_that (guarded viewer o) asked) (sym of_board)
 
-      no_board : (asked : ℕ → Bool) → ((b : ℕ) → asked b ≡ false) → guarding viewer (Hands board) asked ≡ false
-      no_board asked never = either (is_authorized viewer.roles Director)
-        where
-          either : (director : Bool) → some_that (if director then None else Some board) asked ≡ false
-          either true = refl
-          either false = never board
-
       allowed : (r : Rule) → test r ≡ false
       allowed r = none_forbids none r
 
@@ -235,12 +271,13 @@ module _ (public : Public) (viewer : Viewer) (fact : Fact) where
       of_hands NoAccount = allowed NoAccount
       of_hands NotAMember = allowed NotAMember
       of_hands AccountsAreClosed = refl
+      of_hands SessionIsEmbargoed = guarded_same _ ∙ allowed SessionIsEmbargoed
       of_hands BoardIsHeld = guarded_same _ ∙ allowed BoardIsHeld
       of_hands StillToPlay = guarded_same _ ∙ allowed StillToPlay
       of_hands OthersStillPlay = guarded_same _ ∙ allowed OthersStillPlay
       of_hands NeitherContestantNorSpectator = guarded_same _ ∙ allowed NeitherContestantNorSpectator
       of_hands BoardIsIncomplete = guarded_same _ ∙ allowed BoardIsIncomplete
-      of_hands AnalysisWaits = no_board _ (λ b. refl)
+      of_hands AnalysisWaits = fails_all (Hands board) _ (λ b. refl)
       of_hands PlayWaits = unguarded _
       of_hands ReasonIsForThePairs = unguarded _
       of_hands NoResult = unguarded _

@@ -12,13 +12,16 @@ ghost use Rattle.disclosure_rules.specs.Policy.{forbids, first_rule, rule_number
 ghost use Rattle.disclosure_rules.specs.Seating.{is_complete, plays_board, has_still_to_play, is_seated_at, IsComplete};
 ghost use Rattle.disclosure_rules.specs.Seating.{PlaysBoard, HasStillToPlay, IsSeatedAt};
 
-/// The rule that is named first forbids the fact, and no rule with a lower number does.
+/// The rule that is named first forbids the fact, and no rule with a lower number in the edition does. It is one of the
+/// edition's rules: it has a number there.
 pub fn first_is_named()
     ensures forbids { (public : Public) (viewer : Viewer) (fact : Fact) (rule : Rule) →
         first_rule public viewer fact ≡ Some rule → forbids rule public viewer fact ≡ true }
     ensures least { (public : Public) (viewer : Viewer) (fact : Fact) (rule other : Rule) →
-        first_rule public viewer fact ≡ Some rule → rule_number other < rule_number rule →
+        first_rule public viewer fact ≡ Some rule → rule_number public.edition other < rule_number public.edition rule →
         forbids other public viewer fact ≡ false }
+    ensures numbered { (public : Public) (viewer : Viewer) (fact : Fact) (rule : Rule) →
+        first_rule public viewer fact ≡ Some rule → 0 < rule_number public.edition rule }
     ensures none { (public : Public) (viewer : Viewer) (fact : Fact) →
         (first_rule public viewer fact ≡ None) ↔ ((rule : Rule) → forbids rule public viewer fact ≡ false) }
 {}

@@ -4,7 +4,7 @@ ghost use Rattle.disclosure_rules.specs.Fact.{is_accounts, is_analysed, is_of_pl
 ghost use Rattle.disclosure_rules.specs.LiveCells.{is_live};
 ghost use Rattle.small_sets.specs.Numbers.{has_number};
 ghost use Rattle.disclosure_rules.specs.Phase.{is_running};
-ghost use Rattle.disclosure_rules.specs.Policy.{is_authorized, is_contestant, forbids, guarded, first_rule};
+ghost use Rattle.disclosure_rules.specs.Policy.{is_authorized, is_contestant, comments, forbids, guarded, first_rule};
 ghost use Rattle.disclosure_rules.specs.Seating.{some_that, is_complete, plays_board, has_still_to_play, is_seated_at};
 
 use crate::fact::Fact;
@@ -37,12 +37,13 @@ fn forbids(rule: Rule, public: &Public, viewer: &Viewer, fact: Fact) -> bool
         Rule::NoAccount => viewer.roles.is_none(),
         Rule::NotAMember => !viewer.is_authorized(Role::Member),
         Rule::AccountsAreClosed => accounts_are_closed(viewer, fact),
+        Rule::SessionIsEmbargoed => board.is_some() && public.is_embargoed(),
         Rule::BoardIsHeld => is_held(public, board),
         Rule::StillToPlay => is_still_to_play(public, viewer, board),
         Rule::OthersStillPlay => others_still_play(public, viewer, board),
         Rule::NeitherContestantNorSpectator => board.is_some() && !watches(viewer),
         Rule::BoardIsIncomplete => board_is_incomplete(public, viewer, board),
-        Rule::AnalysisWaits => analysis_waits(public, fact, board),
+        Rule::AnalysisWaits => analysis_waits(public, viewer, fact, board),
         Rule::PlayWaits => play_waits(public, viewer, fact, cell),
         Rule::ReasonIsForThePairs => reason_is_for_the_pairs(public, viewer, fact, cell),
         Rule::NoResult => has_no_result(public, cell),
@@ -100,19 +101,25 @@ fn watches(viewer: &Viewer) -> bool
 
 fn board_is_incomplete(public: &Public, viewer: &Viewer, board: Option<u8>) -> bool
     ensures { result ≡ some_that board (λ board.
-        not (is_contestant viewer.now) && not (is_complete public.now board)) }
+        not (is_contestant viewer.now)
+        && (not (comments public.now viewer.now) && not (is_complete public.now board))) }
 {
     match board {
-        Some(board) => !is_contestant(viewer) && !public.is_complete(board),
+        Some(board) => {
+            !is_contestant(viewer) && !comments(public, viewer) && !public.is_complete(board)
+        }
         None => false,
     }
 }
 
-fn analysis_waits(public: &Public, fact: Fact, board: Option<u8>) -> bool
-    ensures { result ≡ some_that board (λ board. is_analysed fact && not (is_complete public.now board)) }
+fn analysis_waits(public: &Public, viewer: &Viewer, fact: Fact, board: Option<u8>) -> bool
+    ensures { result ≡ some_that board (λ board. is_analysed fact
+        && (not (comments public.now viewer.now) && not (is_complete public.now board))) }
 {
     match board {
-        Some(board) => fact.is_analysed() && !public.is_complete(board),
+        Some(board) => {
+            fact.is_analysed() && !comments(public, viewer) && !public.is_complete(board)
+        }
         None => false,
     }
 }
@@ -152,6 +159,13 @@ fn is_contestant(viewer: &Viewer) -> bool
     ensures { result ≡ is_contestant viewer.now }
 {
     viewer.is_authorized(Role::Contestant)
+}
+
+// Whether the user may comment on boards before they are complete.
+fn comments(public: &Public, viewer: &Viewer) -> bool
+    ensures { result ≡ comments public.now viewer.now }
+{
+    public.edition.is_second() && viewer.is_authorized(Role::Commentator)
 }
 
 /// What is guarded, from everybody but a director.

@@ -1,4 +1,5 @@
 ghost use Rattle.std.specs.Prelude.{◌≡◌};
+ghost use Rattle.disclosure_rules.specs.Policy.{is_embargoed};
 ghost use Rattle.disclosure_rules.specs.Seating.{is_complete};
 
 use crate::boards::Boards;
@@ -6,6 +7,7 @@ use crate::live_cells::LiveCells;
 use crate::marks::Marks;
 use crate::phase::Phase;
 use movement::Movement;
+use session_roles::Edition;
 
 /// What every member of a session may see, beside the seats.
 #[derive(Drop)]
@@ -16,6 +18,10 @@ pub struct Public {
     /// The present round, from 1.
     pub round: u8,
     pub phase: Phase,
+    /// The edition of the policy by which facts are denied.
+    pub edition: Edition,
+    /// Whether the director has put the session under embargo, which the second edition alone knows.
+    pub embargo: bool,
     /// The boards that the director withholds.
     pub held: Boards,
     pub live: LiveCells,
@@ -30,9 +36,18 @@ impl Public {
             marks: self.marks,
             round: self.round,
             phase: self.phase,
+            edition: self.edition,
+            embargo: self.embargo,
             held: self.held,
             live: self.live.copy(),
         }
+    }
+
+    /// Whether the session is under embargo, in an edition that knows one.
+    pub fn is_embargoed(&self) -> bool
+        ensures { result ≡ is_embargoed self.now }
+    {
+        self.edition.is_second() && self.embargo
     }
 
     /// Whether every table that is scheduled to play the board has a result on it.

@@ -76,7 +76,7 @@ fn print_all(rt: &HostRuntime, book: Book, messages: &str, times: usize) -> io::
 }
 
 fn hear(rt: &HostRuntime, session: &mut Session, message: &str, times: usize) -> io::Result<()> {
-    match read_script_request(rt.alloc(), message.as_bytes()) {
+    match read_script_request(rt.alloc(), message.as_bytes(), session.view.edition()) {
         Ok(said) => follow(rt, session, &said, message, times),
         Err(_) => Ok(()),
     }
@@ -175,7 +175,7 @@ fn reply(asked: &Asked<'_>, way: Way) -> Result<Reply, AllocError> {
 
 // Whether the message is read, answered, and the reply written as a text.
 fn is_told(asked: &Asked<'_>, way: Way) -> bool {
-    match read_script_request(asked.alloc, asked.message.as_bytes()) {
+    match read_script_request(asked.alloc, asked.message.as_bytes(), asked.view.edition()) {
         Ok(said) => is_written(asked, &said, way),
         Err(_) => false,
     }

@@ -10,6 +10,7 @@ use opened_session::{OpenedSession, open_session};
 use published_view::View;
 use service_threads::run_tasks;
 use session_book::Book;
+use session_roles::Edition;
 use std::alloc::{AllocError, Global};
 use std::marker::Brand;
 use std::sync::Wait;
@@ -38,9 +39,10 @@ pub(crate) struct Figures {
     pub(crate) batches: u64,
 }
 
-// What displays are asked and the desk is told.
+// What displays are asked and the desk is told, in a session of an edition of the policy.
 #[derive(Clone, Copy)]
 struct Messages<'a> {
+    edition: Edition,
     query: &'a str,
     batch: &'a str,
 }
@@ -57,7 +59,12 @@ pub(crate) fn measured<R: Threads + Wait + Clock + Sync>(
     let (batch, _) = rest.split_once('\n')?;
     match open_session(alloc, object.as_bytes(), None) {
         Ok(OpenedSession { book, .. }) => {
-            measure(rt, alloc, book, Messages { query, batch }, plan)
+            let messages = Messages {
+                edition: book.edition(),
+                query,
+                batch,
+            };
+            measure(rt, alloc, book, messages, plan)
         }
         Err(_) => None,
     }
@@ -123,6 +130,7 @@ fn measure_shared<N: Server + Send + Sync, R: Threads + Wait + Clock + Sync>(
     let pushed = writers.push(Write {
         alloc,
         desk: shared.desk(),
+        edition: messages.edition,
         message: messages.batch,
         pause: plan.pause,
         counts: &counts,

@@ -5,6 +5,7 @@ ghost use Rattle.wire.specs.Request.{HasFew};
 use desks::Desk;
 use displays::{Display, Server};
 use service_threads::Task;
+use session_roles::Edition;
 use std::alloc::Global;
 use std::sync::Wait;
 use std::sync::atomic::{AtomicBool, AtomicU64, Ordering};
@@ -43,7 +44,7 @@ impl<'a, N: Server> Task for Read<'a, N> {
         } = self;
         let mut display = display;
         let (Ok(said), Ok(start)) = (
-            read_script_request(alloc, message.as_bytes()),
+            read_script_request(alloc, message.as_bytes(), display.edition()),
             Instant::now(rt),
         ) else {
             return;
@@ -84,6 +85,7 @@ fn is_over<R: Clock>(rt: &R, start: Instant, milliseconds: u64) -> bool {
 pub(crate) struct Write<'a, N: Server> {
     pub(crate) alloc: Global,
     pub(crate) desk: Desk<'a, N>,
+    pub(crate) edition: Edition,
     pub(crate) message: &'a str,
     pub(crate) pause: Option<u64>,
     pub(crate) counts: &'a Counts,
@@ -94,12 +96,13 @@ impl<'a, N: Server> Task for Write<'a, N> {
         let Write {
             alloc,
             desk,
+            edition,
             message,
             pause,
             counts,
         } = self;
         for _ in 0..u64::MAX {
-            if is_told(rt, alloc, &desk, message) {
+            if is_told(rt, alloc, &desk, edition, message) {
                 counts.batches.fetch_add(1, Ordering::SeqCst);
             }
             let Some(pause) = pause else {
@@ -114,8 +117,14 @@ impl<'a, N: Server> Task for Write<'a, N> {
 }
 
 // Whether a batch is told what became of it.
-fn is_told<N: Server, R: Wait>(rt: &R, alloc: Global, desk: &Desk<'_, N>, message: &str) -> bool {
-    match read_script_request(alloc, message.as_bytes()) {
+fn is_told<N: Server, R: Wait>(
+    rt: &R,
+    alloc: Global,
+    desk: &Desk<'_, N>,
+    edition: Edition,
+    message: &str,
+) -> bool {
+    match read_script_request(alloc, message.as_bytes(), edition) {
         Ok(said) => is_tried(rt, desk, &said),
         Err(_) => false,
     }

@@ -1,12 +1,13 @@
 -- A session that nobody keeps: where a call picks its server by the name `Brand`, this stands in place of its opening,
 -- and no copy is ever opened for it.
-use Rattle.std.specs.Prelude.{[], None}
+use Rattle.std.specs.Prelude.{[], None, false}
 use Rattle.session_state.specs.SessionState.{SessionState}
+use Rattle.session_roles.specs.declared.edition.Edition.TheVariants.{First}
 use Rattle.disclosure_rules.specs.declared.phase.Phase.TheVariants.{Running}
 
 abbrev pub no_session : SessionState
 no_session = record {
-  roles = record { accounts = []; pairs = [] };
+  roles = record { accounts = []; pairs = []; edition = First };
   digests = [];
   seats = [];
   public = record {
@@ -14,6 +15,8 @@ no_session = record {
     marks = [];
     round = 0;
     phase = Running;
+    edition = First;
+    embargo = false;
     held = [];
     live = [];
   };

@@ -17,6 +17,7 @@ use core::mem::replace_with;
 use history::HistoryPrefix;
 use published_view::{NoEntry, QueryFault};
 use session_queries::{Query, Reply};
+use session_roles::Edition;
 use std::alloc::{AllocError, Global};
 use std::marker::Model;
 use user_names::{Digest, Name};
@@ -27,6 +28,8 @@ use user_names::{Digest, Name};
 pub struct Display<N: Server> {
     reader: CopyReader<N>,
     prefix: HistoryPrefix,
+    // Kept beside the copies, since a display may be refused entry.
+    edition: Edition,
 }
 
 impl<N: Server> Model for Display<N> {
@@ -40,15 +43,28 @@ impl<N: Server> Model for Display<N> {
 
     ghost view = { λ d. d.prefix.publications };
 
-    ghost invariant = { λ d. (d.prefix.history ≡ N.history) × IsPublished N.opening d.prefix.publications };
+    ghost invariant = { λ d. (d.prefix.history ≡ N.history) × IsPublished N.opening d.prefix.publications
+        × (d.edition ≡ N.opening.public.edition) };
 }
 
 impl<N: Server> Display<N> {
-    pub(crate) fn over(reader: CopyReader<N>, prefix: HistoryPrefix) -> Display<N>
-        requires { prefix ≡ prefix_in N.history [] }
+    pub(crate) fn over(reader: CopyReader<N>, prefix: HistoryPrefix, edition: Edition) -> Display<N>
+        requires prefix { prefix ≡ prefix_in N.history [] }
+        requires edition { edition ≡ N.opening.public.edition }
         ensures { result ≡ [] }
     {
-        Display { reader, prefix }
+        Display {
+            reader,
+            prefix,
+            edition,
+        }
+    }
+
+    /// The edition of the policy that the session is of. It waits for nobody, and is told whatever the copies do.
+    pub fn edition(&self) -> Edition
+        ensures { result ≡ N.opening.public.edition }
+    {
+        self.edition
     }
 
     /// The reply to a user's query by the copy that is shown; the user wants no version older than `since`. It waits for

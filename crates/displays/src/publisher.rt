@@ -16,6 +16,7 @@ use core::mem::replace_with;
 use history::{Head, History, HistoryPrefix};
 use published_view::View;
 use session_commands::Entry;
+use session_roles::Edition;
 use std::alloc::{AllocError, Global};
 use std::fmt;
 use std::marker::Model;
@@ -242,6 +243,7 @@ pub fn open_displays<N: Server, R: Wait>(
         return Err(OpenError::NoPlace);
     }
     let (head, prefix) = history.into_parts();
+    let edition = first.edition();
     let one = ViewCopy::new(first, prefix.again());
     let other = ViewCopy::new(second, prefix.again());
     let Ok(mut writer) = CopyWriter::<N>::new(alloc, one, other, displays) else {
@@ -255,7 +257,7 @@ pub fn open_displays<N: Server, R: Wait>(
         writer.take(rt);
         return Err(OpenError::OutOfMemory);
     }
-    match all_displays(alloc, writer.factory(), &prefix, displays) {
+    match all_displays(alloc, writer.factory(), &prefix, edition, displays) {
         Ok(all) => {
             let publisher = Publisher {
                 writer,
@@ -278,9 +280,11 @@ fn all_displays<N: Server>(
     alloc: Global,
     from: &CopyFactory<N>,
     prefix: &HistoryPrefix,
+    edition: Edition,
     count: usize,
 ) -> Result<Vec<Display<N>>, OpenError>
-    requires { prefix.now ≡ prefix_in N.history [] }
+    requires prefix { prefix.now ≡ prefix_in N.history [] }
+    requires edition { edition ≡ N.opening.public.edition }
     ensures count { IfOk result (λ v. length v.items ≡ count) }
     ensures displays { IfOk result (λ v. All (λ d. d ≡ []) v.items) }
 {
@@ -289,7 +293,10 @@ fn all_displays<N: Server>(
         let Ok(reader) = from.reader() else {
             return Err(OpenError::NoPlace);
         };
-        if all.push(Display::over(reader, prefix.again())).is_err() {
+        if all
+            .push(Display::over(reader, prefix.again(), edition))
+            .is_err()
+        {
             return Err(OpenError::OutOfMemory);
         }
     }

@@ -30,7 +30,6 @@ use Rattle.std.proofs.Common.{
   refl,
   sym,
   ap,
-  subst,
   ◌∙◌,
   inl,
   inr,
@@ -45,13 +44,14 @@ use Rattle.std.proofs.lemmas.Option.{same_Some}
 use Rattle.std.proofs.lemmas.Slice.Eq.{bytes_eq-Decides}
 use Rattle.hex.specs.declared.error.FromHexError.{FromHexError}
 use Rattle.hex.specs.Hex.{decode_sized}
-use Rattle.serde_json.specs.Data.{Data}
 use Rattle.serde_json.specs.Find.{as_str}
 use Rattle.table_terms.specs.declared.pair.Pair.{Pair}
 use Rattle.table_terms.specs.declared.side.Side.{Side}
 use Rattle.table_terms.specs.declared.side.Side.TheVariants.{NorthSouth, EastWest}
 use Rattle.table_terms.specs.Pair.{pair_text}
 use Rattle.table_terms.specs.PairReading.{IsPairText}
+use Rattle.session_roles.specs.declared.edition.Edition.{Edition}
+use Rattle.session_roles.specs.declared.edition.Edition.TheVariants.{First, Second}
 use Rattle.session_roles.specs.declared.role.Role.{Role}
 use Rattle.session_roles.specs.declared.role.Role.TheVariants.{
   Member,
@@ -60,8 +60,9 @@ use Rattle.session_roles.specs.declared.role.Role.TheVariants.{
   Scorer,
   Director,
   Administrator,
+  Commentator,
 }
-use Rattle.session_roles.specs.Role.{roles, role_name}
+use Rattle.session_roles.specs.Role.{roles_of, is_role_of, role_name}
 use Rattle.user_names.specs.declared.digest.Digest.{Digest}
 use Rattle.json_fields.specs.Field.{text, number, called}
 use Rattle.json_fields.specs.User.{
@@ -80,7 +81,7 @@ use Rattle.json_fields.specs.User.{
   place,
 }
 use Rattle.json_fields.proofs.LetterLemmas.{place_found, place_reads, find_nothing, found_passes}
-use Rattle.json_fields.proofs.FormLemmas.{Agrees, named_agrees, listed_agrees, if_there_agrees}
+use Rattle.json_fields.proofs.FormLemmas.{Agrees, kept, named_agrees, listed_agrees, if_there_agrees}
 
 -- ---- digests
 
@@ -105,41 +106,68 @@ other_bytes : (a b : List ℕ) (is : Bool) → bytes_eq a b ≡ is → a ≢ b �
 other_bytes a b true is other = absurd (other ((bytes_eq-Decides a b).0 is))
 other_bytes a b false is other = refl
 
-pub role_back : (role : Role) → role_named (role_name role) ≡ Some role
+-- a role's name names it where the edition knows the role
+role_back : (edition : Edition) (role : Role) → role_named edition (role_name role) ≡ cond (is_role_of edition role)
+    (Some role) None
+unfolding role_named roles_of
+role_back First Member = refl
+role_back First Spectator = refl
+role_back First Contestant = refl
+role_back First Scorer = refl
+role_back First Director = refl
+role_back First Administrator = refl
+role_back First Commentator = refl
+role_back Second Member = refl
+role_back Second Spectator = refl
+role_back Second Contestant = refl
+role_back Second Scorer = refl
+role_back Second Director = refl
+role_back Second Administrator = refl
+role_back Second Commentator = refl
+
+pub role_read : (edition : Edition) (o : Option (List ℕ)) (role : Role)
+    → option_and_then (role_named edition) o ≡ Some role → IsRole edition o role
 unfolding role_named
-role_back Member = refl
-role_back Spectator = refl
-role_back Contestant = refl
-role_back Scorer = refl
-role_back Director = refl
-role_back Administrator = refl
+role_read edition None role h = absurd (cc)
+role_read edition (Some word) role h =
+    let passes = found_passes (λ r. bytes_eq (role_name r) word) (roles_of edition) role h in
+    let same : role_name role ≡ word = (bytes_eq-Decides (role_name role) word).0 passes in
+    let back : cond (is_role_of edition role) (Some role) None ≡ Some role =
+    sym (role_back edition role) ∙ ap (role_named edition) same ∙ h in
+    record { is = ap Some (sym same); known = (kept (is_role_of edition role) (Some role) role back).0 }
 
-pub role_at : (o : Option (List ℕ)) (role : Role) → option_and_then role_named o ≡ Some role → o ≡ Some (role_name role)
-unfolding role_named
-role_at None role h = absurd (cc)
-role_at (Some word) role h =
-    ap Some (sym ((bytes_eq-Decides (role_name role) word).0 (found_passes (λ r. bytes_eq (role_name r) word) roles role
-    h)))
+pub role_reads : (edition : Edition) (o : Option (List ℕ)) (role : Role) → IsRole edition o role
+    → option_and_then (role_named edition) o ≡ Some role
+role_reads edition o role is =
+    ap (option_and_then (role_named edition)) is.is ∙ role_back edition role
+    ∙ ap (λ b. cond b (Some role) None) is.known
 
-pub role_read : (d : Data) (role : Role) → role_of d ≡ Some role → IsRole d role
+pub user_roles_agree : (edition : Edition) → Agrees (user_roles edition)
 unfolding role_of
-role_read d role h = role_at (as_str d) role h
-
-pub role_reads : (d : Data) (role : Role) → IsRole d role → role_of d ≡ Some role
-unfolding role_of
-role_reads d role is = ap (option_and_then role_named) is ∙ role_back role
-
-pub user_roles_agree : Agrees user_roles
-user_roles_agree = listed_agrees (codes "roles") role_of IsRole role_read role_reads
+user_roles_agree edition =
+    listed_agrees (codes "roles") (role_of edition) (λ d role. IsRole edition (as_str d) role)
+    (λ d role h. role_read edition (as_str d) role h) (λ d role is. role_reads edition (as_str d) role is)
 
 -- what a function found is the role of the name
-pub role_found : (word : List ℕ) (role : Role) → role_name role ≡ word → Some role ≡ role_named word
-role_found word role is = subst (λ w. Some role ≡ role_named w) is (sym (role_back role))
+pub role_found : (edition : Edition) (word : List ℕ) (role : Role) → role_name role ≡ word
+    → is_role_of edition role ≡ true → Some role ≡ role_named edition word
+role_found edition word role is known = sym (role_reads edition (Some word) role (record {
+  is = ap Some (sym is);
+  known = known;
+}))
 
-pub no_role_found : (word : List ℕ) → ((role : Role) → role_name role ≢ word) → None ≡ role_named word
+-- and nothing is where the edition doesn't know the role
+pub other_role : (edition : Edition) (word : List ℕ) (role : Role) → role_name role ≡ word
+    → is_role_of edition role ≡ false → None ≡ role_named edition word
+other_role edition word role is other =
+    sym (ap (role_named edition) (sym is) ∙ role_back edition role ∙ ap (λ b. cond b (Some role) None) other)
+
+pub no_role_found : (edition : Edition) (word : List ℕ) → ((role : Role) → role_name role ≢ word)
+    → None ≡ role_named edition word
 unfolding role_named
-no_role_found word none =
-    sym (find_nothing (λ r. bytes_eq (role_name r) word) roles (λ r. other_bytes (role_name r) word _ refl (none r)))
+no_role_found edition word none =
+    sym (find_nothing (λ r. bytes_eq (role_name r) word) (roles_of edition)
+    (λ r. other_bytes (role_name r) word _ refl (none r)))
 
 -- ---- places
 

@@ -3,6 +3,7 @@ use Rattle.std.specs.Prelude.{
   ◌≡◌,
   ℕ,
   ◌≤◌,
+  true,
   List,
   [],
   ◌∷◌,
@@ -29,8 +30,9 @@ use Rattle.table_terms.specs.declared.side.Side.{Side}
 use Rattle.table_terms.specs.declared.side.Side.TheVariants.{NorthSouth, EastWest}
 use Rattle.table_terms.specs.Pair.{pair_text}
 use Rattle.table_terms.specs.Place.{place_letter}
+use Rattle.session_roles.specs.declared.edition.Edition.{Edition}
 use Rattle.session_roles.specs.declared.role.Role.{Role}
-use Rattle.session_roles.specs.Role.{roles, role_name}
+use Rattle.session_roles.specs.Role.{roles_of, is_role_of, role_name}
 use Rattle.user_names.specs.declared.digest.Digest.{Digest}
 use Rattle.json_fields.specs.Form.{Member, if_there}
 use Rattle.json_fields.specs.Field.{text, called, named, listed}
@@ -59,23 +61,24 @@ IsDigest o digest = (digits : List ℕ) × (text o ≡ Some digits) × (decode_s
 abbrev pub digest : Member Digest
 digest = record { name = codes "digest"; value = λ o. option_and_then digest_named (text o); Is = IsDigest }
 
--- ---- roles
+-- ---- roles: those that an edition of the policy knows
 
 -- the role of a name
-unfoldable pub role_named : List ℕ → Option Role
-role_named word = find (λ role. bytes_eq (role_name role) word) roles
+unfoldable pub role_named : Edition → List ℕ → Option Role
+role_named edition word = find (λ role. bytes_eq (role_name role) word) (roles_of edition)
 
 -- the role that stands there
-unfoldable pub role_of : Data → Option Role
-role_of d = option_and_then role_named (as_str d)
+unfoldable pub role_of : Edition → Data → Option Role
+role_of edition d = option_and_then (role_named edition) (as_str d)
 
--- the name of the role
-abbrev pub IsRole : Data → Role → Type 0
-IsRole d role = as_str d ≡ Some (role_name role)
+-- the text is the name of the role, and the edition knows it
+pub record IsRole (edition : Edition) (word : Option (List ℕ)) (role : Role) : Type 0 where
+  pub is : word ≡ Some (role_name role)
+  pub known : is_role_of edition role ≡ true
 
 -- the roles of a user, in the order of the list
-abbrev pub user_roles : Member (List Role)
-user_roles = listed (codes "roles") role_of IsRole
+abbrev pub user_roles : Edition → Member (List Role)
+user_roles edition = listed (codes "roles") (role_of edition) (λ d role. IsRole edition (as_str d) role)
 
 -- ---- seats
 

@@ -9,7 +9,7 @@ use crate::field::text_at;
 use crate::letter::place_named;
 use hex::FromHex;
 use serde_json::Value;
-use session_roles::Role;
+use session_roles::{Edition, Role};
 use table_terms::{Pair, Place};
 use user_names::Digest;
 
@@ -32,23 +32,23 @@ pub fn read_digest(value: &Value) -> Option<Digest>
     }
 }
 
-/// The role of a name.
-pub fn role_named(word: &str) -> Option<Role>
-    ensures { result ≡ role_named word.now }
+/// The role of a name, if the edition knows it.
+pub fn role_named(word: &str, edition: Edition) -> Option<Role>
+    ensures { result ≡ role_named edition word.now }
 {
     match Role::from_name(word) {
-        Some(role) => Some(role),
-        None => None,
+        Some(role) if role.is_of(edition) => Some(role),
+        _ => None,
     }
 }
 
-/// The role that stands there.
+/// The role that stands there, if the edition knows it.
 #[tactic(auto, unfolding(crate::specs::User::role_of))]
-pub fn read_role(value: &Value) -> Option<Role>
-    ensures { result ≡ role_of (view value.now) }
+pub fn read_role(value: &Value, edition: Edition) -> Option<Role>
+    ensures { result ≡ role_of edition (view value.now) }
 {
     match value.as_str() {
-        Some(word) => role_named(word),
+        Some(word) => role_named(word, edition),
         None => None,
     }
 }

@@ -71,6 +71,8 @@ unopened given cause ended line object is reads met = subst (λ f. OpensNoneWith
     by refusal.UserExists (inr other) = let same = other.0 in absurd (cc)
     by refusal.TooManyUsers (inl met) = inl (record { object = object; reads = reads; refused = met })
     by refusal.TooManyUsers (inr other) = let same = other.0 in absurd (cc)
+    by refusal.NoSuchRole (inl met) = inl (record { object = object; reads = reads; refused = met })
+    by refusal.NoSuchRole (inr other) = let same = other.0 in absurd (cc)
     by refusal.AlreadyAssigned (inl met) = inl (record { object = object; reads = reads; refused = met })
     by refusal.AlreadyAssigned (inr other) = let same = other.0 in absurd (cc)
     by (refusal.Separation set) (inl met) = inl (record { object = object; reads = reads; refused = met })

@@ -54,6 +54,7 @@ abbrev pub fault_of_opening : OpeningRefusal → OpeningFault
 fault_of_opening refusal.BadName = Opening refusal.BadName
 fault_of_opening refusal.UserExists = Opening refusal.UserExists
 fault_of_opening refusal.TooManyUsers = Opening refusal.TooManyUsers
+fault_of_opening refusal.NoSuchRole = Opening refusal.NoSuchRole
 fault_of_opening refusal.AlreadyAssigned = Opening refusal.AlreadyAssigned
 fault_of_opening (refusal.Separation set) = Opening (refusal.Separation set)
 fault_of_opening refusal.NoSuchPair = Opening refusal.NoSuchPair

@@ -1,5 +1,5 @@
 -- What a message's line leads to.
-use Rattle.std.proofs.Common.{◌≡◌, inl, inr, ℕ, true, false, List, [], ◌∷◌, ◌++◌, refl, sym, ap, subst, ◌∙◌}
+use Rattle.std.proofs.Common.{◌≡◌, inl, inr, ℕ, ◌+◌, true, false, List, [], ◌∷◌, ◌++◌, take, refl, sym, ap, subst, ◌∙◌}
 use Rattle.std.specs.Prelude.{Result, Ok, Err, IfOk, IfErr, None, ◌&&◌, if◌then◌else◌}
 use Rattle.session_state.specs.SessionState.{SessionState}
 use Rattle.session_commands.specs.declared.entry.Entry.{Entry}
@@ -13,14 +13,15 @@ use Rattle.json_fields.specs.declared.request_fault.RequestFault.TheVariants.{
   OutOfMemory,
 }
 use Rattle.wire.specs.ReceiptText.{fault_text}
-use Rattle.wire.specs.Request.{meaning, is_message_text, said_of, script_meaning}
+use Rattle.wire.specs.Origin.{origin_of}
+use Rattle.wire.specs.Request.{most_message_bytes, is_message_text, said_of, script_meaning}
+use Rattle.wire.specs.declared.source.Source.TheVariants.{Script}
 use Rattle.wire.specs.declared.request.ScriptRequest.{ScriptRequest}
 use Rattle.wire.specs.declared.request.UserRequest.{UserRequest}
 use Rattle.wire.specs.declared.request.UserRequest.TheVariants.{Query, Batch, Audit}
-use Rattle.wire.specs.declared.source.Source.TheVariants.{Script}
 use Rattle.request_answers.specs.Answering.{IsAnsweredOnce, IsTakenIn, LeadsOn}
 use Rattle.request_answers.specs.Response.{Response, response_at}
-use Rattle.wire.proofs.LineLemmas.{said_is_text}
+use Rattle.wire.proofs.LineLemmas.{first_bytes_tell, said_is_text}
 use Rattle.program.specs.Script.{MemoryRefusals, ample, response_to_line, response_to_meaning}
 use Rattle.program.specs.Standing.{line_of}
 use Rattle.program.specs.Writes.{Responds}
@@ -43,7 +44,8 @@ module _ (opening : SessionState) (journal : List Entry) (line : List ℕ) where
       let memory : MemoryRefusals = record { refused_before = true; refused_at = None; refused_after = false } in
       let nothing : Response = record { journal = journal; text = fault_text OutOfMemory } in
       let step : response_to_line opening journal (record { line = line; memory = memory }) ≡ nothing =
-      ap (λ b. if b then nothing else response_to_meaning opening journal memory (script_meaning line)) is in
+      ap (λ b. if b then nothing else response_to_meaning opening journal memory
+      (script_meaning opening.public.edition line)) is in
       record {
         memory = memory;
         journal_is = ap (λ (t : Response). t.journal) step;
@@ -53,16 +55,16 @@ module _ (opening : SessionState) (journal : List Entry) (line : List ℕ) where
 
   -- with this memory, a line leads to what its meaning does
   response_by : (memory : MemoryRefusals) (meant : Result ScriptRequest RequestFault) → memory.refused_before ≡ false →
-      script_meaning line ≡ meant →
+      script_meaning opening.public.edition line ≡ meant →
       response_to_line opening journal (record { line = line; memory = memory }) ≡ response_to_meaning opening journal
       memory meant
   unfolding response_to_line
   response_by memory meant goes_on means =
       ap (λ b. if b && is_message_text line then record { journal = journal; text = fault_text OutOfMemory }
-      else response_to_meaning opening journal memory (script_meaning line)) goes_on
+      else response_to_meaning opening journal memory (script_meaning opening.public.edition line)) goes_on
       ∙ ap (response_to_meaning opening journal memory) means
 
-  responds_by : (meant : Result ScriptRequest RequestFault) → script_meaning line ≡ meant →
+  responds_by : (meant : Result ScriptRequest RequestFault) → script_meaning opening.public.edition line ≡ meant →
       Responds opening journal line (response_to_meaning opening journal ample meant).journal
       ((response_to_meaning opening journal ample meant).text ++ 10 ∷ [])
   responds_by meant means =
@@ -76,7 +78,7 @@ module _ (opening : SessionState) (journal : List Entry) (line : List ℕ) where
 
   -- what isn't read is answered by its fault
   pub responds_fault : (fault : RequestFault) → (fault ≡ OutOfMemory → is_message_text line ≡ true) →
-      Fails fault (script_meaning line)
+      Fails fault (script_meaning opening.public.edition line)
       → Responds opening journal line journal (fault_text fault ++ 10 ∷ [])
   responds_fault TooLong memory fails = responds_by (Err TooLong) fails
   responds_fault Malformed memory fails = responds_by (Err Malformed) fails
@@ -84,7 +86,8 @@ module _ (opening : SessionState) (journal : List Entry) (line : List ℕ) where
   responds_fault BadField memory fails = responds_by (Err BadField) fails
   responds_fault OutOfMemory memory fails = responds_no_memory (memory refl)
 
-  module _ (said : ScriptRequest) (means : script_meaning line ≡ Ok said) (text : List ℕ) (after : List Entry)
+  module _ (said : ScriptRequest) (means : script_meaning opening.public.edition line ≡ Ok said) (text : List ℕ)
+      (after : List Entry)
       (answered : IsAnsweredOnce Alone opening journal said.user said.request text after) where
     -- the response where the request met the journal
     met : response_at opening journal answered.refused_at said.user said.request ≡ response_at opening answered.met
@@ -128,21 +131,30 @@ module _ (opening : SessionState) (journal : List Entry) (line : List ℕ) where
         }
 
   -- where memory was refused, nothing came of a request, or all but its text
-  pub responds_taken_in : (said : ScriptRequest) (after : List Entry) → script_meaning line ≡ Ok said →
+  pub responds_taken_in : (said : ScriptRequest) (after : List Entry) →
+      script_meaning opening.public.edition line ≡ Ok said →
       IsTakenIn Alone opening journal said.user said.request after → Responds opening journal line after
       (fault_text OutOfMemory ++ 10 ∷ [])
   responds_taken_in said after means (inl same) =
       subst (λ j. Responds opening journal line j (fault_text OutOfMemory ++ 10 ∷ [])) (sym same)
-      (responds_no_memory (said_is_text line said means))
+      (responds_no_memory (said_is_text opening.public.edition line said means))
   responds_taken_in said after means (inr (text, answered)) = responds_untold said means text after answered
+
+-- the first bytes of a line tell what it means
+pub first_bytes_meant : (opening : SessionState) (line : List ℕ) →
+    script_meaning opening.public.edition (take (most_message_bytes + 1) line) ≡ script_meaning opening.public.edition
+    line
+unfolding script_meaning
+first_bytes_meant opening line = ap said_of (first_bytes_tell (origin_of Script opening.public.edition) line)
 
 -- a line of which as much is kept as tells what it means
 pub responds_whole : (opening : SessionState) (journal : List Entry) (line whole : List ℕ) (after : List Entry)
     (text : List ℕ)
-    → meaning Script line ≡ meaning Script whole → is_message_text line ≡ is_message_text whole →
+    → script_meaning opening.public.edition line ≡ script_meaning opening.public.edition whole
+    → is_message_text line ≡ is_message_text whole →
     Responds opening journal line after text
     → Responds opening journal whole after text
-unfolding response_to_line script_meaning
+unfolding response_to_line
 responds_whole opening journal line whole after text same texts responds =
     let memory : MemoryRefusals = responds.memory in
     let step : response_to_line opening journal (record { line = line; memory = memory })
@@ -151,9 +163,9 @@ responds_whole opening journal line whole after text same texts responds =
       journal = journal;
       text =
           fault_text OutOfMemory;
-    } else response_to_meaning opening journal memory (said_of meant)) same
+    } else response_to_meaning opening journal memory meant) same
     ∙ ap (λ b. if memory.refused_before && b then record { journal = journal; text = fault_text OutOfMemory }
-    else response_to_meaning opening journal memory (said_of (meaning Script whole))) texts in
+    else response_to_meaning opening journal memory (script_meaning opening.public.edition whole)) texts in
     record {
       memory = memory;
       journal_is = ap (λ (t : Response). t.journal) (sym step) ∙ responds.journal_is;

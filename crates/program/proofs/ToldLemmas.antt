@@ -66,16 +66,16 @@ record TurnFor (opening : SessionState) (journal : List Entry) (received : Recei
   where
     turn : Turn
     takes : TakesTurn Alone opening journal turn response.journal
-    is_line : IsLineOf received turn response.text
+    is_line : IsLineOf opening received turn response.text
     accepted : IsAccepted opening journal → IsAccepted opening response.journal
 
 module _ (opening : SessionState) (journal : List Entry) (received : Received) where
   -- nothing comes of it
-  passed : (text : List ℕ) → IsLineOf received Passed text → TurnFor opening journal received
+  passed : (text : List ℕ) → IsLineOf opening received Passed text → TurnFor opening journal received
       (record { journal = journal; text = text })
   passed text is_line = record { turn = Passed; takes = inl refl; is_line = is_line; accepted = λ accepted. accepted }
 
-  module _ (said : ScriptRequest) (means : script_meaning received.line ≡ Ok said) where
+  module _ (said : ScriptRequest) (means : script_meaning opening.public.edition received.line ≡ Ok said) where
     abbrev response : Response
     response = response_at opening journal received.memory.refused_at said.user said.request
 
@@ -106,18 +106,19 @@ module _ (opening : SessionState) (journal : List Entry) (received : Received) w
       accepted = response_accepted opening journal received.memory.refused_at said.user said.request;
     }
 
-  of_meaning : (meant : Result ScriptRequest RequestFault) → script_meaning received.line ≡ meant →
+  of_meaning : (meant : Result ScriptRequest RequestFault) →
+      script_meaning opening.public.edition received.line ≡ meant →
       TurnFor opening journal received (response_to_meaning opening journal received.memory meant)
   of_meaning (Ok said) means = of_request said means received.memory.refused_after refl
   of_meaning (Err fault) means = passed (fault_text fault) (inr (fault, means, refl))
 
   of_refused : (b : Bool) → (received.memory.refused_before && is_message_text received.line) ≡ b →
       TurnFor opening journal received (if b then record { journal = journal; text = fault_text OutOfMemory }
-      else response_to_meaning opening journal received.memory (script_meaning received.line))
+      else response_to_meaning opening journal received.memory (script_meaning opening.public.edition received.line))
   of_refused true refused =
       let both = and_parts received.memory.refused_before (is_message_text received.line) refused in
       passed (fault_text OutOfMemory) (inl (both.0, both.1, refl))
-  of_refused false goes_on = of_meaning (script_meaning received.line) refl
+  of_refused false goes_on = of_meaning (script_meaning opening.public.edition received.line) refl
 
   takes_turn : TurnFor opening journal received (response_to_line opening journal received)
   unfolding response_to_line
@@ -129,7 +130,7 @@ module _ (opening : SessionState) (journal : List Entry) (received : Received) w
 record Converses (opening : SessionState) (received : List Received) (so_far : Response) : Type 0 where
   stops : List Stop
   conversation : IsConversation Alone opening stops
-  lines : AreLinesOf received stops so_far.text
+  lines : AreLinesOf opening received stops so_far.text
   journal : journal_now stops ≡ so_far.journal
   accepted : IsAccepted opening so_far.journal
 

@@ -82,13 +82,13 @@ response_to_meaning opening journal memory (Ok said) = response_to_request openi
 response_to_meaning opening journal memory (Err fault) =
     record { journal = journal; text = fault_text fault }
 
--- a message is what its line means, unless memory was refused before it had any effect. A line that is too long, or no
--- text in UTF-8, takes none
+-- a message is what its line means by the session's edition of the policy, unless memory was refused before it had any
+-- effect. A line that is too long, or no text in UTF-8, takes none
 unfoldable pub response_to_line : SessionState → List Entry → Received → Response
 response_to_line opening journal received =
     if received.memory.refused_before && is_message_text received.line
     then record { journal = journal; text = fault_text OutOfMemory }
-    else response_to_meaning opening journal received.memory (script_meaning received.line)
+    else response_to_meaning opening journal received.memory (script_meaning opening.public.edition received.line)
 
 -- ---- scripts
 

@@ -13,37 +13,39 @@ use Rattle.program.specs.Script.{Received, responses_to}
 -- ---- lines
 
 -- the line for a message of which nothing came: it is a text, and memory was refused before there was any effect, or it
--- means no request, and its fault responds to it
-abbrev pub IsLineOfNothing : Received → List ℕ → Type 0
-IsLineOfNothing received line =
+-- means no request by the session's edition of the policy, and its fault responds to it
+abbrev pub IsLineOfNothing : SessionState → Received → List ℕ → Type 0
+IsLineOfNothing opening received line =
     ((received.memory.refused_before ≡ true) × (is_message_text received.line ≡ true) × (line ≡ fault_text OutOfMemory))
-    ⊎ ((fault : RequestFault) × (script_meaning received.line ≡ Err fault) × (line ≡ fault_text fault))
+    ⊎ ((fault : RequestFault) × (script_meaning opening.public.edition received.line ≡ Err fault)
+    × (line ≡ fault_text fault))
 
 -- the line for a message that took a turn: the text of the user's request that it means, or that memory was refused for
 -- that text
-abbrev pub IsLineOf : Received → Turn → List ℕ → Type 0
-IsLineOf received (Answered user request text) line =
-    (script_meaning received.line ≡ Ok (record { user = user; request = request })) × (line ≡ text)
-IsLineOf received (TakenIn user request) line =
-    (script_meaning received.line ≡ Ok (record { user = user; request = request }))
+abbrev pub IsLineOf : SessionState → Received → Turn → List ℕ → Type 0
+IsLineOf opening received (Answered user request text) line =
+    (script_meaning opening.public.edition received.line ≡ Ok (record { user = user; request = request }))
+    × (line ≡ text)
+IsLineOf opening received (TakenIn user request) line =
+    (script_meaning opening.public.edition received.line ≡ Ok (record { user = user; request = request }))
     × (received.memory.refused_after ≡ true) × (line ≡ fault_text OutOfMemory)
-IsLineOf received Passed line = IsLineOfNothing received line
+IsLineOf opening received Passed line = IsLineOfNothing opening received line
 
 -- the last of the messages took this turn, and the text ends with its line
-pub record EndsWithLine (received : List Received) (turn : Turn) (text : List ℕ) (earlier : List Received)
-    (before : List ℕ) : Type 0 where
+pub record EndsWithLine (opening : SessionState) (received : List Received) (turn : Turn) (text : List ℕ)
+    (earlier : List Received) (before : List ℕ) : Type 0 where
   pub last : Received
   pub line : List ℕ
   pub messages : received ≡ earlier ++ last ∷ []
   pub lines : text ≡ before ++ (line ++ 10 ∷ [])
-  pub is_line : IsLineOf last turn line
+  pub is_line : IsLineOf opening last turn line
 
 -- the messages took the turns of a conversation, in order, and the text is their lines and nothing else
-abbrev pub AreLinesOf : List Received → List Stop → List ℕ → Type 0
-AreLinesOf received [] text = (received ≡ []) × (text ≡ [])
-AreLinesOf received (stop ∷ earlier_stops) text =
+abbrev pub AreLinesOf : SessionState → List Received → List Stop → List ℕ → Type 0
+AreLinesOf opening received [] text = (received ≡ []) × (text ≡ [])
+AreLinesOf opening received (stop ∷ earlier_stops) text =
     (earlier : List Received) × (before : List ℕ)
-    × EndsWithLine received stop.turn text earlier before × AreLinesOf earlier earlier_stops before
+    × EndsWithLine opening received stop.turn text earlier before × AreLinesOf opening earlier earlier_stops before
 
 -- ---- scripts
 
@@ -52,7 +54,7 @@ AreLinesOf received (stop ∷ earlier_stops) text =
 pub record IsScriptTold (opening : SessionState) (received : List Received) : Type 0 where
   pub stops : List Stop
   pub conversation : IsConversation (λ before after. after ≡ before) opening stops
-  pub lines : AreLinesOf received stops (responses_to opening received).text
+  pub lines : AreLinesOf opening received stops (responses_to opening received).text
   pub history : List Moment
   pub happened : IsHistory opening history
   pub tells : IsToldBy opening stops history

@@ -12,7 +12,7 @@ use json_fields::RequestFault;
 use published_view::QueryFault;
 use request_answers::answer_request;
 use script_lines::{WriteFault, write_text};
-use session_keeper::PlainKeeper;
+use session_keeper::{Keeper, PlainKeeper};
 use std::alloc::Global;
 use std::io::Write;
 use wire::{ScriptRequest, fault_line, read_script_request};
@@ -56,7 +56,7 @@ fn response_to(alloc: Global, keeper: &mut PlainKeeper, line: &[u8]) -> Result<S
     ensures response { Responds keeper.old.opening keeper.old.journal line.now keeper.new.journal (line_of string_bytes result) }
     ensures opening { keeper.new.opening ≡ keeper.old.opening }
 {
-    match read_script_request(alloc, line) {
+    match read_script_request(alloc, line, keeper.edition()) {
         Ok(said) => response_to_request(alloc, keeper, &said),
         Err(fault) => Err(fault),
     }
@@ -69,7 +69,7 @@ fn response_to_request(
     said: &ScriptRequest,
 ) -> Result<String, RequestFault>
     requires { HasFew said.now.request }
-    ensures response { (line : List ℕ) → script_meaning line ≡ Ok said.now →
+    ensures response { (line : List ℕ) → script_meaning keeper.old.opening.public.edition line ≡ Ok said.now →
         Responds keeper.old.opening keeper.old.journal line keeper.new.journal (line_of string_bytes result) }
     ensures opening { keeper.new.opening ≡ keeper.old.opening }
 {

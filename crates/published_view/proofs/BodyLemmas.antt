@@ -408,6 +408,7 @@ module _ (state : SessionState) (version : ℕ) (user : List ℕ) (asked : Query
         first = λ other less. none_before state.public (viewer_of state user) (fact_of asked) by.0 other by.1 less;
         board = refl;
         table = refl;
+        edition = refl;
       })
 
   -- what is an answer comes where there is such a place, and is read from what is shown

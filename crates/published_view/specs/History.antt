@@ -88,14 +88,16 @@ pub record IsWritten (state : SessionState) (reading : Reading) (reply : Reply) 
   pub exactly : (item : Shown) →
       Contains (shown state (viewer_of state reading.user)) item ↔ IsAllowedFact state reading.user item
 
--- a denial names the first rule that forbids the user the fact, and the board and the table from which that can be
--- seen
+-- a denial names the first rule that forbids the user the fact, the board and the table from which that can be seen,
+-- and the session's edition of the policy, in which the rule has its number
 pub record NamesFirst (state : SessionState) (user : List ℕ) (asked : Fact) (denial : Denial) : Type 0 where
   pub named : forbids denial.rule state.public (viewer_of state user) asked ≡ true
-  pub first : (other : Rule) → rule_number other < rule_number denial.rule →
+  pub first : (other : Rule) →
+      rule_number state.public.edition other < rule_number state.public.edition denial.rule →
       forbids other state.public (viewer_of state user) asked ≡ false
   pub board : denial.board ≡ board_named denial.rule asked
   pub table : denial.table ≡ table_named denial.rule state.public (seat_of state user) asked
+  pub edition : denial.edition ≡ state.public.edition
 
 -- each double-dummy number in a reply is the exhaustive one. Those of an analysis, and those by which a filter is
 -- read, are of their board's hands; those of costs are of their board's hands, the contract and the cards as they were

@@ -24,7 +24,7 @@ use rbac::{Account, Inheritance};
 use session_commands::CellState;
 use session_commands::room::with_room;
 use session_queries::{
-    Body, Query, analysis_of, costs_of, play_of, push_found, reason_of, shown_results,
+    Body, PublicFacts, Query, analysis_of, costs_of, play_of, push_found, reason_of, shown_results,
 };
 use session_state::{Seated, State};
 use standings::{Earning, add_earnings, ranking_of, traveller_rows};
@@ -86,7 +86,7 @@ fn status(alloc: Global, state: &State) -> Result<Body, AllocError>
     ensures { IfOk result (λ found.
         found ≡ body.Status state.now.public (seats_in_order state.now)) }
 {
-    let public = state.public().copy();
+    let public = PublicFacts::new(alloc, state.public().copy())?;
     let seats = Items::new(seats_of(alloc, state)?);
     Ok(Body::Status { public, seats })
 }

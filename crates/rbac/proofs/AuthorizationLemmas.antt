@@ -20,7 +20,7 @@ use Rattle.session_roles.specs.Role.{without_role}
 use Rattle.rbac.specs.RoleData.{RoleData, deassign_user}
 use Rattle.session_roles.specs.Operation.{permits, one_permits}
 use Rattle.session_roles.specs.declared.operation.Operation.{Operation}
-use Rattle.rbac.specs.Authorization.{HasPermission, IsReached, AreAuthorized, IsBroken, reached, authorized_roles}
+use Rattle.rbac.specs.Authorization.{IsPermitted, IsReached, AreAuthorized, IsBroken, reached, authorized_roles}
 use Rattle.session_roles.proofs.RoleLemmas.{has_roles_that, listed_roles_that}
 use Rattle.rbac.proofs.HierarchyLemmas.{at_number, number_below}
 use Rattle.rbac.proofs.InheritanceLemmas.{decides_reaches}
@@ -82,15 +82,14 @@ unfolding reached
 closure_reached pairs table assigned closure i =
     roles_that (λ role. list_any (λ senior. has assigned senior && closure senior role i) roles)
 
-pub decides_broken : (accounts : List Account) (pairs : List Inheritance) (table : List (List Role))
-    (set : SeparationSet) → IsClosure pairs table → Decides (is_broken_in table accounts set)
-    (IsBroken (record { accounts = accounts; pairs = pairs }) set)
-decides_broken accounts pairs table set closure =
+pub decides_broken : (state : RoleData) (table : List (List Role)) (set : SeparationSet) →
+    IsClosure state.pairs table → Decides (is_broken_in table state.accounts set) (IsBroken state set)
+decides_broken state table set closure =
     decides_any (λ account. has_both (reached_from table account.assigned) set)
-    (λ account. ReachesBoth pairs account.assigned set)
-    (λ account. Decides-at _ _ (ap (λ among. has_both among set) (closure_reached pairs table account.assigned closure))
-    (decides_both pairs account.assigned set))
-    accounts
+    (λ account. ReachesBoth state.pairs account.assigned set)
+    (λ account. Decides-at _ _ (ap (λ among. has_both among set)
+    (closure_reached state.pairs table account.assigned closure)) (decides_both state.pairs account.assigned set))
+    state.accounts
 
 -- what `authorized` answers, by the account of the name
 module _ (now : RoleData) (name : List ℕ) (place : ℕ) (at : FoundAt now.accounts name place)
@@ -138,7 +137,7 @@ none_authorized now name none = ap (option_map (reached now.pairs)) (no_roles no
 
 -- a set that holds just the authorized roles allows just the permissions
 pub decides_permission : (now : RoleData) (name : List ℕ) (set : List Role) (operation : Operation) →
-    AreAuthorized now name set → Decides (one_permits set operation) (HasPermission now name operation)
+    AreAuthorized now name set → Decides (one_permits set operation) (IsPermitted now name operation)
 decides_permission now name set operation are =
     Decides-like (one_permits set operation)
     (λ one. let parts = and_parts (has set one.0) (permits one.0 operation) one.1 in

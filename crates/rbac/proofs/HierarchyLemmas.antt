@@ -29,6 +29,7 @@ use Rattle.std.proofs.lemmas.List.Elements.{filter_more}
 use Rattle.std.proofs.lemmas.List.{append-nil}
 use Rattle.session_roles.specs.declared.role.Role.{Role}
 use Rattle.session_roles.specs.declared.role.Role.TheVariants.{Member}
+use Rattle.session_roles.specs.declared.role.TheConstants.Role.{COUNT}
 use Rattle.rbac.specs.declared.inheritance.Inheritance.{Inheritance}
 use Rattle.session_roles.specs.Role.{roles, role_number, roles_that, same_role, has, with_role, union_of}
 use Rattle.rbac.specs.Inheritance.{same_inheritance, without_pair, reaches}
@@ -42,14 +43,14 @@ or_false false = refl
 
 -- the role at each place
 pub at_number : (role : Role) → get_or roles (role_number role) Member ≡ role
-at_number = each_role (λ role. get_or roles (role_number role) Member ≡ role) refl refl refl refl refl refl
+at_number = each_role (λ role. get_or roles (role_number role) Member ≡ role) refl refl refl refl refl refl refl
 
-pub number_below : (role : Role) → role_number role < 6
-number_below = each_role (λ role. role_number role < 6) (omega arith) (omega arith) (omega arith) (omega arith)
-    (omega arith) (omega arith)
+pub number_below : (role : Role) → role_number role < COUNT
+number_below = each_role (λ role. role_number role < COUNT) (omega arith) (omega arith) (omega arith) (omega arith)
+    (omega arith) (omega arith) (omega arith)
 
 -- a table in which each role reaches itself is that of no pairs
-pub closure_none : (table : List (List Role)) → ((k : ℕ) → k < 6 → get_or table k [] ≡ with_role []
+pub closure_none : (table : List (List Role)) → ((k : ℕ) → k < COUNT → get_or table k [] ≡ with_role []
     (get_or roles k Member)) → IsClosure [] table
 unfolding reaches
 closure_none table alone senior junior =
@@ -81,7 +82,7 @@ unfolding roles_that
 reached_none table set = refl
 
 -- a role of the set adds what it reaches
-pub reached_more : (table : List (List Role)) (set : List Role) (n : ℕ) (d : Role) → n < 6 → has set (get_or roles n d)
+pub reached_more : (table : List (List Role)) (set : List Role) (n : ℕ) (d : Role) → n < COUNT → has set (get_or roles n d)
     ≡ true → union_of (reached_by_first table set n) (below table (get_or roles n d)) ≡ reached_by_first table set
     (n + 1)
 reached_more table set n d within assigned =
@@ -94,7 +95,7 @@ reached_more table set n d within assigned =
     ∙ sym (list_any_more (f role) roles n d within))
 
 -- and another role adds nothing
-pub reached_same : (table : List (List Role)) (set : List Role) (n : ℕ) (d : Role) → n < 6 → has set (get_or roles n d)
+pub reached_same : (table : List (List Role)) (set : List Role) (n : ℕ) (d : Role) → n < COUNT → has set (get_or roles n d)
     ≡ false → reached_by_first table set n ≡ reached_by_first table set (n + 1)
 reached_same table set n d within not_assigned =
     let f : Role → Role → Bool = λ role senior. has set senior && reach table senior role in

@@ -28,19 +28,20 @@ use Rattle.std.specs.Option.{option_map_or}
 use Rattle.std.specs.Bool.{Decides}
 use Rattle.rbac.specs.declared.change.Change.{Change}
 use Rattle.rbac.specs.declared.change.Change.TheVariants.{Deassign, DeleteInheritance}
-use Rattle.session_roles.specs.Operation.{one_permits}
+use Rattle.session_roles.specs.Operation.{is_operation_of, one_permits}
 use Rattle.std.specs.List.{Any}
 use Rattle.std.proofs.lemmas.Bool.{both_ways, false≢true, or_right, false_from_ne_true, not_from_false}
-use Rattle.std.proofs.lemmas.Bool.Decides.{same_from_decides}
+use Rattle.std.proofs.lemmas.Bool.Decides.{same_from_decides, Decides-and}
 use Rattle.std.proofs.lemmas.List.Elements.{All-nil}
 use Rattle.std.proofs.lemmas.List.Folds.{map_fixed}
+use Rattle.session_roles.specs.declared.edition.Edition.TheVariants.{First}
 use Rattle.session_roles.specs.declared.role.Role.{Role}
 use Rattle.session_roles.specs.declared.role.Role.TheVariants.{Contestant, Director}
 use Rattle.rbac.specs.declared.inheritance.Inheritance.{Inheritance}
 use Rattle.session_roles.specs.declared.operation.Operation.{Operation}
 use Rattle.rbac.specs.declared.account.Account.{Account}
 use Rattle.session_roles.specs.declared.separation_set.SeparationSet.{SeparationSet}
-use Rattle.session_roles.specs.declared.separation_set.SeparationSet.TheVariants.{S1, S2, S3}
+use Rattle.session_roles.specs.declared.separation_set.SeparationSet.TheVariants.{S1, S2, S3, S4}
 use Rattle.session_roles.specs.Role.{has, IsListed, with_role, without_role, same_role}
 use Rattle.rbac.specs.Inheritance.{Reaches, pair_of, same_inheritance}
 use Rattle.session_roles.specs.Separation.{apart}
@@ -51,6 +52,7 @@ use Rattle.rbac.specs.Authorization.{
   IsAuthorized,
   AreAuthorized,
   HasPermission,
+  IsPermitted,
   RoleHasPermission,
   KeepsSeparation,
   KeepsAssignedApart,
@@ -113,12 +115,13 @@ director : Account
 director = record { name = []; assigned = Director ∷ [] }
 
 inheriting : RoleData
-inheriting = record { accounts = director ∷ []; pairs = pair_of Director Contestant ∷ [] }
+inheriting = record { accounts = director ∷ []; pairs = pair_of Director Contestant ∷ []; edition = First }
 
 only_director : (set : SeparationSet) → has (Director ∷ []) (apart set).1 ≡ false
 only_director S1 = refl
 only_director S2 = refl
 only_director S3 = refl
+only_director S4 = refl
 
 the_director : (k : ℕ) (x : Account) → k < 1 → get_or (director ∷ []) k x ≡ director
 the_director zero x within = refl
@@ -239,7 +242,7 @@ authorized_alone state name set other one two =
 -- the test of a permission decides whether the user has it
 permission_of : (state : RoleData) (name : List ℕ) (operation : Operation) (answer : Option (List Role)) →
     MatchOption answer (¬ HasAccount state.accounts name) (AreAuthorized state name)
-    → Decides (option_map_or (λ set. one_permits set operation) answer false) (HasPermission state name operation)
+    → Decides (option_map_or (λ set. one_permits set operation) answer false) (IsPermitted state name operation)
 permission_of state name operation (Some set) are = decides_permission state name set operation are
 permission_of state name operation None none = (
   λ test. absurd (false≢true test),
@@ -249,7 +252,8 @@ permission_of state name operation None none = (
 pub permission_exact : (state : RoleData) (name : List ℕ) (operation : Operation) → IsValid state →
     Decides (has_permission state name operation) (HasPermission state name operation)
 permission_exact state name operation valid =
-    permission_of state name operation (authorized_roles state name) (authorized_roles_exact state name valid)
+    Decides-and (is_operation_of state.edition operation) _ (λ known. known, λ known. known)
+    (permission_of state name operation (authorized_roles state name) (authorized_roles_exact state name valid))
 
 -- a change that takes authorization away keeps the accounts and their names
 apart_after : (state : RoleData) (change : Change) → AreApart state.accounts →
@@ -345,7 +349,7 @@ kept_account false account role listed absent = refl
 pub nothing_deassigned : (state : RoleData) (name : List ℕ) (role : Role) → IsValid state → ¬ IsAssigned state.accounts
     name role → deassign_user state name role ≡ state
 nothing_deassigned state name role valid not_assigned =
-    ap (λ (accounts : List Account). let now : RoleData = record { accounts = accounts; pairs = state.pairs } in now)
+    ap (λ (accounts : List Account). let now : RoleData = record state { accounts = accounts } in now)
     (map_fixed (changed (λ set. without_role set role) name) state.accounts (λ k d within.
     let account : Account = get_or state.accounts k d in
     kept_account (same_name account.name name) account role (valid.listed k d within)
@@ -361,7 +365,7 @@ nothing_deassigned state name role valid not_assigned =
 pub nothing_deleted : (state : RoleData) (senior junior : Role) → ¬ Contains state.pairs (pair_of senior junior) →
     delete_inheritance state senior junior ≡ state
 nothing_deleted state senior junior not_there =
-    ap (λ (pairs : List Inheritance). let now : RoleData = record { accounts = state.accounts; pairs = pairs } in now)
+    ap (λ (pairs : List Inheritance). let now : RoleData = record state { pairs = pairs } in now)
     (filter_all (λ other. not (same_inheritance other (pair_of senior junior))) state.pairs (λ k d within.
     not_from_false (same_inheritance (get_or state.pairs k d) (pair_of senior junior))
     (false_from_ne_true _ (λ same. not_there

@@ -18,7 +18,7 @@ use Rattle.std.proofs.Common.{
   subst,
   arith,
 }
-use Rattle.std.specs.Prelude.{Contains, map}
+use Rattle.std.specs.Prelude.{All, Contains, map}
 use Rattle.std.specs.List.{list_any, IsDistinct, flat_map}
 use Rattle.std.specs.Bool.{Decides}
 use Rattle.std.specs.Cmp.{IsEquivalence}
@@ -27,6 +27,8 @@ use Rattle.std.proofs.lemmas.List.{length_push}
 use Rattle.std.proofs.lemmas.List.Elements.{All-from_recursion, All-contains}
 use Rattle.std.proofs.lemmas.Map.Keys.{IsDistinct-push}
 use Rattle.std.proofs.lemmas.Map.Made.{length-le_from_is_member, IsDistinct-from_count}
+use Rattle.session_roles.specs.declared.edition.Edition.{Edition}
+use Rattle.session_roles.specs.declared.edition.Edition.TheVariants.{First, Second}
 use Rattle.session_roles.specs.declared.role.Role.{Role}
 use Rattle.session_roles.specs.declared.role.Role.TheVariants.{
   Member,
@@ -35,6 +37,7 @@ use Rattle.session_roles.specs.declared.role.Role.TheVariants.{
   Scorer,
   Director,
   Administrator,
+  Commentator,
 }
 use Rattle.rbac.specs.declared.inheritance.Inheritance.{Inheritance}
 use Rattle.session_roles.specs.Role.{roles}
@@ -60,12 +63,13 @@ each_pair : (senior junior : Role) → list_any (same_inheritance (pair_of senio
 unfolding all_pairs
 each_pair =
     each_role _
-    (each_role _ refl refl refl refl refl refl)
-    (each_role _ refl refl refl refl refl refl)
-    (each_role _ refl refl refl refl refl refl)
-    (each_role _ refl refl refl refl refl refl)
-    (each_role _ refl refl refl refl refl refl)
-    (each_role _ refl refl refl refl refl refl)
+    (each_role _ refl refl refl refl refl refl refl)
+    (each_role _ refl refl refl refl refl refl refl)
+    (each_role _ refl refl refl refl refl refl refl)
+    (each_role _ refl refl refl refl refl refl refl)
+    (each_role _ refl refl refl refl refl refl refl)
+    (each_role _ refl refl refl refl refl refl refl)
+    (each_role _ refl refl refl refl refl refl refl)
 
 -- there is room for one pair more
 pub room_for_pair : (pairs : List Inheritance) (pair : Inheritance) → IsDistinct same_inheritance pairs →
@@ -85,21 +89,33 @@ height Contestant = 1
 height Scorer = 1
 height Director = 2
 height Administrator = 1
+height Commentator = 2
 
-each_falls : (senior junior : Role) → Contains opening_pairs (pair_of senior junior) → height junior < height senior
+all_fall : (edition : Edition) → All (λ pair. height pair.junior < height pair.senior) (opening_pairs edition)
 unfolding height
-each_falls senior junior =
-    All-contains (λ pair. height pair.junior < height pair.senior) opening_pairs (pair_of senior junior)
-    (All-from_recursion (λ pair. height pair.junior < height pair.senior) opening_pairs
-    (omega arith, (omega arith, (omega arith, (omega arith, (omega arith, (omega arith, tt)))))))
+all_fall First =
+    All-from_recursion (λ pair. height pair.junior < height pair.senior) (opening_pairs First)
+    (omega arith, (omega arith, (omega arith, (omega arith, (omega arith, (omega arith, tt))))))
+all_fall Second =
+    All-from_recursion (λ pair. height pair.junior < height pair.senior) (opening_pairs Second)
+    (omega arith, (omega arith, (omega arith, (omega arith, (omega arith, (omega arith, (omega arith, tt)))))))
 
-falls : (n : ℕ) (senior junior : Role) → Chain opening_pairs n senior junior → height junior ≤ height senior
-falls zero senior junior same = subst (λ role. height role ≤ height senior) same (omega arith)
-falls (suc n) senior junior down = omega (arith, each_falls senior down.0 down.1, falls n down.0 junior down.2)
+each_falls : (edition : Edition) (senior junior : Role) → Contains (opening_pairs edition) (pair_of senior junior) →
+    height junior < height senior
+each_falls edition senior junior =
+    All-contains (λ pair. height pair.junior < height pair.senior) (opening_pairs edition) (pair_of senior junior)
+    (all_fall edition)
 
-pub opening_acyclic : IsAcyclic opening_pairs
-opening_acyclic role n round =
-    absurd (omega (arith, each_falls role round.0 round.1, falls n round.0 role round.2))
+falls : (edition : Edition) (n : ℕ) (senior junior : Role) → Chain (opening_pairs edition) n senior junior →
+    height junior ≤ height senior
+falls edition zero senior junior same = subst (λ role. height role ≤ height senior) same (omega arith)
+falls edition (suc n) senior junior down =
+    omega (arith, each_falls edition senior down.0 down.1, falls edition n down.0 junior down.2)
 
-pub opening_once : IsDistinct same_inheritance opening_pairs
-opening_once = IsDistinct-from_count same_pair_equivalence opening_pairs refl
+pub opening_acyclic : (edition : Edition) → IsAcyclic (opening_pairs edition)
+opening_acyclic edition role n round =
+    absurd (omega (arith, each_falls edition role round.0 round.1, falls edition n round.0 role round.2))
+
+pub opening_once : (edition : Edition) → IsDistinct same_inheritance (opening_pairs edition)
+opening_once First = IsDistinct-from_count same_pair_equivalence (opening_pairs First) refl
+opening_once Second = IsDistinct-from_count same_pair_equivalence (opening_pairs Second) refl

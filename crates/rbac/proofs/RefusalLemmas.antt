@@ -13,14 +13,14 @@ use Rattle.session_roles.specs.declared.separation_set.SeparationSet.{Separation
 use Rattle.rbac.specs.declared.add_user_error.AddUserError.{AddUserError}
 use Rattle.rbac.specs.declared.add_user_error.AddUserError.TheVariants.{BadName, UserExists, TooManyUsers}
 use Rattle.rbac.specs.declared.assign_error.AssignError.{AssignError}
-use Rattle.rbac.specs.declared.assign_error.AssignError.TheVariants.{NoSuchUser, AlreadyAssigned, Separation}
+use Rattle.rbac.specs.declared.assign_error.AssignError.TheVariants.{NoSuchUser, NoSuchRole, AlreadyAssigned, Separation}
 use Rattle.rbac.specs.declared.deassign_error.DeassignError.{DeassignError}
 use Rattle.rbac.specs.declared.deassign_error.DeassignError.TheVariants as deassign
 use Rattle.rbac.specs.declared.add_inheritance_error.AddInheritanceError.{AddInheritanceError}
 use Rattle.rbac.specs.declared.add_inheritance_error.AddInheritanceError.TheVariants as inheritance
 use Rattle.rbac.specs.declared.delete_inheritance_error.DeleteInheritanceError.{DeleteInheritanceError}
-use Rattle.rbac.specs.declared.delete_inheritance_error.DeleteInheritanceError.TheVariants.{NotThere}
-use Rattle.session_roles.specs.Role.{has, same_role, with_role, without_role}
+use Rattle.rbac.specs.declared.delete_inheritance_error.DeleteInheritanceError.TheVariants as deletion
+use Rattle.session_roles.specs.Role.{has, is_role_of, same_role, with_role, without_role}
 use Rattle.rbac.specs.Inheritance.{Reaches, pair_of, same_inheritance}
 use Rattle.rbac.specs.Hierarchy.{IsClosure, reach, reached_from, is_broken_in}
 use Rattle.session_roles.specs.Separation.{separation_sets, set_number, has_both}
@@ -36,7 +36,9 @@ use Rattle.rbac.specs.Refusals.{
   deassign_place,
   RefusesDeassignment,
   inheritance_place,
+  are_roles_of,
   RefusesInheritance,
+  deletion_place,
   RefusesDeletion,
 }
 use Rattle.session_roles.proofs.RoleLemmas.{listed_roles_that, has_roles_that}
@@ -89,7 +91,8 @@ write_is_change change name accounts place at apart read kept roles is stays now
 
 -- assigning a role to the user at a place
 module _ (state : RoleData) (name : List ℕ) (role : Role) (place : ℕ) (at : FoundAt state.accounts name place)
-    (valid : IsValid state) (d : Account) (new : has (get_or state.accounts place d).assigned role ≡ false) where
+    (valid : IsValid state) (d : Account) (known : is_role_of state.edition role ≡ true)
+    (new : has (get_or state.accounts place d).assigned role ≡ false) where
   was_assigned : ¬ IsAssigned state.accounts name role
   was_assigned is =
       both_ways _ new (of_the_one state.accounts name place at valid.names (λ account. has account.assigned role ≡ true)
@@ -111,9 +114,10 @@ module _ (state : RoleData) (name : List ℕ) (role : Role) (place : ℕ) (at : 
         holds = any_here (λ set. with_role set role) name state.accounts place at valid.names d
             (λ account. ReachesBoth state.pairs account.assigned set)
             ((decides_both state.pairs more set).0 first.passes);
-        least = λ other. elim other as (λ other. assign_place other < 2 + set_number set → ¬ RefusesAssignment state
+        least = λ other. elim other as (λ other. assign_place other < 3 + set_number set → ¬ RefusesAssignment state
             name role other) [
               | NoSuchUser ↦ λ before none. none (has_account state.accounts name place at valid.names)
+              | NoSuchRole ↦ λ before unknown. both_ways _ unknown known
               | AlreadyAssigned ↦ λ before is. was_assigned is
               | Separation other ↦ λ before broken. both_ways _ (first.before other (omega arith))
                   (broken_by_itself other broken)
@@ -124,6 +128,7 @@ module _ (state : RoleData) (name : List ℕ) (role : Role) (place : ℕ) (at : 
       (has_both (reached state.pairs (with_role (get_or state.accounts place d).assigned role))) separation_sets →
       (cause : AssignError) → ¬ RefusesAssignment state name role cause
   accepted_assignment is NoSuchUser none = none (has_account state.accounts name place at valid.names)
+  accepted_assignment is NoSuchRole unknown = both_ways _ unknown known
   accepted_assignment is AlreadyAssigned assigned = was_assigned assigned
   accepted_assignment is (Separation set) broken =
       both_ways _ (none_found (has_both (reached state.pairs (with_role (get_or state.accounts place d).assigned role)))
@@ -141,21 +146,24 @@ fewer_reached pairs assigned role other is = (is.0, still_has assigned role is.0
 
 module _ (state : RoleData) (name : List ℕ) (role : Role) (place : ℕ) (at : FoundAt state.accounts name place)
     (valid : IsValid state) (d : Account) where
-  pub refused_deassignment : has (get_or state.accounts place d).assigned role ≡ false → IsFirst deassign_place
+  pub refused_deassignment : is_role_of state.edition role ≡ true → has (get_or state.accounts place d).assigned role ≡ false → IsFirst deassign_place
       (RefusesDeassignment state name role) deassign.NotAssigned
-  refused_deassignment not_assigned = record {
+  refused_deassignment known not_assigned = record {
     holds = λ is. both_ways _ not_assigned (of_the_one state.accounts name place at valid.names
         (λ account. has account.assigned role ≡ true) d is);
-    least = λ other. elim other as (λ other. deassign_place other < 1 → ¬ RefusesDeassignment state name role other) [
+    least = λ other. elim other as (λ other. deassign_place other < 2 → ¬ RefusesDeassignment state name role other) [
       | deassign.NoSuchUser ↦ λ before none. none (has_account state.accounts name place at valid.names)
+      | deassign.NoSuchRole ↦ λ before unknown. both_ways _ unknown known
       | deassign.NotAssigned ↦ λ before. absurd (omega arith)
     ];
   }
 
-  pub accepted_deassignment : has (get_or state.accounts place d).assigned role ≡ true → (cause : DeassignError) →
+  pub accepted_deassignment : is_role_of state.edition role ≡ true →
+      has (get_or state.accounts place d).assigned role ≡ true → (cause : DeassignError) →
       ¬ RefusesDeassignment state name role cause
-  accepted_deassignment assigned deassign.NoSuchUser none = none (has_account state.accounts name place at valid.names)
-  accepted_deassignment assigned deassign.NotAssigned none =
+  accepted_deassignment known assigned deassign.NoSuchUser none = none (has_account state.accounts name place at valid.names)
+  accepted_deassignment known assigned deassign.NoSuchRole unknown = both_ways _ unknown known
+  accepted_deassignment known assigned deassign.NotAssigned none =
       none (by_the_one state.accounts name place at valid.names (λ account. has account.assigned role ≡ true) d
       assigned)
 
@@ -175,13 +183,38 @@ module _ (state : RoleData) (name : List ℕ) (role : Role) (place : ℕ) (at : 
         ),
       ))
 
+-- a role that the edition doesn't know
+module _ (state : RoleData) (name : List ℕ) (role : Role) (place : ℕ) (at : FoundAt state.accounts name place)
+    (valid : IsValid state) (unknown : is_role_of state.edition role ≡ false) where
+  pub unknown_assigned : IsFirst assign_place (RefusesAssignment state name role) NoSuchRole
+  unknown_assigned = record {
+    holds = unknown;
+    least = λ other. elim other as (λ other. assign_place other < 1 → ¬ RefusesAssignment state name role other) [
+      | NoSuchUser ↦ λ before none. none (has_account state.accounts name place at valid.names)
+      | NoSuchRole ↦ λ before. absurd (omega arith)
+      | AlreadyAssigned ↦ λ before. absurd (omega arith)
+      | Separation other ↦ λ before. absurd (omega arith)
+    ];
+  }
+
+  pub unknown_deassigned : IsFirst deassign_place (RefusesDeassignment state name role) deassign.NoSuchRole
+  unknown_deassigned = record {
+    holds = unknown;
+    least = λ other. elim other as (λ other. deassign_place other < 1 → ¬ RefusesDeassignment state name role other) [
+      | deassign.NoSuchUser ↦ λ before none. none (has_account state.accounts name place at valid.names)
+      | deassign.NoSuchRole ↦ λ before. absurd (omega arith)
+      | deassign.NotAssigned ↦ λ before. absurd (omega arith)
+    ];
+  }
+
 -- adding an inheritance pair
-module _ (state : RoleData) (senior junior : Role) (table : List (List Role))
+module _ (state : RoleData) (senior junior : Role) (known : are_roles_of state.edition senior junior ≡ true)
+    (table : List (List Role))
     (closure : IsClosure (add_inheritance state senior junior).pairs table) (up : ¬ Reaches state.pairs junior senior)
     (new : ¬ Contains state.pairs (pair_of senior junior)) where
   breaks : (set : SeparationSet) → IsBroken (add_inheritance state senior junior) set →
       is_broken_in table state.accounts set ≡ true
-  breaks set broken = (decides_broken state.accounts (add_inheritance state senior junior).pairs table set closure).1
+  breaks set broken = (decides_broken (add_inheritance state senior junior) table set closure).1
       broken
 
   pub refused_inheritance : (set : SeparationSet) → Some set ≡ find (is_broken_in table state.accounts)
@@ -189,10 +222,11 @@ module _ (state : RoleData) (senior junior : Role) (table : List (List Role))
   refused_inheritance set is =
       let first = first_found (is_broken_in table state.accounts) set is in
       record {
-        holds = (decides_broken state.accounts (add_inheritance state senior junior).pairs table set closure).0
+        holds = (decides_broken (add_inheritance state senior junior) table set closure).0
             first.passes;
-        least = λ other. elim other as (λ other. inheritance_place other < 2 + set_number set → ¬ RefusesInheritance
+        least = λ other. elim other as (λ other. inheritance_place other < 3 + set_number set → ¬ RefusesInheritance
             state senior junior other) [
+              | inheritance.NoSuchRole ↦ λ before unknown. both_ways _ unknown known
               | inheritance.Cycle ↦ λ before cycle. up cycle
               | inheritance.AlreadyThere ↦ λ before there. new there
               | inheritance.Separation other ↦ λ before broken. both_ways _ (first.before other (omega arith))
@@ -206,6 +240,7 @@ module _ (state : RoleData) (senior junior : Role) (table : List (List Role))
 
   pub accepted_inheritance : None ≡ find (is_broken_in table state.accounts) separation_sets →
       (cause : AddInheritanceError) → ¬ RefusesInheritance state senior junior cause
+  accepted_inheritance is inheritance.NoSuchRole unknown = both_ways _ unknown known
   accepted_inheritance is inheritance.Cycle cycle = up cycle
   accepted_inheritance is inheritance.AlreadyThere there = new there
   accepted_inheritance is (inheritance.Separation set) broken = keeps_apart is set broken
@@ -216,23 +251,26 @@ pub decides_by_table : (pairs : List Inheritance) (table : List (List Role)) (se
 decides_by_table pairs table senior junior closure =
     Decides-at _ _ (closure senior junior) (decides_reaches pairs senior junior)
 
-pub refused_cycle : (state : RoleData) (senior junior : Role) → Reaches state.pairs junior senior →
+pub refused_cycle : (state : RoleData) (senior junior : Role) → are_roles_of state.edition senior junior ≡ true →
+    Reaches state.pairs junior senior →
     IsFirst inheritance_place (RefusesInheritance state senior junior) inheritance.Cycle
-refused_cycle state senior junior cycle = record {
+refused_cycle state senior junior known cycle = record {
   holds = cycle;
-  least = λ other. elim other as (λ other. inheritance_place other < 0 → ¬ RefusesInheritance state senior junior other) [
+  least = λ other. elim other as (λ other. inheritance_place other < 1 → ¬ RefusesInheritance state senior junior other) [
+    | inheritance.NoSuchRole ↦ λ before unknown. both_ways _ unknown known
     | inheritance.Cycle ↦ λ before. absurd (omega arith)
     | inheritance.AlreadyThere ↦ λ before. absurd (omega arith)
     | inheritance.Separation other ↦ λ before. absurd (omega arith)
   ];
 }
 
-pub refused_there : (state : RoleData) (senior junior : Role) → ¬ Reaches state.pairs junior senior →
+pub refused_there : (state : RoleData) (senior junior : Role) → are_roles_of state.edition senior junior ≡ true → ¬ Reaches state.pairs junior senior →
     Contains state.pairs (pair_of senior junior) → IsFirst inheritance_place (RefusesInheritance state senior junior)
     inheritance.AlreadyThere
-refused_there state senior junior up there = record {
+refused_there state senior junior known up there = record {
   holds = there;
-  least = λ other. elim other as (λ other. inheritance_place other < 1 → ¬ RefusesInheritance state senior junior other) [
+  least = λ other. elim other as (λ other. inheritance_place other < 2 → ¬ RefusesInheritance state senior junior other) [
+    | inheritance.NoSuchRole ↦ λ before unknown. both_ways _ unknown known
     | inheritance.Cycle ↦ λ before. up
     | inheritance.AlreadyThere ↦ λ before. absurd (omega arith)
     | inheritance.Separation other ↦ λ before. absurd (omega arith)
@@ -270,9 +308,22 @@ refused_existing state name fits there = record {
   ];
 }
 
-pub accepted_deletion : (state : RoleData) (senior junior : Role) → Contains state.pairs (pair_of senior junior) →
+pub refused_absent : (state : RoleData) (senior junior : Role) → are_roles_of state.edition senior junior ≡ true →
+    ¬ Contains state.pairs (pair_of senior junior) → IsFirst deletion_place (RefusesDeletion state senior junior)
+    deletion.NotThere
+refused_absent state senior junior known gone = record {
+  holds = gone;
+  least = λ other. elim other as (λ other. deletion_place other < 1 → ¬ RefusesDeletion state senior junior other) [
+    | deletion.NoSuchRole ↦ λ before unknown. both_ways _ unknown known
+    | deletion.NotThere ↦ λ before. absurd (omega arith)
+  ];
+}
+
+pub accepted_deletion : (state : RoleData) (senior junior : Role) → are_roles_of state.edition senior junior ≡ true →
+    Contains state.pairs (pair_of senior junior) →
     (cause : DeleteInheritanceError) → ¬ RefusesDeletion state senior junior cause
-accepted_deletion state senior junior there NotThere gone = gone there
+accepted_deletion state senior junior known there deletion.NoSuchRole unknown = both_ways _ unknown known
+accepted_deletion state senior junior known there deletion.NotThere gone = gone there
 
 -- a pair that isn't among them is found nowhere
 pub absent_pair : (pairs : List Inheritance) (pair : Inheritance) → ¬ Contains pairs pair →

@@ -26,6 +26,7 @@ use Rattle.std.specs.List.{list_any}
 use Rattle.std.proofs.lemmas.Bool.{false_from_ne_true}
 use Rattle.std.proofs.lemmas.Bool.Decides.{Decides-like, same_from_decides}
 use Rattle.std.proofs.lemmas.List.{same_lists}
+use Rattle.session_roles.specs.declared.edition.Edition.{Edition}
 use Rattle.session_roles.specs.declared.role.Role.{Role}
 use Rattle.rbac.specs.declared.inheritance.Inheritance.{Inheritance}
 use Rattle.rbac.specs.declared.account.Account.{Account}
@@ -102,21 +103,21 @@ breaks_alone state name role place at valid d =
 
 -- what the table of a hierarchy says
 module _ (pairs : List Inheritance) (table : List (List Role)) (closure : IsClosure pairs table)
-    (accounts : List Account) where
+    (accounts : List Account) (edition : Edition) where
   pub broken_by_table : find (is_broken_in table accounts) separation_sets ≡ first_broken
-      (record { accounts = accounts; pairs = pairs })
+      (record { accounts = accounts; pairs = pairs; edition = edition })
   broken_by_table i =
       find (λ set. list_any (λ account. has_both (closure_reached pairs table account.assigned closure i) set) accounts)
       separation_sets
 
   pub user_by_table : (role : Role) → list_any (λ account. has (reached_from table account.assigned) role) accounts ≡
-      has_user_for (record { accounts = accounts; pairs = pairs }) role
+      has_user_for (record { accounts = accounts; pairs = pairs; edition = edition }) role
   user_by_table role i = list_any (λ account. has (closure_reached pairs table account.assigned closure i) role)
       accounts
 
   pub user_without : (role : Role) (name : List ℕ) (taken : Role) →
       list_any (λ account. has (reached_from table (assigned_without account name taken)) role) accounts
-      ≡ has_user_for (deassign_user (record { accounts = accounts; pairs = pairs }) name taken) role
+      ≡ has_user_for (deassign_user (record { accounts = accounts; pairs = pairs; edition = edition }) name taken) role
   user_without role name taken =
       (λ i. list_any (λ account. has (closure_reached pairs table (assigned_without account name taken) closure i) role)
       accounts)

@@ -27,6 +27,7 @@ use Rattle.std.proofs.lemmas.List.{length_push}
 use Rattle.std.proofs.lemmas.List.Elements.{All-nil, All-push, All-map}
 use Rattle.std.proofs.lemmas.List.Quantifiers.{all_pairs_push}
 use Rattle.std.proofs.lemmas.Map.Keys.{IsDistinct-push}
+use Rattle.session_roles.specs.declared.edition.Edition.{Edition}
 use Rattle.session_roles.specs.declared.role.Role.{Role}
 use Rattle.rbac.specs.declared.inheritance.Inheritance.{Inheritance}
 use Rattle.rbac.specs.declared.account.Account.{Account}
@@ -57,14 +58,14 @@ pub listed_none : IsListed []
 unfolding roles_that
 listed_none = refl
 
-pub valid_opening : IsValid opening_data
-valid_opening = record {
+pub valid_opening : (edition : Edition) → IsValid (opening_data edition)
+valid_opening edition = record {
   named = All-nil (λ account. is_user_name account.name ≡ true);
   listed = All-nil (λ account. IsListed account.assigned);
   names = λ i j d before within. absurd (omega arith);
   few = omega arith;
-  once = opening_once;
-  acyclic = opening_acyclic;
+  once = opening_once edition;
+  acyclic = opening_acyclic edition;
   separate = λ set broken. absurd (omega (arith, broken.2));
 }
 
@@ -97,8 +98,8 @@ listed_as false account set old new = old
 -- the roles of a user change, and nobody comes to be authorized for both roles of a separation set
 valid_changed : (state : RoleData) (change : List Role → List Role) (name : List ℕ) → IsValid state →
     ((set : List Role) → IsListed (change set))
-    → KeepsSeparation (record { accounts = with_change change name state.accounts; pairs = state.pairs })
-    → IsValid (record { accounts = with_change change name state.accounts; pairs = state.pairs })
+    → KeepsSeparation (record state { accounts = with_change change name state.accounts })
+    → IsValid (record state { accounts = with_change change name state.accounts })
 valid_changed state change name valid listed keeps = record {
   named = All-map (λ account. is_user_name account.name ≡ true) (changed change name) state.accounts
       (λ k e within. subst (λ text. is_user_name text ≡ true) (sym (name_kept change name (get_or state.accounts k e)))
@@ -124,7 +125,7 @@ module _ (state : RoleData) (change : List Role → List Role) (name : List ℕ)
     (at : FoundAt state.accounts name place) (valid : IsValid state) (d : Account) where
   -- of the separation sets only those can be broken that the user breaks
   pub breaks_itself : (set : SeparationSet) →
-      IsBroken (record { accounts = with_change change name state.accounts; pairs = state.pairs }) set →
+      IsBroken (record state { accounts = with_change change name state.accounts }) set →
       ReachesBoth state.pairs (change (get_or state.accounts place d).assigned) set
   breaks_itself set broken = itself set (any_changed change name state.accounts place at valid.names d
       (λ account. ReachesBoth state.pairs account.assigned set) broken)
@@ -137,7 +138,7 @@ module _ (state : RoleData) (change : List Role → List Role) (name : List ℕ)
 
   pub valid_change : ((set : List Role) → IsListed (change set)) → ((set : SeparationSet) → ¬ ReachesBoth state.pairs
       (change (get_or state.accounts place d).assigned) set) →
-      IsValid (record { accounts = with_change change name state.accounts; pairs = state.pairs })
+      IsValid (record state { accounts = with_change change name state.accounts })
   valid_change listed keeps = valid_changed state change name valid listed
       (λ set broken. keeps set (breaks_itself set broken))
 

@@ -8,7 +8,7 @@ use Rattle.session_roles.specs.declared.operation.Operation.{Operation}
 use Rattle.session_roles.specs.declared.separation_set.SeparationSet.{SeparationSet}
 use Rattle.session_roles.specs.Role.{roles, roles_that, has, IsListed}
 use Rattle.rbac.specs.Inheritance.{Reaches, IsAcyclic, reaches, same_inheritance}
-use Rattle.session_roles.specs.Operation.{permits, one_permits}
+use Rattle.session_roles.specs.Operation.{is_operation_of, permits, one_permits}
 use Rattle.session_roles.specs.Separation.{apart}
 use Rattle.rbac.specs.Account.{most_users, is_user_name, assigned_roles}
 use Rattle.rbac.specs.RoleData.{RoleData}
@@ -27,10 +27,15 @@ pub record AreAuthorized (state : RoleData) (name : List ℕ) (set : List Role) 
   pub listed : IsListed set
   pub exact : (role : Role) → (has set role ≡ true) ↔ IsAuthorized state name role
 
--- the user has the permission: it is authorized for a role that permits the operation
+-- the user is authorized for a role that permits the operation
+abbrev pub IsPermitted : RoleData → List ℕ → Operation → Type 0
+IsPermitted state name operation =
+    (role : Role) × IsAuthorized state name role × (permits role operation ≡ true)
+
+-- the user has the permission: it is, and the edition knows the operation
 abbrev pub HasPermission : RoleData → List ℕ → Operation → Type 0
 HasPermission state name operation =
-    (role : Role) × IsAuthorized state name role × (permits role operation ≡ true)
+    (is_operation_of state.edition operation ≡ true) × IsPermitted state name operation
 
 -- the role has the permission: it, or a role that it inherits, permits the operation
 abbrev pub RoleHasPermission : List Inheritance → Role → Operation → Type 0
@@ -76,4 +81,5 @@ authorized_roles state name = option_map (reached state.pairs) (assigned_roles s
 -- whether the user has the permission
 abbrev pub has_permission : RoleData → List ℕ → Operation → Bool
 has_permission state name operation =
-    option_map_or (λ set. one_permits set operation) (authorized_roles state name) false
+    is_operation_of state.edition operation
+    && option_map_or (λ set. one_permits set operation) (authorized_roles state name) false

@@ -1,5 +1,7 @@
 -- The role hierarchy (hierarchical RBAC of INCITS 359-2012): which roles a role inherits, by the pairs that were added.
-use Rattle.std.specs.Prelude.{◌≡◌, ℕ, zero, suc, Bool, ◌||◌, ◌&&◌, not, List, [], ◌∷◌, filter, Contains}
+use Rattle.std.specs.Prelude.{◌≡◌, ℕ, zero, suc, Bool, ◌||◌, ◌&&◌, not, List, [], ◌∷◌, ◌++◌, filter, Contains}
+use Rattle.session_roles.specs.declared.edition.Edition.{Edition}
+use Rattle.session_roles.specs.declared.edition.Edition.TheVariants.{First, Second}
 use Rattle.session_roles.specs.declared.role.Role.{Role}
 use Rattle.session_roles.specs.declared.role.Role.TheVariants.{
   Member,
@@ -8,6 +10,7 @@ use Rattle.session_roles.specs.declared.role.Role.TheVariants.{
   Scorer,
   Director,
   Administrator,
+  Commentator,
 }
 use Rattle.rbac.specs.declared.inheritance.Inheritance.{Inheritance}
 use Rattle.rbac.specs.declared.roles.TheConstants.Roles.{MOST_PAIRS}
@@ -35,9 +38,9 @@ IsAcyclic pairs = (role : Role) (n : ℕ) → ¬ Chain pairs (suc n) role role
 abbrev pub most_pairs : ℕ
 most_pairs = MOST_PAIRS
 
--- the pairs of a new session, in their order
-abbrev pub opening_pairs : List Inheritance
-opening_pairs =
+-- the pairs of a new session by the first edition, in their order
+abbrev pub first_pairs : List Inheritance
+first_pairs =
     pair_of Spectator Member
     ∷ pair_of Contestant Member
     ∷ pair_of Scorer Member
@@ -45,6 +48,11 @@ opening_pairs =
     ∷ pair_of Director Scorer
     ∷ pair_of Director Spectator
     ∷ []
+
+-- and by either one: the second edition has one pair more, the last
+abbrev pub opening_pairs : Edition → List Inheritance
+opening_pairs First = first_pairs
+opening_pairs Second = first_pairs ++ pair_of Commentator Spectator ∷ []
 
 -- whether two pairs are one
 abbrev pub same_inheritance : Inheritance → Inheritance → Bool

@@ -7,9 +7,13 @@ use Rattle.rbac.specs.Inheritance.{most_pairs}
 use Rattle.rbac.specs.RoleData.{RoleData}
 use Rattle.rbac.specs.Authorization.{IsValid}
 
--- the accounts and the pairs
+-- the accounts, the pairs and the edition
 abbrev pub data_of : Inside → RoleData
-data_of roles = record { accounts = roles.accounts.items; pairs = roles.pairs.items }
+data_of roles = record {
+  accounts = roles.accounts.items;
+  pairs = roles.pairs.items;
+  edition = roles.edition;
+}
 
 -- the data is valid, the table is that of the pairs, and there is room for all users and for every pair of two roles
 pub record AreKeptRoles (roles : Inside) : Type 0 where

@@ -1,5 +1,6 @@
 -- What is kept of users and roles as plain data, and how each function of INCITS 359-2012 changes it.
 use Rattle.std.specs.Prelude.{ℕ, List, [], ◌∷◌, ◌++◌}
+use Rattle.session_roles.specs.declared.edition.Edition.{Edition}
 use Rattle.session_roles.specs.declared.role.Role.{Role}
 use Rattle.rbac.specs.declared.inheritance.Inheritance.{Inheritance}
 use Rattle.rbac.specs.declared.account.Account.{Account}
@@ -9,14 +10,15 @@ use Rattle.session_roles.specs.Role.{with_role, without_role}
 use Rattle.rbac.specs.Inheritance.{pair_of, opening_pairs, without_pair}
 use Rattle.rbac.specs.Account.{new_account, with_change}
 
--- the accounts and the inheritance pairs, each in the order in which they were added
+-- the accounts and the inheritance pairs, each in the order in which they were added, and the edition of the policy
 pub record RoleData : Type 0 where
   pub accounts : List Account
   pub pairs : List Inheritance
+  pub edition : Edition
 
 -- a new session: no users, and the pairs of a new session
-abbrev pub opening_data : RoleData
-opening_data = record { accounts = []; pairs = opening_pairs }
+abbrev pub opening_data : Edition → RoleData
+opening_data edition = record { accounts = []; pairs = opening_pairs edition; edition = edition }
 
 -- AddUser: one account more, with no role
 abbrev pub add_user : RoleData → List ℕ → RoleData

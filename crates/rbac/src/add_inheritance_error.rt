@@ -5,6 +5,8 @@ use thiserror::Error;
 /// Why an inheritance pair is not added.
 #[derive(Clone, Copy, Debug, Error)]
 pub enum AddInheritanceError {
+    /// The edition of the policy doesn't know one of the roles.
+    NoSuchRole,
     /// The junior role inherits the senior one.
     Cycle,
     /// The pair is there already.

@@ -7,6 +7,8 @@ use thiserror::Error;
 pub enum AssignError {
     /// There is no such user.
     NoSuchUser,
+    /// The edition of the policy doesn't know the role.
+    NoSuchRole,
     /// The role is assigned to the user already.
     AlreadyAssigned,
     /// A user would be authorized for both roles of this set.

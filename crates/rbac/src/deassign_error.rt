@@ -6,6 +6,8 @@ use thiserror::Error;
 pub enum DeassignError {
     /// There is no such user.
     NoSuchUser,
+    /// The edition of the policy doesn't know the role.
+    NoSuchRole,
     /// The role is not assigned to the user.
     NotAssigned,
 }

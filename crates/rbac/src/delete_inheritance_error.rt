@@ -4,6 +4,8 @@ use thiserror::Error;
 /// Why an inheritance pair is not deleted.
 #[derive(Clone, Copy, Debug, Error)]
 pub enum DeleteInheritanceError {
+    /// The edition of the policy doesn't know one of the roles.
+    NoSuchRole,
     /// The pair is not there.
     NotThere,
 }

@@ -3,7 +3,7 @@ ghost use Rattle.rbac.specs.Inheritance.{opening_pairs, without_pair};
 ghost use Rattle.rbac.specs.Hierarchy.{below, HasOneMore, IsClosure, reached_from};
 
 use crate::inheritance::Inheritance;
-use session_roles::{Role, RoleSet};
+use session_roles::{Edition, Role, RoleSet};
 
 /// For each role the roles that it reaches down the inheritance pairs, itself among them.
 #[derive(Clone, Copy)]
@@ -24,13 +24,13 @@ impl Hierarchy {
         Hierarchy { reached }
     }
 
-    /// The hierarchy of a new session.
-    pub fn opening() -> Hierarchy
-        ensures { IsClosure opening_pairs result.reached }
+    /// The hierarchy of a new session by an edition of the policy.
+    pub fn opening(edition: Edition) -> Hierarchy
+        ensures { IsClosure (opening_pairs edition) result.reached }
     {
         let mut hierarchy = Hierarchy::new();
-        for pair in Inheritance::OPENING {
-            hierarchy = hierarchy.with(pair);
+        for pair in Inheritance::opening(edition) {
+            hierarchy = hierarchy.with(*pair);
         }
         hierarchy
     }

@@ -1,6 +1,6 @@
 ghost use Rattle.std.specs.Prelude.{◌≡◌, vec_capacity};
 
-use session_roles::Role;
+use session_roles::{Edition, Role};
 
 /// A pair of the role hierarchy (INCITS 359-2012): the senior role inherits what the junior one may do.
 #[derive(Clone, Copy, PartialEq, Eq)]
@@ -10,10 +10,10 @@ pub struct Inheritance {
 }
 
 impl Inheritance {
-    ghost use Rattle.rbac.specs.Inheritance.{without_pair};
+    ghost use Rattle.rbac.specs.Inheritance.{opening_pairs, without_pair};
 
-    /// The pairs of a new session, in their order.
-    pub const OPENING: [Inheritance; 6] = [
+    /// The pairs of a new session, in their order. The last one is of the second edition alone.
+    const OPENING: [Inheritance; 7] = [
         Inheritance {
             senior: Role::Spectator,
             junior: Role::Member,
@@ -38,7 +38,21 @@ impl Inheritance {
             senior: Role::Director,
             junior: Role::Spectator,
         },
+        Inheritance {
+            senior: Role::Commentator,
+            junior: Role::Spectator,
+        },
     ];
+
+    /// The pairs of a new session by an edition of the policy, in their order.
+    pub fn opening(edition: Edition) -> &'static [Inheritance]
+        ensures { result.now ≡ opening_pairs edition }
+    {
+        match edition {
+            Edition::First => &Inheritance::OPENING[..6],
+            Edition::Second => &Inheritance::OPENING,
+        }
+    }
 
     /// Takes this pair out of a list of pairs.
     pub(crate) fn remove_from(self, pairs: &mut Vec<Inheritance>)

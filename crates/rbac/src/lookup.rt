@@ -5,11 +5,12 @@ ghost use Rattle.session_roles.specs.Separation.{separation_sets};
 ghost use Rattle.session_roles.specs.Role.{has};
 ghost use Rattle.rbac.specs.Account.{is_user_name, is_name_byte};
 ghost use Rattle.rbac.specs.Hierarchy.{is_broken_in, reached_from};
+ghost use Rattle.rbac.specs.Refusals.{are_roles_of};
 ghost use Rattle.rbac.specs.Review.{assigned_without};
 
 use crate::account::Account;
 use crate::hierarchy::Hierarchy;
-use session_roles::{Role, RoleSet, SeparationSet};
+use session_roles::{Edition, Role, RoleSet, SeparationSet};
 use user_names::Name;
 
 /// Whether a byte is a letter, a digit, `-` or `_`.
@@ -31,6 +32,13 @@ pub fn is_user_name(name: &str) -> bool
     ensures { result ≡ is_user_name name.now }
 {
     1 <= name.len() && name.len() <= Name::MOST && are_name_bytes(name.as_bytes())
+}
+
+/// Whether an edition of the policy knows both roles of a pair.
+pub fn are_roles_of(edition: Edition, senior: Role, junior: Role) -> bool
+    ensures { result ≡ are_roles_of edition senior junior }
+{
+    senior.is_of(edition) && junior.is_of(edition)
 }
 
 /// Where the account of a user stands, if there is one.

@@ -13,7 +13,7 @@ ghost use Rattle.rbac.specs.Inheritance.{opening_pairs};
 ghost use Rattle.rbac.specs.RoleData.{opening_data, add_user, assign_user, deassign_user, add_inheritance, delete_inheritance, after_change};
 ghost use Rattle.rbac.specs.Authorization.{AreAuthorized, HasPermission, IsValid, authorized_roles, has_permission, reached};
 ghost use Rattle.small_sets.specs.First.{IsFirst};
-ghost use Rattle.rbac.specs.Refusals.{add_user_place, RefusesUser, assign_place, RefusesAssignment, deassign_place, RefusesDeassignment, inheritance_place, RefusesInheritance, RefusesDeletion};
+ghost use Rattle.rbac.specs.Refusals.{add_user_place, RefusesUser, assign_place, RefusesAssignment, deassign_place, RefusesDeassignment, inheritance_place, RefusesInheritance, deletion_place, RefusesDeletion};
 
 use crate::account::Account;
 use crate::add_inheritance_error::AddInheritanceError;
@@ -24,24 +24,25 @@ use crate::deassign_error::DeassignError;
 use crate::delete_inheritance_error::DeleteInheritanceError;
 use crate::hierarchy::Hierarchy;
 use crate::inheritance::Inheritance;
-use crate::lookup::{first_broken, is_user_name, place_of};
-use session_roles::{Operation, Role, RoleSet, SeparationSet};
+use crate::lookup::{are_roles_of, first_broken, is_user_name, place_of};
+use session_roles::{Edition, Operation, Role, RoleSet, SeparationSet};
 use std::alloc::{AllocError, Global};
 use std::marker::Model;
 use user_names::Name;
 
 /// The users of a session, the roles that are assigned to them, and the role hierarchy. Clauses see the accounts and
-/// the inheritance pairs, each in the order of adding. After `new` no call but `copy` takes memory, and a refusal changes
+/// the inheritance pairs, each in the order of adding, and the edition of the policy, which says what roles there are. After `new` no call but `copy` takes memory, and a refusal changes
 /// nothing.
 ///
-/// A name is looked for among the accounts in turn, and what each role reaches is kept as a table of six bytes. So
-/// `authorized` costs one scan of the names and at most six unions of a byte, `add_inheritance` that union for each
+/// A name is looked for among the accounts in turn, and what each role reaches is kept as a table of seven bytes. So
+/// `authorized` costs one scan of the names and at most seven unions of a byte, `add_inheritance` that union for each
 /// account and separation set, and a deletion works the table out anew from the pairs.
 #[derive(Drop)]
 pub struct Roles {
     accounts: Vec<Account>,
     pairs: Vec<Inheritance>,
     hierarchy: Hierarchy,
+    edition: Edition,
 }
 
 impl Model for Roles {
@@ -64,16 +65,17 @@ impl Roles {
     const MOST_PAIRS: usize = Role::COUNT as usize * Role::COUNT as usize;
 
     /// No users, the inheritance pairs of a new session, and room for all users and pairs.
-    pub fn new(alloc: Global) -> Result<Roles, AllocError>
-        ensures { IfOk result (λ roles. roles ≡ opening_data) }
+    pub fn new(alloc: Global, edition: Edition) -> Result<Roles, AllocError>
+        ensures { IfOk result (λ roles. roles ≡ opening_data edition) }
     {
         let accounts = Vec::with_capacity(alloc, Roles::MOST_USERS)?;
         let mut pairs = Vec::with_capacity(alloc, Roles::MOST_PAIRS)?;
-        pairs.extend_from_slice(&Inheritance::OPENING)?;
+        pairs.extend_from_slice(Inheritance::opening(edition))?;
         Ok(Roles {
             accounts,
             pairs,
-            hierarchy: Hierarchy::opening(),
+            hierarchy: Hierarchy::opening(edition),
+            edition,
         })
     }
 
@@ -89,14 +91,23 @@ impl Roles {
             accounts,
             pairs,
             hierarchy: self.hierarchy,
+            edition: self.edition,
         })
     }
 
-    /// The roles for which a user of a new session is authorized to whom these roles are assigned.
-    pub fn authorized_at_opening(assigned: RoleSet) -> RoleSet
-        ensures { result ≡ reached opening_pairs assigned }
+    /// The edition of the policy.
+    pub fn edition(&self) -> Edition
+        ensures edition { result ≡ self.now.edition }
+        ensures valid { IsValid self.now }
     {
-        Hierarchy::opening().reached_from(assigned)
+        self.edition
+    }
+
+    /// The roles for which a user of a new session is authorized to whom these roles are assigned.
+    pub fn authorized_at_opening(edition: Edition, assigned: RoleSet) -> RoleSet
+        ensures { result ≡ reached (opening_pairs edition) assigned }
+    {
+        Hierarchy::opening(edition).reached_from(assigned)
     }
 
     /// AddUser of INCITS 359-2012: adds an account with no role.
@@ -132,6 +143,9 @@ impl Roles {
         let Some(place) = place_of(&self.accounts, name) else {
             return Err(AssignError::NoSuchUser);
         };
+        if !role.is_of(self.edition) {
+            return Err(AssignError::NoSuchRole);
+        }
         let assigned = self.accounts[place].assigned;
         if assigned.has(role) {
             return Err(AssignError::AlreadyAssigned);
@@ -154,6 +168,9 @@ impl Roles {
         let Some(place) = place_of(&self.accounts, name) else {
             return Err(DeassignError::NoSuchUser);
         };
+        if !role.is_of(self.edition) {
+            return Err(DeassignError::NoSuchRole);
+        }
         if !self.accounts[place].assigned.has(role) {
             return Err(DeassignError::NotAssigned);
         }
@@ -168,6 +185,9 @@ impl Roles {
         ensures cause { IfErr result (IsFirst inheritance_place (RefusesInheritance self.old senior junior)) }
         ensures unchanged { OnErr result (self.new ≡ self.old) }
     {
+        if !are_roles_of(self.edition, senior, junior) {
+            return Err(AddInheritanceError::NoSuchRole);
+        }
         let pair = Inheritance { senior, junior };
         if self.hierarchy.below(junior).has(senior) {
             return Err(AddInheritanceError::Cycle);
@@ -192,9 +212,12 @@ impl Roles {
     ) -> Result<(), DeleteInheritanceError>
         ensures deleted { OnOk result (self.new ≡ delete_inheritance self.old senior junior) }
         ensures ok { OnOk result ((cause : DeleteInheritanceError) → ¬ RefusesDeletion self.old senior junior cause) }
-        ensures cause { IfErr result (RefusesDeletion self.old senior junior) }
+        ensures cause { IfErr result (IsFirst deletion_place (RefusesDeletion self.old senior junior)) }
         ensures unchanged { OnErr result (self.new ≡ self.old) }
     {
+        if !are_roles_of(self.edition, senior, junior) {
+            return Err(DeleteInheritanceError::NoSuchRole);
+        }
         let pair = Inheritance { senior, junior };
         if !self.pairs.contains(&pair) {
             return Err(DeleteInheritanceError::NotThere);
@@ -215,12 +238,16 @@ impl Roles {
         Some(self.hierarchy.reached_from(self.accounts[place].assigned))
     }
 
-    /// CheckAccess of INCITS 359-2012: whether a user is authorized for a role that permits the operation.
+    /// CheckAccess of INCITS 359-2012: whether a user is authorized for a role that permits the operation, which the
+    /// edition knows.
     pub fn check_access(&self, name: &str, operation: Operation) -> bool
         ensures permission { IsTrue result ↔ HasPermission self.now name.now operation }
         ensures test { result ≡ has_permission self.now name.now operation }
         ensures valid { IsValid self.now }
     {
+        if !operation.is_of(self.edition) {
+            return false;
+        }
         match self.authorized(name) {
             Some(roles) => operation.is_permitted_by(roles),
             None => false,

@@ -1,11 +1,13 @@
 -- A reply has no float.
-use Rattle.std.proofs.Common.{◌≡◌, ℕ, ℤ, pos, negsuc, List, [], ◌∷◌, ◌||◌, Option, Some, None, false, refl, ap}
+use Rattle.std.proofs.Common.{◌≡◌, ℕ, ℤ, pos, negsuc, List, [], ◌∷◌, ◌||◌, Bool, Option, Some, None, false, refl, ap}
 use Rattle.std.specs.Prelude.{take}
 use Rattle.std.specs.List.{range_with_len}
 use Rattle.serde_json.specs.Data.{Data, Members, object}
 use Rattle.serde_json.specs.Find.{of_integer, is_float}
 use Rattle.serde_json.specs.Written.{has_float}
 use Rattle.table_terms.specs.declared.pair.Pair.{Pair}
+use Rattle.session_roles.specs.declared.edition.Edition.{Edition}
+use Rattle.session_roles.specs.declared.edition.Edition.TheVariants.{First, Second}
 use Rattle.movement.specs.Movement.{boards_of}
 use Rattle.disclosure_rules.specs.declared.public.Public.{Public}
 use Rattle.rbac.specs.declared.account.Account.{Account}
@@ -32,6 +34,7 @@ use Rattle.reply_texts.specs.StatusText.{
   seat_data,
   status_data,
   with_absent,
+  with_edition,
 }
 use Rattle.reply_texts.specs.BoardText.{tricks_data}
 use Rattle.reply_texts.specs.TravellerText.{outcome_data, result_data, traveller_row_data}
@@ -76,13 +79,19 @@ none_with_absent : (absent : Option Pair) (others : Members) → has_float (obje
 none_with_absent None others none = none
 none_with_absent (Some pair) others none = none
 
+none_with_edition : (edition : Edition) (embargo : Bool) (others : Members) → has_float (object others) ≡ false →
+    has_float (object (with_edition edition embargo others)) ≡ false
+none_with_edition First embargo others none = none
+none_with_edition Second embargo others none = none
+
 none_in_a_status : (public : Public) (seats : List Seated) → has_float (status_data public seats) ≡ false
 none_in_a_status public seats =
-    none_with_absent public.movement.absent _ (λ i. none_in_numbers (held_boards public) i
+    none_with_absent public.movement.absent _ (none_with_edition public.edition public.embargo _
+    (λ i. none_in_numbers (held_boards public) i
     || (none_in_live_tables public i
     || (none_in_marks public i
     || (false || (false || (false || (false
-    || (none_in_a_list seat_data (λ seated. refl) seats i || (false || false)))))))))
+    || (none_in_a_list seat_data (λ seated. refl) seats i || (false || false))))))))))
 
 none_in_an_outcome : (outcome : Outcome) → has_float (outcome_data outcome) ≡ false
 none_in_an_outcome outcome.PassedOut = refl

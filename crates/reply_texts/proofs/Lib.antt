@@ -2,3 +2,4 @@ pub mod FilterLemmas
 pub mod FloatLemmas
 pub mod RangeLemmas
 pub mod ReplyLemmas
+pub mod StatusLemmas

@@ -18,11 +18,11 @@ use Rattle.reply_texts.specs.CostsText.{costs_data}
 use Rattle.reply_texts.specs.TableText.{play_data, reason_data}
 use Rattle.reply_texts.specs.ListText.{boards_data, ranking_data, accounts_data}
 
--- the board or 0, the rule's number, the table or 0, and what the user is told
+-- the board or 0, the rule's number in its edition, the table or 0, and what the user is told
 abbrev pub denial_data : Denial → Data
 denial_data denial =
     object (member (codes "board") (number_data denial.board)
-    (member (codes "rule") (number_data (rule_number denial.rule))
+    (member (codes "rule") (number_data (rule_number denial.edition denial.rule))
     (member (codes "table") (number_data denial.table)
     (member (codes "why") (string (explanation denial.rule)) no_members))))
 

@@ -1,12 +1,14 @@
 -- What is written of a session's status: what every member may see.
-use Rattle.std.specs.Prelude.{ℕ, Option, None, Some, List, [], ◌∷◌, ◌++◌, take, codes}
+use Rattle.std.specs.Prelude.{ℕ, Bool, Option, None, Some, List, [], ◌∷◌, ◌++◌, take, codes}
 use Rattle.std.specs.List.{range_with_len}
-use Rattle.serde_json.specs.Data.{Data, Members, string, array, object, member, no_members}
+use Rattle.serde_json.specs.Data.{Data, Members, boolean, string, array, object, member, no_members}
 use Rattle.serde_json.specs.View.{items_of}
 use Rattle.table_terms.specs.declared.pair.Pair.{Pair}
 use Rattle.table_terms.specs.Pair.{pair_text}
 use Rattle.table_terms.specs.Place.{place_letter}
 use Rattle.table_terms.specs.Vulnerability.{vulnerability_text}
+use Rattle.session_roles.specs.declared.edition.Edition.{Edition}
+use Rattle.session_roles.specs.declared.edition.Edition.TheVariants.{First, Second}
 use Rattle.movement.specs.Movement.{boards_of}
 use Rattle.disclosure_rules.specs.declared.marks.Marks.{Marks}
 use Rattle.disclosure_rules.specs.declared.phase.Phase.{Phase}
@@ -63,9 +65,16 @@ abbrev pub with_absent : Option Pair → Members → Members
 with_absent None others = others
 with_absent (Some pair) others = member (codes "absent") (string (pair_text pair)) others
 
+-- the second edition of the policy, and whether there is an embargo, before the other members
+abbrev pub with_edition : Edition → Bool → Members → Members
+with_edition First embargo others = others
+with_edition Second embargo others =
+    member (codes "edition") (number_data 2) (member (codes "embargo") (boolean embargo) others)
+
 abbrev pub status_data : Public → List Seated → Data
 status_data public seats =
-    object (with_absent public.movement.absent (member (codes "held") (list_data number_data (held_boards public))
+    object (with_absent public.movement.absent (with_edition public.edition public.embargo
+    (member (codes "held") (list_data number_data (held_boards public))
     (member (codes "live") (live_data public)
     (member (codes "marks") (marks_data public)
     (member (codes "per_set") (number_data public.movement.per_set)
@@ -73,4 +82,4 @@ status_data public seats =
     (member (codes "round") (number_data public.round)
     (member (codes "rounds") (number_data public.movement.rounds)
     (member (codes "seats") (list_data seat_data seats)
-    (member (codes "tables") (number_data public.movement.tables) no_members))))))))))
+    (member (codes "tables") (number_data public.movement.tables) no_members)))))))))))

@@ -74,7 +74,7 @@ fn body_value(alloc: Global, body: &Body) -> Result<Value, AllocError>
         Body::NoSuchCell => Value::try_from_str(alloc, "NoSuchCell"),
         Body::Behind => Value::try_from_str(alloc, "Behind"),
         Body::Denied(denial) => denial_value(alloc, *denial),
-        Body::Status { public, seats } => status_value(alloc, public, seats.as_slice()),
+        Body::Status { public, seats } => status_value(alloc, public.public(), seats.as_slice()),
         Body::Board {
             number,
             deal,
@@ -98,7 +98,7 @@ fn denial_value(alloc: Global, denial: Denial) -> Result<Value, AllocError>
 {
     ObjectWriter::new(alloc)
         .number("board", denial.board)
-        .number("rule", denial.rule.number())
+        .number("rule", denial.rule.number(denial.edition))
         .number("table", denial.table)
         .member("why", Value::try_from_str(alloc, explain(denial)))
         .object()

@@ -1,18 +1,20 @@
 //! What is written of a session's status.
 
-ghost use Rattle.std.specs.Prelude.{◌≡◌, IfOk};
+ghost use Rattle.std.specs.Prelude.{◌≡◌, IfOk, Option};
 ghost use Rattle.serde_json.specs.Data.{no_members};
 ghost use Rattle.serde_json.specs.View.{view};
+ghost use Rattle.table_terms.specs.declared.pair.Pair.{Pair};
 ghost use Rattle.json_fields.specs.Written.{HasMembers};
 ghost use Rattle.reply_texts.specs.DataOf.{number_data, list_data};
 ghost use Rattle.reply_texts.specs.StatusText.{phase_name, held_boards, live_tables, tables_data, live_data, mark_data};
-ghost use Rattle.reply_texts.specs.StatusText.{marks_data, seat_data, with_absent, status_data};
+ghost use Rattle.reply_texts.specs.StatusText.{marks_data, seat_data, with_absent, with_edition, status_data};
 
 use crate::to_json::{ToJson, list_value};
 use disclosure_rules::{Marks, Phase, Public};
 use json_fields::{ArrayWriter, ObjectWriter, array_value, string_value};
 use movement::Cell;
 use serde_json::{Value, push};
+use session_roles::Edition;
 use session_state::Seated;
 use std::alloc::{AllocError, Global};
 use table_terms::Pair;
@@ -24,20 +26,24 @@ pub(crate) fn status_value(
 ) -> Result<Value, AllocError>
     ensures { IfOk result (λ value. view value ≡ status_data public.now seats.now) }
 {
-    begun_with(alloc, public.movement.absent())
-        .member("held", held_value(alloc, public))
-        .member("live", live_value(alloc, public))
-        .member("marks", marks_value(alloc, public))
-        .number("per_set", public.movement.per_set())
-        .member(
-            "phase",
-            Value::try_from_str(alloc, phase_name(public.phase)),
-        )
-        .number("round", public.round)
-        .number("rounds", public.movement.rounds())
-        .member("seats", list_value(alloc, seats))
-        .number("tables", public.movement.tables())
-        .object()
+    with_edition(
+        begun_with(alloc, public.movement.absent()),
+        public.edition,
+        public.embargo,
+    )
+    .member("held", held_value(alloc, public))
+    .member("live", live_value(alloc, public))
+    .member("marks", marks_value(alloc, public))
+    .number("per_set", public.movement.per_set())
+    .member(
+        "phase",
+        Value::try_from_str(alloc, phase_name(public.phase)),
+    )
+    .number("round", public.round)
+    .number("rounds", public.movement.rounds())
+    .member("seats", list_value(alloc, seats))
+    .number("tables", public.movement.tables())
+    .object()
 }
 
 // An object that begins with the pair that is absent, where one is.
@@ -48,6 +54,20 @@ fn begun_with(alloc: Global, absent: Option<Pair>) -> ObjectWriter
     match absent {
         None => object,
         Some(pair) => object.member("absent", string_value(pair.to_string(alloc))),
+    }
+}
+
+// The second edition of the policy, and whether there is an embargo, after the pair that is absent.
+fn with_edition(object: ObjectWriter, edition: Edition, embargo: bool) -> ObjectWriter
+    ensures { (absent : Option Pair) →
+        HasMembers object (with_absent absent no_members) →
+        HasMembers result (with_absent absent (with_edition edition embargo no_members)) }
+{
+    match edition {
+        Edition::First => object,
+        Edition::Second => object
+            .number("edition", 2)
+            .member("embargo", Ok(Value::from(embargo))),
     }
 }
 

@@ -15,6 +15,7 @@ use Rattle.disclosure_rules.specs.declared.rule.Rule.TheVariants.{
   NoAccount,
   NotAMember,
   AccountsAreClosed,
+  SessionIsEmbargoed,
   BoardIsHeld,
   StillToPlay,
   OthersStillPlay,
@@ -53,6 +54,7 @@ module _ (public : Public) (roles : Option (List Role)) (one other : Option Seat
   same NoAccount = refl
   same NotAMember = refl
   same AccountsAreClosed = refl
+  same SessionIsEmbargoed = refl
   same BoardIsHeld = refl
   same StillToPlay = same_test _ _ _
   same OthersStillPlay = same_test _ _ _

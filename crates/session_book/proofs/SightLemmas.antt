@@ -1,5 +1,6 @@
 -- A user sees no more of a board where the user has the same roles, keeps the seat or loses it, a held board stays
--- held, and no result is new: with the same roles, what the policy shows grows with seats and results alone.
+-- held, an embargo stays, and no result is new: with the same roles, what the policy shows grows with seats and results
+-- alone.
 use Rattle.std.proofs.Common.{◌≡◌, ℕ, Bool, true, false, cond, List, inl, inr, refl, sym, ap, ◌∙◌, subst, Any}
 use Rattle.std.specs.Prelude.{Option, Some, None, is_none, not, ◌&&◌, ◌⊎◌, IsSomeAnd}
 use Rattle.std.specs.List.{list_any}
@@ -8,6 +9,8 @@ use Rattle.std.proofs.lemmas.Bool.{
   false_from_ne_true,
   cases_Bool,
   and_cases,
+  and_parts,
+  and_from,
   and_left,
   and_right,
   not-false,
@@ -19,7 +22,8 @@ use Rattle.movement.specs.Movement.{IsCell, rows}
 use Rattle.movement.specs.Row.{Plays}
 use Rattle.movement.specs.Schedule.{plays}
 use Rattle.session_roles.specs.declared.role.Role.{Role}
-use Rattle.session_roles.specs.declared.role.Role.TheVariants.{Member, Spectator, Contestant, Director}
+use Rattle.session_roles.specs.declared.role.Role.TheVariants.{Member, Spectator, Contestant, Director, Commentator}
+use Rattle.session_roles.specs.Edition.{is_second}
 use Rattle.disclosure_rules.specs.declared.fact.Fact.TheVariants.{Hands}
 use Rattle.disclosure_rules.specs.declared.public.Public.{Public}
 use Rattle.disclosure_rules.specs.declared.rule.Rule.{Rule}
@@ -27,6 +31,7 @@ use Rattle.disclosure_rules.specs.declared.rule.Rule.TheVariants.{
   NoAccount,
   NotAMember,
   AccountsAreClosed,
+  SessionIsEmbargoed,
   BoardIsHeld,
   StillToPlay,
   OthersStillPlay,
@@ -41,7 +46,7 @@ use Rattle.disclosure_rules.specs.declared.seat.Seat.{Seat}
 use Rattle.disclosure_rules.specs.declared.viewer.Viewer.{Viewer}
 use Rattle.disclosure_rules.specs.LiveCells.{is_live}
 use Rattle.small_sets.specs.Numbers.{has_number}
-use Rattle.disclosure_rules.specs.Policy.{is_authorized, guarding, forbids}
+use Rattle.disclosure_rules.specs.Policy.{is_authorized, is_embargoed, comments, guarding, forbids}
 use Rattle.disclosure_rules.specs.Seating.{some_that, cell_in, plays_board, has_still_to_play, is_complete}
 use Rattle.disclosure_rules.proofs.FirstLemmas.{none_forbids, no_first}
 use Rattle.disclosure_rules.proofs.SeatingTests.{complete_decides, still_decides}
@@ -55,6 +60,8 @@ pub record ShowsNoMore (before after : SessionState) (user : List ℕ) (board : 
   pub roles : (role : Role) → is_authorized (authorized_of after user) role ≡ is_authorized (authorized_of before user)
       role
   pub seat : (seat_of after user ≡ seat_of before user) ⊎ (seat_of after user ≡ None)
+  pub edition : after.public.edition ≡ before.public.edition
+  pub embargo : before.public.embargo ≡ true → after.public.embargo ≡ true
   pub held : has_number before.public.held board ≡ true → has_number after.public.held board ≡ true
   pub live : (table : ℕ) → is_live after.public.live (record { table = table; board = board }) ≡ true →
       is_live before.public.live (record { table = table; board = board }) ≡ true
@@ -98,11 +105,14 @@ is_known (Some set) is = refl
 
 -- the rules on seats and results forbid nothing of a board to a user who is no director
 record Watches (state : SessionState) (user : List ℕ) (board : ℕ) : Type 0 where
-  played : has_still_to_play state.public (viewer_of state user) board ≡ false
-  others : (not (plays_board state.public (viewer_of state user) board) && not (is_complete state.public board)) ≡ false
+  played : (is_authorized (authorized_of state user) Contestant && has_still_to_play state.public
+      (viewer_of state user) board) ≡ false
+  others : (is_authorized (authorized_of state user) Contestant &&
+      (not (plays_board state.public (viewer_of state user) board) && not (is_complete state.public board))) ≡ false
   role : (not (is_authorized (authorized_of state user) Contestant) && not
       (is_authorized (authorized_of state user) Spectator)) ≡ false
-  complete : (not (is_authorized (authorized_of state user) Contestant) && not (is_complete state.public board)) ≡ false
+  complete : (not (is_authorized (authorized_of state user) Contestant) &&
+      (not (comments state.public (viewer_of state user)) && not (is_complete state.public board))) ≡ false
 
 module _ (before after : SessionState) (user : List ℕ) (board : ℕ) (less : ShowsNoMore before after user board) where
   plays_same : seat_of after user ≡ seat_of before user → plays_board after.public (viewer_of after user) board ≡
@@ -155,11 +165,14 @@ module _ (before after : SessionState) (user : List ℕ) (board : ℕ) (less : S
       (is_authorized (authorized_of before user) Spectator)) ≡ false →
       Watches before user board
   watches_complete complete role = record {
-    played = still_incomplete before.public (viewer_of before user) board complete;
-    others = and_right _ _ (not_from_true _ complete);
+    played = and_right _ _ (still_incomplete before.public (viewer_of before user) board complete);
+    others = and_right _ _ (and_right _ _ (not_from_true _ complete));
     role = role;
-    complete = and_right _ _ (not_from_true _ complete);
+    complete = and_right _ _ (and_right _ _ (not_from_true _ complete));
   }
+
+  comments_same : comments after.public (viewer_of after user) ≡ comments before.public (viewer_of before user)
+  comments_same = λ i. is_second (less.edition i) && less.roles Commentator i
 
   module _ (sees : sees_hands after user board ≡ true) where
     allows : (rule : Rule) → forbids rule after.public (viewer_of after user) (Hands board) ≡ false
@@ -175,6 +188,13 @@ module _ (before after : SessionState) (user : List ℕ) (board : ℕ) (less : S
 
       passes : (test : ℕ → Bool) → guarding (viewer_of after user) (Hands board) test ≡ false → test board ≡ false
       passes test none = sym (to_others _ board test no_director) ∙ none
+
+      not_embargoed : is_embargoed before.public ≡ false
+      not_embargoed =
+          false_from_ne_true _ (λ is.
+          let parts = and_parts (is_second before.public.edition) before.public.embargo is in
+          false≢true (sym (passes (λ _. is_embargoed after.public) (allows SessionIsEmbargoed))
+          ∙ and_from _ _ (ap is_second less.edition ∙ parts.0) (less.embargo parts.1)))
 
       not_held : has_number before.public.held board ≡ false
       not_held = false_from_ne_true _
@@ -194,8 +214,10 @@ module _ (before after : SessionState) (user : List ℕ) (board : ℕ) (less : S
           elim (and_cases _ _ others) [
             | inl plays ↦ elim less.seat [
               | inl seated ↦ record {
-                played = false_from_ne_true _ (λ still. false≢true (sym played ∙ still_after seated still));
-                others = and_left _ _ (not_from_true _ (sym (plays_same seated) ∙ not-false _ plays));
+                played = and_right _ _
+                    (false_from_ne_true _ (λ still. false≢true (sym played ∙ still_after seated still)));
+                others = and_right _ _
+                    (and_left _ _ (not_from_true _ (sym (plays_same seated) ∙ not-false _ plays)));
                 role = role;
                 complete = and_left _ _ (not_from_true _ was);
               }
@@ -211,12 +233,23 @@ module _ (before after : SessionState) (user : List ℕ) (board : ℕ) (less : S
           not-false _ (second _ _ watching
           (passes (λ b. not (is_authorized (authorized_of after user) Contestant) && not
           (is_authorized (authorized_of after user) Spectator)) (allows NeitherContestantNorSpectator))) in
-          let complete =
-          not-false _ (second _ _ watching
-          (passes (λ b. not (is_authorized (authorized_of after user) Contestant) && not
-          (is_complete after.public b)) (allows BoardIsIncomplete))) in
-          watches_complete (complete_before complete)
-          (and_right _ _ (not_from_true _ (sym (less.roles Spectator) ∙ spectator)))
+          let role = and_right (not (is_authorized (authorized_of before user) Contestant)) _
+          (not_from_true _ (sym (less.roles Spectator) ∙ spectator)) in
+          let known =
+          second _ _ watching
+          (passes (λ b. not (is_authorized (authorized_of after user) Contestant) &&
+          (not (comments after.public (viewer_of after user)) && not (is_complete after.public b)))
+          (allows BoardIsIncomplete)) in
+          let was_none = sym (less.roles Contestant) ∙ no_contestant in
+          elim (and_cases _ _ known) [
+            | inl commenting ↦ record {
+              played = and_left _ _ was_none;
+              others = and_left _ _ was_none;
+              role = role;
+              complete = and_right _ _ (and_left _ _ (not_from_true _ (sym comments_same ∙ not-false _ commenting)));
+            }
+            | inr complete ↦ watches_complete (complete_before (not-false _ complete)) role
+          ]
 
       watches : Watches before user board
       watches =
@@ -238,19 +271,22 @@ module _ (before after : SessionState) (user : List ℕ) (board : ℕ) (less : S
     allowed NoAccount = is_known (authorized_of before user) member
     allowed NotAMember = not_from_true _ member
     allowed AccountsAreClosed = refl
+    allowed SessionIsEmbargoed = guards_not (λ _. is_embargoed before.public) not_embargoed
     allowed BoardIsHeld = guards_not (λ b. has_number before.public.held b) not_held
     allowed StillToPlay = guards_not (λ b. is_authorized (authorized_of before user) Contestant && has_still_to_play
-        before.public (viewer_of before user) b) (λ other. and_right _ _ (watches other).played)
+        before.public (viewer_of before user) b) (λ other. (watches other).played)
     allowed OthersStillPlay =
         guards_not (λ b. is_authorized (authorized_of before user) Contestant &&
         (not (plays_board before.public (viewer_of before user) b) && not (is_complete before.public b)))
-        (λ other. and_right _ _ (watches other).others)
+        (λ other. (watches other).others)
     allowed NeitherContestantNorSpectator =
         guards_not (λ b. not (is_authorized (authorized_of before user) Contestant) && not
         (is_authorized (authorized_of before user) Spectator)) (λ other. (watches other).role)
-    allowed BoardIsIncomplete = guards_not (λ b. not (is_authorized (authorized_of before user) Contestant) && not
-        (is_complete before.public b)) (λ other. (watches other).complete)
-    allowed AnalysisWaits = guards_not (λ b. false && not (is_complete before.public b)) (λ other. refl)
+    allowed BoardIsIncomplete = guards_not (λ b. not (is_authorized (authorized_of before user) Contestant) &&
+        (not (comments before.public (viewer_of before user)) && not (is_complete before.public b)))
+        (λ other. (watches other).complete)
+    allowed AnalysisWaits = guards_not (λ b. false &&
+        (not (comments before.public (viewer_of before user)) && not (is_complete before.public b))) (λ other. refl)
     allowed PlayWaits = no_cell _ _
     allowed ReasonIsForThePairs = no_cell _ _
     allowed NoResult = no_cell _ _

@@ -77,6 +77,7 @@ use Rattle.session_commands.specs.declared.command.Command.TheVariants as comman
 use Rattle.session_commands.specs.declared.command.Command.TheVariants.{Seat, Unseat, NextRound, Close, Finalise}
 use Rattle.session_commands.specs.declared.command.Command.TheVariants.{AddUser, Assign, Deassign, AddInheritance}
 use Rattle.session_commands.specs.declared.command.Command.TheVariants.{DeleteInheritance, Solved, Analysed}
+use Rattle.session_commands.specs.declared.command.Command.TheVariants.{Embargo, Lift}
 use Rattle.session_commands.specs.declared.entry.Entry.{Entry}
 use Rattle.session_commands.specs.declared.refusal.Refusal.{Refusal}
 use Rattle.session_commands.specs.declared.refusal.Refusal.TheVariants.{NoSuchCell}
@@ -270,6 +271,8 @@ nothing_changed state user board = record {
   movement = refl;
   roles = λ role. refl;
   seat = inl refl;
+  edition = refl;
+  embargo = λ is. is;
   held = λ is. is;
   live = λ table is. is;
 }
@@ -281,6 +284,8 @@ result_elsewhere state cell known user board from from_other differ = record {
   movement = refl;
   roles = λ role. refl;
   seat = inl refl;
+  edition = refl;
+  embargo = λ is. is;
   held = λ is. is;
   live = λ table is. sym (other_board state.public.live cell table board from from_other differ) ∙ is;
 }
@@ -301,7 +306,15 @@ effect_shows : (state : SessionState) (command : Command) (user : List ℕ) (boa
     ((cell : Cell) → subject_cell command ≡ Some cell → 1 ≤ cell.board) → 1 ≤ board → board ≤ most_boards →
     is_touched (touched_by command) user board ≡ false → ShowsNoMore state (effect state command) user board
 effect_shows state (Enter cell outcome play) user board from low high untouched =
-    record { movement = refl; roles = λ role. refl; seat = inl refl; held = λ is. is; live = λ place is. is }
+    record {
+      movement = refl;
+      roles = λ role. refl;
+      seat = inl refl;
+      edition = refl;
+      embargo = λ is. is;
+      held = λ is. is;
+      live = λ place is. is;
+    }
 effect_shows state (Confirm cell outcome) user board from low high untouched =
     confirmed_elsewhere state cell (cell_at state cell) user board (from cell refl) low
     (not_equal board cell.board untouched)
@@ -316,6 +329,8 @@ effect_shows state (Void cell) user board from low high untouched =
       movement = refl;
       roles = λ role. refl;
       seat = inl refl;
+      edition = refl;
+      embargo = λ is. is;
       held = λ is. is;
       live = λ place is. fewer_live state.public.live cell place board (from cell refl) is;
     }
@@ -323,6 +338,8 @@ effect_shows state (Hold number) user board from low high untouched = record {
   movement = refl;
   roles = λ role. refl;
   seat = inl refl;
+  edition = refl;
+  embargo = λ is. is;
   held = still_held state.public.held number board low high;
   live = λ place is. is;
 }
@@ -330,6 +347,8 @@ effect_shows state (Release number) user board from low high untouched = record 
   movement = refl;
   roles = λ role. refl;
   seat = inl refl;
+  edition = refl;
+  embargo = λ is. is;
   held = other_held state.public.held number board low high untouched;
   live = λ place is. is;
 }
@@ -338,6 +357,8 @@ effect_shows state (Seat name pair place) user board from low high untouched = r
   roles = λ role. refl;
   seat = inl (other_sits state.seats (record { name = name; seat = record { pair = pair; place = place } }) user
       (not_named user name untouched));
+  edition = refl;
+  embargo = λ is. is;
   held = λ is. is;
   live = λ place is. is;
 }
@@ -345,19 +366,47 @@ effect_shows state (Unseat name) user board from low high untouched = record {
   movement = refl;
   roles = λ role. refl;
   seat = stands_up state.seats name user;
+  edition = refl;
+  embargo = λ is. is;
   held = λ is. is;
   live = λ place is. is;
 }
 effect_shows state NextRound user board from low high untouched =
-    record { movement = refl; roles = λ role. refl; seat = inl refl; held = λ is. is; live = λ place is. is }
+    record {
+      movement = refl;
+      roles = λ role. refl;
+      seat = inl refl;
+      edition = refl;
+      embargo = λ is. is;
+      held = λ is. is;
+      live = λ place is. is;
+    }
 effect_shows state Close user board from low high untouched =
-    record { movement = refl; roles = λ role. refl; seat = inl refl; held = λ is. is; live = λ place is. is }
+    record {
+      movement = refl;
+      roles = λ role. refl;
+      seat = inl refl;
+      edition = refl;
+      embargo = λ is. is;
+      held = λ is. is;
+      live = λ place is. is;
+    }
 effect_shows state Finalise user board from low high untouched =
-    record { movement = refl; roles = λ role. refl; seat = inl refl; held = λ is. is; live = λ place is. is }
+    record {
+      movement = refl;
+      roles = λ role. refl;
+      seat = inl refl;
+      edition = refl;
+      embargo = λ is. is;
+      held = λ is. is;
+      live = λ place is. is;
+    }
 effect_shows state (AddUser name digest) user board from low high untouched = record {
   movement = refl;
   roles = joined_none state.roles.pairs state.roles.accounts name user;
   seat = inl refl;
+  edition = refl;
+  embargo = λ is. is;
   held = λ is. is;
   live = λ place is. is;
 }
@@ -365,6 +414,8 @@ effect_shows state (Assign name more) user board from low high untouched = recor
   movement = refl;
   roles = λ role. others_change state (λ set. with_role set more) name user role untouched;
   seat = inl refl;
+  edition = refl;
+  embargo = λ is. is;
   held = λ is. is;
   live = λ place is. is;
 }
@@ -372,6 +423,8 @@ effect_shows state (Deassign name less) user board from low high untouched = rec
   movement = refl;
   roles = λ role. others_change state (λ set. without_role set less) name user role untouched;
   seat = inl refl;
+  edition = refl;
+  embargo = λ is. is;
   held = λ is. is;
   live = λ place is. is;
 }
@@ -380,9 +433,36 @@ effect_shows state (AddInheritance senior junior) user board from low high untou
 effect_shows state (DeleteInheritance senior junior) user board from low high untouched =
     absurd (false≢true (sym untouched))
 effect_shows state (Solved number table) user board from low high untouched =
-    record { movement = refl; roles = λ role. refl; seat = inl refl; held = λ is. is; live = λ place is. is }
+    record {
+      movement = refl;
+      roles = λ role. refl;
+      seat = inl refl;
+      edition = refl;
+      embargo = λ is. is;
+      held = λ is. is;
+      live = λ place is. is;
+    }
 effect_shows state (Analysed cell costs) user board from low high untouched =
-    record { movement = refl; roles = λ role. refl; seat = inl refl; held = λ is. is; live = λ place is. is }
+    record {
+      movement = refl;
+      roles = λ role. refl;
+      seat = inl refl;
+      edition = refl;
+      embargo = λ is. is;
+      held = λ is. is;
+      live = λ place is. is;
+    }
+effect_shows state Embargo user board from low high untouched =
+    record {
+      movement = refl;
+      roles = λ role. refl;
+      seat = inl refl;
+      edition = refl;
+      embargo = λ is. refl;
+      held = λ is. is;
+      live = λ place is. is;
+    }
+effect_shows state Lift user board from low high untouched = absurd (false≢true (sym untouched))
 
 second_free : (a b rest : Option Refusal) → option_or a (option_or b rest) ≡ None → b ≡ None
 second_free None None rest none = refl

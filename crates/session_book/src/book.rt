@@ -34,7 +34,7 @@ use rbac::Account;
 use session_commands::room::{push_copy, push_within};
 use session_commands::{Actor, Command, Entry, Refusal};
 use session_opening::{Config, OpeningRefusal};
-use session_roles::Operation;
+use session_roles::{Edition, Operation};
 use session_state::State;
 use solver_results::{DdTable, PlayCosts};
 use std::alloc::{AllocError, Global};
@@ -114,6 +114,13 @@ impl Book {
             exposure,
             alloc,
         })
+    }
+
+    /// The edition of the policy that the session is of.
+    pub fn edition(&self) -> Edition
+        ensures { result ≡ self.now.opening.public.edition }
+    {
+        self.opening.public().edition
     }
 
     /// How many entries were accepted. Each book's journal is accepted.

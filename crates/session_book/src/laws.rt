@@ -24,7 +24,8 @@ pub fn no_foreknowledge()
 
 /// An entry exposes nobody anew but whom it touches, and to nothing but what it touches: a new result or a release its
 /// board, for anybody; a seat, and a role that is assigned or taken away, any board, for its user; an inheritance that
-/// comes or goes anything. So after each other command nobody has to be asked about, and after these nobody else.
+/// comes or goes, and an embargo that is lifted, anything. So after each other command nobody has to be asked about, and
+/// after these nobody else.
 pub fn only_the_touched_are_newly_exposed()
     ensures { (opening : SessionState) (journal : List Entry) (entry : Entry) (user : List ℕ) (board : ℕ) →
         1 ≤ board → board ≤ most_boards → is_touched (touched_by entry.command) user board ≡ false →

@@ -29,7 +29,9 @@ pub fn touched_by(command: &Command) -> Touched
         Command::Seat { name, .. }
         | Command::Assign { name, .. }
         | Command::Deassign { name, .. } => Touched::User(name),
-        Command::AddInheritance { .. } | Command::DeleteInheritance { .. } => Touched::Everything,
+        Command::AddInheritance { .. } | Command::DeleteInheritance { .. } | Command::Lift => {
+            Touched::Everything
+        }
         Command::Enter { .. }
         | Command::Void { .. }
         | Command::Hold { .. }
@@ -39,6 +41,7 @@ pub fn touched_by(command: &Command) -> Touched
         | Command::Finalise
         | Command::AddUser { .. }
         | Command::Solved { .. }
-        | Command::Analysed { .. } => Touched::Nothing,
+        | Command::Analysed { .. }
+        | Command::Embargo => Touched::Nothing,
     }
 }

@@ -22,6 +22,7 @@ use Rattle.session_commands.specs.declared.command.Command.TheVariants.{
 use Rattle.session_commands.specs.declared.command.Command.TheVariants.{Seat, Unseat, NextRound, Close, Finalise}
 use Rattle.session_commands.specs.declared.command.Command.TheVariants.{AddUser, Assign, Deassign, AddInheritance}
 use Rattle.session_commands.specs.declared.command.Command.TheVariants.{DeleteInheritance, Solved, Analysed}
+use Rattle.session_commands.specs.declared.command.Command.TheVariants.{Embargo, Lift}
 
 -- the operation for which a user needs the permission; the solver's commands have none
 abbrev pub operation_of : Command → Option Operation
@@ -44,6 +45,8 @@ operation_of (AddInheritance senior junior) = Some operation.AddInheritance
 operation_of (DeleteInheritance senior junior) = Some operation.DeleteInheritance
 operation_of (Solved board table) = None
 operation_of (Analysed cell costs) = None
+operation_of Embargo = Some operation.Embargo
+operation_of Lift = Some operation.Lift
 
 -- whether it is one of the solver's
 abbrev pub is_solvers : Command → Bool
@@ -74,6 +77,8 @@ phases_of (AddInheritance senior junior) = any_phase
 phases_of (DeleteInheritance senior junior) = any_phase
 phases_of (Solved board table) = any_phase
 phases_of (Analysed cell costs) = any_phase
+phases_of Embargo = Running ∷ Closed ∷ []
+phases_of Lift = any_phase
 
 -- the user that it is about, who must have an account
 abbrev pub subject_user : Command → Option (List ℕ)
@@ -96,6 +101,8 @@ subject_user (AddInheritance senior junior) = None
 subject_user (DeleteInheritance senior junior) = None
 subject_user (Solved board table) = None
 subject_user (Analysed cell costs) = None
+subject_user Embargo = None
+subject_user Lift = None
 
 -- the table and the board that it is about, which must be scheduled
 abbrev pub subject_cell : Command → Option Cell
@@ -118,6 +125,8 @@ subject_cell (AddInheritance senior junior) = None
 subject_cell (DeleteInheritance senior junior) = None
 subject_cell (Solved board table) = None
 subject_cell (Analysed cell costs) = Some cell
+subject_cell Embargo = None
+subject_cell Lift = None
 
 -- the board that it is about as a whole, which must be one of the session
 abbrev pub subject_board : Command → Option ℕ
@@ -140,6 +149,8 @@ subject_board (AddInheritance senior junior) = None
 subject_board (DeleteInheritance senior junior) = None
 subject_board (Solved board table) = Some board
 subject_board (Analysed cell costs) = None
+subject_board Embargo = None
+subject_board Lift = None
 
 -- whether it tells a result that was played: a spoiled table may not
 abbrev pub is_told_by_table : Command → Bool
@@ -162,6 +173,8 @@ is_told_by_table (AddInheritance senior junior) = false
 is_told_by_table (DeleteInheritance senior junior) = false
 is_told_by_table (Solved board table) = false
 is_told_by_table (Analysed cell costs) = false
+is_told_by_table Embargo = false
+is_told_by_table Lift = false
 
 -- whether two phases are one
 abbrev pub same_phase : Phase → Phase → Bool

@@ -15,6 +15,7 @@ use Rattle.session_commands.specs.declared.command.Command.TheVariants.{
 use Rattle.session_commands.specs.declared.command.Command.TheVariants.{Seat, Unseat, NextRound, Close, Finalise}
 use Rattle.session_commands.specs.declared.command.Command.TheVariants.{AddUser, Assign, Deassign, AddInheritance}
 use Rattle.session_commands.specs.declared.command.Command.TheVariants.{DeleteInheritance, Solved, Analysed}
+use Rattle.session_commands.specs.declared.command.Command.TheVariants.{Embargo, Lift}
 use Rattle.session_commands.specs.declared.command_word.CommandWord.{CommandWord}
 use Rattle.session_commands.specs.declared.command_word.CommandWord.TheVariants as word
 use Rattle.session_commands.specs.declared.target.Target.{Target}
@@ -41,6 +42,8 @@ word_of (AddInheritance senior junior) = word.AddInheritance
 word_of (DeleteInheritance senior junior) = word.DeleteInheritance
 word_of (Solved board solution) = word.Solved
 word_of (Analysed cell costs) = word.Analysed
+word_of Embargo = word.Embargo
+word_of Lift = word.Lift
 
 -- what it is about: a table's board, a board, a user, a user's role, two roles, or the session
 abbrev pub target_of : Command → Target
@@ -63,3 +66,5 @@ target_of (AddInheritance senior junior) = about.Inheritance senior junior
 target_of (DeleteInheritance senior junior) = about.Inheritance senior junior
 target_of (Solved board solution) = about.Board board
 target_of (Analysed cell costs) = about.Cell cell
+target_of Embargo = about.Session
+target_of Lift = about.Session

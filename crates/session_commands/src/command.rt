@@ -100,6 +100,10 @@ pub enum Command {
         cell: Cell,
         costs: PlayCosts,
     },
+    /// Withholds every board from everybody but the directors: a command of the second edition.
+    Embargo,
+    /// Ends an embargo: a command of the second edition.
+    Lift,
 }
 
 impl Command {
@@ -132,6 +136,8 @@ impl Command {
             Command::AddInheritance { .. } => Operation::AddInheritance,
             Command::DeleteInheritance { .. } => Operation::DeleteInheritance,
             Command::Solved { .. } | Command::Analysed { .. } => return None,
+            Command::Embargo => Operation::Embargo,
+            Command::Lift => Operation::Lift,
         };
         Some(operation)
     }
@@ -156,7 +162,8 @@ impl Command {
             Command::Correct { .. }
             | Command::Rule { .. }
             | Command::Void { .. }
-            | Command::Hold { .. } => &[Phase::Running, Phase::Closed],
+            | Command::Hold { .. }
+            | Command::Embargo => &[Phase::Running, Phase::Closed],
             Command::Finalise => &[Phase::Closed],
             Command::Release { .. }
             | Command::Unseat { .. }
@@ -166,7 +173,8 @@ impl Command {
             | Command::AddInheritance { .. }
             | Command::DeleteInheritance { .. }
             | Command::Solved { .. }
-            | Command::Analysed { .. } => &[Phase::Running, Phase::Closed, Phase::Final],
+            | Command::Analysed { .. }
+            | Command::Lift => &[Phase::Running, Phase::Closed, Phase::Final],
         }
     }
 
@@ -258,6 +266,8 @@ impl Command {
             Command::DeleteInheritance { .. } => CommandWord::DeleteInheritance,
             Command::Solved { .. } => CommandWord::Solved,
             Command::Analysed { .. } => CommandWord::Analysed,
+            Command::Embargo => CommandWord::Embargo,
+            Command::Lift => CommandWord::Lift,
         }
     }
 
@@ -284,7 +294,11 @@ impl Command {
                 senior,
                 junior,
             },
-            Command::NextRound | Command::Close | Command::Finalise => Target::Session,
+            Command::NextRound
+            | Command::Close
+            | Command::Finalise
+            | Command::Embargo
+            | Command::Lift => Target::Session,
         }
     }
 }

@@ -20,4 +20,6 @@ pub enum CommandWord {
     DeleteInheritance,
     Solved,
     Analysed,
+    Embargo,
+    Lift,
 }

@@ -36,6 +36,10 @@ pub enum Refusal {
     AlreadyHeld,
     /// The board is not held.
     NotHeld,
+    /// The session is under embargo already.
+    AlreadyEmbargoed,
+    /// The session is not under embargo.
+    NotEmbargoed,
     /// The section has no such pair.
     NoSuchPair,
     /// The place is not one of the pair's side.
@@ -58,6 +62,8 @@ pub enum Refusal {
     UserExists,
     /// There are 256 users.
     TooManyUsers,
+    /// The session's edition has no such role.
+    NoSuchRole,
     /// The role is assigned to the user already.
     AlreadyAssigned,
     /// A user would be authorized for both roles of this set.

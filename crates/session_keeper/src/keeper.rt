@@ -8,6 +8,7 @@ ghost use Rattle.session_keeper.specs.Keeping.{GoesOn};
 
 use published_view::{NoEntry, QueryFault};
 use session_queries::{Query, Reply};
+use session_roles::Edition;
 use std::alloc::Global;
 use user_names::{Digest, Name};
 
@@ -27,6 +28,10 @@ pub trait Keeper: Drop {
 
     // What it takes for no version to be entered; where that never happens nothing does.
     ghost no_entry: { Type 0 };
+
+    /// The edition of the policy that the session is of. It is told whatever the keeper does otherwise.
+    fn edition(&self) -> Edition
+        ensures { result ≡ (opening self.now).public.edition };
 
     /// The reply to a user's query; the user wants no version older than `since`.
     fn query(

@@ -14,6 +14,7 @@ use published_view::{NoEntry, QueryFault, View};
 use session_book::{Answer, Book};
 use session_commands::Command;
 use session_queries::{Query, Reply};
+use session_roles::Edition;
 use session_state::State;
 use solver_results::{DdTable, PlayCosts};
 use std::alloc::{AllocError, Global};
@@ -71,6 +72,10 @@ impl Keeper for PlainKeeper {
     ghost others = { λ before after. after ≡ before };
 
     ghost no_entry = { ⊥ };
+
+    fn edition(&self) -> Edition {
+        self.book.edition()
+    }
 
     fn query(
         &mut self,

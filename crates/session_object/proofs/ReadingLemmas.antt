@@ -177,12 +177,13 @@ module _ (given : Option (List ℕ)) (d : Data) where
       → section ≡ section_of (session_of_parts parts) → HasNoMovementError section → many ≡ boards_of section
       → pbn.Reads parts.pbn.now many boards
       → ReadsObject given d (record {
-        config = record { movement = section; boards = boards; users = parts.users };
+        config = record { edition = parts.edition; movement = section; boards = boards; users = parts.users };
         budget = parts.budget;
       })
   reads_object parts section many boards said same allowed is_many read = record {
     session = session_of_parts parts;
     says = session_read given d (session_of_parts parts) said;
+    edition = refl;
     movement = same;
     allowed = subst HasNoMovementError same allowed;
     boards = subst (λ n. pbn.Reads parts.pbn.now n boards) (is_many ∙ ap boards_of same) read;
@@ -238,13 +239,18 @@ module _ (given : Option (List ℕ)) where
       let boards : one.config.boards ≡ other.config.boards =
       one_reading first.session.pbn (boards_of (section_of first.session)) one.config.boards other.config.boards
       first.boards again in
+      let edition : one.config.edition ≡ other.config.edition = first.edition ∙ ap (λ (s : Session). s.edition) session
+      ∙ sym second.edition in
       let movement : one.config.movement ≡ other.config.movement = first.movement ∙ ap section_of session
       ∙ sym second.movement in
       let users : one.config.users ≡ other.config.users = first.users ∙ ap (λ (s : Session). s.users) session
       ∙ sym second.users in
       let budget : one.budget ≡ other.budget = first.budget ∙ ap (λ (s : Session). s.budget) session ∙ sym second.budget
       in
-      λ i. record { config = record { movement = movement i; boards = boards i; users = users i }; budget = budget i }
+      λ i. record {
+        config = record { edition = edition i; movement = movement i; boards = boards i; users = users i };
+        budget = budget i;
+      }
 
   pub one_text : (text : List ℕ) (one other : SessionObject) → ReadsSession given text one → ReadsSession given text
       other → one ≡ other

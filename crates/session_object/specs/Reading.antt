@@ -43,10 +43,12 @@ HasNoMovementError section = (error : MovementError) → ¬ Refuses error sectio
 
 -- ---- objects
 
--- what a session opens with, by an object: its section, the boards that its text gives to it, its users, its budget
+-- what a session opens with, by an object: its edition, its section, the boards that its text gives to it, its users,
+-- its budget
 pub record ReadsObject (given : Option (List ℕ)) (d : Data) (object : SessionObject) : Type 0 where
   pub session : Session
   pub says : IsSession given d session
+  pub edition : object.config.edition ≡ session.edition
   pub movement : object.config.movement ≡ section_of session
   pub allowed : HasNoMovementError (section_of session)
   pub boards : pbn.Reads session.pbn (boards_of (section_of session)) object.config.boards
@@ -115,6 +117,7 @@ abbrev pub session_of_parts : Parts → Session
 session_of_parts parts = record {
   absent = parts.absent;
   budget = parts.budget;
+  edition = parts.edition;
   pbn = parts.pbn.now;
   per_set = parts.per_set;
   rounds = parts.rounds;

@@ -1,52 +1,83 @@
 -- The session object: the JSON object with which a session opens, by its members.
-use Rattle.std.specs.Prelude.{ℕ, List, [], codes, Option, Some, None}
+use Rattle.std.specs.Prelude.{◌≡◌, ℕ, nat_eq, List, [], ◌∷◌, codes, Option, Some, None, option_and_then}
+use Rattle.std.specs.List.{find}
+use Rattle.std.specs.Option.{unwrap_or}
 use Rattle.serde_json.specs.Data.{Data}
 use Rattle.serde_json.specs.Find.{get}
 use Rattle.table_terms.specs.declared.pair.Pair.{Pair}
+use Rattle.session_roles.specs.declared.edition.Edition.{Edition}
+use Rattle.session_roles.specs.declared.edition.Edition.TheVariants.{First, Second}
+use Rattle.session_roles.specs.Edition.{edition_number}
 use Rattle.session_opening.specs.declared.new_user.NewUser.{NewUser}
 use Rattle.json_fields.specs.Form.{Member, Form, form, ◌with◌, formed, HasForm}
-use Rattle.json_fields.specs.Field.{limited, numbered, written, listed}
+use Rattle.json_fields.specs.Field.{whole, limited, numbered, written, listed}
 use Rattle.json_fields.specs.User.{user_name, digest, user_roles, pair, absent, place}
+
+-- ---- the edition of the policy: 1 or 2, and 1 where it is left out
+
+-- the edition of a number
+abbrev pub edition_numbered : ℕ → Option Edition
+edition_numbered number = find (λ edition. nat_eq (edition_number edition) number) (First ∷ Second ∷ [])
+
+-- the edition whose number stands there, or the first one where nothing does
+abbrev pub edition_or_first : Option Data → Option Edition
+edition_or_first None = Some First
+edition_or_first (Some d) = option_and_then edition_numbered (whole d)
+
+-- what stands there is the edition's number, or it is the first one and nothing does
+abbrev pub IsEdition : Option Data → Edition → Type 0
+IsEdition None edition = edition ≡ First
+IsEdition (Some d) edition = whole d ≡ Some (edition_number edition)
+
+-- the edition of the session
+abbrev pub session_edition : Member Edition
+session_edition = record { name = codes "edition"; value = edition_or_first; Is = IsEdition }
+
+-- the edition that is said, by which the roles of the users are read; where what stands there is no edition, the object
+-- is no session
+abbrev pub edition_said : Option Data → Edition
+edition_said o = unwrap_or (edition_or_first o) First
 
 -- ---- users
 
 -- a user who sits somewhere: the pair and the place stand together
-abbrev pub seated : Form NewUser
-seated =
+abbrev pub seated : Edition → Form NewUser
+seated edition =
     form [] (λ digest name pair place roles.
     record { name = name; digest = digest; roles = roles; seat = Some (record { pair = pair; place = place }) })
-    with digest with user_name with pair with place with user_roles
+    with digest with user_name with pair with place with user_roles edition
 
 -- a user who sits nowhere
-abbrev pub unseated : Form NewUser
-unseated =
+abbrev pub unseated : Edition → Form NewUser
+unseated edition =
     form [] (λ digest name roles. record { name = name; digest = digest; roles = roles; seat = None })
-    with digest with user_name with user_roles
+    with digest with user_name with user_roles edition
 
 -- which of the two it is, by the member `pair`
-abbrev pub user_form : Option Data → Form NewUser
-user_form None = unseated
-user_form (Some _) = seated
+abbrev pub user_form : Edition → Option Data → Form NewUser
+user_form edition None = unseated edition
+user_form edition (Some _) = seated edition
 
 -- the user that an object says
-unfoldable pub new_user_of : Data → Option NewUser
-new_user_of d = formed [] (user_form (get (codes "pair") d)) d
+unfoldable pub new_user_of : Edition → Data → Option NewUser
+new_user_of edition d = formed [] (user_form edition (get (codes "pair") d)) d
 
 -- the object has the members of this user, and no other
-abbrev pub IsUser : Data → NewUser → Type 0
-IsUser d user = HasForm [] (user_form (get (codes "pair") d)) d user
+abbrev pub IsUser : Edition → Data → NewUser → Type 0
+IsUser edition d user = HasForm [] (user_form edition (get (codes "pair") d)) d user
 
 -- the users, in the order of the list
-abbrev pub users : Member (List NewUser)
-users = listed (codes "users") new_user_of IsUser
+abbrev pub users : Edition → Member (List NewUser)
+users edition = listed (codes "users") (new_user_of edition) (IsUser edition)
 
 -- ---- sessions
 
--- what a session object says: the pair that is absent, if one is, the visits of a solver's call, the boards' PBN text, the
--- three numbers of the movement, and the users
+-- what a session object says: the pair that is absent, if one is, the visits of a solver's call, the edition of the
+-- policy, the boards' PBN text, the three numbers of the movement, and the users
 pub record Session : Type 0 where
   pub absent : Option Pair
   pub budget : ℕ
+  pub edition : Edition
   pub pbn : List ℕ
   pub per_set : ℕ
   pub rounds : ℕ
@@ -58,46 +89,48 @@ abbrev pub most_visits : ℕ
 most_visits = 1000000000000000000
 
 -- a session object that has its boards in it
-abbrev pub with_boards : Form Session
-with_boards =
-    form [] (λ absent budget pbn per_set rounds tables users. record {
+abbrev pub with_boards : Edition → Form Session
+with_boards edition =
+    form [] (λ absent budget said pbn per_set rounds tables users. record {
       absent = absent;
       budget = budget;
+      edition = said;
       pbn = pbn;
       per_set = per_set;
       rounds = rounds;
       tables = tables;
       users = users;
     })
-    with absent with limited (codes "budget") most_visits with written (codes "pbn") with numbered (codes "per_set")
-    with numbered (codes "rounds") with numbered (codes "tables") with users
+    with absent with limited (codes "budget") most_visits with session_edition with written (codes "pbn")
+    with numbered (codes "per_set") with numbered (codes "rounds") with numbered (codes "tables") with users edition
 
 -- a session object whose boards are given beside it
-abbrev pub beside_boards : List ℕ → Form Session
-beside_boards pbn =
-    form [] (λ absent budget per_set rounds tables users. record {
+abbrev pub beside_boards : Edition → List ℕ → Form Session
+beside_boards edition pbn =
+    form [] (λ absent budget said per_set rounds tables users. record {
       absent = absent;
       budget = budget;
+      edition = said;
       pbn = pbn;
       per_set = per_set;
       rounds = rounds;
       tables = tables;
       users = users;
     })
-    with absent with limited (codes "budget") most_visits with numbered (codes "per_set")
-    with numbered (codes "rounds") with numbered (codes "tables") with users
+    with absent with limited (codes "budget") most_visits with session_edition with numbered (codes "per_set")
+    with numbered (codes "rounds") with numbered (codes "tables") with users edition
 
 -- which of the two it is, by the deals that are given
-abbrev pub session_form : Option (List ℕ) → Form Session
-session_form None = with_boards
-session_form (Some deals) = beside_boards deals
+abbrev pub session_form : Edition → Option (List ℕ) → Form Session
+session_form edition None = with_boards edition
+session_form edition (Some deals) = beside_boards edition deals
 
--- the object has the members of this session, and no other
+-- the object has the members of this session, and no other; the roles of its users are those of its edition
 abbrev pub IsSession : Option (List ℕ) → Data → Session → Type 0
-IsSession deals d session = HasForm [] (session_form deals) d session
+IsSession deals d session = HasForm [] (session_form (edition_said (get (codes "edition") d)) deals) d session
 
 -- ---- for private clauses
 
 -- the session that an object says
 unfoldable pub session_of : Option (List ℕ) → Data → Option Session
-session_of deals d = formed [] (session_form deals) d
+session_of deals d = formed [] (session_form (edition_said (get (codes "edition") d)) deals) d

@@ -1,6 +1,7 @@
 //! The session object with which a session opens: read from its JSON text and from the PBN text of its boards.
 #![tactic(auto)]
 
+mod edition_reading;
 pub mod laws;
 mod object;
 mod parts;

@@ -1,16 +1,17 @@
 //! The members of a session object.
 
-ghost use Rattle.std.specs.Prelude.{◌≡◌, [], Some, None, IfOk, IfErr, option_map};
+ghost use Rattle.std.specs.Prelude.{◌≡◌, Some, None, IfOk, IfErr, option_map};
 ghost use Rattle.serde_json.specs.View.{view};
-ghost use Rattle.json_fields.specs.Form.{formed};
-ghost use Rattle.session_object.specs.Session.{with_boards, beside_boards, session_of};
+ghost use Rattle.session_object.specs.Session.{session_of};
 ghost use Rattle.session_object.specs.Reading.{FailsPart, session_of_parts};
 
+use crate::edition_reading::read_edition;
 use crate::session_fault::SessionFault;
 use crate::user::users_of;
 use json_fields::{has_only, limited_at, read_absent, small_number_at, text_at};
 use serde_json::Value;
 use session_opening::NewUser;
+use session_roles::Edition;
 use std::alloc::Global;
 use table_terms::{Items, Pair};
 
@@ -22,6 +23,7 @@ const MOST_VISITS: u64 = 1_000_000_000_000_000_000;
 pub(crate) struct Parts<'t> {
     pub(crate) absent: Option<Pair>,
     pub(crate) budget: u64,
+    pub(crate) edition: Edition,
     /// The PBN text of the boards.
     pub(crate) pbn: &'t [u8],
     pub(crate) per_set: u8,
@@ -30,14 +32,15 @@ pub(crate) struct Parts<'t> {
     pub(crate) users: Items<NewUser>,
 }
 
+#[tactic(auto, unfolding(crate::specs::Session::session_of))]
 fn with_boards<'t>(alloc: Global, value: &'t Value) -> Result<Parts<'t>, SessionFault>
-    ensures parts { IfOk result (λ parts. formed [] with_boards (view value.now) ≡ Some (session_of_parts parts)) }
-    ensures fault { IfErr result (λ fault. FailsPart fault (formed [] with_boards (view value.now))) }
+    ensures parts { IfOk result (λ parts. session_of None (view value.now) ≡ Some (session_of_parts parts)) }
+    ensures fault { IfErr result (λ fault. FailsPart fault (session_of None (view value.now))) }
 {
     if !has_only(
         value,
         &[
-            "absent", "budget", "pbn", "per_set", "rounds", "tables", "users",
+            "absent", "budget", "edition", "pbn", "per_set", "rounds", "tables", "users",
         ],
     ) {
         return Err(SessionFault::BadField);
@@ -46,6 +49,9 @@ fn with_boards<'t>(alloc: Global, value: &'t Value) -> Result<Parts<'t>, Session
         return Err(SessionFault::BadField);
     };
     let Some(budget) = limited_at(value, "budget", MOST_VISITS) else {
+        return Err(SessionFault::BadField);
+    };
+    let Some(edition) = read_edition(value) else {
         return Err(SessionFault::BadField);
     };
     let Some(pbn) = text_at(value, "pbn") else {
@@ -60,10 +66,11 @@ fn with_boards<'t>(alloc: Global, value: &'t Value) -> Result<Parts<'t>, Session
     let Some(tables) = small_number_at(value, "tables") else {
         return Err(SessionFault::BadField);
     };
-    let users = users_of(alloc, value)?;
+    let users = users_of(alloc, value, edition)?;
     Ok(Parts {
         absent,
         budget,
+        edition,
         pbn: pbn.as_bytes(),
         per_set,
         rounds,
@@ -72,14 +79,17 @@ fn with_boards<'t>(alloc: Global, value: &'t Value) -> Result<Parts<'t>, Session
     })
 }
 
+#[tactic(auto, unfolding(crate::specs::Session::session_of))]
 fn beside_boards<'t>(alloc: Global, value: &Value, pbn: &'t [u8]) -> Result<Parts<'t>, SessionFault>
-    ensures parts { IfOk result (λ parts.
-        formed [] (beside_boards pbn.now) (view value.now) ≡ Some (session_of_parts parts)) }
-    ensures fault { IfErr result (λ fault. FailsPart fault (formed [] (beside_boards pbn.now) (view value.now))) }
+    ensures parts { IfOk result (λ parts. session_of (Some pbn.now) (view value.now) ≡ Some (session_of_parts parts)) }
+    ensures fault { IfErr result (λ fault.
+        FailsPart fault (session_of (Some pbn.now) (view value.now))) }
 {
     if !has_only(
         value,
-        &["absent", "budget", "per_set", "rounds", "tables", "users"],
+        &[
+            "absent", "budget", "edition", "per_set", "rounds", "tables", "users",
+        ],
     ) {
         return Err(SessionFault::BadField);
     }
@@ -87,6 +97,9 @@ fn beside_boards<'t>(alloc: Global, value: &Value, pbn: &'t [u8]) -> Result<Part
         return Err(SessionFault::BadField);
     };
     let Some(budget) = limited_at(value, "budget", MOST_VISITS) else {
+        return Err(SessionFault::BadField);
+    };
+    let Some(edition) = read_edition(value) else {
         return Err(SessionFault::BadField);
     };
     let Some(per_set) = small_number_at(value, "per_set") else {
@@ -98,10 +111,11 @@ fn beside_boards<'t>(alloc: Global, value: &Value, pbn: &'t [u8]) -> Result<Part
     let Some(tables) = small_number_at(value, "tables") else {
         return Err(SessionFault::BadField);
     };
-    let users = users_of(alloc, value)?;
+    let users = users_of(alloc, value, edition)?;
     Ok(Parts {
         absent,
         budget,
+        edition,
         pbn,
         per_set,
         rounds,
@@ -111,7 +125,6 @@ fn beside_boards<'t>(alloc: Global, value: &Value, pbn: &'t [u8]) -> Result<Part
 }
 
 /// The members of a session object; its boards' text is among them, unless it is given.
-#[tactic(auto, unfolding(crate::specs::Session::session_of))]
 pub(crate) fn parts_of<'t>(
     alloc: Global,
     value: &'t Value,

@@ -78,6 +78,7 @@ fn read_object(
     match read_deals(alloc, parts.pbn, movement.boards()) {
         Ok(boards) => Ok(SessionObject {
             config: Config {
+                edition: parts.edition,
                 movement,
                 boards,
                 users: parts.users,

@@ -13,18 +13,18 @@ use disclosure_rules::Seat;
 use json_fields::{has_only, name_at, read_digest, read_pair, read_place, read_role};
 use serde_json::Value;
 use session_opening::NewUser;
-use session_roles::Role;
+use session_roles::{Edition, Role};
 use std::alloc::Global;
 use table_terms::Items;
 use user_names::{Digest, Name};
 
-fn roles_in(alloc: Global, list: &[Value]) -> Result<Vec<Role>, SessionFault>
-    ensures roles { IfOk result (λ roles. each role_of (items_view list.now) ≡ Some roles.items) }
-    ensures fault { IfErr result (λ fault. FailsPart fault (each role_of (items_view list.now))) }
+fn roles_in(alloc: Global, list: &[Value], edition: Edition) -> Result<Vec<Role>, SessionFault>
+    ensures roles { IfOk result (λ roles. each (role_of edition) (items_view list.now) ≡ Some roles.items) }
+    ensures fault { IfErr result (λ fault. FailsPart fault (each (role_of edition) (items_view list.now))) }
 {
     let mut roles = Vec::new(alloc);
     for value in list {
-        let Some(role) = read_role(value) else {
+        let Some(role) = read_role(value, edition) else {
             return Err(SessionFault::BadField);
         };
         roles.push(role)?;
@@ -32,20 +32,20 @@ fn roles_in(alloc: Global, list: &[Value]) -> Result<Vec<Role>, SessionFault>
     Ok(roles)
 }
 
-fn roles_of(alloc: Global, value: &Value) -> Result<Items<Role>, SessionFault>
-    ensures { GivesPart result (user_roles.value (get user_roles.name (view value.now))) }
+fn roles_of(alloc: Global, value: &Value, edition: Edition) -> Result<Items<Role>, SessionFault>
+    ensures { GivesPart result ((user_roles edition).value (get (user_roles edition).name (view value.now))) }
 {
     let Some(member) = value.get("roles") else {
         return Err(SessionFault::BadField);
     };
     match member.as_array() {
-        Some(list) => Ok(Items::new(roles_in(alloc, list.as_slice())?)),
+        Some(list) => Ok(Items::new(roles_in(alloc, list.as_slice(), edition)?)),
         None => Err(SessionFault::BadField),
     }
 }
 
-fn unseated_user(alloc: Global, value: &Value) -> Result<NewUser, SessionFault>
-    ensures { GivesPart result (formed [] unseated (view value.now)) }
+fn unseated_user(alloc: Global, value: &Value, edition: Edition) -> Result<NewUser, SessionFault>
+    ensures { GivesPart result (formed [] (unseated edition) (view value.now)) }
 {
     if !has_only(value, &["digest", "name", "roles"]) {
         return Err(SessionFault::BadField);
@@ -56,7 +56,7 @@ fn unseated_user(alloc: Global, value: &Value) -> Result<NewUser, SessionFault>
     let Some(name) = name_at(value, "name") else {
         return Err(SessionFault::BadField);
     };
-    let roles = roles_of(alloc, value)?;
+    let roles = roles_of(alloc, value, edition)?;
     Ok(NewUser {
         name,
         digest,
@@ -65,8 +65,8 @@ fn unseated_user(alloc: Global, value: &Value) -> Result<NewUser, SessionFault>
     })
 }
 
-fn seated_user(alloc: Global, value: &Value) -> Result<NewUser, SessionFault>
-    ensures { GivesPart result (formed [] seated (view value.now)) }
+fn seated_user(alloc: Global, value: &Value, edition: Edition) -> Result<NewUser, SessionFault>
+    ensures { GivesPart result (formed [] (seated edition) (view value.now)) }
 {
     if !has_only(value, &["digest", "name", "pair", "place", "roles"]) {
         return Err(SessionFault::BadField);
@@ -83,7 +83,7 @@ fn seated_user(alloc: Global, value: &Value) -> Result<NewUser, SessionFault>
     let Some(place) = read_place(value) else {
         return Err(SessionFault::BadField);
     };
-    let roles = roles_of(alloc, value)?;
+    let roles = roles_of(alloc, value, edition)?;
     Ok(NewUser {
         name,
         digest,
@@ -93,35 +93,39 @@ fn seated_user(alloc: Global, value: &Value) -> Result<NewUser, SessionFault>
 }
 
 #[tactic(auto, unfolding(crate::specs::Session::new_user_of))]
-fn new_user_of(alloc: Global, value: &Value) -> Result<NewUser, SessionFault>
-    ensures { GivesPart result (new_user_of (view value.now)) }
+fn new_user_of(alloc: Global, value: &Value, edition: Edition) -> Result<NewUser, SessionFault>
+    ensures { GivesPart result (new_user_of edition (view value.now)) }
 {
     match value.get("pair") {
-        Some(_) => seated_user(alloc, value),
-        None => unseated_user(alloc, value),
+        Some(_) => seated_user(alloc, value, edition),
+        None => unseated_user(alloc, value, edition),
     }
 }
 
-fn users_in(alloc: Global, list: &[Value]) -> Result<Items<NewUser>, SessionFault>
-    ensures users { IfOk result (λ users. each new_user_of (items_view list.now) ≡ Some users) }
-    ensures fault { IfErr result (λ fault. FailsPart fault (each new_user_of (items_view list.now))) }
+fn users_in(alloc: Global, list: &[Value], edition: Edition) -> Result<Items<NewUser>, SessionFault>
+    ensures users { IfOk result (λ users. each (new_user_of edition) (items_view list.now) ≡ Some users) }
+    ensures fault { IfErr result (λ fault. FailsPart fault (each (new_user_of edition) (items_view list.now))) }
 {
     let mut users = Vec::new(alloc);
     for value in list {
-        let user = new_user_of(alloc, value)?;
+        let user = new_user_of(alloc, value, edition)?;
         users.push(user)?;
     }
     Ok(Items::new(users))
 }
 
-pub(crate) fn users_of(alloc: Global, value: &Value) -> Result<Items<NewUser>, SessionFault>
-    ensures { GivesPart result (users.value (get users.name (view value.now))) }
+pub(crate) fn users_of(
+    alloc: Global,
+    value: &Value,
+    edition: Edition,
+) -> Result<Items<NewUser>, SessionFault>
+    ensures { GivesPart result ((users edition).value (get (users edition).name (view value.now))) }
 {
     let Some(member) = value.get("users") else {
         return Err(SessionFault::BadField);
     };
     match member.as_array() {
-        Some(list) => users_in(alloc, list.as_slice()),
+        Some(list) => users_in(alloc, list.as_slice(), edition),
         None => Err(SessionFault::BadField),
     }
 }

@@ -28,7 +28,7 @@ use Rattle.std.proofs.Common.{
   ◌∙◌,
   arith,
 }
-use Rattle.std.specs.Prelude.{◌||◌}
+use Rattle.std.specs.Prelude.{◌&&◌, ◌||◌}
 use Rattle.std.specs.List.{list_any}
 use Rattle.std.proofs.Math.Bool.{or_comm}
 use Rattle.std.proofs.lemmas.Bool.{both_ways, false≢true, false_from_ne_true, or_left}
@@ -37,14 +37,20 @@ use Rattle.std.proofs.lemmas.List.Folds.{list_any_more, list_any_at, list_any-ap
 use Rattle.rbac.specs.Account.{same_name, HasAccount, IsAssigned, with_change}
 use Rattle.rbac.specs.Authorization.{IsReached, IsBroken, KeepsSeparation, reached}
 use Rattle.rbac.specs.Refusals.{RefusesUser, RefusesAssignment}
-use Rattle.session_roles.specs.Role.{roles_that, same_role, has, with_role}
+use Rattle.session_roles.specs.Role.{roles_that, same_role, has, with_role, is_role_of}
+use Rattle.session_roles.specs.declared.edition.Edition.{Edition}
 use Rattle.rbac.specs.RoleData.{RoleData, add_user, assign_user}
 use Rattle.session_roles.specs.Separation.{apart, has_both}
 use Rattle.rbac.specs.declared.account.Account.{Account}
 use Rattle.rbac.specs.declared.add_user_error.AddUserError.{AddUserError}
 use Rattle.rbac.specs.declared.add_user_error.AddUserError.TheVariants.{BadName, UserExists, TooManyUsers}
 use Rattle.rbac.specs.declared.assign_error.AssignError.{AssignError}
-use Rattle.rbac.specs.declared.assign_error.AssignError.TheVariants.{NoSuchUser, AlreadyAssigned, Separation}
+use Rattle.rbac.specs.declared.assign_error.AssignError.TheVariants.{
+  NoSuchUser,
+  NoSuchRole,
+  AlreadyAssigned,
+  Separation,
+}
 use Rattle.rbac.specs.declared.inheritance.Inheritance.{Inheritance}
 use Rattle.session_roles.specs.declared.role.Role.{Role}
 use Rattle.rbac.proofs.AccountLemmas.{same_name_decides}
@@ -53,12 +59,26 @@ use Rattle.rbac.proofs.ListLemmas.{Any-push_cases, decides_any}
 use Rattle.session_roles.proofs.RoleLemmas.{has_roles_that, same_roles_that, same_role_equiv}
 use Rattle.session_roles.proofs.SeparationLemmas.{none_found}
 use Rattle.session_opening.specs.declared.new_user.NewUser.{NewUser}
-use Rattle.session_opening.specs.NewUser.{set_of, repeats}
+use Rattle.session_opening.specs.NewUser.{set_of, repeats, knows_roles}
 use Rattle.session_opening.specs.Joining.{MayJoin, with_user}
 
 or_false : (a b : Bool) → (a || b) ≡ false → (a ≡ false) × (b ≡ false)
 or_false true b none = absurd (false≢true (sym none))
 or_false false b none = (refl, none)
+
+both : (a b : Bool) → (a && b) ≡ true → (a ≡ true) × (b ≡ true)
+both true b is = (refl, is)
+both false b is = absurd (false≢true is)
+
+-- an edition that knows all roles of a list knows each
+known_at : (edition : Edition) (list : List Role) (n : ℕ) (d : Role) → n < length list → knows_roles edition list ≡
+    true → is_role_of edition (get_or list n d) ≡ true
+known_at edition [] n d within known = absurd (omega arith)
+known_at edition (role ∷ list) zero d within known =
+    (both (is_role_of edition role) (knows_roles edition list) known).0
+known_at edition (role ∷ list) (suc n) d within known =
+    known_at edition list n d (omega (arith, within))
+    (both (is_role_of edition role) (knows_roles edition list) known).1
 
 -- no role makes no set
 pub set_of_none : set_of [] ≡ []
@@ -206,6 +226,8 @@ module _ (state : RoleData) (user : NewUser) (may : MayJoin state user) where
   pub role_joins : KeepsSeparation state → (n : ℕ) (d : Role) → n < length user.roles → (cause : AssignError) →
       ¬ RefusesAssignment (so_far state user n) user.name (get_or user.roles n d) cause
   role_joins separate n d within NoSuchUser none = none (there_now n)
+  role_joins separate n d within NoSuchRole unknown =
+      both_ways _ unknown (known_at state.edition user.roles n d within may.known)
   role_joins separate n d within AlreadyAssigned assigned = not_assigned n d within assigned
   role_joins separate n d within (Separation set) broken =
       apart_so_far separate (n + 1) set (subst (λ now. IsBroken now set) (role_added n d within) broken)

@@ -39,6 +39,7 @@ use Rattle.movement.specs.Movement.{Section}
 use Rattle.rbac.specs.Account.{most_users, is_user_name, same_name}
 use Rattle.rbac.specs.Authorization.{reached}
 use Rattle.rbac.specs.Inheritance.{opening_pairs}
+use Rattle.session_roles.specs.declared.edition.Edition.{Edition}
 use Rattle.session_roles.specs.Role.{has}
 use Rattle.session_roles.specs.declared.role.Role.TheVariants.{Administrator}
 use Rattle.disclosure_rules.specs.declared.seat.Seat.{Seat}
@@ -52,13 +53,20 @@ use Rattle.session_opening.specs.declared.opening_refusal.OpeningRefusal.TheVari
   BadName,
   UserExists,
   TooManyUsers,
+  NoSuchRole,
   AlreadyAssigned,
   Separation,
   LastAdministrator,
 }
 use Rattle.session_state.specs.Accounts.{has_account, has_administrator}
 use Rattle.session_opening.specs.Joining.{MayJoin, JoinInTurn}
-use Rattle.session_opening.specs.NewUser.{account_of, new_seated, repeats, authorized_at_opening}
+use Rattle.session_opening.specs.NewUser.{
+  account_of,
+  new_seated,
+  repeats,
+  knows_roles,
+  authorized_at_opening,
+}
 use Rattle.session_opening.specs.Opening.{opening_roles, opening_seats}
 use Rattle.session_opening.specs.OpeningRefusal.{
   account_causes,
@@ -97,35 +105,36 @@ found_later xs ys (Some cause) is some = absurd (false≢true (sym some))
 found_later xs ys None is some = first_append xs ys ∙ ap (λ found. option_or found (first_cause ys)) (sym is)
 
 -- the causes of the users from a place on
-abbrev pub causes_on : Section → List NewUser → ℕ → List (Option OpeningRefusal)
-causes_on movement users place = users_causes movement (take place users) (drop place users)
+abbrev pub causes_on : Edition → Section → List NewUser → ℕ → List (Option OpeningRefusal)
+causes_on edition movement users place = users_causes edition movement (take place users) (drop place users)
 
 -- the user at a place, and those after it
-pub causes_more : (movement : Section) (users : List NewUser) (place : ℕ) (d : NewUser) → place < length users →
-    causes_on movement users place ≡ user_causes movement (take place users) (get_or users place d)
-    ++ causes_on movement users (place + 1)
-causes_more movement users place d within =
-    ap (users_causes movement (take place users)) (drop_more users place d within)
-    ∙ ap (λ before. user_causes movement (take place users) (get_or users place d) ++ users_causes movement before
-    (drop (place + 1) users)) (sym (take_more users place d within))
+pub causes_more : (edition : Edition) (movement : Section) (users : List NewUser) (place : ℕ) (d : NewUser) →
+    place < length users →
+    causes_on edition movement users place ≡ user_causes edition movement (take place users) (get_or users place d)
+    ++ causes_on edition movement users (place + 1)
+causes_more edition movement users place d within =
+    ap (users_causes edition movement (take place users)) (drop_more users place d within)
+    ∙ ap (λ before. user_causes edition movement (take place users) (get_or users place d)
+    ++ users_causes edition movement before (drop (place + 1) users)) (sym (take_more users place d within))
 
 -- where the users meet no cause, none of them meets one
-none_of_each : (movement : Section) (before users : List NewUser) → first_cause (users_causes movement before users) ≡
-    None → (k : ℕ) (d : NewUser) → k < length users →
-    first_cause (user_causes movement (before ++ take k users) (get_or users k d)) ≡ None
-none_of_each movement before [] none k d within = absurd (omega arith)
-none_of_each movement before (user ∷ users) none zero d within =
-    ap (λ list. first_cause (user_causes movement list user)) (append-nil before)
+none_of_each : (edition : Edition) (movement : Section) (before users : List NewUser) →
+    first_cause (users_causes edition movement before users) ≡ None → (k : ℕ) (d : NewUser) → k < length users →
+    first_cause (user_causes edition movement (before ++ take k users) (get_or users k d)) ≡ None
+none_of_each edition movement before [] none k d within = absurd (omega arith)
+none_of_each edition movement before (user ∷ users) none zero d within =
+    ap (λ list. first_cause (user_causes edition movement list user)) (append-nil before)
     ∙ (none_parts _ _
-    (sym (first_append (user_causes movement before user) (users_causes movement (before ++ user ∷ []) users))
-    ∙ none)).0
-none_of_each movement before (user ∷ users) none (suc k) d within =
-    ap (λ list. first_cause (user_causes movement list (get_or users k d)))
+    (sym (first_append (user_causes edition movement before user)
+    (users_causes edition movement (before ++ user ∷ []) users)) ∙ none)).0
+none_of_each edition movement before (user ∷ users) none (suc k) d within =
+    ap (λ list. first_cause (user_causes edition movement list (get_or users k d)))
     (sym (append_assoc before (user ∷ []) (take k users)))
-    ∙ none_of_each movement (before ++ user ∷ []) users
+    ∙ none_of_each edition movement (before ++ user ∷ []) users
     (none_parts _ _
-    (sym (first_append (user_causes movement before user) (users_causes movement (before ++ user ∷ []) users))
-    ∙ none)).1 k d (omega (arith, within))
+    (sym (first_append (user_causes edition movement before user)
+    (users_causes edition movement (before ++ user ∷ []) users)) ∙ none)).1 k d (omega (arith, within))
 
 pub not_met : {C : Type 0} (met : Bool) (cause : C) → then_some met cause ≡ None → met ≡ false
 not_met true cause none = absurd cc
@@ -146,59 +155,64 @@ above n none = elim (cases_lt n most_users) [
 ]
 
 -- a user of whose account no cause is met may join
-account_joins : (before : List NewUser) (user : NewUser) → first_cause (account_causes before user) ≡ None →
-    MayJoin (opening_roles before) user
-account_joins before user none =
+account_joins : (edition : Edition) (before : List NewUser) (user : NewUser) →
+    first_cause (account_causes edition before user) ≡ None → MayJoin (opening_roles edition before) user
+account_joins edition before user none =
     let a = none_parts (then_some (not (is_user_name user.name)) BadName) _ none in
-    let b = none_parts (then_some (has_account (opening_roles before) user.name) UserExists) _ a.1 in
+    let b = none_parts (then_some (has_account (opening_roles edition before) user.name) UserExists) _ a.1 in
     let c = none_parts (then_some (nat_le most_users (length before)) TooManyUsers) _ b.1 in
-    let d = none_parts (then_some (repeats user.roles) AlreadyAssigned) _ c.1 in
-    let e = none_parts (option_map Separation (find (has_both (authorized_at_opening user)) separation_sets)) _ d.1 in
+    let d = none_parts (then_some (not (knows_roles edition user.roles)) NoSuchRole) _ c.1 in
+    let e = none_parts (then_some (repeats user.roles) AlreadyAssigned) _ d.1 in
+    let f = none_parts (option_map Separation (find (has_both (authorized_at_opening edition user)) separation_sets)) _
+    e.1 in
     record {
       named = was_met (is_user_name user.name) (not_met _ BadName a.0);
       new = not_met _ UserExists b.0;
       room = subst (λ n. n < most_users) (sym (length-map before account_of))
           (above (length before) (not_met _ TooManyUsers c.0));
-      once = not_met _ AlreadyAssigned d.0;
-      apart = no_set _ e.0;
+      known = was_met (knows_roles edition user.roles) (not_met _ NoSuchRole d.0);
+      once = not_met _ AlreadyAssigned e.0;
+      apart = no_set _ f.0;
     }
 
 -- where no cause is met, none of a user's is
 module _ (config : Config) (none : opening_refusal config ≡ None) where
   of_each : (k : ℕ) (d : NewUser) → k < length config.users →
-      first_cause (user_causes config.movement (take k config.users) (get_or config.users k d)) ≡ None
+      first_cause (user_causes config.edition config.movement (take k config.users) (get_or config.users k d)) ≡ None
   unfolding opening_refusal
   of_each k d within =
-      let causes = users_causes config.movement [] config.users in
+      let causes = users_causes config.edition config.movement [] config.users in
       let of_users =
       (none_parts _ _
-      (sym (first_append causes (then_some (not (has_administrator (opening_roles config.users))) LastAdministrator
-      ∷ [])) ∙ none)).0 in
-      none_of_each config.movement [] config.users of_users k d within
+      (sym (first_append causes
+      (then_some (not (has_administrator (opening_roles config.edition config.users))) LastAdministrator ∷ []))
+      ∙ none)).0 in
+      none_of_each config.edition config.movement [] config.users of_users k d within
 
   account_then_seat : (k : ℕ) (d : NewUser) → k < length config.users →
-      (first_cause (account_causes (take k config.users) (get_or config.users k d)) ≡ None)
-      × (first_cause (seat_causes config.movement (take k config.users) (get_or config.users k d)
+      (first_cause (account_causes config.edition (take k config.users) (get_or config.users k d)) ≡ None)
+      × (first_cause (seat_causes config.edition config.movement (take k config.users) (get_or config.users k d)
       (get_or config.users k d).seat) ≡ None)
   account_then_seat k d within =
-      none_parts _ _ (sym (first_append (account_causes (take k config.users) (get_or config.users k d))
-      (seat_causes config.movement (take k config.users) (get_or config.users k d) (get_or config.users k d).seat))
-      ∙ of_each k d within)
+      none_parts _ _ (sym (first_append (account_causes config.edition (take k config.users) (get_or config.users k d))
+      (seat_causes config.edition config.movement (take k config.users) (get_or config.users k d)
+      (get_or config.users k d).seat)) ∙ of_each k d within)
 
   -- so each user may join those before it
-  pub users_join : JoinInTurn config.users
-  users_join k d within = account_joins (take k config.users) (get_or config.users k d) (account_then_seat k d within).0
+  pub users_join : JoinInTurn config.edition config.users
+  users_join k d within =
+      account_joins config.edition (take k config.users) (get_or config.users k d) (account_then_seat k d within).0
 
   -- and none of the causes in its seat is met
   pub users_sit : (k : ℕ) (d : NewUser) → k < length config.users →
-      first_cause (seat_causes config.movement (take k config.users) (get_or config.users k d)
+      first_cause (seat_causes config.edition config.movement (take k config.users) (get_or config.users k d)
       (get_or config.users k d).seat) ≡ None
   users_sit k d within = (account_then_seat k d within).1
 
 -- so there are not too many
-pub users_are_few : (users : List NewUser) → JoinInTurn users → length users ≤ most_users
-users_are_few [] join = omega arith
-users_are_few (user ∷ users) join =
+pub users_are_few : (edition : Edition) (users : List NewUser) → JoinInTurn edition users → length users ≤ most_users
+users_are_few edition [] join = omega arith
+users_are_few edition (user ∷ users) join =
     let all = user ∷ users in
     let last = join (length users) user (omega arith) in
     let many : length (map account_of (take (length users) all)) ≡ length users = length-map (take (length users) all)
@@ -210,14 +224,15 @@ any_map : {X Y : Type 0} (p : Y → Bool) (f : X → Y) (xs : List X) → list_a
 any_map p f [] = refl
 any_map p f (x ∷ xs) = ap (λ b. p (f x) || b) (any_map p f xs)
 
-pub account_among : (users : List NewUser) (name : List ℕ) → has_account (opening_roles users) name ≡ list_any
-    (λ user. same_name user.name name) users
-account_among users name = any_map (λ account. same_name account.name name) account_of users
+pub account_among : (edition : Edition) (users : List NewUser) (name : List ℕ) →
+    has_account (opening_roles edition users) name ≡ list_any (λ user. same_name user.name name) users
+account_among edition users name = any_map (λ account. same_name account.name name) account_of users
 
-pub administrator_among : (users : List NewUser) → has_administrator (opening_roles users) ≡ list_any
-    (λ user. has (authorized_at_opening user) Administrator) users
-administrator_among users = any_map (λ account. has (reached opening_pairs account.assigned) Administrator) account_of
-    users
+pub administrator_among : (edition : Edition) (users : List NewUser) →
+    has_administrator (opening_roles edition users) ≡ list_any
+    (λ user. has (authorized_at_opening edition user) Administrator) users
+administrator_among edition users =
+    any_map (λ account. has (reached (opening_pairs edition) account.assigned) Administrator) account_of users
 
 -- and what is looked for among the seats
 taken_first : (first : Option Seated) (seats : List Seated) (seat : Seat) → is_taken (cons_option first seats) seat ≡

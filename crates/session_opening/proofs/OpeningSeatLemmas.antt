@@ -29,6 +29,7 @@ use Rattle.std.proofs.lemmas.Bool.{both_ways, false≢true, false_from_ne_true}
 use Rattle.std.proofs.lemmas.List.{append-nil, map_more, take_all}
 use Rattle.std.proofs.lemmas.List.Folds.{list_any-append}
 use Rattle.disclosure_rules.specs.declared.seat.Seat.{Seat}
+use Rattle.session_roles.specs.declared.edition.Edition.{Edition}
 use Rattle.rbac.specs.Account.{same_name}
 use Rattle.rbac.specs.RoleData.{RoleData}
 use Rattle.rbac.specs.declared.account.Account.{Account}
@@ -71,29 +72,31 @@ module _ (roles : RoleData) (seats : List Seated) (user : NewUser) (are : AreSea
   user_seated : AreSeated (with_user roles user) (seats ++ opening_seats (user ∷ []))
   user_seated = by_seat user.seat
 
-nobody_seated : AreSeated (opening_roles []) []
-nobody_seated = record { once = distinct_none same_user; users = λ name sits. absurd (false≢true sits) }
+nobody_seated : (edition : Edition) → AreSeated (opening_roles edition []) []
+nobody_seated edition = record { once = distinct_none same_user; users = λ name sits. absurd (false≢true sits) }
 
-seated_so_far : (first : NewUser) (rest : List NewUser) → JoinInTurn (first ∷ rest) → (n : ℕ) →
-    n ≤ length (first ∷ rest) →
-    AreSeated (opening_roles (take n (first ∷ rest))) (opening_seats (take n (first ∷ rest)))
-seated_so_far first rest join zero within = nobody_seated
-seated_so_far first rest join (suc n) within =
+seated_so_far : (edition : Edition) (first : NewUser) (rest : List NewUser) → JoinInTurn edition (first ∷ rest) →
+    (n : ℕ) → n ≤ length (first ∷ rest) →
+    AreSeated (opening_roles edition (take n (first ∷ rest))) (opening_seats (take n (first ∷ rest)))
+seated_so_far edition first rest join zero within = nobody_seated edition
+seated_so_far edition first rest join (suc n) within =
     let all : List NewUser = first ∷ rest in
     let below : n < length all = omega (arith, within) in
     let user : NewUser = get_or all n first in
-    let more = user_seated (opening_roles (take n all)) (opening_seats (take n all)) user
-    (seated_so_far first rest join n (omega (arith, within))) (join n first below).new in
-    let roles : with_user (opening_roles (take n all)) user ≡ opening_roles (take (n + 1) all) =
-    ap (λ accounts. record (opening_roles []) { accounts = accounts }) (sym (map_more account_of all n first below)) in
+    let more = user_seated (opening_roles edition (take n all)) (opening_seats (take n all)) user
+    (seated_so_far edition first rest join n (omega (arith, within))) (join n first below).new in
+    let roles : with_user (opening_roles edition (take n all)) user ≡ opening_roles edition (take (n + 1) all) =
+    ap (λ accounts. record (opening_roles edition []) { accounts = accounts })
+    (sym (map_more account_of all n first below)) in
     let next : n + 1 ≡ suc n = omega arith in
-    subst (λ k. AreSeated (opening_roles (take k all)) (opening_seats (take k all))) next
-    (subst (AreSeated (opening_roles (take (n + 1) all))) (seats_more all n first below)
+    subst (λ k. AreSeated (opening_roles edition (take k all)) (opening_seats (take k all))) next
+    (subst (AreSeated (opening_roles edition (take (n + 1) all))) (seats_more all n first below)
     (subst (λ roles. AreSeated roles (opening_seats (take n all) ++ opening_seats (user ∷ []))) roles more))
 
-pub users_seated : (users : List NewUser) → JoinInTurn users → AreSeated (opening_roles users) (opening_seats users)
-users_seated [] join = nobody_seated
-users_seated (first ∷ rest) join =
-    subst (λ users. AreSeated (opening_roles users) (opening_seats users))
+pub users_seated : (edition : Edition) (users : List NewUser) → JoinInTurn edition users →
+    AreSeated (opening_roles edition users) (opening_seats users)
+users_seated edition [] join = nobody_seated edition
+users_seated edition (first ∷ rest) join =
+    subst (λ users. AreSeated (opening_roles edition users) (opening_seats users))
     (take_all (length (first ∷ rest)) (first ∷ rest) (omega arith))
-    (seated_so_far first rest join (length (first ∷ rest)) (omega arith))
+    (seated_so_far edition first rest join (length (first ∷ rest)) (omega arith))

@@ -7,7 +7,6 @@ use Rattle.session_opening.specs.Opening.{opening_of}
 use Rattle.session_opening.specs.declared.config.Config.{Config}
 use Rattle.session_state.specs.OwnNumbers.{KeepsOwn}
 use Rattle.session_state.specs.SessionState.{cell_index, most_cells}
-use Rattle.session_commands.specs.declared.cell_state.CellState.{CellState}
 use Rattle.session_commands.specs.declared.cell_state.CellState.TheVariants.{Empty, Confirmed}
 
 same_items : {A : Type 0} (n i : ℕ) (a : A) → get_or (replicate n a) i a ≡ a

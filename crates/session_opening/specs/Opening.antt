@@ -1,10 +1,11 @@
 -- The state in which a session opens, of what it opens with.
-use Rattle.std.specs.Prelude.{◌-◌, None, List, [], ◌++◌, map, take, length, replicate}
+use Rattle.std.specs.Prelude.{◌-◌, false, None, List, [], ◌++◌, map, take, length, replicate}
 use Rattle.std.specs.List.{filter_map}
 use Rattle.table_terms.specs.declared.place.Place.TheVariants.{North}
 use Rattle.table_terms.specs.declared.vulnerability.Vulnerability.TheVariants.{Neither}
 use Rattle.pbn_records.specs.declared.board.Board.{Board}
 use Rattle.movement.specs.Movement.{boards_of, most_boards}
+use Rattle.session_roles.specs.declared.edition.Edition.{Edition}
 use Rattle.rbac.specs.Inheritance.{opening_pairs}
 use Rattle.rbac.specs.RoleData.{RoleData}
 use Rattle.disclosure_rules.specs.declared.marks.Marks.{Marks}
@@ -17,9 +18,10 @@ use Rattle.session_state.specs.declared.seated.Seated.{Seated}
 use Rattle.session_opening.specs.NewUser.{account_of, new_seated}
 use Rattle.session_state.specs.SessionState.{SessionState, most_cells}
 
--- the users in their order, with the role hierarchy of a new session
-abbrev pub opening_roles : List NewUser → RoleData
-opening_roles users = record { accounts = map account_of users; pairs = opening_pairs }
+-- the users in their order, with the role hierarchy of a new session, by an edition of the policy
+abbrev pub opening_roles : Edition → List NewUser → RoleData
+opening_roles edition users =
+    record { accounts = map account_of users; pairs = opening_pairs edition; edition = edition }
 
 -- where those users sit who have a seat, in the order of the users
 abbrev pub opening_seats : List NewUser → List Seated
@@ -41,8 +43,8 @@ no_marks = record { dealer = North; vulnerability = Neither }
 abbrev pub opening_marks : List Board → List Marks
 opening_marks boards = map marks_of boards ++ replicate (most_boards - length boards) no_marks
 
--- what every member may see before the first board is played: it is the first round, no board is held, and there is no
--- result
+-- what every member may see before the first board is played: it is the first round, there is no embargo, no board is
+-- held, and there is no result
 abbrev pub opening_public : Config → Public
 opening_public config =
     record {
@@ -50,6 +52,8 @@ opening_public config =
       marks = opening_marks (boards_in_play config);
       round = 1;
       phase = Running;
+      edition = config.edition;
+      embargo = false;
       held = [];
       live = replicate most_boards [];
     }
@@ -59,7 +63,7 @@ opening_public config =
 abbrev pub opening_of : Config → SessionState
 opening_of config =
     record {
-      roles = opening_roles config.users;
+      roles = opening_roles config.edition config.users;
       digests = map (λ user. user.digest) config.users;
       seats = opening_seats config.users;
       public = opening_public config;

@@ -18,7 +18,7 @@ use disclosure_rules::{Boards, LiveCells, Marks, Phase, Public};
 use movement::Movement;
 use rbac::Roles;
 use session_commands::room::push_within;
-use session_roles::Role;
+use session_roles::{Edition, Role};
 use session_state::{Seated, State};
 use std::alloc::{AllocError, Global};
 use table_terms::{Place, Vulnerability};
@@ -56,7 +56,7 @@ fn opening_state(alloc: Global, config: &Config) -> Result<State, AllocError>
     ensures { IfOk result (λ state. state ≡ opening_of config.now) }
 {
     let users = config.users.as_slice();
-    let roles = roles(alloc, users)?;
+    let roles = roles(alloc, config.edition, users)?;
     let digests = digests(alloc, users)?;
     let seats = seats(alloc, users)?;
     let deals = deals(alloc, config)?;
@@ -64,11 +64,11 @@ fn opening_state(alloc: Global, config: &Config) -> Result<State, AllocError>
 }
 
 // The users and their roles.
-fn roles(alloc: Global, users: &[NewUser]) -> Result<Roles, AllocError>
-    requires { JoinInTurn users.now }
-    ensures { IfOk result (λ roles. roles ≡ opening_roles users.now) }
+fn roles(alloc: Global, edition: Edition, users: &[NewUser]) -> Result<Roles, AllocError>
+    requires { JoinInTurn edition users.now }
+    ensures { IfOk result (λ roles. roles ≡ opening_roles edition users.now) }
 {
-    let mut roles = Roles::new(alloc)?;
+    let mut roles = Roles::new(alloc, edition)?;
     for user in users {
         join(&mut roles, user);
     }
@@ -137,6 +137,8 @@ fn public(config: &Config) -> Public
         marks: marks(config),
         round: 1,
         phase: Phase::Running,
+        edition: config.edition,
+        embargo: false,
         held: Boards::new(),
         live: LiveCells::new(),
     }

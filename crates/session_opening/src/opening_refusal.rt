@@ -11,6 +11,8 @@ pub enum OpeningRefusal {
     UserExists,
     /// There are more than 256 users.
     TooManyUsers,
+    /// The edition has no such role.
+    NoSuchRole,
     /// A role is assigned to a user twice.
     AlreadyAssigned,
     /// A user would be authorized for both roles of this set.

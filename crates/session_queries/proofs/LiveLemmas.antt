@@ -48,6 +48,7 @@ use Rattle.disclosure_rules.specs.declared.rule.Rule.TheVariants.{
   NoAccount,
   NotAMember,
   AccountsAreClosed,
+  SessionIsEmbargoed,
   BoardIsHeld,
   StillToPlay,
   OthersStillPlay,
@@ -197,6 +198,8 @@ module _ (state : SessionState) (viewer : Viewer) (board : ℕ) (seen : first_ru
   only_rule cell own NotAMember forbidden =
       absurd (false≢true (sym (none_forbids state.public viewer (fact.Hands board) seen NotAMember) ∙ forbidden))
   only_rule cell own AccountsAreClosed forbidden = absurd (false≢true forbidden)
+  only_rule cell own SessionIsEmbargoed forbidden = by_board cell own _
+      (none_forbids state.public viewer (fact.Hands board) seen SessionIsEmbargoed) forbidden
   only_rule cell own BoardIsHeld forbidden = by_board cell own _ (none_forbids state.public viewer (fact.Hands board)
       seen BoardIsHeld) forbidden
   only_rule cell own StillToPlay forbidden = by_board cell own _ (none_forbids state.public viewer (fact.Hands board)

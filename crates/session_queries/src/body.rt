@@ -1,7 +1,8 @@
 use crate::card_costs::CardCosts;
+use crate::public_facts::PublicFacts;
 use cards::{Deal, Play};
 use denials::Denial;
-use disclosure_rules::{Marks, Public};
+use disclosure_rules::Marks;
 use movement::Cell;
 use query_filter::TrickTable;
 use rbac::{Account, Inheritance};
@@ -23,7 +24,7 @@ pub enum Body {
     Denied(Denial),
     /// What every member may see, with the seats in the order of the accounts.
     Status {
-        public: Public,
+        public: PublicFacts,
         seats: Items<Seated>,
     },
     /// The hands and the marks of a board.

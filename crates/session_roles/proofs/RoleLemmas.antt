@@ -13,6 +13,7 @@ use Rattle.session_roles.specs.declared.role.Role.TheVariants.{
   Scorer,
   Director,
   Administrator,
+  Commentator,
 }
 use Rattle.session_roles.specs.Role.{
   roles,
@@ -28,27 +29,28 @@ use Rattle.session_roles.specs.Role.{
 
 -- a fact about each role, from one for every role
 pub each_role : (P : Role → Type 0) → P Member → P Spectator → P Contestant → P Scorer → P Director → P Administrator →
-    (role : Role) → P role
-each_role P a b c d e f Member = a
-each_role P a b c d e f Spectator = b
-each_role P a b c d e f Contestant = c
-each_role P a b c d e f Scorer = d
-each_role P a b c d e f Director = e
-each_role P a b c d e f Administrator = f
+    P Commentator → (role : Role) → P role
+each_role P a b c d e f g Member = a
+each_role P a b c d e f g Spectator = b
+each_role P a b c d e f g Contestant = c
+each_role P a b c d e f g Scorer = d
+each_role P a b c d e f g Director = e
+each_role P a b c d e f g Administrator = f
+each_role P a b c d e f g Commentator = g
 
 -- roles with one number are one role
 pub same_number : (a b : Role) → role_number a ≡ role_number b → a ≡ b
 same_number a b e =
     let at : ℕ → Role = λ n. get_or roles n Member in
     let back : (role : Role) → at (role_number role) ≡ role = each_role (λ role. at (role_number role) ≡ role) refl refl
-    refl refl refl refl in
+    refl refl refl refl refl in
     sym (back a) ∙ ap at e ∙ back b
 
 pub same_role_true : (a b : Role) → same_role a b ≡ true → a ≡ b
 same_role_true a b e = same_number a b (eqb-true _ _ e)
 
 pub same_role_itself : (role : Role) → same_role role role ≡ true
-same_role_itself = each_role (λ role. same_role role role ≡ true) refl refl refl refl refl refl
+same_role_itself = each_role (λ role. same_role role role ≡ true) refl refl refl refl refl refl refl
 
 -- roles are one where their numbers are
 pub same_role_decides : (a b : Role) → Decides (same_role a b) (a ≡ b)
@@ -58,7 +60,7 @@ pub same_role_equiv : IsEquivalence same_role
 same_role_equiv = on_equiv role_number nat_eq_equiv
 
 pub all_listed : (role : Role) → has roles role ≡ true
-all_listed = each_role (λ role. has roles role ≡ true) refl refl refl refl refl refl
+all_listed = each_role (λ role. has roles role ≡ true) refl refl refl refl refl refl refl
 
 and_true : (b : Bool) → (b && true) ≡ b
 and_true true = refl

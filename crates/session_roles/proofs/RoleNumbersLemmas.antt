@@ -1,11 +1,11 @@
 -- What is done to the set of the roles' places is done to the set of roles.
-use Rattle.std.proofs.Common.{◌≡◌, ℕ, ◌+◌, ◌≤◌, Bool, true, List, [], nat_eq, arith, refl, sym, ap, ◌∙◌, inl, inr}
+use Rattle.std.proofs.Common.{◌≡◌, ℕ, ◌≤◌, List, [], nat_eq, arith, refl, sym, ap, ◌∙◌, inl, inr}
 use Rattle.std.specs.Prelude.{◌||◌, ◌&&◌, not}
 use Rattle.std.specs.Cmp.Lexicographic.{pointwise, pointwise_decides}
 use Rattle.std.proofs.lemmas.Bool.{cases_eq, eq-eqb, ne_eqb}
 use Rattle.std.proofs.lemmas.Bool.Decides.{same_from_decides, Decides-eqb, Decides-like}
 use Rattle.small_sets.specs.Numbers.{has_number, with_number, without_number, numbers_of_both, IsSetUpTo}
-use Rattle.small_sets.proofs.NumbersLemmas.{has_with_number, has_without_number, has_number_of_both, set_that}
+use Rattle.small_sets.proofs.NumbersLemmas.{has_with_number, has_without_number, has_number_of_both}
 use Rattle.session_roles.specs.declared.role.Role.{Role}
 use Rattle.session_roles.specs.declared.role.TheConstants.Role.{COUNT}
 use Rattle.session_roles.specs.Role.{
@@ -34,7 +34,7 @@ place_from role = omega arith
 pub place_to : (role : Role) → role_place role ≤ COUNT
 place_to =
     each_role (λ role. role_place role ≤ COUNT) (omega arith) (omega arith) (omega arith) (omega arith) (omega arith)
-    (omega arith)
+    (omega arith) (omega arith)
 
 -- places are one where the roles are
 same_place : (role other : Role) → nat_eq (role_place other) (role_place role) ≡ same_role role other

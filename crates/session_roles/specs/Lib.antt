@@ -1,3 +1,4 @@
+pub mod Edition
 pub mod Operation
 pub mod Role
 pub mod RoleNumbers

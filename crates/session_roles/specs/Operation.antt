@@ -1,6 +1,7 @@
 -- The operations of a session, and the roles that permit them (core RBAC of INCITS 359-2012).
-use Rattle.std.specs.Prelude.{ℕ, Bool, ◌&&◌, nat_eq, List, [], ◌∷◌}
+use Rattle.std.specs.Prelude.{ℕ, Bool, true, ◌&&◌, nat_eq, List, [], ◌∷◌}
 use Rattle.std.specs.List.{list_any}
+use Rattle.session_roles.specs.declared.edition.Edition.{Edition}
 use Rattle.session_roles.specs.declared.role.Role.{Role}
 use Rattle.session_roles.specs.declared.role.Role.TheVariants.{
   Member,
@@ -9,6 +10,7 @@ use Rattle.session_roles.specs.declared.role.Role.TheVariants.{
   Scorer,
   Director,
   Administrator,
+  Commentator,
 }
 use Rattle.session_roles.specs.declared.operation.Operation.{Operation}
 use Rattle.session_roles.specs.declared.operation.Operation.TheVariants.{
@@ -30,7 +32,10 @@ use Rattle.session_roles.specs.declared.operation.Operation.TheVariants.{
   Deassign,
   AddInheritance,
   DeleteInheritance,
+  Embargo,
+  Lift,
 }
+use Rattle.session_roles.specs.Edition.{is_second}
 use Rattle.session_roles.specs.Role.{roles, has}
 
 -- an operation's place in their order, counted from 0
@@ -53,6 +58,31 @@ operation_number Assign = 14
 operation_number Deassign = 15
 operation_number AddInheritance = 16
 operation_number DeleteInheritance = 17
+operation_number Embargo = 18
+operation_number Lift = 19
+
+-- whether an edition knows the operation: the first one knows no embargo
+abbrev pub is_operation_of : Edition → Operation → Bool
+is_operation_of edition Enter = true
+is_operation_of edition Confirm = true
+is_operation_of edition Correct = true
+is_operation_of edition Rule = true
+is_operation_of edition Void = true
+is_operation_of edition Hold = true
+is_operation_of edition Release = true
+is_operation_of edition Seat = true
+is_operation_of edition Unseat = true
+is_operation_of edition NextRound = true
+is_operation_of edition Close = true
+is_operation_of edition Finalise = true
+is_operation_of edition Audit = true
+is_operation_of edition AddUser = true
+is_operation_of edition Assign = true
+is_operation_of edition Deassign = true
+is_operation_of edition AddInheritance = true
+is_operation_of edition DeleteInheritance = true
+is_operation_of edition Embargo = is_second edition
+is_operation_of edition Lift = is_second edition
 
 -- whether two operations are one
 abbrev pub same_operation : Operation → Operation → Bool
@@ -65,9 +95,23 @@ operations_of Spectator = []
 operations_of Contestant = []
 operations_of Scorer = Enter ∷ Confirm ∷ []
 operations_of Director =
-    Correct ∷ Rule ∷ Void ∷ Hold ∷ Release ∷ Seat ∷ Unseat ∷ NextRound ∷ Close ∷ Finalise ∷ Audit ∷ []
+    Correct
+    ∷ Rule
+    ∷ Void
+    ∷ Hold
+    ∷ Release
+    ∷ Seat
+    ∷ Unseat
+    ∷ NextRound
+    ∷ Close
+    ∷ Finalise
+    ∷ Audit
+    ∷ Embargo
+    ∷ Lift
+    ∷ []
 operations_of Administrator =
     AddUser ∷ Assign ∷ Deassign ∷ AddInheritance ∷ DeleteInheritance ∷ Audit ∷ []
+operations_of Commentator = []
 
 -- whether a role itself permits an operation
 abbrev pub permits : Role → Operation → Bool

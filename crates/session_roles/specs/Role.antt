@@ -1,6 +1,7 @@
 -- The roles of a session (core RBAC of INCITS 359-2012), and sets of them as lists in the order of the roles.
-use Rattle.std.specs.Prelude.{◌≡◌, ℕ, Bool, ◌||◌, ◌&&◌, not, nat_eq, List, [], ◌∷◌, filter, codes}
+use Rattle.std.specs.Prelude.{◌≡◌, ℕ, Bool, true, ◌||◌, ◌&&◌, not, nat_eq, List, [], ◌∷◌, filter, codes}
 use Rattle.std.specs.List.{list_any}
+use Rattle.session_roles.specs.declared.edition.Edition.{Edition}
 use Rattle.session_roles.specs.declared.role.Role.{Role}
 use Rattle.session_roles.specs.declared.role.Role.TheVariants.{
   Member,
@@ -9,11 +10,13 @@ use Rattle.session_roles.specs.declared.role.Role.TheVariants.{
   Scorer,
   Director,
   Administrator,
+  Commentator,
 }
+use Rattle.session_roles.specs.Edition.{is_second}
 
 -- the roles in their order
 abbrev pub roles : List Role
-roles = Member ∷ Spectator ∷ Contestant ∷ Scorer ∷ Director ∷ Administrator ∷ []
+roles = Member ∷ Spectator ∷ Contestant ∷ Scorer ∷ Director ∷ Administrator ∷ Commentator ∷ []
 
 -- a role's place among them, counted from 0
 abbrev pub role_number : Role → ℕ
@@ -23,6 +26,7 @@ role_number Contestant = 2
 role_number Scorer = 3
 role_number Director = 4
 role_number Administrator = 5
+role_number Commentator = 6
 
 abbrev pub role_name : Role → List ℕ
 role_name Member = codes "Member"
@@ -31,6 +35,21 @@ role_name Contestant = codes "Contestant"
 role_name Scorer = codes "Scorer"
 role_name Director = codes "Director"
 role_name Administrator = codes "Administrator"
+role_name Commentator = codes "Commentator"
+
+-- whether an edition knows the role: the first one knows all but the last
+abbrev pub is_role_of : Edition → Role → Bool
+is_role_of edition Member = true
+is_role_of edition Spectator = true
+is_role_of edition Contestant = true
+is_role_of edition Scorer = true
+is_role_of edition Director = true
+is_role_of edition Administrator = true
+is_role_of edition Commentator = is_second edition
+
+-- the roles that an edition knows, in their order
+unfoldable pub roles_of : Edition → List Role
+roles_of edition = filter (is_role_of edition) roles
 
 -- whether two roles are one
 abbrev pub same_role : Role → Role → Bool

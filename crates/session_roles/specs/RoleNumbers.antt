@@ -1,7 +1,7 @@
 -- Sets of roles as the sets of their places: a set of numbers gives its roles, and the roles give the numbers back.
 use Rattle.std.specs.Prelude.{◌≡◌, ℕ, ◌+◌, Bool, true, false, cond, List, [], ◌∷◌, filter, map, refl}
 use Rattle.std.proofs.Common.{sym, ◌∙◌}
-use Rattle.small_sets.specs.Numbers.{has_number, numbers_that, IsSetUpTo}
+use Rattle.small_sets.specs.Numbers.{has_number, IsSetUpTo}
 use Rattle.session_roles.specs.declared.role.Role.{Role}
 use Rattle.session_roles.specs.declared.role.TheConstants.Role.{COUNT}
 use Rattle.session_roles.specs.Role.{roles, role_number, roles_that}

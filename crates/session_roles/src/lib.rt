@@ -2,12 +2,14 @@
 //! together.
 #![tactic(auto)]
 
+mod edition;
 mod operation;
 mod permission;
 mod role;
 mod role_set;
 mod separation_set;
 
+pub use edition::Edition;
 pub use operation::Operation;
 pub use role::Role;
 pub use role_set::RoleSet;

@@ -1,8 +1,9 @@
 ghost use Rattle.std.specs.Prelude.{◌≡◌, ◌<◌};
 ghost use Rattle.std.specs.List.{list_any};
 ghost use Rattle.session_roles.specs.Role.{has, roles};
-ghost use Rattle.session_roles.specs.Operation.{operation_number, one_permits};
+ghost use Rattle.session_roles.specs.Operation.{is_operation_of, operation_number, one_permits};
 
+use crate::edition::Edition;
 use crate::role::Role;
 use crate::role_set::RoleSet;
 
@@ -27,15 +28,44 @@ pub enum Operation {
     Deassign,
     AddInheritance,
     DeleteInheritance,
+    Embargo,
+    Lift,
 }
 
 impl Operation {
     /// The operation's place in their order, from 0.
     pub fn number(self) -> u8
         ensures number { result ≡ operation_number self }
-        ensures below { result < 18 }
+        ensures below { result < 20 }
     {
         self as u8
+    }
+
+    /// Whether an edition knows the operation.
+    pub fn is_of(self, edition: Edition) -> bool
+        ensures { result ≡ is_operation_of edition self }
+    {
+        match self {
+            Operation::Embargo | Operation::Lift => edition.is_second(),
+            Operation::Enter
+            | Operation::Confirm
+            | Operation::Correct
+            | Operation::Rule
+            | Operation::Void
+            | Operation::Hold
+            | Operation::Release
+            | Operation::Seat
+            | Operation::Unseat
+            | Operation::NextRound
+            | Operation::Close
+            | Operation::Finalise
+            | Operation::Audit
+            | Operation::AddUser
+            | Operation::Assign
+            | Operation::Deassign
+            | Operation::AddInheritance
+            | Operation::DeleteInheritance => true,
+        }
     }
 
     /// Whether one of the roles permits the operation.

@@ -10,7 +10,7 @@ impl Role {
         ensures { result.now ≡ operations_of self }
     {
         match self {
-            Role::Member | Role::Spectator | Role::Contestant => &[],
+            Role::Member | Role::Spectator | Role::Contestant | Role::Commentator => &[],
             Role::Scorer => &[Operation::Enter, Operation::Confirm],
             Role::Director => &[
                 Operation::Correct,
@@ -24,6 +24,8 @@ impl Role {
                 Operation::Close,
                 Operation::Finalise,
                 Operation::Audit,
+                Operation::Embargo,
+                Operation::Lift,
             ],
             Role::Administrator => &[
                 Operation::AddUser,

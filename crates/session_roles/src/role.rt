@@ -1,8 +1,9 @@
 ghost use Rattle.std.specs.Prelude.{◌≡◌, ◌≢◌, ◌<◌, IfSome, IfNone, Some};
-ghost use Rattle.session_roles.specs.Role.{role_name, role_number};
+ghost use Rattle.session_roles.specs.Role.{is_role_of, role_name, role_number};
 ghost use Rattle.session_roles.specs.declared.role.Role.{Role};
 ghost use Rattle.session_roles.specs.declared.role.TheConstants.Role.{COUNT};
 
+use crate::edition::Edition;
 use std::fmt;
 
 /// A role of a session, in the order in which roles are listed (core RBAC of INCITS 359-2012).
@@ -14,11 +15,12 @@ pub enum Role {
     Scorer,
     Director,
     Administrator,
+    Commentator,
 }
 
 impl Role {
     /// How many roles there are.
-    pub const COUNT: u8 = 6;
+    pub const COUNT: u8 = 7;
 
     /// The roles, in their order.
     pub const ALL: [Role; Role::COUNT as usize] = [
@@ -28,6 +30,7 @@ impl Role {
         Role::Scorer,
         Role::Director,
         Role::Administrator,
+        Role::Commentator,
     ];
 
     /// The role's place in their order, from 0.
@@ -36,6 +39,21 @@ impl Role {
         ensures below { result < COUNT }
     {
         self as u8
+    }
+
+    /// Whether an edition knows the role.
+    pub fn is_of(self, edition: Edition) -> bool
+        ensures { result ≡ is_role_of edition self }
+    {
+        match self {
+            Role::Commentator => edition.is_second(),
+            Role::Member
+            | Role::Spectator
+            | Role::Contestant
+            | Role::Scorer
+            | Role::Director
+            | Role::Administrator => true,
+        }
     }
 
     /// The role's name, as `Member`.
@@ -49,6 +67,7 @@ impl Role {
             Role::Scorer => "Scorer",
             Role::Director => "Director",
             Role::Administrator => "Administrator",
+            Role::Commentator => "Commentator",
         }
     }
 
@@ -64,6 +83,7 @@ impl Role {
             "Scorer" => Some(Role::Scorer),
             "Director" => Some(Role::Director),
             "Administrator" => Some(Role::Administrator),
+            "Commentator" => Some(Role::Commentator),
             _ => None,
         }
     }

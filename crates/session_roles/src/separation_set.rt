@@ -12,11 +12,17 @@ pub enum SeparationSet {
     S1,
     S2,
     S3,
+    S4,
 }
 
 impl SeparationSet {
-    /// The sets, in their order.
-    pub const ALL: [SeparationSet; 3] = [SeparationSet::S1, SeparationSet::S2, SeparationSet::S3];
+    /// The sets, in their order. The last one has the commentator, whom the first edition of the policy doesn't know.
+    pub const ALL: [SeparationSet; 4] = [
+        SeparationSet::S1,
+        SeparationSet::S2,
+        SeparationSet::S3,
+        SeparationSet::S4,
+    ];
 
     /// The two roles that are kept apart.
     pub fn roles(self) -> (Role, Role)
@@ -26,10 +32,11 @@ impl SeparationSet {
             SeparationSet::S1 => (Role::Director, Role::Contestant),
             SeparationSet::S2 => (Role::Scorer, Role::Contestant),
             SeparationSet::S3 => (Role::Administrator, Role::Contestant),
+            SeparationSet::S4 => (Role::Commentator, Role::Contestant),
         }
     }
 
-    /// `S1`, `S2` or `S3`.
+    /// `S1`, `S2`, `S3` or `S4`.
     pub fn name(self) -> &'static str
         ensures { result.now ≡ set_name self }
     {
@@ -37,6 +44,7 @@ impl SeparationSet {
             SeparationSet::S1 => "S1",
             SeparationSet::S2 => "S2",
             SeparationSet::S3 => "S3",
+            SeparationSet::S4 => "S4",
         }
     }
 

@@ -20,6 +20,7 @@ use Rattle.rbac.specs.declared.delete_inheritance_error.DeleteInheritanceError.T
 use Rattle.rbac.specs.Account.{most_users, is_user_name, HasAccount, IsAssigned, same_name}
 use Rattle.rbac.specs.Inheritance.{reaches, pair_of}
 use Rattle.rbac.specs.Refusals.{
+  are_roles_of,
   RefusesUser,
   RefusesAssignment,
   RefusesDeassignment,
@@ -27,7 +28,7 @@ use Rattle.rbac.specs.Refusals.{
   RefusesDeletion,
 }
 use Rattle.rbac.specs.Review.{is_broken}
-use Rattle.session_roles.specs.Role.{has}
+use Rattle.session_roles.specs.Role.{has, is_role_of}
 use Rattle.rbac.specs.RoleData.{RoleData, assign_user, deassign_user, add_inheritance, delete_inheritance}
 use Rattle.rbac.proofs.AccountLemmas.{same_name_decides}
 use Rattle.rbac.proofs.InheritanceLemmas.{decides_reaches}
@@ -48,6 +49,7 @@ use Rattle.session_commands.specs.declared.refusal.Refusal.TheVariants.{
   BadName,
   UserExists,
   TooManyUsers,
+  NoSuchRole,
   AlreadyAssigned,
   Separation,
   NotAssigned,
@@ -68,6 +70,11 @@ two_unmet a b none =
 three_unmet : (a b c : Option Refusal) → first_cause (a ∷ b ∷ c ∷ []) ≡ None → (a ≡ None) × ((b ≡ None) × (c ≡ None))
 three_unmet a b c none =
     let rest = rest_none a (first_cause (b ∷ c ∷ [])) none in (rest.0, two_unmet b c rest.1)
+
+four_unmet : (a b c d : Option Refusal) → first_cause (a ∷ b ∷ c ∷ d ∷ []) ≡ None →
+    (a ≡ None) × ((b ≡ None) × ((c ≡ None) × (d ≡ None)))
+four_unmet a b c d none =
+    let rest = rest_none a (first_cause (b ∷ c ∷ d ∷ [])) none in (rest.0, three_unmet b c d rest.1)
 
 -- no set is broken where none is named
 none_named : (broken : Option SeparationSet) → option_map Separation broken ≡ None → None ≡ broken
@@ -111,59 +118,78 @@ module _ (state : SessionState) (name : List ℕ) (digest : Digest) (unhindered 
 -- a role is assigned
 module _ (state : SessionState) (name : List ℕ) (role : Role) (unhindered : hindrance_of state (Assign name role) ≡
     None) where
-  assign_parts : (then_some (is_assigned state.roles name role) AlreadyAssigned ≡ None) ×
-      (option_map Separation (first_broken (assign_user state.roles name role)) ≡ None)
-  assign_parts = two_unmet _ _ (own_unhindered state (Assign name role) unhindered)
+  assign_parts : (then_some (not (is_role_of state.roles.edition role)) NoSuchRole ≡ None) ×
+      ((then_some (is_assigned state.roles name role) AlreadyAssigned ≡ None) ×
+      (option_map Separation (first_broken (assign_user state.roles name role)) ≡ None))
+  assign_parts = three_unmet _ _ _ (own_unhindered state (Assign name role) unhindered)
 
   pub role_is_assigned : (cause : AssignError) → ¬ RefusesAssignment state.roles name role cause
   role_is_assigned assign_error.NoSuchUser none =
       none ((decides_account state.roles name).0 (was_not _ (user_unhindered state (Assign name role) unhindered)))
+  role_is_assigned assign_error.NoSuchRole none = both_ways _ none (was_not _ (not_met _ NoSuchRole assign_parts.0))
   role_is_assigned assign_error.AlreadyAssigned assigned =
-      both_ways _ (not_met _ AlreadyAssigned assign_parts.0) ((decides_assigned state.roles name role).1 assigned)
+      both_ways _ (not_met _ AlreadyAssigned assign_parts.1.0) ((decides_assigned state.roles name role).1 assigned)
   role_is_assigned (assign_error.Separation set) broken =
       let after : RoleData = assign_user state.roles name role in
-      both_ways _ (none_found (is_broken after) (none_named (first_broken after) assign_parts.1) set)
+      both_ways _ (none_found (is_broken after) (none_named (first_broken after) assign_parts.1.1) set)
       ((decides_is_broken after set).1 broken)
 
 -- an assigned role is taken away
 module _ (state : SessionState) (name : List ℕ) (role : Role) (unhindered : hindrance_of state (Deassign name role) ≡
     None) where
+  deassign_parts : (then_some (not (is_role_of state.roles.edition role)) NoSuchRole ≡ None) ×
+      (first_cause (then_some (not (is_assigned state.roles name role)) NotAssigned
+      ∷ needed_causes state (deassign_user state.roles name role)) ≡ None)
+  deassign_parts = rest_none _ _ (own_unhindered state (Deassign name role) unhindered)
+
   pub role_is_deassigned : (cause : DeassignError) → ¬ RefusesDeassignment state.roles name role cause
   role_is_deassigned deassign_error.NoSuchUser none =
       none ((decides_account state.roles name).0 (was_not _ (user_unhindered state (Deassign name role) unhindered)))
+  role_is_deassigned deassign_error.NoSuchRole none =
+      both_ways _ none (was_not _ (not_met _ NoSuchRole deassign_parts.0))
   role_is_deassigned deassign_error.NotAssigned none =
       let met = first_unmet (then_some (not (is_assigned state.roles name role)) NotAssigned)
-      (needed_causes state (deassign_user state.roles name role))
-      (own_unhindered state (Deassign name role) unhindered) in
+      (needed_causes state (deassign_user state.roles name role)) deassign_parts.1 in
       none ((decides_assigned state.roles name role).0 (was_not _ (not_met _ NotAssigned met)))
 
 -- an inheritance pair is added
 module _ (state : SessionState) (senior junior : Role) (unhindered : hindrance_of state (AddInheritance senior junior) ≡
     None) where
-  inheritance_parts : (then_some (reaches state.roles.pairs junior senior) Cycle ≡ None)
+  inheritance_parts : (then_some (not (are_roles_of state.roles.edition senior junior))
+      NoSuchRole ≡ None)
+      × ((then_some (reaches state.roles.pairs junior senior) Cycle ≡ None)
       × ((then_some (has_pair state.roles senior junior) AlreadyThere ≡ None) ×
-      (option_map Separation (first_broken (add_inheritance state.roles senior junior)) ≡ None))
-  inheritance_parts = three_unmet _ _ _ (own_unhindered state (AddInheritance senior junior) unhindered)
+      (option_map Separation (first_broken (add_inheritance state.roles senior junior)) ≡ None)))
+  inheritance_parts = four_unmet _ _ _ _ (own_unhindered state (AddInheritance senior junior) unhindered)
 
   pub pair_is_added : (cause : AddInheritanceError) → ¬ RefusesInheritance state.roles senior junior cause
+  pair_is_added inheritance_error.NoSuchRole none =
+      both_ways _ none (was_not _ (not_met _ NoSuchRole inheritance_parts.0))
   pair_is_added inheritance_error.Cycle chain =
-      both_ways _ (not_met _ Cycle inheritance_parts.0) ((decides_reaches state.roles.pairs junior senior).1 chain)
+      both_ways _ (not_met _ Cycle inheritance_parts.1.0) ((decides_reaches state.roles.pairs junior senior).1 chain)
   pair_is_added inheritance_error.AlreadyThere there =
-      both_ways _ (not_met _ AlreadyThere inheritance_parts.1.0)
+      both_ways _ (not_met _ AlreadyThere inheritance_parts.1.1.0)
       (sym (either_way state.roles.pairs (pair_of senior junior))
       ∙ (decides_there state.roles.pairs (pair_of senior junior)).1 there)
   pair_is_added (inheritance_error.Separation set) broken =
       let after : RoleData = add_inheritance state.roles senior junior in
-      both_ways _ (none_found (is_broken after) (none_named (first_broken after) inheritance_parts.1.1) set)
+      both_ways _ (none_found (is_broken after) (none_named (first_broken after) inheritance_parts.1.1.1) set)
       ((decides_is_broken after set).1 broken)
 
 -- an inheritance pair is deleted
 module _ (state : SessionState) (senior junior : Role)
     (unhindered : hindrance_of state (DeleteInheritance senior junior) ≡ None) where
+  deletion_parts : (then_some (not (are_roles_of state.roles.edition senior junior))
+      NoSuchRole ≡ None)
+      × (first_cause (then_some (not (has_pair state.roles senior junior)) NotThere
+      ∷ needed_causes state (delete_inheritance state.roles senior junior)) ≡ None)
+  deletion_parts = rest_none _ _ (own_unhindered state (DeleteInheritance senior junior) unhindered)
+
   pub pair_is_deleted : (cause : DeleteInheritanceError) → ¬ RefusesDeletion state.roles senior junior cause
+  pair_is_deleted deletion_error.NoSuchRole none =
+      both_ways _ none (was_not _ (not_met _ NoSuchRole deletion_parts.0))
   pair_is_deleted deletion_error.NotThere none =
       let met = first_unmet (then_some (not (has_pair state.roles senior junior)) NotThere)
-      (needed_causes state (delete_inheritance state.roles senior junior))
-      (own_unhindered state (DeleteInheritance senior junior) unhindered) in
+      (needed_causes state (delete_inheritance state.roles senior junior)) deletion_parts.1 in
       none ((decides_there state.roles.pairs (pair_of senior junior)).0
       (either_way state.roles.pairs (pair_of senior junior) ∙ was_not _ (not_met _ NotThere met)))

@@ -25,6 +25,8 @@ use Rattle.session_commands.specs.declared.command.Command.TheVariants.{
   DeleteInheritance,
   Solved,
   Analysed,
+  Embargo,
+  Lift,
 }
 use Rattle.session_commands.specs.declared.entry.Entry.{Entry}
 use Rattle.session_commands.specs.declared.refusal.Refusal.{Refusal}
@@ -66,6 +68,8 @@ module _ (state : SessionState) (are : ArePlaced state) where
   effect_placed (DeleteInheritance senior junior) unhindered = are
   effect_placed (Solved board table) unhindered = are
   effect_placed (Analysed cell costs) unhindered = are
+  effect_placed Embargo unhindered = are
+  effect_placed Lift unhindered = are
 
 pub entry_placed : (state : SessionState) (entry : Entry) → AreSeatsOf state.public.movement state.seats →
     AreSeatsOf (apply state entry).public.movement (apply state entry).seats

@@ -5,6 +5,7 @@ pub use Rattle.session_commands.proofs.scoring_lemmas as scoring_lemmas
 pub mod AccountCauseLemmas
 pub mod AccountLemmas
 pub mod CompleteLemmas
+pub mod EditionLemmas
 pub mod EntryPlacedLemmas
 pub mod HindranceLemmas
 pub mod LiveLemmas

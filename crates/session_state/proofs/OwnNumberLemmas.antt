@@ -83,6 +83,8 @@ use Rattle.session_commands.specs.declared.command.Command.TheVariants.{
   DeleteInheritance,
   Solved,
   Analysed,
+  Embargo,
+  Lift,
 }
 use Rattle.user_names.specs.declared.digest.Digest.{Digest}
 use Rattle.session_commands.specs.declared.entry.Entry.{Entry}
@@ -322,6 +324,8 @@ module _ (state : SessionState) (keeps : KeepsOwn state) where
       with_known _ _ _ (scheduled_placed state _ is_section (cell_unhindered state (Analysed cell costs)
       unhindered))
       (counted _ costs (analysed_own state cell costs unhindered))
+  effect_keeps is_section Embargo unhindered = unchanged _ _ _ _
+  effect_keeps is_section Lift unhindered = unchanged _ _ _ _
 
 -- each entry keeps them
 pub entry_keeps : (state : SessionState) (entry : Entry) → IsSection state.public.movement → KeepsOwn state →

@@ -35,6 +35,8 @@ use Rattle.session_commands.specs.declared.command.Command.TheVariants.{
   DeleteInheritance,
   Solved,
   Analysed,
+  Embargo,
+  Lift,
 }
 use Rattle.user_names.specs.declared.digest.Digest.{Digest}
 use Rattle.session_commands.specs.declared.entry.Entry.{Entry}
@@ -52,6 +54,7 @@ use Rattle.session_state.specs.Parts.{
   Accounts,
   Hierarchy,
   Tables,
+  Embargoes,
   part_of,
   IsSameBut,
 }
@@ -68,6 +71,8 @@ module _ (state : SessionState) where
     movement = refl;
     marks = refl;
     deals = refl;
+    edition = refl;
+    roles_edition = refl;
     cells = λ _. refl;
     live = λ _. refl;
     held = λ _. refl;
@@ -78,6 +83,7 @@ module _ (state : SessionState) where
     digests = λ _. refl;
     pairs = λ _. refl;
     tables = λ _. refl;
+    embargo = λ _. refl;
   }
 
   same_but_cells : (cells : List CellState) (live : List (List ℕ)) → IsSameBut Results state
@@ -86,6 +92,8 @@ module _ (state : SessionState) where
     movement = refl;
     marks = refl;
     deals = refl;
+    edition = refl;
+    roles_edition = refl;
     cells = λ other. absurd (other refl);
     live = λ other. absurd (other refl);
     held = λ _. refl;
@@ -96,6 +104,7 @@ module _ (state : SessionState) where
     digests = λ _. refl;
     pairs = λ _. refl;
     tables = λ _. refl;
+    embargo = λ _. refl;
   }
 
   same_but_held : (held : List ℕ) → IsSameBut HeldBoards state
@@ -104,6 +113,8 @@ module _ (state : SessionState) where
     movement = refl;
     marks = refl;
     deals = refl;
+    edition = refl;
+    roles_edition = refl;
     cells = λ _. refl;
     live = λ _. refl;
     held = λ other. absurd (other refl);
@@ -114,6 +125,7 @@ module _ (state : SessionState) where
     digests = λ _. refl;
     pairs = λ _. refl;
     tables = λ _. refl;
+    embargo = λ _. refl;
   }
 
   same_but_seats : (seats : List Seated) → IsSameBut Seats state (record state { seats = seats })
@@ -121,6 +133,8 @@ module _ (state : SessionState) where
     movement = refl;
     marks = refl;
     deals = refl;
+    edition = refl;
+    roles_edition = refl;
     cells = λ _. refl;
     live = λ _. refl;
     held = λ _. refl;
@@ -131,6 +145,7 @@ module _ (state : SessionState) where
     digests = λ _. refl;
     pairs = λ _. refl;
     tables = λ _. refl;
+    embargo = λ _. refl;
   }
 
   same_but_round : (round : ℕ) → IsSameBut Rounds state
@@ -139,6 +154,8 @@ module _ (state : SessionState) where
     movement = refl;
     marks = refl;
     deals = refl;
+    edition = refl;
+    roles_edition = refl;
     cells = λ _. refl;
     live = λ _. refl;
     held = λ _. refl;
@@ -149,6 +166,7 @@ module _ (state : SessionState) where
     digests = λ _. refl;
     pairs = λ _. refl;
     tables = λ _. refl;
+    embargo = λ _. refl;
   }
 
   same_but_phase : (phase : Phase) → IsSameBut Phases state
@@ -157,6 +175,8 @@ module _ (state : SessionState) where
     movement = refl;
     marks = refl;
     deals = refl;
+    edition = refl;
+    roles_edition = refl;
     cells = λ _. refl;
     live = λ _. refl;
     held = λ _. refl;
@@ -167,6 +187,7 @@ module _ (state : SessionState) where
     digests = λ _. refl;
     pairs = λ _. refl;
     tables = λ _. refl;
+    embargo = λ _. refl;
   }
 
   same_but_accounts : (accounts : List Account) (digests : List Digest) → IsSameBut Accounts state
@@ -175,6 +196,8 @@ module _ (state : SessionState) where
     movement = refl;
     marks = refl;
     deals = refl;
+    edition = refl;
+    roles_edition = refl;
     cells = λ _. refl;
     live = λ _. refl;
     held = λ _. refl;
@@ -185,6 +208,7 @@ module _ (state : SessionState) where
     digests = λ other. absurd (other refl);
     pairs = λ _. refl;
     tables = λ _. refl;
+    embargo = λ _. refl;
   }
 
   same_but_pairs : (pairs : List Inheritance) → IsSameBut Hierarchy state
@@ -193,6 +217,8 @@ module _ (state : SessionState) where
     movement = refl;
     marks = refl;
     deals = refl;
+    edition = refl;
+    roles_edition = refl;
     cells = λ _. refl;
     live = λ _. refl;
     held = λ _. refl;
@@ -203,6 +229,7 @@ module _ (state : SessionState) where
     digests = λ _. refl;
     pairs = λ other. absurd (other refl);
     tables = λ _. refl;
+    embargo = λ _. refl;
   }
 
   same_but_tables : (tables : List (Option Hands)) → IsSameBut Tables state (record state { tables = tables })
@@ -210,6 +237,8 @@ module _ (state : SessionState) where
     movement = refl;
     marks = refl;
     deals = refl;
+    edition = refl;
+    roles_edition = refl;
     cells = λ _. refl;
     live = λ _. refl;
     held = λ _. refl;
@@ -220,6 +249,28 @@ module _ (state : SessionState) where
     digests = λ _. refl;
     pairs = λ _. refl;
     tables = λ other. absurd (other refl);
+    embargo = λ _. refl;
+  }
+
+  same_but_embargo : (embargo : Bool) → IsSameBut Embargoes state
+      (record state { public = record state.public { embargo = embargo } })
+  same_but_embargo embargo = record {
+    movement = refl;
+    marks = refl;
+    deals = refl;
+    edition = refl;
+    roles_edition = refl;
+    cells = λ _. refl;
+    live = λ _. refl;
+    held = λ _. refl;
+    seats = λ _. refl;
+    round = λ _. refl;
+    phase = λ _. refl;
+    accounts = λ _. refl;
+    digests = λ _. refl;
+    pairs = λ _. refl;
+    tables = λ _. refl;
+    embargo = λ other. absurd (other refl);
   }
 
   confirmed_part : (cell : Cell) (known : CellState) → IsSameBut Results state (confirmed state cell known)
@@ -248,6 +299,8 @@ module _ (state : SessionState) where
   effect_part (DeleteInheritance senior junior) = same_but_pairs _
   effect_part (Solved board table) = same_but_tables _
   effect_part (Analysed cell costs) = same_but_cells _ _
+  effect_part Embargo = same_but_embargo _
+  effect_part Lift = same_but_embargo _
 
 -- an entry changes one part at most
 pub entry_part : (state : SessionState) (entry : Entry) → IsSameBut (part_of entry.command) state (apply state entry)
@@ -325,6 +378,8 @@ effect_elsewhere state command cell is_section placed_cell unhindered other = by
     by_command (Solved board table) there other = refl
     by_command (Analysed own costs) there other = kept_elsewhere state _ cell (own_placed _ there) placed_cell
         (no_other _ other) _
+    by_command Embargo there other = refl
+    by_command Lift there other = refl
 
 -- an entry changes what is known of its own cell alone
 pub entry_elsewhere : (state : SessionState) (entry : Entry) (cell : Cell) → IsSection state.public.movement →

@@ -42,6 +42,8 @@ use Rattle.session_commands.specs.declared.command.Command.TheVariants.{
   DeleteInheritance,
   Solved,
   Analysed,
+  Embargo,
+  Lift,
 }
 use Rattle.session_commands.specs.declared.refusal.Refusal.{Refusal}
 use Rattle.session_commands.specs.declared.refusal.Refusal.TheVariants.{
@@ -60,6 +62,8 @@ use Rattle.session_commands.specs.declared.refusal.Refusal.TheVariants.{
   BadRuling,
   AlreadyHeld,
   NotHeld,
+  AlreadyEmbargoed,
+  NotEmbargoed,
   NoSuchPair,
   WrongDirection,
   NotContestant,
@@ -71,6 +75,7 @@ use Rattle.session_commands.specs.declared.refusal.Refusal.TheVariants.{
   BadName,
   UserExists,
   TooManyUsers,
+  NoSuchRole,
   AlreadyAssigned,
   Separation,
   NotAssigned,
@@ -92,7 +97,7 @@ use Rattle.session_roles.specs.declared.operation.Operation.{Operation}
 use Rattle.session_commands.specs.Refusal.{spoiled, is_out_of_memory}
 use Rattle.session_state.specs.Refusal.{
   is_permitted,
-  IsPermitted,
+  MayGive,
   first_cause,
   needed_causes,
   own_causes,
@@ -247,17 +252,26 @@ own_not_apart state NextRound = (of _ NoMoreRounds refl, tt)
 own_not_apart state Close = (of _ NotAllLive refl, tt)
 own_not_apart state Finalise = (of _ NotAllLive refl, tt)
 own_not_apart state (AddUser name digest) = (of _ BadName refl, (of _ UserExists refl, (of _ TooManyUsers refl, tt)))
-own_not_apart state (Assign name role) =
-    (of _ AlreadyAssigned refl, (of_set (first_broken (assign_user state.roles name role)), tt))
+own_not_apart state (Assign name role) = (
+  of _ NoSuchRole refl,
+  (of _ AlreadyAssigned refl, (of_set (first_broken (assign_user state.roles name role)), tt)),
+)
 own_not_apart state (Deassign name role) =
-    (of _ NotAssigned refl, none_needed state (deassign_user state.roles name role))
-own_not_apart state (AddInheritance senior junior) =
-    (of _ Cycle refl, (of _ AlreadyThere refl, (of_set (first_broken (add_inheritance state.roles senior junior)), tt)))
+    (of _ NoSuchRole refl, (of _ NotAssigned refl, none_needed state (deassign_user state.roles name role)))
+own_not_apart state (AddInheritance senior junior) = (
+  of _ NoSuchRole refl,
+  (
+    of _ Cycle refl,
+    (of _ AlreadyThere refl, (of_set (first_broken (add_inheritance state.roles senior junior)), tt)),
+  ),
+)
 own_not_apart state (DeleteInheritance senior junior) =
-    (of _ NotThere refl, none_needed state (delete_inheritance state.roles senior junior))
+    (of _ NoSuchRole refl, (of _ NotThere refl, none_needed state (delete_inheritance state.roles senior junior)))
 own_not_apart state (Solved board table) = (of _ StrangeDeal refl, (of _ AlreadySolved refl, tt))
 own_not_apart state (Analysed cell costs) =
     (of _ NotLive refl, (of _ StrangePlay refl, (of _ AlreadySolved refl, tt)))
+own_not_apart state Embargo = (of _ AlreadyEmbargoed refl, tt)
+own_not_apart state Lift = (of _ NotEmbargoed refl, tt)
 
 -- nor of the others
 later_not_apart : (state : SessionState) (spoiler : Option (List ℕ)) (command : Command) (entries : ℕ) →
@@ -303,7 +317,7 @@ permitted_else state spoiler actor command entries allowed refused =
 
 -- the test says whether it is permitted
 permitted_exact : (roles : RoleData) (actor : Actor) (command : Command) → IsValid roles →
-    (is_permitted roles actor command ≡ true) ↔ IsPermitted roles actor command
+    (is_permitted roles actor command ≡ true) ↔ MayGive roles actor command
 permitted_exact roles (User name) command valid = by_operation (operation_of command)
   where
     by_operation : (operation : Option Operation) → (option_map_or (has_permission roles name) operation true ≡ true) ↔
@@ -319,7 +333,7 @@ permitted_exact roles Solver command valid = by_operation (operation_of command)
 -- it is refused as not permitted just where it isn't
 pub refused_permission : (state : SessionState) (spoiler : Option (List ℕ)) (actor : Actor) (command : Command)
     (entries : ℕ) → IsValid state.roles →
-    (refusal_of state spoiler actor command entries ≡ Some NotPermitted) ↔ (¬ IsPermitted state.roles actor command)
+    (refusal_of state spoiler actor command entries ≡ Some NotPermitted) ↔ (¬ MayGive state.roles actor command)
 refused_permission state spoiler actor command entries valid =
     let exact = permitted_exact state.roles actor command valid in (
       λ refused is. permitted_else state spoiler actor command entries (exact.1 is) refused,

@@ -1,5 +1,18 @@
 -- What an entry makes of a state.
-use Rattle.std.specs.Prelude.{◌+◌, ◌-◌, ◌++◌, [], ◌∷◌, Some, None, is_some, slice_set, if◌then◌else◌}
+use Rattle.std.specs.Prelude.{
+  ◌+◌,
+  ◌-◌,
+  ◌++◌,
+  true,
+  false,
+  [],
+  ◌∷◌,
+  Some,
+  None,
+  is_some,
+  slice_set,
+  if◌then◌else◌,
+}
 use Rattle.movement.specs.declared.cell.Cell.{Cell}
 use Rattle.movement.specs.Movement.{most_boards}
 use Rattle.rbac.specs.RoleData.{RoleData, add_user, assign_user, deassign_user, add_inheritance, delete_inheritance}
@@ -20,6 +33,7 @@ use Rattle.session_commands.specs.declared.command.Command.TheVariants.{
 use Rattle.session_commands.specs.declared.command.Command.TheVariants.{Seat, Unseat, NextRound, Close, Finalise}
 use Rattle.session_commands.specs.declared.command.Command.TheVariants.{AddUser, Assign, Deassign, AddInheritance}
 use Rattle.session_commands.specs.declared.command.Command.TheVariants.{DeleteInheritance, Solved, Analysed}
+use Rattle.session_commands.specs.declared.command.Command.TheVariants.{Embargo, Lift}
 use Rattle.session_commands.specs.declared.cell_state.CellState.{CellState}
 use Rattle.session_commands.specs.declared.cell_state.CellState.TheVariants.{Empty, Entered, Confirmed, Ruled}
 use Rattle.session_commands.specs.declared.entry.Entry.{Entry}
@@ -81,6 +95,9 @@ effect state (DeleteInheritance senior junior) = with_roles state (delete_inheri
 -- what is solved is kept: a board's table for good, a cell's costs until its result is another
 effect state (Solved board table) = record state { tables = slice_set state.tables (board - 1) (Some table) }
 effect state (Analysed cell costs) = with_cell state cell (with_costs (cell_at state cell) costs)
+-- an embargo begins, and ends
+effect state Embargo = with_public state (record state.public { embargo = true })
+effect state Lift = with_public state (record state.public { embargo = false })
 
 -- what an entry does: nothing where the state hinders it
 abbrev pub apply : SessionState → Entry → SessionState

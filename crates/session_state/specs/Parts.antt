@@ -13,6 +13,7 @@ use Rattle.session_commands.specs.declared.command.Command.TheVariants.{
 use Rattle.session_commands.specs.declared.command.Command.TheVariants.{Seat, Unseat, NextRound, Close, Finalise}
 use Rattle.session_commands.specs.declared.command.Command.TheVariants.{AddUser, Assign, Deassign, AddInheritance}
 use Rattle.session_commands.specs.declared.command.Command.TheVariants.{DeleteInheritance, Solved, Analysed}
+use Rattle.session_commands.specs.declared.command.Command.TheVariants.{Embargo, Lift}
 use Rattle.session_state.specs.SessionState.{SessionState}
 
 -- the parts that commands change
@@ -25,6 +26,7 @@ pub data Part : Type 0 where
   Accounts : Part
   Hierarchy : Part
   Tables : Part
+  Embargoes : Part
 
 -- the part that it is about
 abbrev pub part_of : Command → Part
@@ -47,12 +49,16 @@ part_of (AddInheritance senior junior) = Hierarchy
 part_of (DeleteInheritance senior junior) = Hierarchy
 part_of (Solved board table) = Tables
 part_of (Analysed cell costs) = Results
+part_of Embargo = Embargoes
+part_of Lift = Embargoes
 
--- two states differ in one part at most; the movement, the marks and the deals are none
+-- two states differ in one part at most; the movement, the marks, the deals and the edition are none
 pub record IsSameBut (part : Part) (before after : SessionState) : Type 0 where
   pub movement : after.public.movement ≡ before.public.movement
   pub marks : after.public.marks ≡ before.public.marks
   pub deals : after.deals ≡ before.deals
+  pub edition : after.public.edition ≡ before.public.edition
+  pub roles_edition : after.roles.edition ≡ before.roles.edition
   pub cells : part ≢ Results → after.cells ≡ before.cells
   pub live : part ≢ Results → after.public.live ≡ before.public.live
   pub held : part ≢ HeldBoards → after.public.held ≡ before.public.held
@@ -63,3 +69,4 @@ pub record IsSameBut (part : Part) (before after : SessionState) : Type 0 where
   pub digests : part ≢ Accounts → after.digests ≡ before.digests
   pub pairs : part ≢ Hierarchy → after.roles.pairs ≡ before.roles.pairs
   pub tables : part ≢ Tables → after.tables ≡ before.tables
+  pub embargo : part ≢ Embargoes → after.public.embargo ≡ before.public.embargo

@@ -14,7 +14,9 @@ use Rattle.movement.specs.Schedule.{is_scheduled, is_later}
 use Rattle.rbac.specs.Account.{most_users, is_user_name}
 use Rattle.rbac.specs.Authorization.{HasPermission, has_permission}
 use Rattle.rbac.specs.Inheritance.{reaches}
+use Rattle.rbac.specs.Refusals.{are_roles_of}
 use Rattle.rbac.specs.RoleData.{RoleData, assign_user, deassign_user, add_inheritance, delete_inheritance}
+use Rattle.session_roles.specs.Role.{is_role_of}
 use Rattle.session_roles.specs.declared.role.Role.TheVariants.{Contestant}
 use Rattle.scoring.specs.declared.outcome.Outcome.{Outcome}
 use Rattle.scoring.specs.declared.outcome.Outcome.TheVariants.{PassedOut, Played}
@@ -34,6 +36,7 @@ use Rattle.session_commands.specs.declared.command.Command.TheVariants.{
 use Rattle.session_commands.specs.declared.command.Command.TheVariants.{Seat, Unseat, NextRound, Close, Finalise}
 use Rattle.session_commands.specs.declared.command.Command.TheVariants.{AddUser, Assign, Deassign, AddInheritance}
 use Rattle.session_commands.specs.declared.command.Command.TheVariants.{DeleteInheritance, Solved, Analysed}
+use Rattle.session_commands.specs.declared.command.Command.TheVariants.{Embargo, Lift}
 use Rattle.session_commands.specs.declared.refusal.Refusal.{Refusal}
 use Rattle.session_commands.specs.declared.refusal.Refusal.TheVariants.{
   NotPermitted,
@@ -76,6 +79,7 @@ use Rattle.session_commands.specs.declared.refusal.Refusal.TheVariants.{
   StrangePlay,
 }
 use Rattle.session_commands.specs.declared.refusal.Refusal.TheVariants.{JournalFull}
+use Rattle.session_commands.specs.declared.refusal.Refusal.TheVariants.{AlreadyEmbargoed, NotEmbargoed, NoSuchRole}
 use Rattle.session_state.specs.Accounts.{
   has_account,
   is_assigned,
@@ -176,19 +180,23 @@ own_causes state (AddUser name digest) =
     ∷ then_some (nat_le most_users (length state.roles.accounts)) TooManyUsers
     ∷ []
 own_causes state (Assign name role) =
-    then_some (is_assigned state.roles name role) AlreadyAssigned
+    then_some (not (is_role_of state.roles.edition role)) NoSuchRole
+    ∷ then_some (is_assigned state.roles name role) AlreadyAssigned
     ∷ option_map Separation (first_broken (assign_user state.roles name role))
     ∷ []
 own_causes state (Deassign name role) =
-    then_some (not (is_assigned state.roles name role)) NotAssigned
+    then_some (not (is_role_of state.roles.edition role)) NoSuchRole
+    ∷ then_some (not (is_assigned state.roles name role)) NotAssigned
     ∷ needed_causes state (deassign_user state.roles name role)
 own_causes state (AddInheritance senior junior) =
-    then_some (reaches state.roles.pairs junior senior) Cycle
+    then_some (not (are_roles_of state.roles.edition senior junior)) NoSuchRole
+    ∷ then_some (reaches state.roles.pairs junior senior) Cycle
     ∷ then_some (has_pair state.roles senior junior) AlreadyThere
     ∷ option_map Separation (first_broken (add_inheritance state.roles senior junior))
     ∷ []
 own_causes state (DeleteInheritance senior junior) =
-    then_some (not (has_pair state.roles senior junior)) NotThere
+    then_some (not (are_roles_of state.roles.edition senior junior)) NoSuchRole
+    ∷ then_some (not (has_pair state.roles senior junior)) NotThere
     ∷ needed_causes state (delete_inheritance state.roles senior junior)
 -- a table is of the board's own hands; costs are of the cell's own hands, contract and play
 own_causes state (Solved board table) =
@@ -201,6 +209,8 @@ own_causes state (Analysed cell costs) =
     ∷ then_some (not (is_dealt state cell.board costs.deal && is_played_as known costs.contract costs.play)) StrangePlay
     ∷ then_some (is_counted known) AlreadySolved
     ∷ []
+own_causes state Embargo = then_some state.public.embargo AlreadyEmbargoed ∷ []
+own_causes state Lift = then_some (not state.public.embargo) NotEmbargoed ∷ []
 
 -- whether the round of its cell is still to come; the solver's commands wait for none, since a result is there or isn't
 abbrev pub is_early : SessionState → Command → Bool
@@ -227,9 +237,9 @@ is_permitted roles (User name) command = option_map_or (has_permission roles nam
 is_permitted roles Solver command = is_solvers command
 
 -- the same, as the standard states it
-abbrev pub IsPermitted : RoleData → Actor → Command → Type 0
-IsPermitted roles (User name) command = IfSome (operation_of command) (HasPermission roles name)
-IsPermitted roles Solver command = operation_of command ≡ None
+abbrev pub MayGive : RoleData → Actor → Command → Type 0
+MayGive roles (User name) command = IfSome (operation_of command) (HasPermission roles name)
+MayGive roles Solver command = operation_of command ≡ None
 
 -- all causes, in their order: first whether it is permitted, last whether the journal is full
 abbrev pub causes : SessionState → Option (List ℕ) → Actor → Command → ℕ → List (Option Refusal)

@@ -150,5 +150,7 @@ fn own_cause(state: &State, command: &Command) -> Option<Refusal>
         }
         Command::Solved { board, table } => solved::solved_cause(state, *board, table),
         Command::Analysed { cell, costs } => solved::analysed_cause(state, *cell, costs),
+        Command::Embargo => progress::embargo_cause(state),
+        Command::Lift => progress::lift_cause(state),
     }
 }

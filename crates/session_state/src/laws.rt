@@ -1,5 +1,6 @@
 //! Laws of the state: functions with nothing to do, whose clauses are the laws.
 ghost use Rattle.std.specs.Prelude.{◌≡◌, ◌≢◌, ◌↔◌, ℕ, true, List, Option, Some, None};
+ghost use Rattle.std.specs.List.{fold};
 ghost use Rattle.movement.specs.declared.cell.Cell.{Cell};
 ghost use Rattle.movement.specs.Movement.{IsCell, IsSection};
 ghost use Rattle.rbac.specs.Authorization.{IsValid};
@@ -9,7 +10,7 @@ ghost use Rattle.session_state.specs.Apply.{apply};
 ghost use Rattle.session_commands.specs.Command.{is_solvers, subject_cell};
 ghost use Rattle.session_state.specs.OwnNumbers.{TellsOwn, KeepsOwn};
 ghost use Rattle.session_state.specs.Parts.{part_of, IsSameBut};
-ghost use Rattle.session_state.specs.Refusal.{hindrance_of, refusal_of, are_all_live, IsPermitted};
+ghost use Rattle.session_state.specs.Refusal.{hindrance_of, refusal_of, are_all_live, MayGive};
 ghost use Rattle.session_state.specs.Seats.{AreSeatsOf};
 ghost use Rattle.session_state.specs.SessionState.{SessionState, cell_at, IsPlaced};
 ghost use Rattle.session_commands.specs.declared.actor.Actor.{Actor};
@@ -24,7 +25,7 @@ pub fn permissions_guard_commands()
     ensures { (state : SessionState) (spoiler : Option (List ℕ)) (actor : Actor) (command : Command) (entries : ℕ) →
         IsValid state.roles →
         (refusal_of state spoiler actor command entries ≡ Some NotPermitted)
-        ↔ (¬ IsPermitted state.roles actor command) }
+        ↔ (¬ MayGive state.roles actor command) }
 {}
 
 /// What the solver tells needs no permission and names no user: whoever gives such a command, it isn't refused as not
@@ -39,12 +40,20 @@ pub fn numbers_need_no_permission()
 {}
 
 /// A command changes the part of the state that it is about, and no other; a command on a result changes what is known
-/// of its own cell alone. The movement, the marks and the deals never change.
+/// of its own cell alone. The movement, the marks, the deals and the edition never change.
 pub fn each_command_changes_its_own_part()
     ensures part { (state : SessionState) (entry : Entry) →
         IsSameBut (part_of entry.command) state (apply state entry) }
     ensures cell { (state : SessionState) (entry : Entry) (cell : Cell) → IsSection state.public.movement →
         IsPlaced cell → subject_cell entry.command ≢ Some cell → cell_at (apply state entry) cell ≡ cell_at state cell }
+{}
+
+/// However many entries are taken in, the edition stays: that of what every member may see, and that of the roles.
+pub fn editions_never_change()
+    ensures public { (state : SessionState) (entries : List Entry) →
+        (fold apply state entries).public.edition ≡ state.public.edition }
+    ensures roles { (state : SessionState) (entries : List Entry) →
+        (fold apply state entries).roles.edition ≡ state.roles.edition }
 {}
 
 /// All results are there just where each cell that the movement schedules has one.

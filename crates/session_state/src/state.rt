@@ -349,6 +349,8 @@ impl State {
             }
             Command::Solved { board, table } => self.solve(board, table),
             Command::Analysed { cell, costs } => self.analyse(cell, costs),
+            Command::Embargo => self.embargo(),
+            Command::Lift => self.lift(),
         }
     }
 }

@@ -9,6 +9,7 @@ use session_book::Answer;
 use session_commands::Command;
 use session_keeper::{AuditReceipt, BatchReceipt, CommandKeeper, Keeper};
 use session_queries::{Query, Reply};
+use session_roles::Edition;
 use solver_results::{DdTable, PlayCosts};
 use std::alloc::{AllocError, Global};
 use std::sync::Wait;
@@ -69,6 +70,10 @@ impl<'a, N: Server> Keeper for AnalysingKeeper<'a, N> {
     ghost others = { λ before after. IsPrefix before after };
 
     ghost no_entry = { Unit {0} };
+
+    fn edition(&self) -> Edition {
+        self.keeper.edition()
+    }
 
     fn query(
         &mut self,

@@ -48,8 +48,10 @@ use Rattle.wire.specs.declared.request.RequestBody.{RequestBody}
 use Rattle.wire.specs.declared.request.RequestBody.TheVariants as body
 use Rattle.wire.specs.declared.request.UserRequest.TheVariants as wanting
 use Rattle.wire.specs.declared.request.ScriptRequest.{ScriptRequest}
-use Rattle.wire.specs.declared.source.Source.{Source}
+use Rattle.session_roles.specs.declared.edition.Edition.{Edition}
+use Rattle.wire.specs.declared.origin.Origin.{Origin}
 use Rattle.wire.specs.declared.source.Source.TheVariants.{Script, Connection}
+use Rattle.wire.specs.Origin.{origin_of}
 use Rattle.wire.specs.Request.{
   most_message_bytes,
   meaning,
@@ -73,124 +75,124 @@ use Rattle.wire.proofs.LineLemmas.{
 }
 
 -- the bytes are a message, or else nothing of them is read
-abbrev IsMessageOrNone : Source → List ℕ → Type 0
-IsMessageOrNone source line =
-    ((d : Data) × IsMessage line d) ⊎ ((meaning source line ≡ Err TooLong) ⊎ (meaning source line ≡ Err Malformed))
+abbrev IsMessageOrNone : Origin → List ℕ → Type 0
+IsMessageOrNone origin line =
+    ((d : Data) × IsMessage line d) ⊎ ((meaning origin line ≡ Err TooLong) ⊎ (meaning origin line ≡ Err Malformed))
 
-message_or_none : (source : Source) (line : List ℕ) → IsMessageOrNone source line
-message_or_none source line = by_length (nat_le (length line) most_message_bytes) refl
+message_or_none : (origin : Origin) (line : List ℕ) → IsMessageOrNone origin line
+message_or_none origin line = by_length (nat_le (length line) most_message_bytes) refl
   where
     by_members : (d : Data) (members : Bool) → length line ≤ most_message_bytes
         → (utf8_valid_len line == length line) ≡ true → read line ≡ Some d → is_some (as_object d) ≡ members
-        → IsMessageOrNone source line
+        → IsMessageOrNone origin line
     by_members d true short utf8 reads is =
         inl (d, record { short = short; object = record { utf8 = utf8; reads = reads; members = is } })
-    by_members d false short utf8 reads is = inr (inr ((malformed_line source line).1
+    by_members d false short utf8 reads is = inr (inr ((malformed_line origin line).1
         (short, λ other object. let same = object.reads in let has = object.members in absurd (cc))))
 
     by_reading : (found : Option Data) → length line ≤ most_message_bytes
-        → (utf8_valid_len line == length line) ≡ true → read line ≡ found → IsMessageOrNone source line
+        → (utf8_valid_len line == length line) ≡ true → read line ≡ found → IsMessageOrNone origin line
     by_reading (Some d) short utf8 reads = by_members d (is_some (as_object d)) short utf8 reads refl
     by_reading None short utf8 reads =
-        inr (inr ((malformed_line source line).1 (short, λ other object. let same = object.reads in absurd (cc))))
+        inr (inr ((malformed_line origin line).1 (short, λ other object. let same = object.reads in absurd (cc))))
 
     by_text : (utf8 : Bool) → length line ≤ most_message_bytes → (utf8_valid_len line == length line) ≡ utf8
-        → IsMessageOrNone source line
+        → IsMessageOrNone origin line
     by_text true short is = by_reading (read line) short is refl
     by_text false short is =
-        inr (inr ((malformed_line source line).1 (short, λ other object. let same = object.utf8 in absurd (cc))))
+        inr (inr ((malformed_line origin line).1 (short, λ other object. let same = object.utf8 in absurd (cc))))
 
-    by_length : (short : Bool) → nat_le (length line) most_message_bytes ≡ short → IsMessageOrNone source line
+    by_length : (short : Bool) → nat_le (length line) most_message_bytes ≡ short → IsMessageOrNone origin line
     by_length true is = by_text (utf8_valid_len line == length line) (is_most (length line) most_message_bytes is) refl
-    by_length false is = inr (inl (long_line source line (grind (arith, is))))
+    by_length false is = inr (inl (long_line origin line (grind (arith, is))))
 
 -- a request that a message is, is made by its members
-makes : (source : Source) (line : List ℕ) (d : Data) → IsMessage line d → (user : Option (List ℕ)) (b : RequestBody)
-    → meaning source line ≡ Ok (record { user = user; body = b }) → Makes source d user b
-makes source line d message user (body.OfUser (wanting.Query query since)) is =
-    (query_line source line d message user query since).0 is
-makes source line d message user (body.OfUser (wanting.Batch commands)) is =
-    (batch_line source line d message user commands).0 is
-makes source line d message user (body.OfUser (wanting.Audit range)) is =
-    (audit_line source line d message user range).0 is
-makes source line d message user (body.Hello name token) is = (greeting_line source line d message user name token).0 is
+makes : (origin : Origin) (line : List ℕ) (d : Data) → IsMessage line d → (user : Option (List ℕ)) (b : RequestBody)
+    → meaning origin line ≡ Ok (record { user = user; body = b }) → Makes origin d user b
+makes origin line d message user (body.OfUser (wanting.Query query since)) is =
+    (query_line origin line d message user query since).0 is
+makes origin line d message user (body.OfUser (wanting.Batch commands)) is =
+    (batch_line origin line d message user commands).0 is
+makes origin line d message user (body.OfUser (wanting.Audit range)) is =
+    (audit_line origin line d message user range).0 is
+makes origin line d message user (body.Hello name token) is = (greeting_line origin line d message user name token).0 is
 
-says : (source : Source) (line : List ℕ) (y : Request) → meaning source line ≡ Ok y → IsMessageOrNone source line
-    → Says source line y
-says source line y is (inl message) =
-    record { said = message.0; is = message.1; makes = makes source line message.0 message.1 y.user y.body is }
-says source line y is (inr (inl long)) = absurd (cc)
-says source line y is (inr (inr malformed)) = absurd (cc)
+says : (origin : Origin) (line : List ℕ) (y : Request) → meaning origin line ≡ Ok y → IsMessageOrNone origin line
+    → Says origin line y
+says origin line y is (inl message) =
+    record { said = message.0; is = message.1; makes = makes origin line message.0 message.1 y.user y.body is }
+says origin line y is (inr (inl long)) = absurd (cc)
+says origin line y is (inr (inr malformed)) = absurd (cc)
 
-says_none : (source : Source) (line : List ℕ) (fault : RequestFault) → meaning source line ≡ Err fault
-    → IsMessageOrNone source line → SaysNone fault source line
-says_none source line TooLong is found = (too_long_line source line).0 is
-says_none source line Malformed is found = (malformed_line source line).0 is
-says_none source line UnknownRequest is (inl message) = record {
+says_none : (origin : Origin) (line : List ℕ) (fault : RequestFault) → meaning origin line ≡ Err fault
+    → IsMessageOrNone origin line → SaysNone fault origin line
+says_none origin line TooLong is found = (too_long_line origin line).0 is
+says_none origin line Malformed is found = (malformed_line origin line).0 is
+says_none origin line UnknownRequest is (inl message) = record {
   said = message.0;
   is = message.1;
-  unknown = (unknown_line source line message.0 message.1).0 is;
+  unknown = (unknown_line origin line message.0 message.1).0 is;
 }
-says_none source line UnknownRequest is (inr (inl long)) = absurd (cc)
-says_none source line UnknownRequest is (inr (inr malformed)) = absurd (cc)
-says_none source line BadField is (inl message) =
-    let bad = (bad_line source line message.0 message.1).0 is in
+says_none origin line UnknownRequest is (inr (inl long)) = absurd (cc)
+says_none origin line UnknownRequest is (inr (inr malformed)) = absurd (cc)
+says_none origin line BadField is (inl message) =
+    let bad = (bad_line origin line message.0 message.1).0 is in
     record { said = message.0; is = message.1; known = bad.0; none = bad.1 }
-says_none source line BadField is (inr (inl long)) = absurd (cc)
-says_none source line BadField is (inr (inr malformed)) = absurd (cc)
-says_none source line OutOfMemory is found = tt
+says_none origin line BadField is (inr (inl long)) = absurd (cc)
+says_none origin line BadField is (inr (inr malformed)) = absurd (cc)
+says_none origin line OutOfMemory is found = tt
 
 -- a request that is read is the one that the message's members make it
-pub said : (source : Source) (line : List ℕ) (answer : Result Request RequestFault) → Gives answer (meaning source line)
-    → IfOk answer (Says source line)
-said source line (Ok y) is = says source line y is (message_or_none source line)
-said source line (Err fault) given = tt
+pub said : (origin : Origin) (line : List ℕ) (answer : Result Request RequestFault) → Gives answer (meaning origin line)
+    → IfOk answer (Says origin line)
+said origin line (Ok y) is = says origin line y is (message_or_none origin line)
+said origin line (Err fault) given = tt
 
 -- and where none is read, this fault is the first that applies
-pub said_none : (source : Source) (line : List ℕ) (answer : Result Request RequestFault)
-    → Gives answer (meaning source line) → IfErr answer (λ fault. SaysNone fault source line)
-said_none source line (Ok y) is = tt
-said_none source line (Err fault) given = by fault given
+pub said_none : (origin : Origin) (line : List ℕ) (answer : Result Request RequestFault)
+    → Gives answer (meaning origin line) → IfErr answer (λ fault. SaysNone fault origin line)
+said_none origin line (Ok y) is = tt
+said_none origin line (Err fault) given = by fault given
   where
-    by : (fault : RequestFault) → Fails fault (meaning source line) → SaysNone fault source line
-    by TooLong is = says_none source line TooLong is (message_or_none source line)
-    by Malformed is = says_none source line Malformed is (message_or_none source line)
-    by UnknownRequest is = says_none source line UnknownRequest is (message_or_none source line)
-    by BadField is = says_none source line BadField is (message_or_none source line)
+    by : (fault : RequestFault) → Fails fault (meaning origin line) → SaysNone fault origin line
+    by TooLong is = says_none origin line TooLong is (message_or_none origin line)
+    by Malformed is = says_none origin line Malformed is (message_or_none origin line)
+    by UnknownRequest is = says_none origin line UnknownRequest is (message_or_none origin line)
+    by BadField is = says_none origin line BadField is (message_or_none origin line)
     by OutOfMemory given = tt
 
 -- ---- what is said, is said once
 
 -- what an object's members make it, is read of it
-meant : (source : Source) (line : List ℕ) (d : Data) → IsMessage line d → (user : Option (List ℕ)) (b : RequestBody)
-    → Makes source d user b → meaning source line ≡ Ok (record { user = user; body = b })
-meant source line d message user (body.OfUser (wanting.Query query since)) made =
-    (query_line source line d message user query since).1 made
-meant source line d message user (body.OfUser (wanting.Batch commands)) made =
-    (batch_line source line d message user commands).1 made
-meant source line d message user (body.OfUser (wanting.Audit range)) made =
-    (audit_line source line d message user range).1 made
-meant source line d message user (body.Hello name token) made = (greeting_line source line d message user name token).1
+meant : (origin : Origin) (line : List ℕ) (d : Data) → IsMessage line d → (user : Option (List ℕ)) (b : RequestBody)
+    → Makes origin d user b → meaning origin line ≡ Ok (record { user = user; body = b })
+meant origin line d message user (body.OfUser (wanting.Query query since)) made =
+    (query_line origin line d message user query since).1 made
+meant origin line d message user (body.OfUser (wanting.Batch commands)) made =
+    (batch_line origin line d message user commands).1 made
+meant origin line d message user (body.OfUser (wanting.Audit range)) made =
+    (audit_line origin line d message user range).1 made
+meant origin line d message user (body.Hello name token) made = (greeting_line origin line d message user name token).1
     made
 
-read_as : (source : Source) (line : List ℕ) (y : Request) → Says source line y → meaning source line ≡ Ok y
-read_as source line y says = meant source line says.said says.is y.user y.body says.makes
+read_as : (origin : Origin) (line : List ℕ) (y : Request) → Says origin line y → meaning origin line ≡ Ok y
+read_as origin line y says = meant origin line says.said says.is y.user y.body says.makes
 
-pub one_said : (source : Source) (line : List ℕ) (one other : Request) → Says source line one → Says source line other
+pub one_said : (origin : Origin) (line : List ℕ) (one other : Request) → Says origin line one → Says origin line other
     → one ≡ other
-one_said source line one other first second =
-    let is : meaning source line ≡ Ok one = read_as source line one first in
-    let also : meaning source line ≡ Ok other = read_as source line other second in
+one_said origin line one other first second =
+    let is : meaning origin line ≡ Ok one = read_as origin line one first in
+    let also : meaning origin line ≡ Ok other = read_as origin line other second in
     cc
 
 -- and a fault that the grammar tells is told of it, but for want of memory
-refused_as : (source : Source) (line : List ℕ) (fault : RequestFault) → SaysNone fault source line
-    → Fails fault (meaning source line)
-refused_as source line TooLong none = (too_long_line source line).1 none
-refused_as source line Malformed none = (malformed_line source line).1 none
-refused_as source line UnknownRequest none = (unknown_line source line none.said none.is).1 none.unknown
-refused_as source line BadField none = (bad_line source line none.said none.is).1 (none.known, none.none)
-refused_as source line OutOfMemory none = tt
+refused_as : (origin : Origin) (line : List ℕ) (fault : RequestFault) → SaysNone fault origin line
+    → Fails fault (meaning origin line)
+refused_as origin line TooLong none = (too_long_line origin line).1 none
+refused_as origin line Malformed none = (malformed_line origin line).1 none
+refused_as origin line UnknownRequest none = (unknown_line origin line none.said none.is).1 none.unknown
+refused_as origin line BadField none = (bad_line origin line none.said none.is).1 (none.known, none.none)
+refused_as origin line OutOfMemory none = tt
 
 -- the same of what comes of a request
 passed_on : {A : Type 0} (then : Result Request RequestFault → Result A RequestFault)
@@ -203,43 +205,50 @@ passed_on then passes UnknownRequest meant is = ap then is ∙ passes UnknownReq
 passed_on then passes BadField meant is = ap then is ∙ passes BadField
 passed_on then passes OutOfMemory meant is = tt
 
-pub script_said : (line : List ℕ) (y : Request) (answer : Result ScriptRequest RequestFault) → Says Script line y
-    → Gives answer (said_request y) → Gives answer (script_meaning line)
-unfolding script_meaning
-script_said line y answer says given = subst (Gives answer) (sym (ap said_of (read_as Script line y says))) given
+module _ (edition : Edition) (line : List ℕ) where
+  -- where a script's message comes from, and one on a connection
+  abbrev script : Origin
+  script = origin_of Script edition
 
-pub script_none : (line : List ℕ) (fault : RequestFault) → SaysNone fault Script line →
-    Fails fault (script_meaning line)
-unfolding script_meaning
-script_none line fault none =
-    passed_on said_of (λ fault. refl) fault (meaning Script line) (refused_as Script line fault none)
+  abbrev connection : Origin
+  connection = origin_of Connection edition
 
-pub connection_said : (line : List ℕ) (y : Request) → Says Connection line y → connection_meaning line ≡ Ok y.body
-unfolding connection_meaning
-connection_said line y says = ap wanted_of (read_as Connection line y says)
+  pub script_said : (y : Request) (answer : Result ScriptRequest RequestFault) → Says script line y
+      → Gives answer (said_request y) → Gives answer (script_meaning edition line)
+  unfolding script_meaning
+  script_said y answer says given = subst (Gives answer) (sym (ap said_of (read_as script line y says))) given
 
-pub connection_none : (line : List ℕ) (fault : RequestFault) → SaysNone fault Connection line
-    → Fails fault (connection_meaning line)
-unfolding connection_meaning
-connection_none line fault none =
-    passed_on wanted_of (λ fault. refl) fault (meaning Connection line) (refused_as Connection line fault none)
+  pub script_none : (fault : RequestFault) → SaysNone fault script line → Fails fault (script_meaning edition line)
+  unfolding script_meaning
+  script_none fault none =
+      passed_on said_of (λ fault. refl) fault (meaning script line) (refused_as script line fault none)
 
-pub not_refused : (source : Source) (line : List ℕ) (y : Request) (fault : RequestFault) → Says source line y
-    → SaysNone fault source line → fault ≡ OutOfMemory
-not_refused source line y TooLong says none =
-    let is : meaning source line ≡ Ok y = read_as source line y says in
-    let not : meaning source line ≡ Err TooLong = (too_long_line source line).1 none in
+  pub connection_said : (y : Request) → Says connection line y → connection_meaning edition line ≡ Ok y.body
+  unfolding connection_meaning
+  connection_said y says = ap wanted_of (read_as connection line y says)
+
+  pub connection_none : (fault : RequestFault) → SaysNone fault connection line
+      → Fails fault (connection_meaning edition line)
+  unfolding connection_meaning
+  connection_none fault none =
+      passed_on wanted_of (λ fault. refl) fault (meaning connection line) (refused_as connection line fault none)
+
+pub not_refused : (origin : Origin) (line : List ℕ) (y : Request) (fault : RequestFault) → Says origin line y
+    → SaysNone fault origin line → fault ≡ OutOfMemory
+not_refused origin line y TooLong says none =
+    let is : meaning origin line ≡ Ok y = read_as origin line y says in
+    let not : meaning origin line ≡ Err TooLong = (too_long_line origin line).1 none in
     absurd (cc)
-not_refused source line y Malformed says none =
-    let is : meaning source line ≡ Ok y = read_as source line y says in
-    let not : meaning source line ≡ Err Malformed = (malformed_line source line).1 none in
+not_refused origin line y Malformed says none =
+    let is : meaning origin line ≡ Ok y = read_as origin line y says in
+    let not : meaning origin line ≡ Err Malformed = (malformed_line origin line).1 none in
     absurd (cc)
-not_refused source line y UnknownRequest says none =
-    let is : meaning source line ≡ Ok y = read_as source line y says in
-    let not : meaning source line ≡ Err UnknownRequest = (unknown_line source line none.said none.is).1 none.unknown in
+not_refused origin line y UnknownRequest says none =
+    let is : meaning origin line ≡ Ok y = read_as origin line y says in
+    let not : meaning origin line ≡ Err UnknownRequest = (unknown_line origin line none.said none.is).1 none.unknown in
     absurd (cc)
-not_refused source line y BadField says none =
-    let is : meaning source line ≡ Ok y = read_as source line y says in
-    let not : meaning source line ≡ Err BadField = (bad_line source line none.said none.is).1 (none.known, none.none) in
+not_refused origin line y BadField says none =
+    let is : meaning origin line ≡ Ok y = read_as origin line y says in
+    let not : meaning origin line ≡ Err BadField = (bad_line origin line none.said none.is).1 (none.known, none.none) in
     absurd (cc)
-not_refused source line y OutOfMemory says none = refl
+not_refused origin line y OutOfMemory says none = refl

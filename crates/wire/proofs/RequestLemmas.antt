@@ -43,6 +43,8 @@ use Rattle.wire.specs.declared.request.Request.{Request}
 use Rattle.wire.specs.declared.request.RequestBody.{RequestBody}
 use Rattle.wire.specs.declared.request.RequestBody.TheVariants as body
 use Rattle.wire.specs.declared.request.UserRequest.TheVariants as wanting
+use Rattle.session_roles.specs.declared.edition.Edition.{Edition}
+use Rattle.wire.specs.declared.origin.Origin.{Origin}
 use Rattle.wire.specs.declared.source.Source.{Source}
 use Rattle.wire.specs.declared.source.Source.TheVariants.{Script, Connection}
 use Rattle.json_fields.specs.declared.request_fault.RequestFault.{RequestFault}
@@ -79,6 +81,7 @@ use Rattle.wire.specs.Request.{
   IsSaid,
 }
 use Rattle.session_book.specs.Run.{most_commands}
+use Rattle.wire.specs.Origin.{origin_of}
 use Rattle.wire.specs.Source.{said_user}
 use Rattle.wire.specs.Grammar.{IsOf, IsUnknownRequest, IsQuery, IsBatch, IsAudit, IsGreeting}
 use Rattle.wire.proofs.AuditLemmas.{audits, audited}
@@ -184,44 +187,51 @@ asked source word d name query version has named from =
 -- ---- batches
 
 -- the parts of a batch
-record Wants (source : Source) (ds : Items) (d : Data) (y : Request) : Type 0 where
+record Wants (origin : Origin) (ds : Items) (d : Data) (y : Request) : Type 0 where
   name : Option (List ℕ)
   list : List Command
   makes : a_batch name list ≡ y
   listed : has_only doing d ≡ true
-  named : IsOf source d name
-  each : AreEach IsCommand ds list
+  named : IsOf origin.source d name
+  each : AreEach (IsCommand origin.edition) ds list
   few : length list ≤ most_commands
 
-wants : (source : Source) (ds : Items) (d : Data) (y : Request) → batch_of source ds d ≡ Some y → Wants source ds d y
+wants : (origin : Origin) (ds : Items) (d : Data) (y : Request) → batch_of origin ds d ≡ Some y → Wants origin ds d y
 unfolding batch_of
-wants source ds d y h =
-    let listed = kept (has_only doing d) (applied (applied (Some a_batch) (whose_of source d)) (few_commands_in ds)) y h
-    in
-    let parts = two a_batch (whose_of source d) (few_commands_in ds) y listed.1 in
-    let counted = kept (nat_le (item_count ds) most_commands) (commands_in ds) parts.1 parts.3 in
-    let all = each_read command_of IsCommand command_read ds parts.1 counted.1 in
+wants origin ds d y h =
+    let edition = origin.edition in
+    let whose = whose_of origin.source d in
+    let few = few_commands_in edition ds in
+    let listed = kept (has_only doing d) (applied (applied (Some a_batch) whose) few) y h in
+    let parts = two a_batch whose few y listed.1 in
+    let counted = kept (nat_le (item_count ds) most_commands) (commands_in edition ds) parts.1 parts.3 in
+    let all = each_read (command_of edition) (IsCommand edition) (command_read edition) ds parts.1 counted.1 in
     record {
       name = parts.0;
       list = parts.1;
       makes = parts.4;
       listed = listed.0;
-      named = (said_agrees source).read _ parts.0 parts.2;
+      named = (said_agrees origin.source).read _ parts.0 parts.2;
       each = all;
-      few = subst (λ n. n ≤ most_commands) (each_count IsCommand ds parts.1 all)
+      few = subst (λ n. n ≤ most_commands) (each_count (IsCommand edition) ds parts.1 all)
           (is_most (item_count ds) most_commands counted.0);
     }
 
-wanted_batch : (source : Source) (ds : Items) (d : Data) (name : Option (List ℕ)) (list : List Command)
-    → has_only doing d ≡ true → IsOf source d name → AreEach IsCommand ds list → length list ≤ most_commands
-    → batch_of source ds d ≡ Some (a_batch name list)
+wanted_batch : (origin : Origin) (ds : Items) (d : Data) (name : Option (List ℕ)) (list : List Command)
+    → has_only doing d ≡ true → IsOf origin.source d name → AreEach (IsCommand origin.edition) ds list
+    → length list ≤ most_commands → batch_of origin ds d ≡ Some (a_batch name list)
 unfolding batch_of
-wanted_batch source ds d name list listed named all few =
-    ap (λ b. cond b (applied (applied (Some a_batch) (whose_of source d)) (few_commands_in ds)) None) listed
-    ∙ ap (λ o. applied (applied (Some a_batch) o) (few_commands_in ds)) ((said_agrees source).reads _ name named)
-    ∙ ap (λ b. applied (Some (a_batch name)) (cond b (commands_in ds) None)) (most_is (item_count ds) most_commands
-    (subst (λ n. n ≤ most_commands) (sym (each_count IsCommand ds list all)) few))
-    ∙ ap (applied (Some (a_batch name))) (each_reads command_of IsCommand command_reads ds list all)
+wanted_batch origin ds d name list listed named all few =
+    let edition = origin.edition in
+    ap (λ b. cond b (applied (applied (Some a_batch) (whose_of origin.source d)) (few_commands_in edition ds)) None)
+    listed
+    ∙ ap (λ o. applied (applied (Some a_batch) o) (few_commands_in edition ds))
+    ((said_agrees origin.source).reads _ name named)
+    ∙ ap (λ b. applied (Some (a_batch name)) (cond b (commands_in edition ds) None))
+    (most_is (item_count ds) most_commands
+    (subst (λ n. n ≤ most_commands) (sym (each_count (IsCommand edition) ds list all)) few))
+    ∙ ap (applied (Some (a_batch name)))
+    (each_reads (command_of edition) (IsCommand edition) (command_reads edition) ds list all)
 
 -- ---- greetings
 
@@ -246,46 +256,47 @@ greeter_is_there d y has = let name = has.made.2.3 in is_there (get (codes "hell
 -- ---- what was read
 
 -- what makes a message the request that it is
-abbrev Makes : Source → (ask list audit hello : Option Data) → Data → Option (List ℕ) → RequestBody → Type 0
-Makes source ask list audit hello d user (body.OfUser (wanting.Query query version)) =
+abbrev Makes : Origin → (ask list audit hello : Option Data) → Data → Option (List ℕ) → RequestBody → Type 0
+Makes origin ask list audit hello d user (body.OfUser (wanting.Query query version)) =
     (count_by (λ member. is_some member) (ask ∷ list ∷ audit ∷ hello ∷ []) ≡ 1)
     × ((word : List ℕ) × (option_and_then as_str ask ≡ Some word) × HasFormOf asking queries word d query)
-    × IsOf source d user × since.Is (get since.name d) version
-Makes source ask list audit hello d user (body.OfUser (wanting.Batch xs)) =
+    × IsOf origin.source d user × since.Is (get since.name d) version
+Makes origin ask list audit hello d user (body.OfUser (wanting.Batch xs)) =
     (count_by (λ member. is_some member) (ask ∷ list ∷ audit ∷ hello ∷ []) ≡ 1)
-    × ((elements : Items) × (option_and_then as_array list ≡ Some elements) × AreEach IsCommand elements xs)
-    × (length xs ≤ most_commands) × (has_only doing d ≡ true) × IsOf source d user
-Makes source ask list audit hello d user (body.OfUser (wanting.Audit range)) =
+    × ((elements : Items) × (option_and_then as_array list ≡ Some elements)
+    × AreEach (IsCommand origin.edition) elements xs)
+    × (length xs ≤ most_commands) × (has_only doing d ≡ true) × IsOf origin.source d user
+Makes origin ask list audit hello d user (body.OfUser (wanting.Audit range)) =
     (count_by (λ member. is_some member) (ask ∷ list ∷ audit ∷ hello ∷ []) ≡ 1)
     × ((rows : Data) × (audit ≡ Some rows) × HasForm [] audit_range rows range)
-    × (has_only auditing d ≡ true) × IsOf source d user
-Makes source ask list audit hello d user (body.Hello name token) =
+    × (has_only auditing d ≡ true) × IsOf origin.source d user
+Makes origin ask list audit hello d user (body.Hello name token) =
     (count_by (λ member. is_some member) (ask ∷ list ∷ audit ∷ hello ∷ []) ≡ 1)
-    × IsSome hello × (source ≡ Connection) × HasForm [] greeting d (a_greeting name token) × (user ≡ None)
+    × IsSome hello × (origin.source ≡ Connection) × HasForm [] greeting d (a_greeting name token) × (user ≡ None)
 
-abbrev MakesRequest : Source → (ask list audit hello : Option Data) → Data → Request → Type 0
-MakesRequest source ask list audit hello d y = Makes source ask list audit hello d y.user y.body
+abbrev MakesRequest : Origin → (ask list audit hello : Option Data) → Data → Request → Type 0
+MakesRequest origin ask list audit hello d y = Makes origin ask list audit hello d y.user y.body
 
-query_made : (source : Source) (ask : Data) (o : Option (List ℕ)) (d : Data) (y : Request) → as_str ask ≡ o
-    → query_by source o d ≡ Ok y → MakesRequest source (Some ask) None None None d y
-query_made source ask None d y is h = absurd (cc)
-query_made source ask (Some word) d y is h =
-    let read = read_where (is_among (words queries) word) (query_of source word d) UnknownRequest y h in
-    let parts = asks source word d y read.1 in
-    subst (MakesRequest source (Some ask) None None None d) parts.makes (
+query_made : (origin : Origin) (ask : Data) (o : Option (List ℕ)) (d : Data) (y : Request) → as_str ask ≡ o
+    → query_by origin.source o d ≡ Ok y → MakesRequest origin (Some ask) None None None d y
+query_made origin ask None d y is h = absurd (cc)
+query_made origin ask (Some word) d y is h =
+    let read = read_where (is_among (words queries) word) (query_of origin.source word d) UnknownRequest y h in
+    let parts = asks origin.source word d y read.1 in
+    subst (MakesRequest origin (Some ask) None None None d) parts.makes (
       refl,
       (word, is, parts.asked),
       parts.named,
       parts.from,
     )
 
-batch_made : (source : Source) (list : Data) (o : Option Items) (d : Data) (y : Request) → as_array list ≡ o
-    → batch_by source o d ≡ Ok y → MakesRequest source None (Some list) None None d y
-batch_made source list None d y is h = absurd (cc)
-batch_made source list (Some ds) d y is h =
-    let read = read_unless (has_unknown ds) (batch_of source ds d) UnknownRequest y h in
-    let parts = wants source ds d y read.1 in
-    subst (MakesRequest source None (Some list) None None d) parts.makes (
+batch_made : (origin : Origin) (list : Data) (o : Option Items) (d : Data) (y : Request) → as_array list ≡ o
+    → batch_by origin o d ≡ Ok y → MakesRequest origin None (Some list) None None d y
+batch_made origin list None d y is h = absurd (cc)
+batch_made origin list (Some ds) d y is h =
+    let read = read_unless (has_unknown origin.edition ds) (batch_of origin ds d) UnknownRequest y h in
+    let parts = wants origin ds d y read.1 in
+    subst (MakesRequest origin None (Some list) None None d) parts.makes (
       refl,
       (ds, is, parts.each),
       parts.few,
@@ -293,112 +304,119 @@ batch_made source list (Some ds) d y is h =
       parts.named,
     )
 
-audit_made : (source : Source) (rows d : Data) (y : Request) → wanted (audit_of source rows d) ≡ Ok y
-    → MakesRequest source None None (Some rows) None d y
-audit_made source rows d y h =
-    let parts = audits source rows d y (wanted_read (audit_of source rows d) y h) in
-    subst (MakesRequest source None None (Some rows) None d) parts.makes (
+audit_made : (origin : Origin) (rows d : Data) (y : Request) → wanted (audit_of origin.source rows d) ≡ Ok y
+    → MakesRequest origin None None (Some rows) None d y
+audit_made origin rows d y h =
+    let parts = audits origin.source rows d y (wanted_read (audit_of origin.source rows d) y h) in
+    subst (MakesRequest origin None None (Some rows) None d) parts.makes (
       refl,
       (rows, refl, parts.has),
       parts.listed,
       parts.named,
     )
 
-greeting_made : (source : Source) (hello d : Data) (y : Request) → greeting_by source d ≡ Ok y
-    → MakesRequest source None None None (Some hello) d y
-greeting_made Script hello d y h = absurd (cc)
-greeting_made Connection hello d y h =
-    let has = formed_read [] greeting greeting_agrees d y (wanted_read (formed [] greeting d) y h) in
-    let parts = greets d y has in
-    subst (MakesRequest Connection None None None (Some hello) d) parts.2
-    (refl, refl, refl, subst (HasForm [] greeting d) (sym parts.2) has, refl)
+greeting_made : (origin : Origin) (hello d : Data) (y : Request) → greeting_by origin.source d ≡ Ok y
+    → MakesRequest origin None None None (Some hello) d y
+greeting_made origin hello d y h = by_source origin.source refl h
+  where
+    by_source : (source : Source) → origin.source ≡ source → greeting_by source d ≡ Ok y
+        → MakesRequest origin None None None (Some hello) d y
+    by_source Script is h = absurd (cc)
+    by_source Connection is h =
+        let has = formed_read [] greeting greeting_agrees d y (wanted_read (formed [] greeting d) y h) in
+        let parts = greets d y has in
+        subst (MakesRequest origin None None None (Some hello) d) parts.2
+        (refl, refl, is, subst (HasForm [] greeting d) (sym parts.2) has, refl)
 
-made : (source : Source) (ask list audit hello : Option Data) (d : Data) (y : Request)
-    → one_of source ask list audit hello d ≡ Ok y → MakesRequest source ask list audit hello d y
-made source (Some ask) (Some list) audit hello d y h = absurd (cc)
-made source (Some ask) None (Some rows) hello d y h = absurd (cc)
-made source (Some ask) None None (Some name) d y h = absurd (cc)
-made source (Some ask) None None None d y h = query_made source ask (as_str ask) d y refl h
-made source None (Some list) (Some rows) hello d y h = absurd (cc)
-made source None (Some list) None (Some name) d y h = absurd (cc)
-made source None (Some list) None None d y h = batch_made source list (as_array list) d y refl h
-made source None None (Some rows) (Some name) d y h = absurd (cc)
-made source None None (Some rows) None d y h = audit_made source rows d y h
-made source None None None (Some name) d y h = greeting_made source name d y h
-made source None None None None d y h = absurd (cc)
+made : (origin : Origin) (ask list audit hello : Option Data) (d : Data) (y : Request)
+    → one_of origin ask list audit hello d ≡ Ok y → MakesRequest origin ask list audit hello d y
+made origin (Some ask) (Some list) audit hello d y h = absurd (cc)
+made origin (Some ask) None (Some rows) hello d y h = absurd (cc)
+made origin (Some ask) None None (Some name) d y h = absurd (cc)
+made origin (Some ask) None None None d y h = query_made origin ask (as_str ask) d y refl h
+made origin None (Some list) (Some rows) hello d y h = absurd (cc)
+made origin None (Some list) None (Some name) d y h = absurd (cc)
+made origin None (Some list) None None d y h = batch_made origin list (as_array list) d y refl h
+made origin None None (Some rows) (Some name) d y h = absurd (cc)
+made origin None None (Some rows) None d y h = audit_made origin rows d y h
+made origin None None None (Some name) d y h = greeting_made origin name d y h
+made origin None None None None d y h = absurd (cc)
 
-query_says : (source : Source) (ask : Data) (d : Data) (name : Option (List ℕ)) (query : Query) (version : ℕ)
-    → Makes source (Some ask) None None None d name (body.OfUser (wanting.Query query version))
-    → query_by source (as_str ask) d ≡ Ok (a_query name version query)
-query_says source ask d name query version (one, (word, is, has), named, from) =
-    ap (λ o. query_by source o d) is
-    ∙ ap (λ b. cond b (wanted (query_of source word d)) (Err UnknownRequest)) (is_word asking queries word d query has)
-    ∙ ap wanted (asked source word d name query version has named from)
+query_says : (origin : Origin) (ask : Data) (d : Data) (name : Option (List ℕ)) (query : Query) (version : ℕ)
+    → Makes origin (Some ask) None None None d name (body.OfUser (wanting.Query query version))
+    → query_by origin.source (as_str ask) d ≡ Ok (a_query name version query)
+query_says origin ask d name query version (one, (word, is, has), named, from) =
+    ap (λ o. query_by origin.source o d) is
+    ∙ ap (λ b. cond b (wanted (query_of origin.source word d)) (Err UnknownRequest))
+    (is_word asking queries word d query has)
+    ∙ ap wanted (asked origin.source word d name query version has named from)
 
-batch_says : (source : Source) (list : Data) (d : Data) (name : Option (List ℕ)) (xs : List Command)
-    → Makes source None (Some list) None None d name (body.OfUser (wanting.Batch xs))
-    → batch_by source (as_array list) d ≡ Ok (a_batch name xs)
-batch_says source list d name xs (one, (elements, is, all), few, listed, named) =
-    ap (λ o. batch_by source o d) is
-    ∙ ap (λ b. cond b (Err UnknownRequest) (wanted (batch_of source elements d))) (all_known elements xs all)
-    ∙ ap wanted (wanted_batch source elements d name xs listed named all few)
+batch_says : (origin : Origin) (list : Data) (d : Data) (name : Option (List ℕ)) (xs : List Command)
+    → Makes origin None (Some list) None None d name (body.OfUser (wanting.Batch xs))
+    → batch_by origin (as_array list) d ≡ Ok (a_batch name xs)
+batch_says origin list d name xs (one, (elements, is, all), few, listed, named) =
+    ap (λ o. batch_by origin o d) is
+    ∙ ap (λ b. cond b (Err UnknownRequest) (wanted (batch_of origin elements d)))
+    (all_known origin.edition elements xs all)
+    ∙ ap wanted (wanted_batch origin elements d name xs listed named all few)
 
-audit_says : (source : Source) (rows d : Data) (name : Option (List ℕ)) (range : AuditRange)
-    → Makes source None None (Some rows) None d name (body.OfUser (wanting.Audit range))
-    → wanted (audit_of source rows d) ≡ Ok (an_audit name range)
-audit_says source rows d name range (one, (asked, is, has), listed, named) =
+audit_says : (origin : Origin) (rows d : Data) (name : Option (List ℕ)) (range : AuditRange)
+    → Makes origin None None (Some rows) None d name (body.OfUser (wanting.Audit range))
+    → wanted (audit_of origin.source rows d) ≡ Ok (an_audit name range)
+audit_says origin rows d name range (one, (asked, is, has), listed, named) =
     let same : asked ≡ rows = cc in
-    ap wanted (audited source rows d name range (subst (λ r. HasForm [] audit_range r range) same has) listed named)
+    ap wanted (audited origin.source rows d name range (subst (λ r. HasForm [] audit_range r range) same has) listed
+    named)
 
-greeting_says : (source : Source) (hello d : Data) (user : Option (List ℕ)) (name token : List ℕ)
-    → Makes source None None None (Some hello) d user (body.Hello name token)
-    → greeting_by source d ≡ Ok (record { user = user; body = body.Hello name token })
-greeting_says source hello d user name token (one, is, from, has, nobody) =
+greeting_says : (origin : Origin) (hello d : Data) (user : Option (List ℕ)) (name token : List ℕ)
+    → Makes origin None None None (Some hello) d user (body.Hello name token)
+    → greeting_by origin.source d ≡ Ok (record { user = user; body = body.Hello name token })
+greeting_says origin hello d user name token (one, is, from, has, nobody) =
     ap (λ s. greeting_by s d) from
     ∙ ap wanted (formed_reads [] greeting greeting_agrees d (a_greeting name token) has)
     ∙ (λ i. Ok (record { user = sym nobody i; body = body.Hello name token }))
 
-query_said : (source : Source) (ask list audit hello : Option Data) (d : Data) (name : Option (List ℕ)) (query : Query)
-    (version : ℕ) → Makes source ask list audit hello d name (body.OfUser (wanting.Query query version))
-    → one_of source ask list audit hello d ≡ Ok (a_query name version query)
-query_said source None list audit hello d name query version m = let none = m.1.1 in absurd (cc)
-query_said source (Some ask) (Some list) audit hello d name query version m = absurd (omega (arith, m.0))
-query_said source (Some ask) None (Some x) hello d name query version m = absurd (omega (arith, m.0))
-query_said source (Some ask) None None (Some x) d name query version m = absurd (omega (arith, m.0))
-query_said source (Some ask) None None None d name query version m = query_says source ask d name query version m
+query_said : (origin : Origin) (ask list audit hello : Option Data) (d : Data) (name : Option (List ℕ)) (query : Query)
+    (version : ℕ) → Makes origin ask list audit hello d name (body.OfUser (wanting.Query query version))
+    → one_of origin ask list audit hello d ≡ Ok (a_query name version query)
+query_said origin None list audit hello d name query version m = let none = m.1.1 in absurd (cc)
+query_said origin (Some ask) (Some list) audit hello d name query version m = absurd (omega (arith, m.0))
+query_said origin (Some ask) None (Some x) hello d name query version m = absurd (omega (arith, m.0))
+query_said origin (Some ask) None None (Some x) d name query version m = absurd (omega (arith, m.0))
+query_said origin (Some ask) None None None d name query version m = query_says origin ask d name query version m
 
-batch_said : (source : Source) (ask list audit hello : Option Data) (d : Data) (name : Option (List ℕ))
-    (xs : List Command) → Makes source ask list audit hello d name (body.OfUser (wanting.Batch xs))
-    → one_of source ask list audit hello d ≡ Ok (a_batch name xs)
-batch_said source ask None audit hello d name xs m = let none = m.1.1 in absurd (cc)
-batch_said source (Some ask) (Some list) audit hello d name xs m = absurd (omega (arith, m.0))
-batch_said source None (Some list) (Some x) hello d name xs m = absurd (omega (arith, m.0))
-batch_said source None (Some list) None (Some x) d name xs m = absurd (omega (arith, m.0))
-batch_said source None (Some list) None None d name xs m = batch_says source list d name xs m
+batch_said : (origin : Origin) (ask list audit hello : Option Data) (d : Data) (name : Option (List ℕ))
+    (xs : List Command) → Makes origin ask list audit hello d name (body.OfUser (wanting.Batch xs))
+    → one_of origin ask list audit hello d ≡ Ok (a_batch name xs)
+batch_said origin ask None audit hello d name xs m = let none = m.1.1 in absurd (cc)
+batch_said origin (Some ask) (Some list) audit hello d name xs m = absurd (omega (arith, m.0))
+batch_said origin None (Some list) (Some x) hello d name xs m = absurd (omega (arith, m.0))
+batch_said origin None (Some list) None (Some x) d name xs m = absurd (omega (arith, m.0))
+batch_said origin None (Some list) None None d name xs m = batch_says origin list d name xs m
 
-audit_said : (source : Source) (ask list audit hello : Option Data) (d : Data) (name : Option (List ℕ))
-    (range : AuditRange) → Makes source ask list audit hello d name (body.OfUser (wanting.Audit range))
-    → one_of source ask list audit hello d ≡ Ok (an_audit name range)
-audit_said source ask list None hello d name range m = let none = m.1.1 in absurd (cc)
-audit_said source (Some ask) (Some list) (Some rows) hello d name range m = absurd (omega (arith, m.0))
-audit_said source (Some ask) None (Some rows) hello d name range m = absurd (omega (arith, m.0))
-audit_said source None (Some list) (Some rows) hello d name range m = absurd (omega (arith, m.0))
-audit_said source None None (Some rows) (Some x) d name range m = absurd (omega (arith, m.0))
-audit_said source None None (Some rows) None d name range m = audit_says source rows d name range m
+audit_said : (origin : Origin) (ask list audit hello : Option Data) (d : Data) (name : Option (List ℕ))
+    (range : AuditRange) → Makes origin ask list audit hello d name (body.OfUser (wanting.Audit range))
+    → one_of origin ask list audit hello d ≡ Ok (an_audit name range)
+audit_said origin ask list None hello d name range m = let none = m.1.1 in absurd (cc)
+audit_said origin (Some ask) (Some list) (Some rows) hello d name range m = absurd (omega (arith, m.0))
+audit_said origin (Some ask) None (Some rows) hello d name range m = absurd (omega (arith, m.0))
+audit_said origin None (Some list) (Some rows) hello d name range m = absurd (omega (arith, m.0))
+audit_said origin None None (Some rows) (Some x) d name range m = absurd (omega (arith, m.0))
+audit_said origin None None (Some rows) None d name range m = audit_says origin rows d name range m
 
-greeting_said : (source : Source) (ask list audit hello : Option Data) (d : Data) (user : Option (List ℕ))
-    (name token : List ℕ) → Makes source ask list audit hello d user (body.Hello name token)
-    → one_of source ask list audit hello d ≡ Ok (record { user = user; body = body.Hello name token })
-greeting_said source ask list audit None d user name token m = let none = m.1 in absurd (cc)
-greeting_said source (Some ask) (Some list) audit (Some x) d user name token m = absurd (omega (arith, m.0))
-greeting_said source (Some ask) None (Some rows) (Some x) d user name token m = absurd (omega (arith, m.0))
-greeting_said source (Some ask) None None (Some x) d user name token m = absurd (omega (arith, m.0))
-greeting_said source None (Some list) (Some rows) (Some x) d user name token m = absurd (omega (arith, m.0))
-greeting_said source None (Some list) None (Some x) d user name token m = absurd (omega (arith, m.0))
-greeting_said source None None (Some rows) (Some x) d user name token m = absurd (omega (arith, m.0))
-greeting_said source None None None (Some x) d user name token m = greeting_says source x d user name token m
+greeting_said : (origin : Origin) (ask list audit hello : Option Data) (d : Data) (user : Option (List ℕ))
+    (name token : List ℕ) → Makes origin ask list audit hello d user (body.Hello name token)
+    → one_of origin ask list audit hello d ≡ Ok (record { user = user; body = body.Hello name token })
+greeting_said origin ask list audit None d user name token m = let none = m.1 in absurd (cc)
+greeting_said origin (Some ask) (Some list) audit (Some x) d user name token m = absurd (omega (arith, m.0))
+greeting_said origin (Some ask) None (Some rows) (Some x) d user name token m = absurd (omega (arith, m.0))
+greeting_said origin (Some ask) None None (Some x) d user name token m = absurd (omega (arith, m.0))
+greeting_said origin None (Some list) (Some rows) (Some x) d user name token m = absurd (omega (arith, m.0))
+greeting_said origin None (Some list) None (Some x) d user name token m = absurd (omega (arith, m.0))
+greeting_said origin None None (Some rows) (Some x) d user name token m = absurd (omega (arith, m.0))
+greeting_said origin None None None (Some x) d user name token m = greeting_says origin x d user name token m
 
-module _ (source : Source) (d : Data) where
+module _ (origin : Origin) (d : Data) where
   abbrev ask_member : Option Data
   ask_member = get (codes "ask") d
 
@@ -412,12 +430,12 @@ module _ (source : Source) (d : Data) where
   hello_member = get (codes "hello") d
 
   pub query_object : (name : Option (List ℕ)) (query : Query) (version : ℕ)
-      → (request_of source d ≡ Ok (a_query name version query)) ↔ IsQuery source d name query version
+      → (request_of origin d ≡ Ok (a_query name version query)) ↔ IsQuery origin.source d name query version
   unfolding request_of
   query_object name query version = (
-    λ h. let m = made source ask_member do_member audit_member hello_member d (a_query name version query) h in
+    λ h. let m = made origin ask_member do_member audit_member hello_member d (a_query name version query) h in
         record { one = m.0; asked = m.1; user = m.2; since = m.3 },
-    λ q. query_said source ask_member do_member audit_member hello_member d name query version (
+    λ q. query_said origin ask_member do_member audit_member hello_member d name query version (
       q.one,
       q.asked,
       q.user,
@@ -426,12 +444,12 @@ module _ (source : Source) (d : Data) where
   )
 
   pub batch_object : (name : Option (List ℕ)) (xs : List Command)
-      → (request_of source d ≡ Ok (a_batch name xs)) ↔ IsBatch source d name xs
+      → (request_of origin d ≡ Ok (a_batch name xs)) ↔ IsBatch origin d name xs
   unfolding request_of
   batch_object name xs = (
-    λ h. let m = made source ask_member do_member audit_member hello_member d (a_batch name xs) h in
+    λ h. let m = made origin ask_member do_member audit_member hello_member d (a_batch name xs) h in
         record { one = m.0; list = m.1; few = m.2; listed = m.3; user = m.4 },
-    λ b. batch_said source ask_member do_member audit_member hello_member d name xs (
+    λ b. batch_said origin ask_member do_member audit_member hello_member d name xs (
       b.one,
       b.list,
       b.few,
@@ -441,12 +459,12 @@ module _ (source : Source) (d : Data) where
   )
 
   pub audit_object : (name : Option (List ℕ)) (range : AuditRange)
-      → (request_of source d ≡ Ok (an_audit name range)) ↔ IsAudit source d name range
+      → (request_of origin d ≡ Ok (an_audit name range)) ↔ IsAudit origin.source d name range
   unfolding request_of
   audit_object name range = (
-    λ h. let m = made source ask_member do_member audit_member hello_member d (an_audit name range) h in
+    λ h. let m = made origin ask_member do_member audit_member hello_member d (an_audit name range) h in
         record { one = m.0; asked = m.1; listed = m.2; user = m.3 },
-    λ a. audit_said source ask_member do_member audit_member hello_member d name range (
+    λ a. audit_said origin ask_member do_member audit_member hello_member d name range (
       a.one,
       a.asked,
       a.listed,
@@ -455,11 +473,11 @@ module _ (source : Source) (d : Data) where
   )
 
   pub greeting_object : (user : Option (List ℕ)) (name token : List ℕ)
-      → (request_of source d ≡ Ok (record { user = user; body = body.Hello name token })) ↔ IsGreeting source d user
-      name token
+      → (request_of origin d ≡ Ok (record { user = user; body = body.Hello name token }))
+      ↔ IsGreeting origin.source d user name token
   unfolding request_of
   greeting_object user name token = (
-    λ h. let m = made source ask_member do_member audit_member hello_member d
+    λ h. let m = made origin ask_member do_member audit_member hello_member d
         (record { user = user; body = body.Hello name token }) h in record {
           one = m.0;
           from = m.2;
@@ -467,50 +485,55 @@ module _ (source : Source) (d : Data) where
           nobody =
               m.4;
         },
-    λ g. greeting_said source ask_member do_member audit_member hello_member d user name token
+    λ g. greeting_said origin ask_member do_member audit_member hello_member d user name token
         (g.one, greeter_is_there d _ g.form, g.from, g.form, g.nobody),
   )
 
-  few_in_body : (user : Option (List ℕ)) (b : RequestBody) → request_of source d ≡ Ok
+  few_in_body : (user : Option (List ℕ)) (b : RequestBody) → request_of origin d ≡ Ok
       (record { user = user; body = b }) → HasFewIn b
   few_in_body user (body.OfUser (wanting.Query query version)) h = tt
   few_in_body user (body.OfUser (wanting.Batch xs)) h = ((batch_object user xs).0 h).few
   few_in_body user (body.OfUser (wanting.Audit range)) h = tt
   few_in_body user (body.Hello name token) h = tt
 
-  pub few_in_request : (y : Request) → request_of source d ≡ Ok y → HasFewIn y.body
+  pub few_in_request : (y : Request) → request_of origin d ≡ Ok y → HasFewIn y.body
   few_in_request y h = few_in_body y.user y.body h
 
 -- ---- whose it is
 
-said_by : (d : Data) (user : Option (List ℕ)) (b : RequestBody)
-    → request_of Script d ≡ Ok (record { user = user; body = b }) → IsSome user × IsNoGreeting b
-said_by d user (body.OfUser (wanting.Query query version)) h =
-    (said_in_script _ user ((query_object Script d user query version).0 h).user, tt)
-said_by d user (body.OfUser (wanting.Batch xs)) h = (
-  said_in_script _ user ((batch_object Script d user xs).0 h).user,
-  tt,
-)
-said_by d user (body.OfUser (wanting.Audit range)) h =
-    (said_in_script _ user ((audit_object Script d user range).0 h).user, tt)
-said_by d user (body.Hello name token) h = let from = ((greeting_object Script d user name token).0 h).from in
-    absurd (cc)
+module _ (edition : Edition) (d : Data) where
+  abbrev script : Origin
+  script = origin_of Script edition
 
-unsaid_by : (d : Data) (user : Option (List ℕ)) (b : RequestBody)
-    → request_of Connection d ≡ Ok (record { user = user; body = b }) → user ≡ None
-unsaid_by d user (body.OfUser (wanting.Query query version)) h = unsaid_on_connection _ user
-    ((query_object Connection d user query version).0 h).user
-unsaid_by d user (body.OfUser (wanting.Batch xs)) h = unsaid_on_connection _ user
-    ((batch_object Connection d user xs).0 h).user
-unsaid_by d user (body.OfUser (wanting.Audit range)) h = unsaid_on_connection _ user
-    ((audit_object Connection d user range).0 h).user
-unsaid_by d user (body.Hello name token) h = ((greeting_object Connection d user name token).0 h).nobody
+  abbrev connection : Origin
+  connection = origin_of Connection edition
 
-pub user_in_script : (d : Data) (y : Request) → request_of Script d ≡ Ok y → IsSaid y
-user_in_script d y h = said_by d y.user y.body h
+  said_by : (user : Option (List ℕ)) (b : RequestBody) → request_of script d ≡ Ok (record { user = user; body = b })
+      → IsSome user × IsNoGreeting b
+  said_by user (body.OfUser (wanting.Query query version)) h =
+      (said_in_script _ user ((query_object script d user query version).0 h).user, tt)
+  said_by user (body.OfUser (wanting.Batch xs)) h =
+      (said_in_script _ user ((batch_object script d user xs).0 h).user, tt)
+  said_by user (body.OfUser (wanting.Audit range)) h =
+      (said_in_script _ user ((audit_object script d user range).0 h).user, tt)
+  said_by user (body.Hello name token) h =
+      let from = ((greeting_object script d user name token).0 h).from in absurd (cc)
 
-pub no_user_on_connection : (d : Data) (y : Request) → request_of Connection d ≡ Ok y → y.user ≡ None
-no_user_on_connection d y h = unsaid_by d y.user y.body h
+  unsaid_by : (user : Option (List ℕ)) (b : RequestBody)
+      → request_of connection d ≡ Ok (record { user = user; body = b }) → user ≡ None
+  unsaid_by user (body.OfUser (wanting.Query query version)) h =
+      unsaid_on_connection _ user ((query_object connection d user query version).0 h).user
+  unsaid_by user (body.OfUser (wanting.Batch xs)) h =
+      unsaid_on_connection _ user ((batch_object connection d user xs).0 h).user
+  unsaid_by user (body.OfUser (wanting.Audit range)) h =
+      unsaid_on_connection _ user ((audit_object connection d user range).0 h).user
+  unsaid_by user (body.Hello name token) h = ((greeting_object connection d user name token).0 h).nobody
+
+  pub user_in_script : (y : Request) → request_of script d ≡ Ok y → IsSaid y
+  user_in_script y h = said_by y.user y.body h
+
+  pub no_user_on_connection : (y : Request) → request_of connection d ≡ Ok y → y.user ≡ None
+  no_user_on_connection y h = unsaid_by y.user y.body h
 
 -- ---- faults
 
@@ -541,36 +564,36 @@ query_fault : (source : Source) (o : Option (List ℕ)) (d : Data) (fault : Requ
 query_fault source None d fault h = member_fault fault (cc)
 query_fault source (Some word) d fault h = query_at (is_among (words queries) word) (query_of source word d) fault h
 
-batch_fault : (source : Source) (o : Option Items) (d : Data) (fault : RequestFault)
-    → batch_by source o d ≡ Err fault → IsFaultOfObject fault
-batch_fault source None d fault h = member_fault fault (cc)
-batch_fault source (Some ds) d fault h = batch_at (has_unknown ds) (batch_of source ds d) fault h
+batch_fault : (origin : Origin) (o : Option Items) (d : Data) (fault : RequestFault)
+    → batch_by origin o d ≡ Err fault → IsFaultOfObject fault
+batch_fault origin None d fault h = member_fault fault (cc)
+batch_fault origin (Some ds) d fault h = batch_at (has_unknown origin.edition ds) (batch_of origin ds d) fault h
 
 greeting_fault : (source : Source) (d : Data) (fault : RequestFault) → greeting_by source d ≡ Err fault
     → IsFaultOfObject fault
 greeting_fault Script d fault h = unknown_fault fault (cc)
 greeting_fault Connection d fault h = member_fault fault (wanted_fails (formed [] greeting d) fault h)
 
-said_fault : (source : Source) (ask list audit hello : Option Data) (d : Data) (fault : RequestFault)
-    → one_of source ask list audit hello d ≡ Err fault → IsFaultOfObject fault
-said_fault source (Some ask) (Some list) audit hello d fault h = unknown_fault fault (cc)
-said_fault source (Some ask) None (Some rows) hello d fault h = unknown_fault fault (cc)
-said_fault source (Some ask) None None (Some name) d fault h = unknown_fault fault (cc)
-said_fault source (Some ask) None None None d fault h = query_fault source (as_str ask) d fault h
-said_fault source None (Some list) (Some rows) hello d fault h = unknown_fault fault (cc)
-said_fault source None (Some list) None (Some name) d fault h = unknown_fault fault (cc)
-said_fault source None (Some list) None None d fault h = batch_fault source (as_array list) d fault h
-said_fault source None None (Some rows) (Some name) d fault h = unknown_fault fault (cc)
-said_fault source None None (Some rows) None d fault h = member_fault fault (wanted_fails (audit_of source rows d) fault
-    h)
-said_fault source None None None (Some name) d fault h = greeting_fault source d fault h
-said_fault source None None None None d fault h = unknown_fault fault (cc)
+said_fault : (origin : Origin) (ask list audit hello : Option Data) (d : Data) (fault : RequestFault)
+    → one_of origin ask list audit hello d ≡ Err fault → IsFaultOfObject fault
+said_fault origin (Some ask) (Some list) audit hello d fault h = unknown_fault fault (cc)
+said_fault origin (Some ask) None (Some rows) hello d fault h = unknown_fault fault (cc)
+said_fault origin (Some ask) None None (Some name) d fault h = unknown_fault fault (cc)
+said_fault origin (Some ask) None None None d fault h = query_fault origin.source (as_str ask) d fault h
+said_fault origin None (Some list) (Some rows) hello d fault h = unknown_fault fault (cc)
+said_fault origin None (Some list) None (Some name) d fault h = unknown_fault fault (cc)
+said_fault origin None (Some list) None None d fault h = batch_fault origin (as_array list) d fault h
+said_fault origin None None (Some rows) (Some name) d fault h = unknown_fault fault (cc)
+said_fault origin None None (Some rows) None d fault h =
+    member_fault fault (wanted_fails (audit_of origin.source rows d) fault h)
+said_fault origin None None None (Some name) d fault h = greeting_fault origin.source d fault h
+said_fault origin None None None None d fault h = unknown_fault fault (cc)
 
-pub object_fault : (source : Source) (d : Data) (fault : RequestFault) → request_of source d ≡ Err fault →
+pub object_fault : (origin : Origin) (d : Data) (fault : RequestFault) → request_of origin d ≡ Err fault →
     IsFaultOfObject fault
 unfolding request_of
-object_fault source d fault h =
-    said_fault source (get (codes "ask") d) (get (codes "do") d) (get (codes "audit") d) (get (codes "hello") d) d fault
+object_fault origin d fault h =
+    said_fault origin (get (codes "ask") d) (get (codes "do") d) (get (codes "audit") d) (get (codes "hello") d) d fault
     h
 
 -- ---- unknown requests
@@ -579,13 +602,14 @@ object_fault source d fault h =
 abbrev AsksOther : Option Data → Type 0
 AsksOther ask = (word : List ℕ) × (option_and_then as_str ask ≡ Some word) × All (λ other. word ≢ other) (words queries)
 
-abbrev WantsOther : Option Data → Type 0
-WantsOther list = (elements : Items) × (option_and_then as_array list ≡ Some elements) × (has_unknown elements ≡ true)
+abbrev WantsOther : Edition → Option Data → Type 0
+WantsOther edition list =
+    (elements : Items) × (option_and_then as_array list ≡ Some elements) × (has_unknown edition elements ≡ true)
 
-abbrev IsOther : Source → Option Data → Option Data → Option Data → Option Data → Type 0
-IsOther source ask list audit hello =
+abbrev IsOther : Origin → Option Data → Option Data → Option Data → Option Data → Type 0
+IsOther origin ask list audit hello =
     (count_by (λ member. is_some member) (ask ∷ list ∷ audit ∷ hello ∷ []) ≢ 1)
-    ⊎ (((source ≡ Script) × IsSome hello) ⊎ (AsksOther ask ⊎ WantsOther list))
+    ⊎ (((origin.source ≡ Script) × IsSome hello) ⊎ (AsksOther ask ⊎ WantsOther origin.edition list))
 
 other_where : {A : Type 0} (b : Bool) (o : Option A) → cond b (wanted o) (Err UnknownRequest) ≡ Err UnknownRequest
     → b ≡ false
@@ -607,83 +631,83 @@ asks_other source (Some word) d h = (
       h),
 )
 
-wants_other : (source : Source) (o : Option Items) (d : Data) → batch_by source o d ≡ Err UnknownRequest
-    → (elements : Items) × (o ≡ Some elements) × (has_unknown elements ≡ true)
-wants_other source None d h = absurd (cc)
-wants_other source (Some ds) d h = (ds, refl, other_unless (has_unknown ds) (batch_of source ds d) h)
+wants_other : (origin : Origin) (o : Option Items) (d : Data) → batch_by origin o d ≡ Err UnknownRequest
+    → (elements : Items) × (o ≡ Some elements) × (has_unknown origin.edition elements ≡ true)
+wants_other origin None d h = absurd (cc)
+wants_other origin (Some ds) d h = (ds, refl, other_unless (has_unknown origin.edition ds) (batch_of origin ds d) h)
 
 greets_other : (source : Source) (d : Data) → greeting_by source d ≡ Err UnknownRequest → source ≡ Script
 greets_other Script d h = refl
 greets_other Connection d h = let bad = wanted_fails (formed [] greeting d) UnknownRequest h in absurd (cc)
 
-other_is : (source : Source) (ask list audit hello : Option Data) (d : Data)
-    → one_of source ask list audit hello d ≡ Err UnknownRequest → IsOther source ask list audit hello
-other_is source (Some ask) (Some list) audit hello d h = inl (λ same. omega (arith, same))
-other_is source (Some ask) None (Some rows) hello d h = inl (λ same. omega (arith, same))
-other_is source (Some ask) None None (Some name) d h = inl (λ same. omega (arith, same))
-other_is source (Some ask) None None None d h = inr (inr (inl (asks_other source (as_str ask) d h)))
-other_is source None (Some list) (Some rows) hello d h = inl (λ same. omega (arith, same))
-other_is source None (Some list) None (Some name) d h = inl (λ same. omega (arith, same))
-other_is source None (Some list) None None d h = inr (inr (inr (wants_other source (as_array list) d h)))
-other_is source None None (Some rows) (Some name) d h = inl (λ same. omega (arith, same))
-other_is source None None (Some rows) None d h = let bad = wanted_fails (audit_of source rows d) UnknownRequest h in
-    absurd (cc)
-other_is source None None None (Some name) d h = inr (inl (greets_other source d h, refl))
-other_is source None None None None d h = inl (λ same. omega (arith, same))
+other_is : (origin : Origin) (ask list audit hello : Option Data) (d : Data)
+    → one_of origin ask list audit hello d ≡ Err UnknownRequest → IsOther origin ask list audit hello
+other_is origin (Some ask) (Some list) audit hello d h = inl (λ same. omega (arith, same))
+other_is origin (Some ask) None (Some rows) hello d h = inl (λ same. omega (arith, same))
+other_is origin (Some ask) None None (Some name) d h = inl (λ same. omega (arith, same))
+other_is origin (Some ask) None None None d h = inr (inr (inl (asks_other origin.source (as_str ask) d h)))
+other_is origin None (Some list) (Some rows) hello d h = inl (λ same. omega (arith, same))
+other_is origin None (Some list) None (Some name) d h = inl (λ same. omega (arith, same))
+other_is origin None (Some list) None None d h = inr (inr (inr (wants_other origin (as_array list) d h)))
+other_is origin None None (Some rows) (Some name) d h = inl (λ same. omega (arith, same))
+other_is origin None None (Some rows) None d h =
+    let bad = wanted_fails (audit_of origin.source rows d) UnknownRequest h in absurd (cc)
+other_is origin None None None (Some name) d h = inr (inl (greets_other origin.source d h, refl))
+other_is origin None None None None d h = inl (λ same. omega (arith, same))
 
-one_asks : (source : Source) (ask : Data) (d : Data) → IsOther source (Some ask) None None None
-    → query_by source (as_str ask) d ≡ Err UnknownRequest
-one_asks source ask d (inl count) = absurd (count refl)
-one_asks source ask d (inr (inl greets)) = let none = greets.1 in absurd (cc)
-one_asks source ask d (inr (inr (inl other))) =
-    ap (λ o. query_by source o d) other.1
-    ∙ ap (λ b. cond b (wanted (query_of source other.0 d)) (Err UnknownRequest))
+one_asks : (origin : Origin) (ask : Data) (d : Data) → IsOther origin (Some ask) None None None
+    → query_by origin.source (as_str ask) d ≡ Err UnknownRequest
+one_asks origin ask d (inl count) = absurd (count refl)
+one_asks origin ask d (inr (inl greets)) = let none = greets.1 in absurd (cc)
+one_asks origin ask d (inr (inr (inl other))) =
+    ap (λ o. query_by origin.source o d) other.1
+    ∙ ap (λ b. cond b (wanted (query_of origin.source other.0 d)) (Err UnknownRequest))
     (among_none (words queries) other.0 other.2)
-one_asks source ask d (inr (inr (inr other))) = let none = other.1 in absurd (cc)
+one_asks origin ask d (inr (inr (inr other))) = let none = other.1 in absurd (cc)
 
-one_wants : (source : Source) (list : Data) (d : Data) → IsOther source None (Some list) None None
-    → batch_by source (as_array list) d ≡ Err UnknownRequest
-one_wants source list d (inl count) = absurd (count refl)
-one_wants source list d (inr (inl greets)) = let none = greets.1 in absurd (cc)
-one_wants source list d (inr (inr (inl other))) = let none = other.1 in absurd (cc)
-one_wants source list d (inr (inr (inr other))) =
-    ap (λ o. batch_by source o d) other.1 ∙ ap (λ b. cond b (Err UnknownRequest) (wanted (batch_of source other.0 d)))
+one_wants : (origin : Origin) (list : Data) (d : Data) → IsOther origin None (Some list) None None
+    → batch_by origin (as_array list) d ≡ Err UnknownRequest
+one_wants origin list d (inl count) = absurd (count refl)
+one_wants origin list d (inr (inl greets)) = let none = greets.1 in absurd (cc)
+one_wants origin list d (inr (inr (inl other))) = let none = other.1 in absurd (cc)
+one_wants origin list d (inr (inr (inr other))) =
+    ap (λ o. batch_by origin o d) other.1 ∙ ap (λ b. cond b (Err UnknownRequest) (wanted (batch_of origin other.0 d)))
     other.2
 
-one_audits : (source : Source) (rows d : Data) → IsOther source None None (Some rows) None
-    → wanted (audit_of source rows d) ≡ Err UnknownRequest
-one_audits source rows d (inl count) = absurd (count refl)
-one_audits source rows d (inr (inl greets)) = let none = greets.1 in absurd (cc)
-one_audits source rows d (inr (inr (inl other))) = let none = other.1 in absurd (cc)
-one_audits source rows d (inr (inr (inr other))) = let none = other.1 in absurd (cc)
+one_audits : (origin : Origin) (rows d : Data) → IsOther origin None None (Some rows) None
+    → wanted (audit_of origin.source rows d) ≡ Err UnknownRequest
+one_audits origin rows d (inl count) = absurd (count refl)
+one_audits origin rows d (inr (inl greets)) = let none = greets.1 in absurd (cc)
+one_audits origin rows d (inr (inr (inl other))) = let none = other.1 in absurd (cc)
+one_audits origin rows d (inr (inr (inr other))) = let none = other.1 in absurd (cc)
 
-one_greets : (source : Source) (hello d : Data) → IsOther source None None None (Some hello)
-    → greeting_by source d ≡ Err UnknownRequest
-one_greets source hello d (inl count) = absurd (count refl)
-one_greets source hello d (inr (inl greets)) = ap (λ s. greeting_by s d) greets.0
-one_greets source hello d (inr (inr (inl other))) = let none = other.1 in absurd (cc)
-one_greets source hello d (inr (inr (inr other))) = let none = other.1 in absurd (cc)
+one_greets : (origin : Origin) (hello d : Data) → IsOther origin None None None (Some hello)
+    → greeting_by origin.source d ≡ Err UnknownRequest
+one_greets origin hello d (inl count) = absurd (count refl)
+one_greets origin hello d (inr (inl greets)) = ap (λ s. greeting_by s d) greets.0
+one_greets origin hello d (inr (inr (inl other))) = let none = other.1 in absurd (cc)
+one_greets origin hello d (inr (inr (inr other))) = let none = other.1 in absurd (cc)
 
-other_said : (source : Source) (ask list audit hello : Option Data) (d : Data) → IsOther source ask list audit hello
-    → one_of source ask list audit hello d ≡ Err UnknownRequest
-other_said source (Some ask) (Some list) audit hello d h = refl
-other_said source (Some ask) None (Some rows) hello d h = refl
-other_said source (Some ask) None None (Some name) d h = refl
-other_said source (Some ask) None None None d h = one_asks source ask d h
-other_said source None (Some list) (Some rows) hello d h = refl
-other_said source None (Some list) None (Some name) d h = refl
-other_said source None (Some list) None None d h = one_wants source list d h
-other_said source None None (Some rows) (Some name) d h = refl
-other_said source None None (Some rows) None d h = one_audits source rows d h
-other_said source None None None (Some name) d h = one_greets source name d h
-other_said source None None None None d h = refl
+other_said : (origin : Origin) (ask list audit hello : Option Data) (d : Data) → IsOther origin ask list audit hello
+    → one_of origin ask list audit hello d ≡ Err UnknownRequest
+other_said origin (Some ask) (Some list) audit hello d h = refl
+other_said origin (Some ask) None (Some rows) hello d h = refl
+other_said origin (Some ask) None None (Some name) d h = refl
+other_said origin (Some ask) None None None d h = one_asks origin ask d h
+other_said origin None (Some list) (Some rows) hello d h = refl
+other_said origin None (Some list) None (Some name) d h = refl
+other_said origin None (Some list) None None d h = one_wants origin list d h
+other_said origin None None (Some rows) (Some name) d h = refl
+other_said origin None None (Some rows) None d h = one_audits origin rows d h
+other_said origin None None None (Some name) d h = one_greets origin name d h
+other_said origin None None None None d h = refl
 
-pub unknown_object : (source : Source) (d : Data)
-    → (request_of source d ≡ Err UnknownRequest) ↔ IsUnknownRequest source d
+pub unknown_object : (origin : Origin) (d : Data)
+    → (request_of origin d ≡ Err UnknownRequest) ↔ IsUnknownRequest origin d
 unfolding request_of
-unknown_object source d =
+unknown_object origin d =
     let ask = get (codes "ask") d in
     let list = get (codes "do") d in
     let audit = get (codes "audit") d in
     let hello = get (codes "hello") d in
-    (other_is source ask list audit hello d, other_said source ask list audit hello d)
+    (other_is origin ask list audit hello d, other_said origin ask list audit hello d)

@@ -30,6 +30,8 @@ use Rattle.wire.specs.declared.request.Request.{Request}
 use Rattle.wire.specs.declared.request.RequestBody.{RequestBody}
 use Rattle.wire.specs.declared.request.RequestBody.TheVariants as body
 use Rattle.wire.specs.declared.request.UserRequest.TheVariants as wanting
+use Rattle.session_roles.specs.declared.edition.Edition.{Edition}
+use Rattle.wire.specs.declared.origin.Origin.{Origin}
 use Rattle.wire.specs.declared.source.Source.{Source}
 use Rattle.wire.specs.declared.source.Source.TheVariants.{Script, Connection}
 use Rattle.json_fields.specs.declared.request_fault.RequestFault.{RequestFault}
@@ -72,14 +74,16 @@ abbrev pub AsksAnother : Data → Type 0
 AsksAnother d =
     (word : List ℕ) × (text_at (codes "ask") d ≡ Some word) × All (λ other. word ≢ other) (words queries)
 
--- somewhere in its list a word names no command
-abbrev pub WantsAnother : Data → Type 0
-WantsAnother d =
-    (elements : Items) × (option_and_then as_array (get (codes "do") d) ≡ Some elements) × (has_unknown elements ≡ true)
+-- somewhere in its list a word names no command of the edition
+abbrev pub WantsAnother : Edition → Data → Type 0
+WantsAnother edition d =
+    (elements : Items) × (option_and_then as_array (get (codes "do") d) ≡ Some elements)
+    × (has_unknown edition elements ≡ true)
 
 -- not exactly one member makes a request, or it is a greeting in a script, or a word in it names nothing
-abbrev pub IsUnknownRequest : Source → Data → Type 0
-IsUnknownRequest source d = (request_count d ≢ 1) ⊎ (GreetsInScript source d ⊎ (AsksAnother d ⊎ WantsAnother d))
+abbrev pub IsUnknownRequest : Origin → Data → Type 0
+IsUnknownRequest origin d =
+    (request_count d ≢ 1) ⊎ (GreetsInScript origin.source d ⊎ (AsksAnother d ⊎ WantsAnother origin.edition d))
 
 -- whose it is, by where it comes from
 abbrev pub IsOf : Source → Data → Option (List ℕ) → Type 0
@@ -93,13 +97,13 @@ pub record IsQuery (source : Source) (d : Data) (name : Option (List ℕ)) (quer
   pub since : since.Is (get since.name d) version
 
 -- it wants these commands done, for this user, and nothing else stands in it
-pub record IsBatch (source : Source) (d : Data) (name : Option (List ℕ)) (commands : List Command) : Type 0 where
+pub record IsBatch (origin : Origin) (d : Data) (name : Option (List ℕ)) (commands : List Command) : Type 0 where
   pub one : request_count d ≡ 1
   pub list : (elements : Items) × (option_and_then as_array (get (codes "do") d) ≡ Some elements)
-      × AreEach IsCommand elements commands
+      × AreEach (IsCommand origin.edition) elements commands
   pub few : length commands ≤ most_commands
   pub listed : has_only doing d ≡ true
-  pub user : IsOf source d name
+  pub user : IsOf origin.source d name
 
 -- it asks for these rows of the audit, for this user, and nothing else stands in it
 pub record IsAudit (source : Source) (d : Data) (name : Option (List ℕ)) (range : AuditRange) : Type 0 where
@@ -116,42 +120,42 @@ pub record IsGreeting (source : Source) (d : Data) (user : Option (List ℕ)) (n
   pub nobody : user ≡ None
 
 -- it is no query, no batch, no audit and no greeting
-pub record IsNoRequest (source : Source) (d : Data) : Type 0 where
-  pub no_query : (user : Option (List ℕ)) (query : Query) (version : ℕ) → ¬ IsQuery source d user query version
-  pub no_batch : (user : Option (List ℕ)) (commands : List Command) → ¬ IsBatch source d user commands
-  pub no_audit : (user : Option (List ℕ)) (range : AuditRange) → ¬ IsAudit source d user range
-  pub no_greeting : (user : Option (List ℕ)) (name token : List ℕ) → ¬ IsGreeting source d user name token
+pub record IsNoRequest (origin : Origin) (d : Data) : Type 0 where
+  pub no_query : (user : Option (List ℕ)) (query : Query) (version : ℕ) → ¬ IsQuery origin.source d user query version
+  pub no_batch : (user : Option (List ℕ)) (commands : List Command) → ¬ IsBatch origin d user commands
+  pub no_audit : (user : Option (List ℕ)) (range : AuditRange) → ¬ IsAudit origin.source d user range
+  pub no_greeting : (user : Option (List ℕ)) (name token : List ℕ) → ¬ IsGreeting origin.source d user name token
 
 -- what its members make of an object, and whose it is
-abbrev pub Makes : Source → Data → Option (List ℕ) → RequestBody → Type 0
-Makes source d user (body.OfUser (wanting.Query query version)) = IsQuery source d user query version
-Makes source d user (body.OfUser (wanting.Batch commands)) = IsBatch source d user commands
-Makes source d user (body.OfUser (wanting.Audit range)) = IsAudit source d user range
-Makes source d user (body.Hello name token) = IsGreeting source d user name token
+abbrev pub Makes : Origin → Data → Option (List ℕ) → RequestBody → Type 0
+Makes origin d user (body.OfUser (wanting.Query query version)) = IsQuery origin.source d user query version
+Makes origin d user (body.OfUser (wanting.Batch commands)) = IsBatch origin d user commands
+Makes origin d user (body.OfUser (wanting.Audit range)) = IsAudit origin.source d user range
+Makes origin d user (body.Hello name token) = IsGreeting origin.source d user name token
 
 -- the bytes are a message, and its members make it this request
-pub record Says (source : Source) (bytes : List ℕ) (request : Request) : Type 0 where
+pub record Says (origin : Origin) (bytes : List ℕ) (request : Request) : Type 0 where
   pub said : Data
   pub is : IsMessage bytes said
-  pub makes : Makes source said request.user request.body
+  pub makes : Makes origin said request.user request.body
 
 -- a message that is an unknown request
-pub record SaysUnknown (source : Source) (bytes : List ℕ) : Type 0 where
+pub record SaysUnknown (origin : Origin) (bytes : List ℕ) : Type 0 where
   pub said : Data
   pub is : IsMessage bytes said
-  pub unknown : IsUnknownRequest source said
+  pub unknown : IsUnknownRequest origin said
 
 -- a message that has a bad member, and is no unknown request
-pub record SaysBad (source : Source) (bytes : List ℕ) : Type 0 where
+pub record SaysBad (origin : Origin) (bytes : List ℕ) : Type 0 where
   pub said : Data
   pub is : IsMessage bytes said
-  pub known : ¬ IsUnknownRequest source said
-  pub none : IsNoRequest source said
+  pub known : ¬ IsUnknownRequest origin said
+  pub none : IsNoRequest origin said
 
 -- why bytes say no request, the first of these in their order; want of memory has no place in it
-abbrev pub SaysNone : RequestFault → Source → List ℕ → Type 0
-SaysNone TooLong source bytes = most_message_bytes < length bytes
-SaysNone Malformed source bytes = (length bytes ≤ most_message_bytes) × ((d : Data) → ¬ IsObject bytes d)
-SaysNone UnknownRequest source bytes = SaysUnknown source bytes
-SaysNone BadField source bytes = SaysBad source bytes
-SaysNone OutOfMemory source bytes = Unit {0}
+abbrev pub SaysNone : RequestFault → Origin → List ℕ → Type 0
+SaysNone TooLong origin bytes = most_message_bytes < length bytes
+SaysNone Malformed origin bytes = (length bytes ≤ most_message_bytes) × ((d : Data) → ¬ IsObject bytes d)
+SaysNone UnknownRequest origin bytes = SaysUnknown origin bytes
+SaysNone BadField origin bytes = SaysBad origin bytes
+SaysNone OutOfMemory origin bytes = Unit {0}

@@ -38,6 +38,8 @@ use Rattle.wire.specs.declared.request.ScriptRequest.{ScriptRequest}
 use Rattle.wire.specs.declared.request.RequestBody.TheVariants as body
 use Rattle.wire.specs.declared.request.UserRequest.TheVariants as wanting
 use Rattle.wire.specs.declared.reading.TheConstants.{MOST_MESSAGE_BYTES}
+use Rattle.session_roles.specs.declared.edition.Edition.{Edition}
+use Rattle.wire.specs.declared.origin.Origin.{Origin}
 use Rattle.wire.specs.declared.source.Source.{Source}
 use Rattle.wire.specs.declared.source.Source.TheVariants.{Script, Connection}
 use Rattle.json_fields.specs.declared.request_fault.RequestFault.{RequestFault}
@@ -54,6 +56,7 @@ use Rattle.wire.specs.Query.{queries, query_called}
 use Rattle.command_object.specs.Command.{has_unknown, commands_in}
 use Rattle.wire.specs.Audit.{audit_of}
 use Rattle.wire.specs.Greeting.{greeting}
+use Rattle.wire.specs.Origin.{origin_of}
 use Rattle.wire.specs.Source.{said_user}
 
 -- how many bytes a message has at most, without what ends its line
@@ -87,25 +90,26 @@ abbrev pub doing : List (List ℕ)
 doing = codes "do" ∷ codes "as" ∷ []
 
 -- the commands of a list that isn't too long
-abbrev pub few_commands_in : Items → Option (List Command)
-few_commands_in ds = if nat_le (item_count ds) most_commands then commands_in ds else None
+abbrev pub few_commands_in : Edition → Items → Option (List Command)
+few_commands_in edition ds = if nat_le (item_count ds) most_commands then commands_in edition ds else None
 
 -- the request for a batch, and whose it is
 abbrev pub a_batch : Option (List ℕ) → List Command → Request
 a_batch user commands = record { user = user; body = body.OfUser (wanting.Batch commands) }
 
 -- a batch and whose it is: these members and no other
-unfoldable pub batch_of : Source → Items → Data → Option Request
-batch_of source ds d =
-    let whose = said_user source in
+unfoldable pub batch_of : Origin → Items → Data → Option Request
+batch_of origin ds d =
+    let whose = said_user origin.source in
     if has_only doing d
-    then applied (applied (Some a_batch) (whose.value (get whose.name d))) (few_commands_in ds)
+    then applied (applied (Some a_batch) (whose.value (get whose.name d))) (few_commands_in origin.edition ds)
     else None
 
 -- what is to be done has to be a list; a word in it that names no command comes before all that is wrong elsewhere
-abbrev pub batch_by : Source → Option Items → Data → Result Request RequestFault
-batch_by source None d = Err BadField
-batch_by source (Some ds) d = if has_unknown ds then Err UnknownRequest else wanted (batch_of source ds d)
+abbrev pub batch_by : Origin → Option Items → Data → Result Request RequestFault
+batch_by origin None d = Err BadField
+batch_by origin (Some ds) d =
+    if has_unknown origin.edition ds then Err UnknownRequest else wanted (batch_of origin ds d)
 
 -- ---- requests
 
@@ -115,36 +119,36 @@ greeting_by Script d = Err UnknownRequest
 greeting_by Connection d = wanted (formed [] greeting d)
 
 -- exactly one of `ask`, `do`, `audit` and `hello` is there
-abbrev pub one_of : Source → Option Data → Option Data → Option Data → Option Data → Data → Result Request RequestFault
-one_of source (Some ask) None None None d = query_by source (as_str ask) d
-one_of source None (Some list) None None d = batch_by source (as_array list) d
-one_of source None None (Some rows) None d = wanted (audit_of source rows d)
-one_of source None None None (Some name) d = greeting_by source d
-one_of source ask list rows name d = Err UnknownRequest
+abbrev pub one_of : Origin → Option Data → Option Data → Option Data → Option Data → Data → Result Request RequestFault
+one_of origin (Some ask) None None None d = query_by origin.source (as_str ask) d
+one_of origin None (Some list) None None d = batch_by origin (as_array list) d
+one_of origin None None (Some rows) None d = wanted (audit_of origin.source rows d)
+one_of origin None None None (Some name) d = greeting_by origin.source d
+one_of origin ask list rows name d = Err UnknownRequest
 
 -- what an object says
-unfoldable pub request_of : Source → Data → Result Request RequestFault
-request_of source d =
-    one_of source (get (codes "ask") d) (get (codes "do") d) (get (codes "audit") d) (get (codes "hello") d) d
+unfoldable pub request_of : Origin → Data → Result Request RequestFault
+request_of origin d =
+    one_of origin (get (codes "ask") d) (get (codes "do") d) (get (codes "audit") d) (get (codes "hello") d) d
 
 -- what was read has to be an object
-abbrev pub object_of : Source → Option Data → Result Request RequestFault
-object_of source None = Err Malformed
-object_of source (Some d) = if is_some (as_object d) then request_of source d else Err Malformed
+abbrev pub object_of : Origin → Option Data → Result Request RequestFault
+object_of origin None = Err Malformed
+object_of origin (Some d) = if is_some (as_object d) then request_of origin d else Err Malformed
 
 -- what a text says
-unfoldable pub text_meaning : Source → List ℕ → Result Request RequestFault
-text_meaning source text = object_of source (read text)
+unfoldable pub text_meaning : Origin → List ℕ → Result Request RequestFault
+text_meaning origin text = object_of origin (read text)
 
 -- what bytes that aren't too many say: they have to be a text, in UTF-8
-unfoldable pub bytes_meaning : Source → List ℕ → Result Request RequestFault
-bytes_meaning source bytes =
-    if utf8_valid_len bytes == length bytes then text_meaning source bytes else Err Malformed
+unfoldable pub bytes_meaning : Origin → List ℕ → Result Request RequestFault
+bytes_meaning origin bytes =
+    if utf8_valid_len bytes == length bytes then text_meaning origin bytes else Err Malformed
 
 -- what the bytes of a message say
-unfoldable pub meaning : Source → List ℕ → Result Request RequestFault
-meaning source bytes =
-    if nat_le (length bytes) most_message_bytes then bytes_meaning source bytes else Err TooLong
+unfoldable pub meaning : Origin → List ℕ → Result Request RequestFault
+meaning origin bytes =
+    if nat_le (length bytes) most_message_bytes then bytes_meaning origin bytes else Err TooLong
 
 -- whether bytes are read as JSON at all, for which memory may be asked: they are not too many, and a text in UTF-8
 abbrev pub is_message_text : List ℕ → Bool
@@ -185,13 +189,13 @@ abbrev pub said_of : Result Request RequestFault → Result ScriptRequest Reques
 said_of (Ok request) = said_request request
 said_of (Err fault) = Err fault
 
-unfoldable pub script_meaning : List ℕ → Result ScriptRequest RequestFault
-script_meaning bytes = said_of (meaning Script bytes)
+unfoldable pub script_meaning : Edition → List ℕ → Result ScriptRequest RequestFault
+script_meaning edition bytes = said_of (meaning (origin_of Script edition) bytes)
 
 -- what a message on a connection wants, which names no user
 abbrev pub wanted_of : Result Request RequestFault → Result RequestBody RequestFault
 wanted_of (Ok request) = Ok request.body
 wanted_of (Err fault) = Err fault
 
-unfoldable pub connection_meaning : List ℕ → Result RequestBody RequestFault
-connection_meaning bytes = wanted_of (meaning Connection bytes)
+unfoldable pub connection_meaning : Edition → List ℕ → Result RequestBody RequestFault
+connection_meaning edition bytes = wanted_of (meaning (origin_of Connection edition) bytes)

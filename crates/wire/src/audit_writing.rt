@@ -100,6 +100,8 @@ fn word_text(word: CommandWord) -> &'static str
         CommandWord::DeleteInheritance => "DeleteInheritance",
         CommandWord::Solved => "Solved",
         CommandWord::Analysed => "Analysed",
+        CommandWord::Embargo => "Embargo",
+        CommandWord::Lift => "Lift",
     }
 }
 

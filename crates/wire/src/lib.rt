@@ -10,6 +10,7 @@ mod fault_writing;
 mod greeting_reading;
 pub mod laws;
 mod list_reading;
+mod origin;
 mod query_reading;
 mod reading;
 mod receipt_writing;

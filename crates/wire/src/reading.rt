@@ -7,10 +7,12 @@ ghost use Rattle.serde_json.specs.View.{view, items_view};
 ghost use Rattle.json_fields.specs.Reading.{wanted, Gives};
 ghost use Rattle.json_fields.specs.declared.request_fault.RequestFault.TheVariants.{OutOfMemory};
 ghost use Rattle.wire.specs.Grammar.{Says, SaysNone};
+ghost use Rattle.wire.specs.Origin.{origin_of};
 ghost use Rattle.wire.specs.Request.{query_of, query_by, batch_of, batch_by, greeting_by, request_of, text_meaning, bytes_meaning, meaning, script_meaning, connection_meaning, said_request, is_message_text, HasFew, HasFewIn};
 
 use crate::audit_reading::audit_of;
 use crate::greeting_reading::greeting_of;
+use crate::origin::Origin;
 use crate::query_reading::{is_query_word, query_called};
 use crate::request::{Request, RequestBody, ScriptRequest, UserRequest};
 use crate::source::{Source, said_user};
@@ -18,6 +20,7 @@ use command_object::{commands_in, has_unknown};
 use json_fields::{RequestFault, has_only, read_since};
 use serde_json::Value;
 use session_book::Book;
+use session_roles::Edition;
 use std::alloc::Global;
 use std::str;
 
@@ -60,18 +63,18 @@ fn batch_of(
     alloc: Global,
     list: &[Value],
     value: &Value,
-    source: Source,
+    origin: Origin,
 ) -> Result<Request, RequestFault>
-    ensures { Gives result (wanted (batch_of source (items_view list.now) (view value.now))) }
+    ensures { Gives result (wanted (batch_of origin (items_view list.now) (view value.now))) }
 {
     if !has_only(value, &["do", "as"]) {
         return Err(RequestFault::BadField);
     }
-    let user = said_user(value, source)?;
+    let user = said_user(value, origin.source)?;
     if list.len() > Book::MOST_COMMANDS {
         return Err(RequestFault::BadField);
     }
-    let commands = commands_in(alloc, list)?;
+    let commands = commands_in(alloc, list, origin.edition)?;
     let body = RequestBody::OfUser(UserRequest::Batch { commands });
     Ok(Request { user, body })
 }
@@ -80,17 +83,17 @@ fn batch_by(
     alloc: Global,
     list: &Value,
     value: &Value,
-    source: Source,
+    origin: Origin,
 ) -> Result<Request, RequestFault>
-    ensures { Gives result (batch_by source (as_array (view list.now)) (view value.now)) }
+    ensures { Gives result (batch_by origin (as_array (view list.now)) (view value.now)) }
 {
     let Some(list) = list.as_array() else {
         return Err(RequestFault::BadField);
     };
-    if has_unknown(list.as_slice()) {
+    if has_unknown(list.as_slice(), origin.edition) {
         return Err(RequestFault::UnknownRequest);
     }
-    batch_of(alloc, list.as_slice(), value, source)
+    batch_of(alloc, list.as_slice(), value, origin)
 }
 
 fn greeting_by(alloc: Global, value: &Value, source: Source) -> Result<Request, RequestFault>
@@ -103,8 +106,8 @@ fn greeting_by(alloc: Global, value: &Value, source: Source) -> Result<Request, 
 }
 
 #[tactic(auto, unfolding(crate::specs::Request::request_of))]
-fn request_of(alloc: Global, value: &Value, source: Source) -> Result<Request, RequestFault>
-    ensures { Gives result (request_of source (view value.now)) }
+fn request_of(alloc: Global, value: &Value, origin: Origin) -> Result<Request, RequestFault>
+    ensures { Gives result (request_of origin (view value.now)) }
 {
     let members = (
         value.get("ask"),
@@ -113,17 +116,17 @@ fn request_of(alloc: Global, value: &Value, source: Source) -> Result<Request, R
         value.get("hello"),
     );
     match members {
-        (Some(ask), None, None, None) => query_by(alloc, ask, value, source),
-        (None, Some(list), None, None) => batch_by(alloc, list, value, source),
-        (None, None, Some(rows), None) => audit_of(rows, value, source),
-        (None, None, None, Some(_)) => greeting_by(alloc, value, source),
+        (Some(ask), None, None, None) => query_by(alloc, ask, value, origin.source),
+        (None, Some(list), None, None) => batch_by(alloc, list, value, origin),
+        (None, None, Some(rows), None) => audit_of(rows, value, origin.source),
+        (None, None, None, Some(_)) => greeting_by(alloc, value, origin.source),
         _ => Err(RequestFault::UnknownRequest),
     }
 }
 
 #[tactic(auto, unfolding(crate::specs::Request::text_meaning))]
-fn read_text(alloc: Global, text: &str, source: Source) -> Result<Request, RequestFault>
-    ensures { Gives result (text_meaning source text.now) }
+fn read_text(alloc: Global, text: &str, origin: Origin) -> Result<Request, RequestFault>
+    ensures { Gives result (text_meaning origin text.now) }
 {
     let value = match Value::from_str(alloc, text) {
         Ok(value) => value,
@@ -133,41 +136,51 @@ fn read_text(alloc: Global, text: &str, source: Source) -> Result<Request, Reque
     if !value.is_object() {
         return Err(RequestFault::Malformed);
     }
-    request_of(alloc, &value, source)
+    request_of(alloc, &value, origin)
 }
 
 #[tactic(auto, unfolding(crate::specs::Request::bytes_meaning))]
-fn read_bytes(alloc: Global, bytes: &[u8], source: Source) -> Result<Request, RequestFault>
-    ensures meaning { Gives result (bytes_meaning source bytes.now) }
+fn read_bytes(alloc: Global, bytes: &[u8], origin: Origin) -> Result<Request, RequestFault>
+    ensures meaning { Gives result (bytes_meaning origin bytes.now) }
     ensures memory { IfErr result (λ fault. fault ≡ OutOfMemory → utf8_valid_len bytes.now ≡ length bytes.now) }
 {
     match str::from_utf8(bytes) {
-        Ok(text) => read_text(alloc, text, source),
+        Ok(text) => read_text(alloc, text, origin),
         Err(_) => Err(RequestFault::Malformed),
     }
 }
 
-/// The request that a message's bytes are. Memory is asked for only where they are not too many, and a text.
-pub fn read_request(alloc: Global, bytes: &[u8], source: Source) -> Result<Request, RequestFault>
-    ensures request { IfOk result (Says source bytes.now) }
-    ensures none { IfErr result (λ fault. SaysNone fault source bytes.now) }
+/// The request that a message's bytes are, in a session of an edition of the policy. Memory is asked for only where
+/// they are not too many, and a text.
+pub fn read_request(
+    alloc: Global,
+    bytes: &[u8],
+    source: Source,
+    edition: Edition,
+) -> Result<Request, RequestFault>
+    ensures request { IfOk result (Says (origin_of source edition) bytes.now) }
+    ensures none { IfErr result (λ fault. SaysNone fault (origin_of source edition) bytes.now) }
     ensures memory { IfErr result (λ fault. fault ≡ OutOfMemory → is_message_text bytes.now ≡ true) }
     ensures few { IfOk result (λ request. HasFewIn request.body) }
 {
     if bytes.len() > MOST_MESSAGE_BYTES {
         return Err(RequestFault::TooLong);
     }
-    read_bytes(alloc, bytes, source)
+    read_bytes(alloc, bytes, Origin { source, edition })
 }
 
 /// The request that a script's message is, and whose it is. Each names its user.
 #[tactic(auto, using(crate::proofs::GrammarLemmas::script_said, crate::proofs::GrammarLemmas::script_none))]
-pub fn read_script_request(alloc: Global, bytes: &[u8]) -> Result<ScriptRequest, RequestFault>
-    ensures meaning { Gives result (script_meaning bytes.now) }
+pub fn read_script_request(
+    alloc: Global,
+    bytes: &[u8],
+    edition: Edition,
+) -> Result<ScriptRequest, RequestFault>
+    ensures meaning { Gives result (script_meaning edition bytes.now) }
     ensures memory { IfErr result (λ fault. fault ≡ OutOfMemory → is_message_text bytes.now ≡ true) }
     ensures few { IfOk result (λ said. HasFew said.request) }
 {
-    match read_request(alloc, bytes, Source::Script) {
+    match read_request(alloc, bytes, Source::Script, edition) {
         Ok(request) => said_request(request),
         Err(fault) => Err(fault),
     }
@@ -175,12 +188,16 @@ pub fn read_script_request(alloc: Global, bytes: &[u8]) -> Result<ScriptRequest,
 
 /// What a message on a connection wants: something for who is signed in there, or a user who signs in.
 #[tactic(auto, using(crate::proofs::GrammarLemmas::connection_said, crate::proofs::GrammarLemmas::connection_none))]
-pub fn read_connection_request(alloc: Global, bytes: &[u8]) -> Result<RequestBody, RequestFault>
-    ensures meaning { Gives result (connection_meaning bytes.now) }
+pub fn read_connection_request(
+    alloc: Global,
+    bytes: &[u8],
+    edition: Edition,
+) -> Result<RequestBody, RequestFault>
+    ensures meaning { Gives result (connection_meaning edition bytes.now) }
     ensures memory { IfErr result (λ fault. fault ≡ OutOfMemory → is_message_text bytes.now ≡ true) }
     ensures few { IfOk result HasFewIn }
 {
-    match read_request(alloc, bytes, Source::Connection) {
+    match read_request(alloc, bytes, Source::Connection, edition) {
         Ok(Request { body, .. }) => Ok(body),
         Err(fault) => Err(fault),
     }

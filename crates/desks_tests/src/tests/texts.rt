@@ -9,6 +9,7 @@ use displays::{Display, Receipt, Server};
 use reply_texts::reply_text;
 use session_book::Submission;
 use session_commands::Command;
+use session_roles::Edition;
 use std::alloc::Global;
 use std::sync::Wait;
 use user_names::Name;
@@ -27,7 +28,7 @@ pub(super) fn told<N: Server, R: Wait>(
     desk: &Desk<'_, N>,
     message: &str,
 ) -> Told<N> {
-    match read_script_request(alloc, message.as_bytes()) {
+    match read_script_request(alloc, message.as_bytes(), Edition::First) {
         Ok(said) => told_of(rt, alloc, desk, &said),
         Err(_) => None,
     }
@@ -97,7 +98,7 @@ pub(super) fn shown<N: Server>(
     display: &mut Display<N>,
     message: &str,
 ) -> Option<String> {
-    let Ok(said) = read_script_request(alloc, message.as_bytes()) else {
+    let Ok(said) = read_script_request(alloc, message.as_bytes(), display.edition()) else {
         return None;
     };
     let UserRequest::Query { query, since } = &said.request else {

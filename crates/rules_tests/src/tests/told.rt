@@ -6,7 +6,7 @@ use movement::Movement;
 use pbn_records::read_deals;
 use session_commands::{Actor, Command, Refusal};
 use session_opening::{Config, NewUser};
-use session_roles::Role;
+use session_roles::{Edition, Role};
 use session_state::State;
 use solver_results::DdTable;
 use std::alloc::Global;
@@ -61,6 +61,7 @@ fn opened(alloc: Global) -> Option<State> {
         return None;
     }
     let config = Config {
+        edition: Edition::First,
         movement,
         boards,
         users: users(alloc)?,

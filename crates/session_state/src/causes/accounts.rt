@@ -1,6 +1,7 @@
 //! Why a command on users, roles and the role hierarchy is refused.
 ghost use Rattle.std.specs.Prelude.{◌≡◌};
 ghost use Rattle.rbac.specs.RoleData.{after_change};
+ghost use Rattle.rbac.specs.Refusals.{are_roles_of};
 ghost use Rattle.session_state.specs.Accounts.{seats_a_stranger};
 ghost use Rattle.session_state.specs.Refusal.{first_cause, own_causes, needed_causes};
 ghost use Rattle.session_commands.specs.declared.command.Command.TheVariants.{AddUser, Assign, Deassign, AddInheritance};
@@ -28,6 +29,7 @@ pub fn assign_cause(state: &State, name: Name, role: Role) -> Option<Refusal>
 {
     let roles = state.roles();
     first_cause(&[
+        (!role.is_of(roles.edition())).then_some(Refusal::NoSuchRole),
         roles
             .is_assigned(name.as_str(), role)
             .then_some(Refusal::AlreadyAssigned),
@@ -40,7 +42,11 @@ pub fn assign_cause(state: &State, name: Name, role: Role) -> Option<Refusal>
 pub fn deassign_cause(state: &State, name: Name, role: Role) -> Option<Refusal>
     ensures { result ≡ first_cause (own_causes state.now (Deassign name role)) }
 {
-    if !state.roles().is_assigned(name.as_str(), role) {
+    let roles = state.roles();
+    if !role.is_of(roles.edition()) {
+        return Some(Refusal::NoSuchRole);
+    }
+    if !roles.is_assigned(name.as_str(), role) {
         return Some(Refusal::NotAssigned);
     }
     needed_cause(state, Change::Deassign(name.as_str(), role))
@@ -51,6 +57,7 @@ pub fn add_inheritance_cause(state: &State, senior: Role, junior: Role) -> Optio
 {
     let roles = state.roles();
     first_cause(&[
+        (!are_roles(state, senior, junior)).then_some(Refusal::NoSuchRole),
         roles.reaches(junior, senior).then_some(Refusal::Cycle),
         roles
             .has_pair(senior, junior)
@@ -64,10 +71,21 @@ pub fn add_inheritance_cause(state: &State, senior: Role, junior: Role) -> Optio
 pub fn delete_inheritance_cause(state: &State, senior: Role, junior: Role) -> Option<Refusal>
     ensures { result ≡ first_cause (own_causes state.now (DeleteInheritance senior junior)) }
 {
+    if !are_roles(state, senior, junior) {
+        return Some(Refusal::NoSuchRole);
+    }
     if !state.roles().has_pair(senior, junior) {
         return Some(Refusal::NotThere);
     }
     needed_cause(state, Change::DeleteInheritance(senior, junior))
+}
+
+// Whether the session's edition has both roles.
+fn are_roles(state: &State, senior: Role, junior: Role) -> bool
+    ensures { result ≡ are_roles_of state.now.roles.edition senior junior }
+{
+    let edition = state.roles().edition();
+    senior.is_of(edition) && junior.is_of(edition)
 }
 
 // Why authorization may not be taken away by a change.

@@ -1,7 +1,8 @@
-//! Why a command on a held board, a round or a phase is refused.
+//! Why a command on a held board, a round, a phase or an embargo is refused.
 ghost use Rattle.std.specs.Prelude.{◌≡◌};
 ghost use Rattle.session_state.specs.Refusal.{first_cause, are_all_live, own_causes};
 ghost use Rattle.session_commands.specs.declared.command.Command.TheVariants.{Hold, Release, NextRound, Close, Finalise};
+ghost use Rattle.session_commands.specs.declared.command.Command.TheVariants.{Embargo, Lift};
 
 use crate::state::State;
 use disclosure_rules::Public;
@@ -36,6 +37,18 @@ pub fn all_live_cause(state: &State) -> Option<Refusal>
     ensures finalise { result ≡ first_cause (own_causes state.now Finalise) }
 {
     (!are_all_live(state.public())).then_some(Refusal::NotAllLive)
+}
+
+pub fn embargo_cause(state: &State) -> Option<Refusal>
+    ensures { result ≡ first_cause (own_causes state.now Embargo) }
+{
+    state.public().embargo.then_some(Refusal::AlreadyEmbargoed)
+}
+
+pub fn lift_cause(state: &State) -> Option<Refusal>
+    ensures { result ≡ first_cause (own_causes state.now Lift) }
+{
+    (!state.public().embargo).then_some(Refusal::NotEmbargoed)
 }
 
 // Whether every table has a result on every board that it is scheduled to play.

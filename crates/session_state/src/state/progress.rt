@@ -1,9 +1,10 @@
-//! What the commands on held boards, rounds and phases do to a state.
+//! What the commands on held boards, rounds, phases and embargoes do to a state.
 ghost use Rattle.std.specs.Prelude.{◌≡◌, None};
 ghost use Rattle.session_state.specs.Apply.{effect};
 ghost use Rattle.session_state.specs.Refusal.{hindrance_of};
 ghost use Rattle.session_state.specs.SessionState.{IsKeptBoard};
 ghost use Rattle.session_commands.specs.declared.command.Command.TheVariants.{Hold, Release, NextRound, Close, Finalise};
+ghost use Rattle.session_commands.specs.declared.command.Command.TheVariants.{Embargo, Lift};
 
 use crate::state::State;
 use disclosure_rules::Phase;
@@ -47,5 +48,19 @@ impl State {
         ensures { self.new ≡ effect self.old Finalise }
     {
         self.public.phase = Phase::Final;
+    }
+
+    // Withholds every board.
+    pub(super) fn embargo(&mut self)
+        ensures { self.new ≡ effect self.old Embargo }
+    {
+        self.public.embargo = true;
+    }
+
+    // Withholds every board no longer.
+    pub(super) fn lift(&mut self)
+        ensures { self.new ≡ effect self.old Lift }
+    {
+        self.public.embargo = false;
     }
 }

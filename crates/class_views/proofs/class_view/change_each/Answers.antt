@@ -1,22 +1,22 @@
-use Rattle.std.proofs.Common.{rules, arith, ◌≡◌, ◌<◌, length, get_or, subst, ap, ◌∙◌}
+use Rattle.std.proofs.Common.{rules, arith, ◌≡◌, ◌<◌, length, get_or, subst, ◌∙◌}
 use Rattle.std.specs.Prelude.{Bool, Some}
 use Rattle.std.proofs.lemmas.List.{get_or_default}
-use Rattle.class_views.specs.Classes.{class_sees}
+use Rattle.class_views.specs.Classes.{class_sees, without_embargo}
 use Rattle.class_views.specs.Kept.{IsClassWith}
 use Rattle.class_views.specs.Places.{class_at}
 use Rattle.class_views.specs.declared.class_view.ClassView.{ClassView}
-use Rattle.class_views.specs.declared.user_class.UserClass.{UserClass}
 use Rattle.class_views.proofs.SetLemmas.{done_more, rest_left}
 use Rattle.class_views.proofs.class_view.change_each.Goals as goal
 
 pub loop-place-preserved : goal.loop-place-preserved
 loop-place-preserved c =
-    let public = c.args.public.now in
+    let public = without_embargo c.args.public.now in
     let l = c.loop-place in
     let first = c.args.classes.now.items in
     let within : l.place < length l.classes.items = search rules in
     let sees : c.sees-sees.result ≡ class_sees public (Some (class_at l.place)) c.args.board =
-    c.sees-sees.ensures ∙ ap (λ (class : UserClass). class_sees public (Some class) c.args.board) c.at.ensures in
+    c.sees-sees.ensures
+    ∙ ((λ i. class_sees (c.without_embargo-lifted.ensures i) (Some (c.at.ensures i)) c.args.board)) in
     record {
       each = search rules;
       done =

@@ -5,4 +5,5 @@ use Rattle.command_object.proofs.command.has_unknown.Given as goal
 
 -- all have an unknown word exactly if those that are left have
 abbrev pub invariant-loop-value : goal.invariant-loop-value
-invariant-loop-value l = has_unknown (items_view (drop l.value-index l.list)) ≡ has_unknown (items_view l.list)
+invariant-loop-value l = has_unknown l.edition (items_view (drop l.value-index l.list)) ≡ has_unknown l.edition
+    (items_view l.list)

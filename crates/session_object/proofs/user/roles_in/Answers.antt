@@ -10,14 +10,15 @@ pub loop-value-preserved : goal.loop-value-preserved
 loop-value-preserved c =
     let l = c.loop-value in
     rw (add-one, c.in_ok-push.ensures.items)
-    (each_kept role_of l.roles.items c.args.list.now l.value-index c.value-item.result c.in-Some.role _ l.invariant
+    (each_kept (role_of c.args.edition) l.roles.items c.args.list.now l.value-index c.value-item.result
+    c.in-Some.role _ l.invariant
     (omega (arith, c.loop-value-test.true)) c.value-item.is (sym c.read_role.ensures ∙ c.in-Some.is))
 
 pub returns-in_default-clause-fault : goal.returns-in_default-clause-fault
 returns-in_default-clause-fault c =
     let l = c.loop-value in
-    each_fails role_of l.roles.items c.args.list.now l.value-index c.value-item.result BadField l.invariant
-    (omega (arith, c.loop-value-test.true)) c.value-item.is (sym c.read_role.ensures ∙ c.in_default.is)
+    each_fails (role_of c.args.edition) l.roles.items c.args.list.now l.value-index c.value-item.result BadField
+    l.invariant (omega (arith, c.loop-value-test.true)) c.value-item.is (sym c.read_role.ensures ∙ c.in_default.is)
 
 pub returns-in_err-push-clause-roles : goal.returns-in_err-push-clause-roles
 returns-in_err-push-clause-roles c =
@@ -32,4 +33,5 @@ returns-in_err-push-clause-fault c =
 pub returns-clause-roles : goal.returns-clause-roles
 returns-clause-roles c =
     let l = c.loop-value in
-    each_end role_of l.roles.items c.args.list.now l.value-index l.invariant (omega (arith, c.loop-value-test.false))
+    each_end (role_of c.args.edition) l.roles.items c.args.list.now l.value-index l.invariant
+    (omega (arith, c.loop-value-test.false))

@@ -9,8 +9,8 @@ pub loop-value-preserved : goal.loop-value-preserved
 loop-value-preserved c =
     let l = c.loop-value in
     rw (add-one, c.in_ok-push.ensures.items)
-    (each_kept new_user_of l.users.items c.args.list.now l.value-index c.value-item.result c.in_ok-user.user _
-    l.invariant (omega (arith, c.loop-value-test.true)) c.value-item.is c.in_ok-user.ensures)
+    (each_kept (new_user_of c.args.edition) l.users.items c.args.list.now l.value-index c.value-item.result
+    c.in_ok-user.user _ l.invariant (omega (arith, c.loop-value-test.true)) c.value-item.is c.in_ok-user.ensures)
 
 pub returns-in_err-user-clause-users : goal.returns-in_err-user-clause-users
 returns-in_err-user-clause-users c =
@@ -22,8 +22,8 @@ returns-in_err-user-clause-fault c =
     let l = c.loop-value in
     let p = err_from_is_err_and c.from_residual.result c.from_residual.ensures.1 in
     rw (p.1, p.2)
-    (each_fails new_user_of l.users.items c.args.list.now l.value-index c.value-item.result c.in_err-user.field-0.0
-    l.invariant (omega (arith, c.loop-value-test.true)) c.value-item.is c.in_err-user.ensures)
+    (each_fails (new_user_of c.args.edition) l.users.items c.args.list.now l.value-index c.value-item.result
+    c.in_err-user.field-0.0 l.invariant (omega (arith, c.loop-value-test.true)) c.value-item.is c.in_err-user.ensures)
 
 pub returns-in_err-push-clause-users : goal.returns-in_err-push-clause-users
 returns-in_err-push-clause-users c =
@@ -38,5 +38,5 @@ returns-in_err-push-clause-fault c =
 pub returns-clause-users : goal.returns-clause-users
 returns-clause-users c =
     let l = c.loop-value in
-    each_end new_user_of l.users.items c.args.list.now l.value-index l.invariant
+    each_end (new_user_of c.args.edition) l.users.items c.args.list.now l.value-index l.invariant
     (omega (arith, c.loop-value-test.false)) ∙ ap Some (sym c.new.ensures)

@@ -45,13 +45,17 @@ so_many f xs n ys within is =
     omega (arith, long)
 
 pub roles-requires : goal.roles-requires
-roles-requires c = subst JoinInTurn (sym c.as_slice-users.ensures) (users_join c.args.config.now c.requires.allowed)
+roles-requires c =
+    subst (JoinInTurn c.args.config.now.edition) (sym c.as_slice-users.ensures)
+    (users_join c.args.config.now c.requires.allowed)
 
 pub new-requires-clause-seated : goal.new-requires-clause-seated
 new-requires-clause-seated c =
     subst (λ roles. AreSeated roles c.in_ok-seats.seats.items) (sym c.in_ok-roles.ensures)
-    (subst (AreSeated (opening_roles c.as_slice-users.result.now)) (sym c.in_ok-seats.ensures.items)
-    (users_seated c.as_slice-users.result.now (subst JoinInTurn (sym c.as_slice-users.ensures)
+    (subst (AreSeated (opening_roles c.args.config.now.edition c.as_slice-users.result.now))
+    (sym c.in_ok-seats.ensures.items)
+    (users_seated c.args.config.now.edition c.as_slice-users.result.now
+    (subst (JoinInTurn c.args.config.now.edition) (sym c.as_slice-users.ensures)
     (users_join c.args.config.now c.requires.allowed))))
 
 pub new-requires-clause-placed : goal.new-requires-clause-placed
@@ -63,11 +67,15 @@ new-requires-clause-placed c =
     (opening_placed config c.requires.allowed)))
 
 pub digests-requires : goal.digests-requires
-digests-requires c = users_are_few c.as_slice-users.result.now (subst JoinInTurn (sym c.as_slice-users.ensures)
+digests-requires c =
+    users_are_few c.args.config.now.edition c.as_slice-users.result.now
+    (subst (JoinInTurn c.args.config.now.edition) (sym c.as_slice-users.ensures)
     (users_join c.args.config.now c.requires.allowed))
 
 pub seats-requires : goal.seats-requires
-seats-requires c = users_are_few c.as_slice-users.result.now (subst JoinInTurn (sym c.as_slice-users.ensures)
+seats-requires c =
+    users_are_few c.args.config.now.edition c.as_slice-users.result.now
+    (subst (JoinInTurn c.args.config.now.edition) (sym c.as_slice-users.ensures)
     (users_join c.args.config.now c.requires.allowed))
 
 pub new-requires-clause-deals : goal.new-requires-clause-deals
@@ -97,7 +105,7 @@ returns c =
       tables = replicate most_boards None;
     } ≡ opening_of config =
     λ i. record {
-      roles = (c.in_ok-roles.ensures ∙ ap opening_roles users) i;
+      roles = (c.in_ok-roles.ensures ∙ ap (opening_roles config.edition) users) i;
       digests = (c.in_ok-digests.ensures.items ∙ ap (map (λ (user : NewUser). user.digest)) users) i;
       seats = (c.in_ok-seats.ensures.items ∙ ap opening_seats users) i;
       public = c.public.ensures i;

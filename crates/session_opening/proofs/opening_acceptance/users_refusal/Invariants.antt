@@ -6,4 +6,5 @@ use Rattle.session_opening.proofs.opening_acceptance.users_refusal.Given as goal
 
 abbrev pub invariant-loop-place : goal.invariant-loop-place
 invariant-loop-place l =
-    first_cause (users_causes l.movement [] l.users) ≡ first_cause (causes_on l.movement l.users l.place)
+    first_cause (users_causes l.edition l.movement [] l.users)
+    ≡ first_cause (causes_on l.edition l.movement l.users l.place)

@@ -2,4 +2,4 @@ use Rattle.wire.proofs.LineLemmas.{unknown_line}
 use Rattle.wire.proofs.laws.unknown_before_bad.Goals as goal
 
 pub returns : goal.returns
-returns c source bytes d message = unknown_line source bytes d message
+returns c origin bytes d message = unknown_line origin bytes d message

@@ -1,6 +1,12 @@
 use Rattle.std.proofs.Common.{arith, ap, sym, ◌∙◌}
 use Rattle.class_views.specs.declared.user_class.UserClass.TheVariants.{OfPair}
-use Rattle.class_views.proofs.PlaceLemmas.{pair_class, unseated_class, spectators_class, directors_class}
+use Rattle.class_views.proofs.PlaceLemmas.{
+  pair_class,
+  unseated_class,
+  spectators_class,
+  directors_class,
+  commentators_class,
+}
 use Rattle.class_views.proofs.user_class.UserClass.at.Goals as goal
 
 pub returns-then-place-lt-PAIRS : goal.returns-then-place-lt-PAIRS
@@ -12,5 +18,8 @@ returns-in-0 c = unseated_class c.args.place (omega (arith, c.in-0.is, c.if-plac
 pub returns-in-1 : goal.returns-in-1
 returns-in-1 c = spectators_class c.args.place (omega (arith, c.in-1.is, c.if-place-lt-PAIRS.false))
 
+pub returns-in-2 : goal.returns-in-2
+returns-in-2 c = directors_class c.args.place (omega (arith, c.in-2.is, c.if-place-lt-PAIRS.false))
+
 pub returns-in_default : goal.returns-in_default
-returns-in_default c = directors_class c.args.place (omega (arith, c.in_default, c.if-place-lt-PAIRS.false))
+returns-in_default c = commentators_class c.args.place (omega (arith, c.in_default, c.if-place-lt-PAIRS.false))

@@ -2,9 +2,14 @@ use Rattle.std.proofs.Common.{ap, sym, ◌∙◌}
 use Rattle.std.specs.Prelude.{Some, None}
 use Rattle.table_terms.specs.declared.place.Place.TheVariants.{North}
 use Rattle.session_roles.specs.Role.{with_role}
-use Rattle.session_roles.specs.declared.role.Role.TheVariants.{Member, Spectator, Contestant, Director}
+use Rattle.session_roles.specs.declared.role.Role.TheVariants.{Member, Spectator, Contestant, Director, Commentator}
 use Rattle.class_views.specs.Classes.{member_of}
-use Rattle.class_views.proofs.RoleSetLemmas.{member_and_contestant, member_and_spectator, member_and_director}
+use Rattle.class_views.proofs.RoleSetLemmas.{
+  member_and_contestant,
+  member_and_spectator,
+  member_and_director,
+  member_spectator_and_commentator,
+}
 use Rattle.class_views.proofs.user_class.UserClass.member.Goals as goal
 
 pub returns-in-OfPair : goal.returns-in-OfPair
@@ -53,3 +58,17 @@ returns-in-Directors c =
           None;
     })
     ∙ ap member_of (sym c.in-Directors.is))
+
+pub returns-in-Commentators : goal.returns-in-Commentators
+returns-in-Commentators c =
+    c.unseated-in-Commentators.ensures
+    ∙ ((λ i. record {
+      roles =
+          Some ((c.with-in-Commentators-2.ensures ∙ ap (λ set. with_role set Commentator)
+          (c.with-in-Commentators.ensures ∙ ap (λ set. with_role set Spectator)
+          (c.with-member.ensures ∙ ap (λ set. with_role set Member) c.new.ensures))
+          ∙ member_spectator_and_commentator) i);
+      seat =
+          None;
+    })
+    ∙ ap member_of (sym c.in-Commentators.is))

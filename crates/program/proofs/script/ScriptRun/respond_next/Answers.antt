@@ -1,9 +1,8 @@
 use Rattle.std.proofs.Common.{◌≡◌, ◌≤◌, vec_len, rules, refl, sym, ap, subst, ◌∙◌}
-use Rattle.wire.specs.declared.source.Source.TheVariants.{Script}
-use Rattle.wire.specs.Request.{most_message_bytes, meaning, is_message_text}
-use Rattle.wire.proofs.LineLemmas.{first_bytes_tell, first_bytes_are_text}
+use Rattle.wire.specs.Request.{most_message_bytes, is_message_text, script_meaning}
+use Rattle.wire.proofs.LineLemmas.{first_bytes_are_text}
 use Rattle.program.specs.Writes.{Responds, EndsWith}
-use Rattle.program.proofs.ResponseLemmas.{responds_whole}
+use Rattle.program.proofs.ResponseLemmas.{first_bytes_meant, responds_whole}
 use Rattle.program.proofs.ScriptLemmas.{
   isnt_empty,
   kept_none,
@@ -35,7 +34,8 @@ returns-in-Ok-respond-clause-goes_on g c input before at =
     let some : 1 ≤ vec_len c.read_line.new.line = isnt_empty _ (sym c.is_empty.ensures ∙ c.if-is_empty.false) in
     let (text, tells, whole, part) = c.respond.ensures.response in
     let line = c.in-Ok.ensures.line in
-    let same = ap (meaning Script) line.kept ∙ first_bytes_tell Script line.whole in
+    let opening = c.args.self.now.keeper.opening in
+    let same = ap (script_meaning opening.public.edition) line.kept ∙ first_bytes_meant opening line.whole in
     let texts = ap is_message_text line.kept ∙ first_bytes_are_text line.whole in
     responded_next input before (g.R.Read.remaining c.args.reader.now) (g.R.Read.remaining c.read_line.new.reader)
     (g.W.Write.contents c.args.writer.now) (g.W.Write.contents c.respond.new.writer)
@@ -52,7 +52,8 @@ returns-in-Err-respond-clause-ends g c input before at =
     let some : 1 ≤ vec_len c.read_line.new.line = isnt_empty _ (sym c.is_empty.ensures ∙ c.if-is_empty.false) in
     let (text, tells, whole, part) = c.in-Err-respond.ensures.response in
     let line = c.in-Ok.ensures.line in
-    let same = ap (meaning Script) line.kept ∙ first_bytes_tell Script line.whole in
+    let opening = c.args.self.now.keeper.opening in
+    let same = ap (script_meaning opening.public.edition) line.kept ∙ first_bytes_meant opening line.whole in
     let texts = ap is_message_text line.kept ∙ first_bytes_are_text line.whole in
     broken input before (g.R.Read.remaining c.args.reader.now) (g.R.Read.remaining c.read_line.new.reader)
     (g.W.Write.contents c.args.writer.now) (g.W.Write.contents c.respond.new.writer)

@@ -17,6 +17,7 @@ returns-then-has-clause-cause c =
     ∙ c.if-has.true in
     rw (← c.self.view_is)
     (refused_cycle state c.args.senior c.args.junior
+    (sym c.are_roles_of.ensures ∙ c.if-not-are_roles_of.false)
     ((decides_by_table state.pairs c.self.inside.hierarchy.reached c.args.junior c.args.senior
     c.self.invariant.closure).0 reaches))
 
@@ -28,6 +29,7 @@ returns-then-contains-clause-cause c =
     let there = sym (c.contains.ensures.value) ∙ c.if-contains.true in
     rw (← c.self.view_is)
     (refused_there state c.args.senior c.args.junior
+    (sym c.are_roles_of.ensures ∙ c.if-not-are_roles_of.false)
     (λ up. both_ways _ no_chain
     ((decides_by_table state.pairs c.self.inside.hierarchy.reached c.args.junior c.args.senior
     c.self.invariant.closure).1 up))
@@ -49,7 +51,8 @@ returns-in-Some-clause-cause c =
     (pair_of c.args.senior c.args.junior) c.self.invariant.closure c.with-hierarchy.ensures in
     let answer = rw c.deref-2.ensures.value at c.first_broken.ensures in
     rw (← c.self.view_is)
-    (refused_inheritance state c.args.senior c.args.junior c.with-hierarchy.result.reached closure up new c.in-Some.set
+    (refused_inheritance state c.args.senior c.args.junior (sym c.are_roles_of.ensures ∙ c.if-not-are_roles_of.false)
+    c.with-hierarchy.result.reached closure up new c.in-Some.set
     (sym c.in-Some.is ∙ answer))
 
 pub add_inheritance_unrefused-requires : goal.add_inheritance_unrefused-requires
@@ -68,7 +71,8 @@ add_inheritance_unrefused-requires c =
     (pair_of c.args.senior c.args.junior) c.self.invariant.closure c.with-hierarchy.ensures in
     let answer = rw c.deref-2.ensures.value at c.first_broken.ensures in
     rw (← c.self.view_is)
-    (accepted_inheritance state c.args.senior c.args.junior c.with-hierarchy.result.reached closure up new
+    (accepted_inheritance state c.args.senior c.args.junior (sym c.are_roles_of.ensures ∙ c.if-not-are_roles_of.false)
+    c.with-hierarchy.result.reached closure up new
     (sym c.in_default.is ∙ answer))
 
 pub returns-clause-ok : goal.returns-clause-ok
@@ -87,5 +91,6 @@ returns-clause-ok c =
     (pair_of c.args.senior c.args.junior) c.self.invariant.closure c.with-hierarchy.ensures in
     let answer = rw c.deref-2.ensures.value at c.first_broken.ensures in
     rw (← c.self.view_is)
-    (accepted_inheritance state c.args.senior c.args.junior c.with-hierarchy.result.reached closure up new
+    (accepted_inheritance state c.args.senior c.args.junior (sym c.are_roles_of.ensures ∙ c.if-not-are_roles_of.false)
+    c.with-hierarchy.result.reached closure up new
     (sym c.in_default.is ∙ answer))

@@ -32,7 +32,7 @@ invariant_of-self c =
     (pair_of c.args.senior c.args.junior) c.self.invariant.closure c.with-self-inside.ensures in
     record {
       valid = subst (λ (pairs : List Inheritance). IsValid
-          (record { accounts = c.self.inside.accounts.items; pairs = pairs })) (sym c.push_reserved.ensures.items)
+          (record state { pairs = pairs })) (sym c.push_reserved.ensures.items)
           (valid_add_inheritance state c.args.senior c.args.junior c.self.invariant.valid (unrefused Cycle) new
           (λ set. unrefused (Separation set)));
       closure = rw c.push_reserved.ensures.items closure;

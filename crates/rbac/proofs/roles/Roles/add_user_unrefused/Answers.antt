@@ -25,7 +25,7 @@ invariant_of-self c =
     ∙ (λ i. state.accounts ++ record { name = c.args.name; assigned = c.new.ensures i } ∷ []) in
     record {
       valid = subst (λ (accounts : List Account). IsValid
-          (record { accounts = accounts; pairs = c.self.inside.pairs.items })) (sym account)
+          (record state { accounts = accounts })) (sym account)
           (valid_added state c.args.name c.self.invariant.valid unrefused);
       closure = c.self.invariant.closure;
       users = omega (arith, c.self.invariant.users);

@@ -24,7 +24,7 @@ invariant_of-self c =
     c.args.role cause) (sym c.self.view_is) c.requires in
     record {
       valid = subst (λ (accounts : List Account). IsValid
-          (record { accounts = accounts; pairs = c.self.inside.pairs.items })) (sym write)
+          (record state { accounts = accounts })) (sym write)
           (valid_assigned state c.args.name.now c.args.role c.self.invariant.valid (λ set. unrefused (Separation set)));
       closure = c.self.invariant.closure;
       users = c.self.invariant.users;
@@ -39,11 +39,7 @@ returns-in-Some c =
     let write = write_is_change (λ set. with_role set c.args.role) c.args.name.now state.accounts c.in-Some.place at
     c.self.invariant.valid.names c.index.result.now c.index_mut.result.now c.with-more.result c.index.ensures
     c.index_mut.ensures.value c.with-more.ensures in
-    ap (λ (accounts : List Account). let now : RoleData = record {
-      accounts = accounts;
-      pairs =
-          c.self.inside.pairs.items;
-    } in now) write
+    ap (λ (accounts : List Account). let now : RoleData = record state { accounts = accounts } in now) write
     ∙ ap (λ (now : RoleData). assign_user now c.args.name.now c.args.role) c.self.view_is
 
 pub returns-in_default : goal.returns-in_default

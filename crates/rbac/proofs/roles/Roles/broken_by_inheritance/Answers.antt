@@ -20,4 +20,5 @@ returns c =
     c.first_broken.ensures
     ∙ ap (λ (accounts : List Account). find (is_broken_in table accounts) separation_sets) c.deref.ensures.value
     ∙ broken_by_table (add_inheritance state c.args.senior c.args.junior).pairs table closure state.accounts
+    state.edition
     ∙ ap (λ (now : RoleData). first_broken (add_inheritance now c.args.senior c.args.junior)) c.self.view_is

@@ -21,7 +21,7 @@ invariant_of-self c =
     c.index_mut.ensures.value c.without-fewer.ensures in
     record {
       valid = subst (λ (accounts : List Account). IsValid
-          (record { accounts = accounts; pairs = c.self.inside.pairs.items })) (sym write)
+          (record state { accounts = accounts })) (sym write)
           (valid_deassignment state c.args.name.now c.args.role c.in-Some.place at c.self.invariant.valid
           c.index.result.now);
       closure = c.self.invariant.closure;
@@ -37,11 +37,7 @@ returns-in-Some c =
     let write = write_is_change (λ set. without_role set c.args.role) c.args.name.now state.accounts c.in-Some.place at
     c.self.invariant.valid.names c.index.result.now c.index_mut.result.now c.without-fewer.result c.index.ensures
     c.index_mut.ensures.value c.without-fewer.ensures in
-    ap (λ (accounts : List Account). let now : RoleData = record {
-      accounts = accounts;
-      pairs =
-          c.self.inside.pairs.items;
-    } in now) write
+    ap (λ (accounts : List Account). let now : RoleData = record state { accounts = accounts } in now) write
     ∙ ap (λ (now : RoleData). deassign_user now c.args.name.now c.args.role) c.self.view_is
 
 pub returns-in_default : goal.returns-in_default

@@ -10,7 +10,7 @@ delete_inheritance_unrefused-requires c =
     let state : RoleData = data_of c.self.inside in
     let seen = sym (c.contains.ensures.value) ∙ c.if-not-contains.false in
     rw (← c.self.view_is)
-    (accepted_deletion state c.args.senior c.args.junior
+    (accepted_deletion state c.args.senior c.args.junior (sym c.are_roles_of.ensures ∙ c.if-not-are_roles_of.false)
     ((decides_there state.pairs (pair_of c.args.senior c.args.junior)).0 (rw c.deref.ensures.value at seen)))
 
 pub returns-clause-ok : goal.returns-clause-ok
@@ -18,5 +18,5 @@ returns-clause-ok c =
     let state : RoleData = data_of c.self.inside in
     let seen = sym (c.contains.ensures.value) ∙ c.if-not-contains.false in
     rw (← c.self.view_is)
-    (accepted_deletion state c.args.senior c.args.junior
+    (accepted_deletion state c.args.senior c.args.junior (sym c.are_roles_of.ensures ∙ c.if-not-are_roles_of.false)
     ((decides_there state.pairs (pair_of c.args.senior c.args.junior)).0 (rw c.deref.ensures.value at seen)))

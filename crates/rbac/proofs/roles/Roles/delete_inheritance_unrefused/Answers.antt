@@ -11,7 +11,7 @@ invariant_of-self c =
     let state : RoleData = data_of c.self.inside in
     record {
       valid = subst (λ (pairs : List Inheritance). IsValid
-          (record { accounts = c.self.inside.accounts.items; pairs = pairs })) (sym c.remove_from.ensures.items)
+          (record state { pairs = pairs })) (sym c.remove_from.ensures.items)
           (valid_delete_inheritance state c.args.senior c.args.junior c.self.invariant.valid);
       closure = rw (c.remove_from.ensures.items, ← c.deref.ensures.value) c.of_all_but-self-inside.ensures;
       users = c.self.invariant.users;
@@ -20,9 +20,6 @@ invariant_of-self c =
 
 pub returns : goal.returns
 returns c =
-    ap (λ (pairs : List Inheritance). let now : RoleData = record {
-      accounts = c.self.inside.accounts.items;
-      pairs =
-          pairs;
-    } in now) c.remove_from.ensures.items
+    let state : RoleData = data_of c.self.inside in
+    ap (λ (pairs : List Inheritance). let now : RoleData = record state { pairs = pairs } in now) c.remove_from.ensures.items
     ∙ ap (λ (now : RoleData). delete_inheritance now c.args.senior c.args.junior) c.self.view_is

@@ -18,7 +18,7 @@ returns-in-Deassign c =
     ∙ ap (λ (accounts : List Account). list_any
     (λ account. has (reached_from table (assigned_without account c.in-Deassign.name.now c.in-Deassign.taken))
     c.args.role) accounts) c.deref.ensures.value
-    ∙ user_without state.pairs table c.self.invariant.closure state.accounts c.args.role c.in-Deassign.name.now
+    ∙ user_without state.pairs table c.self.invariant.closure state.accounts state.edition c.args.role c.in-Deassign.name.now
     c.in-Deassign.taken
     ∙ ap (λ (now : RoleData). has_user_for (deassign_user now c.in-Deassign.name.now c.in-Deassign.taken) c.args.role)
     c.self.view_is
@@ -34,6 +34,6 @@ returns-in-DeleteInheritance c =
     c.has_user_for.ensures
     ∙ ap (λ (accounts : List Account). list_any (λ account. has (reached_from table account.assigned) c.args.role)
     accounts) c.deref-in-DeleteInheritance.ensures.value
-    ∙ user_by_table (without_pair state.pairs (pair_of senior junior)) table closure state.accounts c.args.role
+    ∙ user_by_table (without_pair state.pairs (pair_of senior junior)) table closure state.accounts state.edition c.args.role
     ∙ ap (λ (now : RoleData). has_user_for (delete_inheritance now senior junior) c.args.role) c.self.view_is
     ∙ ap (λ change. has_user_for (after_change c.args.self.now change) c.args.role) (sym c.in-DeleteInheritance.is)

@@ -59,3 +59,9 @@ returns-in-Solved c = c.solve.ensures ∙ ap (effect c.args.self.now) (sym c.in-
 
 pub returns-in-Analysed : goal.returns-in-Analysed
 returns-in-Analysed c = c.analyse.ensures ∙ ap (effect c.args.self.now) (sym c.in-Analysed.is)
+
+pub returns-in-Embargo : goal.returns-in-Embargo
+returns-in-Embargo c = c.embargo.ensures ∙ ap (effect c.args.self.now) (sym c.in-Embargo.is)
+
+pub returns-in-Lift : goal.returns-in-Lift
+returns-in-Lift c = c.lift.ensures ∙ ap (effect c.args.self.now) (sym c.in-Lift.is)
