@@ -69,6 +69,7 @@ use Rattle.session_object.specs.Reading.{
   HasNoBoards,
   IsRefusedObject,
   most_bytes,
+  IsReadAsJson,
   ReadsSession,
   IsObjectText,
   IsSessionRefused,
@@ -224,6 +225,13 @@ pub read_in : (result : Result SessionObject SessionFault) (given : Option (List
     → IfOk result (ReadsObject given d) → IfOk result (ReadsSession given text)
 read_in (Ok x) given text d is reads = record { said = d; is = is; reads = reads }
 read_in (Err fault) given text d is reads = tt
+
+-- ---- bytes for which memory is asked
+
+pub memory_for_json : {A : Type 0} (answer : Result A SessionFault) (bytes : List ℕ) → length bytes ≤ most_bytes
+    → IsUtf8 bytes → IfErr answer (λ fault. fault ≡ OutOfMemory → IsReadAsJson bytes)
+memory_for_json (Ok x) bytes short utf8 = tt
+memory_for_json (Err fault) bytes short utf8 = λ same. record { short = short; utf8 = utf8 }
 
 -- ---- one reading
 

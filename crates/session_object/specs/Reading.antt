@@ -1,6 +1,6 @@
 -- What is read from the text of a session object: what a session opens with, or the first fault in this order: the text
 -- is too long, it is no JSON object, a member is wrong; then those of the movement, and then those of the boards' text.
-use Rattle.std.specs.Prelude.{◌≡◌, ◌≢◌, ℕ, ◌<◌, ◌≤◌, List, length, Option, Some, None, Result, Ok, Err}
+use Rattle.std.specs.Prelude.{◌≡◌, ◌≢◌, ℕ, ◌<◌, ◌≤◌, List, length, Option, Some, None, Result, Ok, Err, IsUtf8}
 use Rattle.serde_json.specs.Data.{Data}
 use Rattle.small_sets.specs.First.{IsFirst}
 use Rattle.movement.specs.Movement.{Section, boards_of}
@@ -89,6 +89,11 @@ pub record ReadsSession (given : Option (List ℕ)) (text : List ℕ) (object : 
   pub said : Data
   pub is : IsObjectText text said
   pub reads : ReadsObject given said object
+
+-- bytes that are read as JSON at all, for which memory may be asked: they are not too many, and a text in UTF-8
+pub record IsReadAsJson (bytes : List ℕ) : Type 0 where
+  pub short : length bytes ≤ most_bytes
+  pub utf8 : IsUtf8 bytes
 
 -- a text that isn't too long and is no object
 pub record IsNoObject (text : List ℕ) : Type 0 where

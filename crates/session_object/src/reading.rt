@@ -2,7 +2,8 @@
 
 ghost use Rattle.std.specs.Prelude.{◌≡◌, IfOk, IfErr, option_map, ◌≤◌, length};
 ghost use Rattle.serde_json.specs.View.{view};
-ghost use Rattle.session_object.specs.Reading.{most_bytes, ReadsSession, IsSessionRefused, ReadsObject, IsRefusedObject, fault_of_deals};
+ghost use Rattle.session_object.specs.declared.session_fault.SessionFault.TheVariants.{OutOfMemory};
+ghost use Rattle.session_object.specs.Reading.{most_bytes, IsReadAsJson, ReadsSession, IsSessionRefused, ReadsObject, IsRefusedObject, fault_of_deals};
 
 use crate::object::SessionObject;
 use crate::parts::parts_of;
@@ -17,7 +18,8 @@ use std::str;
 /// How many bytes the text of a session object has at most.
 pub const MOST_BYTES: usize = 1_048_576;
 
-/// Reads a session object. The PBN text of its boards is its member `pbn`, unless one is given beside it.
+/// Reads a session object. The PBN text of its boards is its member `pbn`, unless one is given beside it. Memory is asked
+/// for only where the bytes are not too many, and a text.
 pub fn read_session(
     alloc: Global,
     text: &[u8],
@@ -25,6 +27,7 @@ pub fn read_session(
 ) -> Result<SessionObject, SessionFault>
     ensures read { IfOk result (ReadsSession (option_map (λ bytes. bytes.now) given.entry) text.now) }
     ensures refused { IfErr result (λ fault. IsSessionRefused fault (option_map (λ bytes. bytes.now) given.entry) text.now) }
+    ensures memory { IfErr result (λ fault. fault ≡ OutOfMemory → IsReadAsJson text.now) }
 {
     if text.len() > MOST_BYTES {
         return Err(SessionFault::TooLong);
