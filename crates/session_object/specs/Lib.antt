@@ -1,2 +1,3 @@
 pub mod Session
 pub mod Reading
+pub mod FaultText

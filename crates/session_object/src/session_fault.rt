@@ -1,4 +1,5 @@
 ghost use Rattle.std.specs.Prelude.{◌≡◌};
+ghost use Rattle.session_object.specs.FaultText.{fault_output};
 ghost use Rattle.session_object.specs.declared.session_fault.SessionFault.TheVariants.{OutOfMemory};
 
 use movement::MovementError;
@@ -24,28 +25,22 @@ pub enum SessionFault {
     OutOfMemory,
 }
 
-/// As it is called here, and a fault of the boards as that is called.
+/// As it is called here, and a fault of the movement or of the boards as that is called.
 impl fmt::Display for SessionFault {
+    ghost output = { fault_output };
+
     fn fmt<W: fmt::Write>(&self, f: &mut fmt::Formatter<W>) -> fmt::Result {
         match self {
+            SessionFault::TooLong => f.write_str("TooLong"),
+            SessionFault::Malformed => f.write_str("Malformed"),
+            SessionFault::BadField => f.write_str("BadField"),
+            SessionFault::Movement(MovementError::BadTables) => f.write_str("BadTables"),
+            SessionFault::Movement(MovementError::BadRounds) => f.write_str("BadRounds"),
+            SessionFault::Movement(MovementError::BadSets) => f.write_str("BadSets"),
+            SessionFault::Movement(MovementError::BadPair) => f.write_str("BadPair"),
             SessionFault::Deals(error) => write!(f, "{error}"),
-            _ => f.write_str(name_of(self)),
+            SessionFault::OutOfMemory => f.write_str("OutOfMemory"),
         }
-    }
-}
-
-// How a fault is called; one of the boards has a name of its own.
-fn name_of(fault: &SessionFault) -> &'static str {
-    match fault {
-        SessionFault::TooLong => "TooLong",
-        SessionFault::Malformed => "Malformed",
-        SessionFault::BadField => "BadField",
-        SessionFault::Movement(MovementError::BadTables) => "BadTables",
-        SessionFault::Movement(MovementError::BadRounds) => "BadRounds",
-        SessionFault::Movement(MovementError::BadSets) => "BadSets",
-        SessionFault::Movement(MovementError::BadPair) => "BadPair",
-        SessionFault::Deals(_) => "Deals",
-        SessionFault::OutOfMemory => "OutOfMemory",
     }
 }
 
