@@ -1,2 +1,3 @@
 pub mod Conversation
 pub mod Clients
+pub mod Origins

@@ -1,6 +1,10 @@
 //! What is asked of each client.
 
-use http::{Request, Response, StatusCode};
+ghost use Rattle.std.specs.Prelude.{◌≡◌, option_map};
+ghost use Rattle.http.specs.Response.{head_of};
+ghost use Rattle.websocket_server.specs.Origins.{origins_of, is_origin, are_all_of, is_let_in};
+
+use http::{HeaderValue, Request, Response, StatusCode};
 use std::alloc::Global;
 use tungstenite::Callback;
 use tungstenite::handshake::server::ErrorResponse;
@@ -27,25 +31,46 @@ impl Callback for OriginCheck<'_> {
         request: &Request<()>,
         response: Response<()>,
     ) -> Result<Response<()>, ErrorResponse> {
-        match self.allowed {
-            Some(allowed) if !names_only(request, allowed) => Err(forbidden(self.alloc)),
-            _ => Ok(response),
+        if is_let_in(self.allowed, request) {
+            Ok(response)
+        } else {
+            Err(forbidden(self.alloc))
         }
+    }
+}
+
+// Whether a request is let in.
+fn is_let_in(allowed: Option<&str>, request: &Request<()>) -> bool
+    ensures { result ≡ is_let_in (option_map (λ origin. origin.now) allowed.entry) request.now }
+{
+    match allowed {
+        Some(allowed) => names_only(request, allowed),
+        None => true,
     }
 }
 
 // Whether each origin that the request names is this one. A client that is no browser names none.
-fn names_only(request: &Request<()>, allowed: &str) -> bool {
-    for origin in request.headers().get_all("origin") {
-        if origin.as_bytes() != allowed.as_bytes() {
-            return false;
-        }
-    }
-    true
+fn names_only(request: &Request<()>, allowed: &str) -> bool
+    ensures { result ≡ are_all_of allowed.now (origins_of request.now) }
+{
+    request
+        .headers()
+        .get_all("origin")
+        .iter()
+        .all(|origin| is_origin(origin, allowed))
+}
+
+// Whether an origin is this one.
+fn is_origin(origin: &HeaderValue, allowed: &str) -> bool
+    ensures { result ≡ is_origin allowed.now origin.now }
+{
+    origin.as_bytes() == allowed.as_bytes()
 }
 
 // The answer to a page that may not connect.
-fn forbidden(alloc: Global) -> ErrorResponse {
+fn forbidden(alloc: Global) -> ErrorResponse
+    ensures { (head_of result).status ≡ 403 }
+{
     let mut response = Response::new(alloc, None);
     *response.status_mut() = StatusCode::FORBIDDEN;
     response
