@@ -1,9 +1,11 @@
 pub mod AlikeLemmas
 pub mod BestLemmas
+pub mod BestTrumpLemmas
 pub mod CountLemmas
 pub mod DoubleDummyLemmas
 pub mod EqualCardsLemmas
 pub mod HandLemmas
+pub mod MasterLemmas
 pub mod NeighbourLemmas
 pub mod OwnerLemmas
 pub mod OwnershipLemmas
@@ -11,4 +13,6 @@ pub mod PairingLemmas
 pub mod PatternLemmas
 pub mod RefusedLemmas
 pub mod RenamingLemmas
+pub mod SureTrickLemmas
+pub mod TakingLemmas
 pub mod WinnerLemmas

@@ -36,7 +36,7 @@ height_below = each_rank (λ rank. height rank < 13) (omega arith) (omega arith)
     (omega arith) (omega arith) (omega arith) (omega arith) (omega arith) (omega arith) (omega arith) (omega arith)
     (omega arith)
 
-same_suit : (a b : Suit) → suit_number a ≡ suit_number b → a ≡ b
+pub same_suit : (a b : Suit) → suit_number a ≡ suit_number b → a ≡ b
 same_suit Spades Spades e = refl
 same_suit Spades Hearts e = absurd (omega arith)
 same_suit Spades Diamonds e = absurd (omega arith)
@@ -58,7 +58,7 @@ same_suit Clubs Clubs e = refl
 pub both_of : (suit : Suit) (a b : Card) → is_of suit a ≡ true → is_of suit b ≡ true → a.suit ≡ b.suit
 both_of suit a b of_a of_b = same_suit a.suit b.suit (sym (eqb-true _ _ of_a) ∙ eqb-true _ _ of_b)
 
-both_trumps : (trump : Option Suit) (a b : Card) → is_trump trump a ≡ true → is_trump trump b ≡ true → a.suit ≡ b.suit
+pub both_trumps : (trump : Option Suit) (a b : Card) → is_trump trump a ≡ true → is_trump trump b ≡ true → a.suit ≡ b.suit
 both_trumps None a b of_a of_b = absurd (true≢false (sym of_a))
 both_trumps (Some suit) a b of_a of_b = both_of suit a b of_a of_b
 
@@ -78,7 +78,7 @@ order_by false false true false ha hb ha' hb' fits fitsb fits' trumps led less =
 order_by false false false true ha hb ha' hb' fits fitsb fits' trumps led less = omega arith
 order_by false false false false ha hb ha' hb' fits fitsb fits' trumps led less = absurd (omega arith)
 
-same_trump : (trump : Option Suit) (a b : Card) → a.suit ≡ b.suit → is_trump trump a ≡ is_trump trump b
+pub same_trump : (trump : Option Suit) (a b : Card) → a.suit ≡ b.suit → is_trump trump a ≡ is_trump trump b
 same_trump None a b e = refl
 same_trump (Some suit) a b e = ap (λ s. nat_eq (suit_number suit) (suit_number s)) e
 
@@ -271,7 +271,7 @@ places leader = record {
   zw = turns_1 (left_of (left_of leader));
 }
 
-flip : {x y : Place} → x ≢ y → y ≢ x
+pub flip : {x y : Place} → x ≢ y → y ≢ x
 flip ne e = ne (sym e)
 
 -- the strongest card of a trick stays above the other three

@@ -3,3 +3,4 @@ pub mod Known
 pub mod Neighbours
 pub mod Pattern
 pub mod Renaming
+pub mod SureTricks

@@ -10,10 +10,11 @@ ghost use Rattle.cards.specs.Hands.{Hands, hand_of};
 ghost use Rattle.table_terms.specs.Place.{side_of};
 ghost use Rattle.cards.specs.Play.{Position, IsPosition, IsApart, legal, to_play, cards_left};
 ghost use Rattle.cards.specs.DoubleDummy.{best, tricks, double_dummy, worth};
-ghost use Rattle.double_dummy_laws.specs.Found.{IsCardFound, IsFound};
+ghost use Rattle.double_dummy_laws.specs.Found.{IsCardFound, IsFound, wanted_answer};
 ghost use Rattle.double_dummy_laws.specs.Neighbours.{AreNeighbours, AreUnparted, IsRun};
 ghost use Rattle.double_dummy_laws.specs.Pattern.{IsOfPattern, IsTop, holding};
 ghost use Rattle.double_dummy_laws.specs.Renaming.{Ownership, IsRenaming, HasNames, ArePlayed, AllKnown, renamed};
+ghost use Rattle.double_dummy_laws.specs.SureTricks.{AreBestTrumps, AreEnough, AreMasters, AreMastersKnown, AreTrumpsKnown, TakesAtLeast};
 
 /// With cards left, a position is worth the best that the side to play gets by a legal card: the trick that the card
 /// completes and what the position after it is worth. With none left it is worth no trick.
@@ -78,4 +79,27 @@ pub fn partition()
         ((card : Card) → set.contains known card ≡ true →
         (place : Place) × (set.contains (hand_of position.hands place) card ≡ true)) →
         IsFound position target known answer → IsFound other target more answer }
+{}
+
+/// Masters take a trick each: who is on lead takes one with each of his cards that no card of another player beats. To
+/// know so, those of them have to be known of whose suit another player has a card.
+pub fn masters_take_tricks()
+    ensures tricks { (position : Position) (cards : Cards) → IsPosition position → position.table ≡ [] →
+        AreMasters position cards → TakesAtLeast (side_of position.leader) (set.len cards) position }
+    ensures found { (position : Position) (cards known : Cards) (target : ℕ) → IsPosition position →
+        position.table ≡ [] → AreMasters position cards → AreMastersKnown position cards known →
+        AreEnough (side_of position.leader) (set.len cards) position target →
+        IsFound position target known (wanted_answer (side_of position.leader)) }
+{}
+
+/// The best trumps take a trick each: whoever is on lead, a side takes one with each trump of one of its players that is
+/// higher than all trumps of the opponents. To know so, these trumps have to be known, if the opponents have any.
+pub fn best_trumps_take_tricks()
+    ensures tricks { (position : Position) (holder : Place) (cards : Cards) → IsPosition position →
+        position.table ≡ [] → AreBestTrumps position holder cards →
+        TakesAtLeast (side_of holder) (set.len cards) position }
+    ensures found { (position : Position) (holder : Place) (cards known : Cards) (target : ℕ) → IsPosition position →
+        position.table ≡ [] → AreBestTrumps position holder cards → AreTrumpsKnown position holder cards known →
+        AreEnough (side_of holder) (set.len cards) position target →
+        IsFound position target known (wanted_answer (side_of holder)) }
 {}

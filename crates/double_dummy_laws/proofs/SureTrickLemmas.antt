@@ -1,0 +1,298 @@
+-- Sure tricks stay sure when the cards get other names.
+use Rattle.std.proofs.Common.{◌≡◌, ◌≢◌, ℕ, ◌<◌, ◌≤◌, true, List, [], ◌∷◌, length, map, refl, sym, ap, ◌∙◌, subst, inl, inr, arith, zero, suc}
+use Rattle.std.specs.Prelude.{nat_le}
+use Rattle.std.specs.List.{list_any}
+use Rattle.std.specs.Ordering.{eq_by_cmp}
+use Rattle.std.proofs.lemmas.Bool.{cases_eq, le-leb, lt-leb, or_cases, or_left, or_right, true≢false}
+use Rattle.std.specs.FinSet as set
+use Rattle.cards.specs.declared.card.Card.{Card}
+use Rattle.cards.specs.Card.{card_cmp}
+use Rattle.cards.specs.CardBits.{card_cmp_total, tied_is_equal}
+use Rattle.cards.specs.Cards.{Cards}
+use Rattle.cards.specs.Rank.{height}
+use Rattle.table_terms.specs.declared.place.Place.{Place}
+use Rattle.table_terms.specs.declared.place.Place.TheVariants.{North, East, South, West}
+use Rattle.table_terms.specs.declared.side.Side.{Side}
+use Rattle.table_terms.specs.declared.side.Side.TheVariants.{NorthSouth, EastWest}
+use Rattle.table_terms.specs.declared.strain.Strain.{Strain}
+use Rattle.table_terms.specs.Place.{side_of}
+use Rattle.table_terms.specs.Strain.{trump_of}
+use Rattle.cards.specs.Hands.{Hands, hand_of}
+use Rattle.cards.specs.Play.{IsPosition, Position, cards_left, is_trump, strength, strength_in}
+use Rattle.cards.specs.DoubleDummy.{tricks}
+use Rattle.double_dummy_laws.proofs.BestLemmas.{Among}
+use Rattle.double_dummy_laws.proofs.CountLemmas.{has_less}
+use Rattle.double_dummy_laws.proofs.HandLemmas.{among_items, items_among, tied}
+use Rattle.double_dummy_laws.proofs.MasterLemmas as masters
+use Rattle.double_dummy_laws.proofs.BestTrumpLemmas as trumps
+use Rattle.double_dummy_laws.proofs.TakingLemmas.{at, has_removed, removed_had, some_of}
+use Rattle.double_dummy_laws.proofs.WinnerLemmas.{both_trumps, same_trump, stronger_stays}
+use Rattle.double_dummy_laws.specs.Found.{IsFound, wanted_answer}
+use Rattle.double_dummy_laws.specs.Renaming.{HasNames, IsRenaming, Ownership, knowing}
+use Rattle.double_dummy_laws.specs.SureTricks.{AreBestTrumps, AreEnough, AreMasters, AreMastersKnown, AreTrumpsKnown, TakesAtLeast}
+
+-- where each card of a set has its own partner in another, the other has as many
+paired_len : (n : ℕ) (R : Card → Card → Type 0) (s t : Cards) → set.len s ≤ n →
+    ((card : Card) → set.contains s card ≡ true → (other : Card) × (set.contains t other ≡ true) × R card other) →
+    ((a b c : Card) → set.contains s a ≡ true → set.contains s b ≡ true → R a c → R b c → a ≡ b) →
+    set.len s ≤ set.len t
+paired_len zero R s t few pair single = omega (arith, few)
+paired_len (suc n) R s t few pair single =
+    elim (cases_eq (set.len s) 0) [
+      | inl none ↦ omega (arith, none)
+      | inr some ↦
+          let one = some_of s some in
+          let to = pair one.0 one.1 in
+          let rest = paired_len n R (set.remove s one.0) (set.remove t to.0)
+          (omega (arith, few, has_less s one.0 one.1))
+          (λ card in'.
+          let had = removed_had s one.0 card in' in
+          let there = pair card had.0 in (
+            there.0,
+            has_removed t to.0 there.0 there.1
+                (λ e. had.1 (single card one.0 there.0 had.0 one.1 there.2 (subst (R one.0) (sym e) to.2))),
+            there.2,
+          ))
+          (λ a b c in_a in_b. single a b c (removed_had s one.0 a in_a).0 (removed_had s one.0 b in_b).0) in
+          omega (arith, rest, has_less s one.0 one.1, has_less t to.0 to.1)
+    ]
+
+-- the cards' other names, as a set
+abbrev named_cards : (Card → Card) → Cards → Cards
+named_cards name cards = set.from_list (map name (set.items cards))
+
+named_old : (name : Card → Card) (cards : Cards) (card : Card) →
+    set.contains (named_cards name cards) card ≡ true →
+    (old : Card) × (set.contains cards old ≡ true) × (name old ≡ card)
+named_old name cards card in' =
+    let found = look (set.items cards)
+    (sym (set.contains-from_list card_cmp_total (map name (set.items cards)) card) ∙ in') in
+    (found.0, items_among cards found.0 found.1, found.2)
+  where
+    look : (items : List Card) → list_any (eq_by_cmp card_cmp card) (map name items) ≡ true →
+        (old : Card) × Among old items × (name old ≡ card)
+    look [] none = absurd (true≢false (sym none))
+    look (first ∷ rest) some =
+        elim (or_cases _ _ some) [
+          | inl here ↦ (first, inl refl, sym (tied_is_equal card (name first) here))
+          | inr later ↦ let found = look rest later in (found.0, inr found.1, found.2)
+        ]
+
+in_named : (name : Card → Card) (cards : Cards) (card : Card) → set.contains cards card ≡ true →
+    set.contains (named_cards name cards) (name card) ≡ true
+in_named name cards card in' =
+    set.contains-from_list card_cmp_total (map name (set.items cards)) (name card)
+    ∙ look (set.items cards) (among_items cards card in')
+  where
+    look : (items : List Card) → Among card items →
+        list_any (eq_by_cmp card_cmp (name card)) (map name items) ≡ true
+    look [] none = absurd none
+    look (first ∷ rest) (inl e) = or_left _ _ (tied (name card) (name first) (ap name e))
+    look (first ∷ rest) (inr later) = or_right _ _ (look rest later)
+
+module _ (ownership : Ownership) (name : Card → Card) (renaming : IsRenaming ownership name) (h hands : Hands) (named
+    : HasNames ownership name h hands) where
+  -- each player has as many cards
+  len_named : (place : Place) → set.len (hand_of hands place) ≡ set.len (hand_of h place)
+  len_named place =
+      let less = paired_len (set.len (hand_of hands place)) (λ card old. name old ≡ card) (hand_of hands place)
+      (hand_of h place) (omega arith) (λ card held. named.onto place card held)
+      (λ a b c in_a in_b e f. sym e ∙ f) in
+      let more = paired_len (set.len (hand_of h place)) (λ old card. name old ≡ card) (hand_of h place)
+      (hand_of hands place) (omega arith) (λ old held. (name old, named.into place old held, refl))
+      (λ a b c in_a in_b e f. renaming.apart a b (named.live place a in_a).0 (named.live place b in_b).0 (e ∙ sym f)) in
+      omega (arith, less, more)
+
+  left_named : (strain : Strain) (leader : Place) →
+      cards_left (at hands strain leader []) ≡ cards_left (at h strain leader [])
+  left_named strain leader =
+      omega (arith, len_named North, len_named East, len_named South, len_named West)
+
+  position_named : (strain : Strain) (leader : Place) → IsPosition (at h strain leader []) →
+      IsPosition (at hands strain leader [])
+  position_named strain leader valid = record {
+    apart = λ place other card held also.
+        let old = named.onto place card held in
+        let same = named.onto other card also in
+        let e : same.0 ≡ old.0 =
+        renaming.apart same.0 old.0 (named.live other same.0 same.1).0 (named.live place old.0 old.1).0
+        (same.2 ∙ sym old.2) in
+        valid.apart place other old.0 old.1 (subst (λ x. set.contains (hand_of h other) x ≡ true) e same.1);
+    trick = tt;
+    equal = λ place other. omega (arith, len_named place, len_named other, valid.equal place other);
+  }
+
+  -- as many cards under their other names
+  len_of_named : (place : Place) (cards : Cards) →
+      ((card : Card) → set.contains cards card ≡ true → set.contains (hand_of h place) card ≡ true) →
+      set.len cards ≤ set.len (named_cards name cards)
+  len_of_named place cards held =
+      paired_len (set.len cards) (λ old card. name old ≡ card) cards (named_cards name cards) (omega arith)
+      (λ old in'. (name old, in_named name cards old in', refl))
+      (λ a b c in_a in_b e f. renaming.apart a b (named.live place a (held a in_a)).0
+      (named.live place b (held b in_b)).0 (e ∙ sym f))
+
+  masters_named : (strain : Strain) (leader : Place) (cards : Cards) → AreMasters (at h strain leader []) cards →
+      ((card other : Card) (place : Place) → set.contains cards card ≡ true → place ≢ leader →
+      set.contains (hand_of h place) other ≡ true → other.suit ≡ card.suit → ownership.is_known card ≡ true) →
+      AreMasters (at hands strain leader []) (named_cards name cards)
+  masters_named strain leader cards are known = record {
+    held = λ card in'.
+        let old = named_old name cards card in' in
+        subst (λ x. set.contains (hand_of hands leader) x ≡ true) old.2
+        (named.into leader old.0 (are.held old.0 old.1));
+    unbeaten = λ card other place in' ne there.
+        let old = named_old name cards card in' in
+        let beside = named.onto place other there in
+        let mine = named.live leader old.0 (are.held old.0 old.1) in
+        let theirs = named.live place beside.0 beside.1 in
+        subst (λ x. strength_in strain x other < strength_in strain x x) old.2
+        (subst (λ y. strength_in strain (name old.0) y < strength_in strain (name old.0) (name old.0)) beside.2
+        (subst (λ suit. strength (trump_of strain) suit (name beside.0) < strength (trump_of strain) suit (name old.0))
+        (sym (renaming.suit old.0 mine.0))
+        (stronger_stays ownership name (trump_of strain) old.0.suit beside.0 old.0 renaming theirs.0 mine.0
+        (λ e. ne (sym theirs.1 ∙ e ∙ mine.1))
+        (λ suits. or_right _ _ (known old.0 beside.0 place old.1 ne beside.1 suits))
+        (are.unbeaten old.0 beside.0 place old.1 ne beside.1))));
+  }
+
+  trumps_named : (strain : Strain) (holder : Place) (cards : Cards) →
+      AreBestTrumps (at h strain holder []) holder cards →
+      ((card other : Card) (place : Place) → set.contains cards card ≡ true → side_of place ≢ side_of holder →
+      set.contains (hand_of h place) other ≡ true → other.suit ≡ card.suit → ownership.is_known card ≡ true) →
+      AreBestTrumps (at hands strain holder []) holder (named_cards name cards)
+  trumps_named strain holder cards are known = record {
+    held = λ card in'.
+        let old = named_old name cards card in' in
+        subst (λ x. set.contains (hand_of hands holder) x ≡ true) old.2
+        (named.into holder old.0 (are.held old.0 old.1));
+    trumps = λ card in'.
+        let old = named_old name cards card in' in
+        let mine = named.live holder old.0 (are.held old.0 old.1) in
+        subst (λ x. is_trump (trump_of strain) x ≡ true) old.2
+        (same_trump (trump_of strain) (name old.0) old.0 (renaming.suit old.0 mine.0) ∙ are.trumps old.0 old.1);
+    higher = λ card other place in' ne there is.
+        let old = named_old name cards card in' in
+        let beside = named.onto place other there in
+        let mine = named.live holder old.0 (are.held old.0 old.1) in
+        let theirs = named.live place beside.0 beside.1 in
+        let trump : is_trump (trump_of strain) beside.0 ≡ true =
+        sym (same_trump (trump_of strain) (name beside.0) beside.0 (renaming.suit beside.0 theirs.0))
+        ∙ ap (is_trump (trump_of strain)) beside.2 ∙ is in
+        let suits = both_trumps (trump_of strain) beside.0 old.0 trump (are.trumps old.0 old.1) in
+        subst (λ x. height other.rank < height x.rank) old.2
+        (subst (λ y. height y.rank < height (name old.0).rank) beside.2
+        (renaming.order beside.0 old.0 theirs.0 mine.0
+        (or_right _ _ (known old.0 beside.0 place old.1 ne beside.1 suits))
+        (λ e. ne (ap side_of (sym theirs.1 ∙ e ∙ mine.1))) suits
+        (are.higher old.0 beside.0 place old.1 ne beside.1 trump)));
+  }
+
+-- what a side takes answers the question
+answered : (side : Side) (k more : ℕ) (p q : Position) (target : ℕ) → AreEnough side k p target → k ≤ more →
+    cards_left q ≡ cards_left p → p.table ≡ [] → q.table ≡ [] →
+    TakesAtLeast side more q → nat_le target (tricks (cards_left p) q) ≡ wanted_answer side
+answered NorthSouth k more p q target enough fewer same none none' takes =
+    le-leb target _ (omega (arith, enough, fewer, takes, ap (λ n. tricks n q) same))
+answered EastWest k more p q target enough fewer same none none' takes =
+    lt-leb target _ (omega (
+      arith,
+      enough,
+      fewer,
+      takes,
+      same,
+      ap (λ n. tricks n q) same,
+      ap length none,
+      ap length none',
+    ))
+
+-- masters take a trick each
+masters_at : (h : Hands) (strain : Strain) (leader : Place) (cards : Cards) → IsPosition (at h strain leader []) →
+    AreMasters (at h strain leader []) cards →
+    TakesAtLeast (side_of leader) (set.len cards) (at h strain leader [])
+masters_at h strain leader cards valid are =
+    masters.taken strain leader (cards_left (at h strain leader [])) h cards (omega arith) valid are
+
+masters_found_at : (h : Hands) (strain : Strain) (leader : Place) (cards known : Cards) (target : ℕ) →
+    IsPosition (at h strain leader []) → AreMasters (at h strain leader []) cards →
+    AreMastersKnown (at h strain leader []) cards known →
+    AreEnough (side_of leader) (set.len cards) (at h strain leader []) target →
+    IsFound (at h strain leader []) target known (wanted_answer (side_of leader))
+masters_found_at h strain leader cards known target valid are are_known enough ownership owned tight_p name hands
+    renaming named =
+    let own = knowing ownership known in
+    answered (side_of leader) (set.len cards) (set.len (named_cards name cards)) (at h strain leader [])
+    (at hands strain leader []) target enough
+    (len_of_named own name renaming h hands named leader cards are.held)
+    (left_named own name renaming h hands named strain leader) refl refl
+    (masters_at hands strain leader (named_cards name cards)
+    (position_named own name renaming h hands named strain leader valid)
+    (masters_named own name renaming h hands named strain leader cards are are_known))
+
+-- best trumps take a trick each
+trumps_at : (h : Hands) (strain : Strain) (leader holder : Place) (cards : Cards) →
+    IsPosition (at h strain leader []) → AreBestTrumps (at h strain holder []) holder cards →
+    TakesAtLeast (side_of holder) (set.len cards) (at h strain leader [])
+trumps_at h strain leader holder cards valid are =
+    trumps.taken strain holder (cards_left (at h strain leader [])) h leader [] cards (omega arith) valid are tt
+
+-- the leader does not matter
+other_leader : (h : Hands) (strain : Strain) (leader holder : Place) (cards : Cards) →
+    AreBestTrumps (at h strain leader []) holder cards → AreBestTrumps (at h strain holder []) holder cards
+other_leader h strain leader holder cards are = record { held = are.held; trumps = are.trumps; higher = are.higher }
+
+trumps_found_at : (h : Hands) (strain : Strain) (leader holder : Place) (cards known : Cards) (target : ℕ) →
+    IsPosition (at h strain leader []) → AreBestTrumps (at h strain leader []) holder cards →
+    AreTrumpsKnown (at h strain leader []) holder cards known →
+    AreEnough (side_of holder) (set.len cards) (at h strain leader []) target →
+    IsFound (at h strain leader []) target known (wanted_answer (side_of holder))
+trumps_found_at h strain leader holder cards known target valid are are_known enough ownership owned tight_p name hands
+    renaming named =
+    let own = knowing ownership known in
+    answered (side_of holder) (set.len cards) (set.len (named_cards name cards)) (at h strain leader [])
+    (at hands strain leader []) target enough
+    (len_of_named own name renaming h hands named holder cards are.held)
+    (left_named own name renaming h hands named strain leader) refl refl
+    (trumps_at hands strain leader holder (named_cards name cards)
+    (position_named own name renaming h hands named strain leader valid)
+    (trumps_named own name renaming h hands named strain holder cards (other_leader h strain leader holder cards are)
+    are_known))
+
+-- at the beginning of a trick
+at_start : (P : Position → Type 0) (p : Position) → p.table ≡ [] → P (at p.hands p.strain p.leader []) → P p
+at_start P p none here = subst (λ table. P (at p.hands p.strain p.leader table)) (sym none) here
+
+from_start : (P : Position → Type 0) (p : Position) → p.table ≡ [] → P p → P (at p.hands p.strain p.leader [])
+from_start P p none here = subst (λ table. P (at p.hands p.strain p.leader table)) none here
+
+pub masters_take : (p : Position) (cards : Cards) → IsPosition p → p.table ≡ [] → AreMasters p cards →
+    TakesAtLeast (side_of p.leader) (set.len cards) p
+masters_take p cards valid none are =
+    at_start (λ q. TakesAtLeast (side_of p.leader) (set.len cards) q) p none
+    (masters_at p.hands p.strain p.leader cards (from_start IsPosition p none valid)
+    (from_start (λ q. AreMasters q cards) p none are))
+
+pub masters_found : (p : Position) (cards known : Cards) (target : ℕ) → IsPosition p → p.table ≡ [] →
+    AreMasters p cards → AreMastersKnown p cards known → AreEnough (side_of p.leader) (set.len cards) p target →
+    IsFound p target known (wanted_answer (side_of p.leader))
+masters_found p cards known target valid none are are_known enough =
+    at_start (λ q. IsFound q target known (wanted_answer (side_of p.leader))) p none
+    (masters_found_at p.hands p.strain p.leader cards known target (from_start IsPosition p none valid)
+    (from_start (λ q. AreMasters q cards) p none are) are_known
+    (from_start (λ q. AreEnough (side_of p.leader) (set.len cards) q target) p none enough))
+
+pub trumps_take : (p : Position) (holder : Place) (cards : Cards) → IsPosition p → p.table ≡ [] →
+    AreBestTrumps p holder cards → TakesAtLeast (side_of holder) (set.len cards) p
+trumps_take p holder cards valid none are =
+    at_start (λ q. TakesAtLeast (side_of holder) (set.len cards) q) p none
+    (trumps_at p.hands p.strain p.leader holder cards (from_start IsPosition p none valid)
+    (other_leader p.hands p.strain p.leader holder cards (from_start (λ q. AreBestTrumps q holder cards) p none are)))
+
+pub trumps_found : (p : Position) (holder : Place) (cards known : Cards) (target : ℕ) → IsPosition p →
+    p.table ≡ [] → AreBestTrumps p holder cards → AreTrumpsKnown p holder cards known →
+    AreEnough (side_of holder) (set.len cards) p target → IsFound p target known (wanted_answer (side_of holder))
+trumps_found p holder cards known target valid none are are_known enough =
+    at_start (λ q. IsFound q target known (wanted_answer (side_of holder))) p none
+    (trumps_found_at p.hands p.strain p.leader holder cards known target (from_start IsPosition p none valid)
+    (from_start (λ q. AreBestTrumps q holder cards) p none are) are_known
+    (from_start (λ q. AreEnough (side_of holder) (set.len cards) q target) p none enough))

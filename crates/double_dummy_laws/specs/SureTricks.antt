@@ -1,0 +1,56 @@
+-- Cards that take tricks whatever the others play, and which of them have to be known.
+use Rattle.std.specs.Prelude.{◌≡◌, ◌≢◌, ◌+◌, ◌*◌, ◌<◌, ◌≤◌, ℕ, true, length}
+use Rattle.std.specs.FinSet as set
+use Rattle.cards.specs.declared.card.Card.{Card}
+use Rattle.table_terms.specs.declared.place.Place.{Place}
+use Rattle.table_terms.specs.declared.side.Side.{Side}
+use Rattle.table_terms.specs.declared.side.Side.TheVariants.{NorthSouth, EastWest}
+use Rattle.table_terms.specs.Place.{side_of}
+use Rattle.table_terms.specs.Strain.{trump_of}
+use Rattle.cards.specs.Cards.{Cards}
+use Rattle.cards.specs.Hands.{hand_of}
+use Rattle.cards.specs.Rank.{height}
+use Rattle.cards.specs.Play.{Position, cards_left, is_trump, strength_in}
+use Rattle.cards.specs.DoubleDummy.{double_dummy}
+
+-- a side takes so many tricks at least of those that are left
+abbrev pub TakesAtLeast : Side → ℕ → Position → Type 0
+TakesAtLeast NorthSouth tricks position = tricks ≤ double_dummy position
+TakesAtLeast EastWest tricks position =
+    4 * (double_dummy position + tricks) ≤ cards_left position + length position.table
+
+-- so many tricks of a side answer whether North and South take as many as the target, as the side would have it
+abbrev pub AreEnough : Side → ℕ → Position → ℕ → Type 0
+AreEnough NorthSouth tricks position target = target ≤ tricks
+AreEnough EastWest tricks position target = cards_left position + length position.table < 4 * (target + tricks)
+
+-- the cards are in the leader's hand, and none of them, once led, is beaten by a card of another player
+pub record AreMasters (position : Position) (cards : Cards) : Type 0 where
+  pub held : (card : Card) → set.contains cards card ≡ true →
+      set.contains (hand_of position.hands position.leader) card ≡ true
+  pub unbeaten : (card other : Card) (place : Place) → set.contains cards card ≡ true → place ≢ position.leader →
+      set.contains (hand_of position.hands place) other ≡ true →
+      strength_in position.strain card other < strength_in position.strain card card
+
+-- those of the leader's cards are known of whose suit another player has a card
+abbrev pub AreMastersKnown : Position → Cards → Cards → Type 0
+AreMastersKnown position cards known =
+    (card other : Card) (place : Place) → set.contains cards card ≡ true → place ≢ position.leader →
+    set.contains (hand_of position.hands place) other ≡ true → other.suit ≡ card.suit →
+    set.contains known card ≡ true
+
+-- the cards are trumps in a player's hand, each of them higher than every trump of the opponents
+pub record AreBestTrumps (position : Position) (holder : Place) (cards : Cards) : Type 0 where
+  pub held : (card : Card) → set.contains cards card ≡ true →
+      set.contains (hand_of position.hands holder) card ≡ true
+  pub trumps : (card : Card) → set.contains cards card ≡ true → is_trump (trump_of position.strain) card ≡ true
+  pub higher : (card other : Card) (place : Place) → set.contains cards card ≡ true →
+      side_of place ≢ side_of holder → set.contains (hand_of position.hands place) other ≡ true →
+      is_trump (trump_of position.strain) other ≡ true → height other.rank < height card.rank
+
+-- the cards are known, if an opponent has a card of their suit
+abbrev pub AreTrumpsKnown : Position → Place → Cards → Cards → Type 0
+AreTrumpsKnown position holder cards known =
+    (card other : Card) (place : Place) → set.contains cards card ≡ true → side_of place ≢ side_of holder →
+    set.contains (hand_of position.hands place) other ≡ true → other.suit ≡ card.suit →
+    set.contains known card ≡ true
