@@ -31,7 +31,7 @@ use Rattle.cards.specs.declared.card.Card.{Card}
 use Rattle.cards.specs.Play.{Position, IsPosition, legal, after, cards_left, table_after}
 use Rattle.cards.specs.DoubleDummy.{double_dummy, first_illegal, cost, cost_list}
 use Rattle.double_dummy_laws.proofs.NeighbourLemmas.{one_less_after}
-use Rattle.double_dummy.proofs.BoundLemmas.{tricks_bound, under_way_short}
+use Rattle.double_dummy_laws.proofs.TakingLemmas.{tricks_bound, under_way_short}
 
 -- a legal card is none
 pub past_legal : (number : ℕ) (p : Position) (card : Card) (play : List Card) → set.contains (legal p) card ≡ true →
