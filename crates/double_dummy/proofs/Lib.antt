@@ -3,3 +3,4 @@ pub mod ClaimLemmas
 pub mod PlayedLemmas
 pub mod RunLemmas
 pub mod SearchLemmas
+pub mod SureLemmas

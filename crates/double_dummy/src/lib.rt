@@ -14,6 +14,7 @@ mod played_costs;
 mod run;
 mod search;
 mod solver;
+mod sure;
 mod trick;
 mod weights;
 

@@ -11,6 +11,7 @@ ghost use Rattle.cards.specs.declared.card.Card.{Card};
 
 use crate::budget::{Budget, BudgetSpent};
 use crate::order::Order;
+use crate::sure::sure_tricks;
 use crate::{run, trick};
 use cards::{Card, Hand, Position, Trick};
 use position_patterns::{DealPatterns, Finding, Holders, Memory};
@@ -64,6 +65,12 @@ pub fn search(
     // the last trick is played sooner than it is remembered
     if tricks_left <= 1 {
         return explore(position, target, patterns, memory, budget);
+    }
+    if let Some(found) = sure_tricks(position, target, tricks_left) {
+        let Ok(()) = budget.visit() else {
+            return Err(BudgetSpent);
+        };
+        return Ok(found);
     }
     let holders = Holders::of(position);
     let pattern = patterns.pattern(&holders);

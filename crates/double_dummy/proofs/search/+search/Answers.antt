@@ -98,7 +98,7 @@ search-returns-then-tricks_left-target-clause-found t c =
     too_many c.args.position.now c.args.target _ (omega arith)
 
 pub search-store-requires-clause-found : goal.search-store-requires-clause-found
-search-store-requires-clause-found t c = c.in-Ok.ensures.found
+search-store-requires-clause-found t c = c.in-Ok-explore.ensures.found
 
 pub explore-after-next-requires : goal.explore-after-next-requires
 explore-after-next-requires t c = c.loop-card.invariant.untried c.in-Some-best.card c.in-Some-best.ensures.some
@@ -147,11 +147,14 @@ search-returns-then-ne-clause-found t c = c.explore.ensures.found
 pub search-returns-in-Some-clause-found : goal.search-returns-in-Some-clause-found
 search-returns-in-Some-clause-found t c = c.in-Some.ensures
 
+pub search-returns-in-Some-find-clause-found : goal.search-returns-in-Some-find-clause-found
+search-returns-in-Some-find-clause-found t c = c.in-Some-find.ensures
+
 pub search-returns-in_default-explore-clause-err : goal.search-returns-in_default-explore-clause-err
 search-returns-in_default-explore-clause-err t c = c.in_default-explore.ensures.err
 
 pub search-returns-clause-found : goal.search-returns-clause-found
-search-returns-clause-found t c = c.in-Ok.ensures.found
+search-returns-clause-found t c = c.in-Ok-explore.ensures.found
 
 pub forced-search-requires : goal.forced-search-requires
 forced-search-requires t c =

@@ -1,0 +1,396 @@
+-- Sure tricks: what the cards that are counted have to be.
+use Rattle.std.proofs.Common.{
+  ◌≡◌,
+  ◌≢◌,
+  ◌⊎◌,
+  ℕ,
+  ◌<◌,
+  ◌≤◌,
+  Bool,
+  true,
+  false,
+  [],
+  refl,
+  sym,
+  ap,
+  ◌∙◌,
+  subst,
+  inl,
+  inr,
+  arith,
+}
+use Rattle.std.specs.Prelude.{◌&&◌, Option, Some, nat_eq, nat_lt}
+use Rattle.std.proofs.lemmas.Bool.{and_from, and_parts, cases_lt, eq-eqb, lt-ltb, ltb-true, or_cases, true≢false}
+use Rattle.std.specs.FinSet as set
+use Rattle.cards.specs.declared.card.Card.{Card}
+use Rattle.cards.specs.declared.rank.Rank.TheVariants.{Ace}
+use Rattle.cards.specs.Card.{number_in_pack}
+use Rattle.cards.specs.CardBits.{card_cmp_total, same_number}
+use Rattle.cards.specs.Cards.{AreDisjoint, Cards}
+use Rattle.cards.specs.Hands.{Hands, hand_of}
+use Rattle.cards.specs.Rank.{height}
+use Rattle.table_terms.specs.declared.suit.Suit.{Suit}
+use Rattle.table_terms.specs.declared.place.Place.{Place}
+use Rattle.table_terms.specs.declared.place.Place.TheVariants.{North, East, South, West}
+use Rattle.table_terms.specs.declared.side.Side.{Side}
+use Rattle.table_terms.specs.declared.strain.Strain.{Strain}
+use Rattle.table_terms.specs.Suit.{suit_number}
+use Rattle.table_terms.specs.Place.{left_of, side_of}
+use Rattle.table_terms.specs.Strain.{trump_of}
+use Rattle.cards.specs.Play.{IsPosition, Position, is_of, is_trump, strength_by, strength_in}
+use Rattle.double_dummy.proofs.RunLemmas.{none_in}
+use Rattle.position_patterns.proofs.SetLemmas.{in_first, in_second, just_inserted, still_inserted, inserted}
+use Rattle.double_dummy_laws.proofs.HandLemmas.{in_suit}
+use Rattle.double_dummy_laws.proofs.SureTrickLemmas.{masters_found, trumps_found}
+use Rattle.double_dummy_laws.proofs.WinnerLemmas.{both_of, height_below, same_suit}
+use Rattle.double_dummy_laws.specs.Found.{IsFound, wanted_answer}
+use Rattle.double_dummy_laws.specs.SureTricks.{AreEnough}
+
+-- a set's cards are among another's
+abbrev pub AreAmong : Cards → Cards → Type 0
+AreAmong some cards = (card : Card) → set.contains some card ≡ true → set.contains cards card ≡ true
+
+-- none of the others has a card of the suit of one of these
+abbrev pub AreAlone : Cards → Cards → Type 0
+AreAlone some others = (card other : Card) → set.contains some card ≡ true → set.contains others other ≡ true →
+    other.suit ≢ card.suit
+
+-- these are higher than the others' cards of their suits
+abbrev pub AreAbove : Cards → Cards → Type 0
+AreAbove some others = (card other : Card) → set.contains some card ≡ true → set.contains others other ≡ true →
+    other.suit ≡ card.suit → height other.rank < height card.rank
+
+pub either : (s t u : Cards) (card : Card) → u ≡ set.union s t → set.contains u card ≡ true →
+    (set.contains s card ≡ true) ⊎ (set.contains t card ≡ true)
+either s t u card is held =
+    or_cases _ _ (sym (ap (λ v. set.contains v card) is ∙ set.contains-union card_cmp_total s t card) ∙ held)
+
+pub among_both : (s t u cards : Cards) → u ≡ set.union s t → AreAmong s cards → AreAmong t cards → AreAmong u cards
+among_both s t u cards is first second card held =
+    elim (either s t u card is held) [ inl h ↦ first card h | inr h ↦ second card h ]
+
+pub alone_both : (s t u others : Cards) → u ≡ set.union s t → AreAlone s others → AreAlone t others → AreAlone u others
+alone_both s t u others is first second card other held there =
+    elim (either s t u card is held) [ inl h ↦ first card other h there | inr h ↦ second card other h there ]
+
+pub above_both : (s t u others : Cards) → u ≡ set.union s t → AreAbove s others → AreAbove t others → AreAbove u others
+above_both s t u others is first second card other held there same =
+    elim (either s t u card is held) [ inl h ↦ first card other h there same | inr h ↦ second card other h there same ]
+
+-- a card of a suit among others
+pub of_suit : (cards suited : Cards) (suit : Suit) (card : Card) → suited ≡ set.retain cards (is_of suit) →
+    set.contains suited card ≡ true → (set.contains cards card ≡ true) × (is_of suit card ≡ true)
+of_suit cards suited suit card is held =
+    and_parts _ _ (sym (in_suit cards suit card) ∙ ap (λ s. set.contains s card) (sym is) ∙ held)
+
+pub in_of_suit : (cards suited : Cards) (suit : Suit) (card : Card) → suited ≡ set.retain cards (is_of suit) →
+    set.contains cards card ≡ true → is_of suit card ≡ true → set.contains suited card ≡ true
+in_of_suit cards suited suit card is held same =
+    ap (λ s. set.contains s card) is ∙ in_suit cards suit card ∙ and_from _ _ held same
+
+pub also_of : (suit : Suit) (card other : Card) → is_of suit card ≡ true → other.suit ≡ card.suit →
+    is_of suit other ≡ true
+also_of suit card other is same = ap (λ s. nat_eq (suit_number suit) (suit_number s)) same ∙ is
+
+-- where the others have no card of the suit
+pub alone_in : (mine others held against : Cards) (suit : Suit) → held ≡ set.retain mine (is_of suit) →
+    against ≡ set.retain others (is_of suit) → against ≡ set.empty → AreAlone held others
+alone_in mine others held against suit held_is against_is none card other has there same =
+    let own = of_suit mine held suit card held_is has in
+    none_in against other none
+    (in_of_suit others against suit other against_is there (also_of suit card other own.1 same))
+
+-- the cards from one up
+pub above_in : (mine others held against reach both : Cards) (suit : Suit) (lowest : Card) →
+    held ≡ set.retain mine (is_of suit) → against ≡ set.retain others (is_of suit) →
+    ((card : Card) → set.contains both card ≡ (set.contains held card && set.contains reach card)) →
+    ((card : Card) → set.contains reach card ≡ true →
+    (card.suit ≡ lowest.suit) × (height lowest.rank ≤ height card.rank)) →
+    ((card : Card) → card.suit ≡ lowest.suit → height lowest.rank ≤ height card.rank →
+    set.contains reach card ≡ true) → AreDisjoint against reach → AreAbove both others
+above_in mine others held against reach both suit lowest held_is against_is both_is up all apart card other has there
+    same =
+    let parts = and_parts _ _ (sym (both_is card) ∙ has) in
+    let own = of_suit mine held suit card held_is parts.0 in
+    let high = up card parts.1 in
+    let opposed = in_of_suit others against suit other against_is there (also_of suit card other own.1 same) in
+    elim (cases_lt (height other.rank) (height lowest.rank)) [
+      | inl less ↦ let more = high.1 in omega arith
+      | inr reaches ↦ absurd (true≢false (sym (all other (same ∙ high.0) reaches) ∙ apart other opposed))
+    ]
+
+pub among_common : (mine held reach both : Cards) (suit : Suit) → held ≡ set.retain mine (is_of suit) →
+    ((card : Card) → set.contains both card ≡ (set.contains held card && set.contains reach card)) →
+    AreAmong both mine
+among_common mine held reach both suit held_is both_is card has =
+    (of_suit mine held suit card held_is (and_parts _ _ (sym (both_is card) ∙ has)).0).0
+
+abbrev pub ace_of : Suit → Card
+ace_of suit = record { suit = suit; rank = Ace }
+
+-- the ace alone
+pub from_ace : (lowest ace : Card) (cards : Cards) → ace.suit ≡ lowest.suit → ace.rank ≡ Ace →
+    number_in_pack ace ≤ number_in_pack lowest →
+    ((other : Card) → ((set.contains cards other ≡ true) → (other ≡ ace)) ×
+    ((other ≡ ace) → set.contains cards other ≡ true)) →
+    ((card : Card) → set.contains cards card ≡ true →
+    (card.suit ≡ lowest.suit) × (height lowest.rank ≤ height card.rank)) ×
+    ((card : Card) → card.suit ≡ lowest.suit → height lowest.rank ≤ height card.rank →
+    set.contains cards card ≡ true)
+from_ace lowest ace cards suit rank no_lower just =
+    let numbers = ap suit_number suit in
+    let top = ap height rank in
+    let small = height_below lowest.rank in (
+      λ card held.
+          let is = (just card).0 held in
+          (ap (λ c. c.suit) is ∙ suit, (let e = ap (λ c. height c.rank) is in omega arith)),
+      λ card same high.
+          let below = height_below card.rank in
+          let of_suit = ap suit_number same in
+          (just card).1 (same_number card ace (omega arith)),
+    )
+
+-- from a card to the ace
+pub from_up : (lowest ace : Card) (inner some cards : Cards) → ace.suit ≡ lowest.suit → ace.rank ≡ Ace →
+    number_in_pack lowest < number_in_pack ace →
+    ((card : Card) → set.contains inner card ≡
+    (nat_lt (number_in_pack lowest) (number_in_pack card) && nat_lt (number_in_pack card) (number_in_pack ace))) →
+    some ≡ set.insert inner lowest → cards ≡ set.insert some ace →
+    ((card : Card) → set.contains cards card ≡ true →
+    (card.suit ≡ lowest.suit) × (height lowest.rank ≤ height card.rank)) ×
+    ((card : Card) → card.suit ≡ lowest.suit → height lowest.rank ≤ height card.rank →
+    set.contains cards card ≡ true)
+from_up lowest ace inner some cards suit rank order inner_is some_is cards_is =
+    let numbers = ap suit_number suit in
+    let top = ap height rank in
+    let small = height_below lowest.rank in (
+      λ card held. elim (just_inserted some cards ace card cards_is held) [
+        | inl is ↦ (ap (λ c. c.suit) is ∙ suit, (let e = ap (λ c. height c.rank) is in omega arith))
+        | inr before ↦ elim (just_inserted inner some lowest card some_is before) [
+          | inl is ↦ (ap (λ c. c.suit) is, (let e = ap (λ c. height c.rank) is in omega arith))
+          | inr between ↦
+              let parts = and_parts _ _ (sym (inner_is card) ∙ between) in
+              let above : number_in_pack lowest < number_in_pack card = ltb-true _ _ parts.0 in
+              let under : number_in_pack card < number_in_pack ace = ltb-true _ _ parts.1 in
+              let below = height_below card.rank in
+              (same_suit card.suit lowest.suit (omega arith), omega arith)
+        ]
+      ],
+      λ card same high.
+          let below = height_below card.rank in
+          let of_suit = ap suit_number same in
+          elim (cases_lt (number_in_pack lowest) (number_in_pack card)) [
+            | inr no_higher ↦ still_inserted some cards ace card cards_is
+                (subst (λ c. set.contains some c ≡ true) (sym (same_number card lowest (omega arith)))
+                (inserted inner some lowest some_is))
+            | inl above ↦ elim (cases_lt (number_in_pack card) (number_in_pack ace)) [
+              | inl under ↦ still_inserted some cards ace card cards_is (still_inserted inner some lowest card some_is
+                  (inner_is card ∙ and_from _ _ (lt-ltb (number_in_pack lowest) (number_in_pack card) above)
+                  (lt-ltb (number_in_pack card) (number_in_pack ace) under)))
+              | inr last ↦ subst (λ c. set.contains cards c ≡ true) (sym (same_number card ace (omega arith)))
+                  (inserted some cards ace cards_is)
+            ]
+          ],
+    )
+
+-- who plays beside whom
+pub opponent_cases : (place holder : Place) → side_of place ≢ side_of holder →
+    (place ≡ left_of holder) ⊎ (place ≡ left_of (left_of (left_of holder)))
+opponent_cases North North ne = absurd (ne refl)
+opponent_cases North East ne = inr refl
+opponent_cases North South ne = absurd (ne refl)
+opponent_cases North West ne = inl refl
+opponent_cases East North ne = inl refl
+opponent_cases East East ne = absurd (ne refl)
+opponent_cases East South ne = inr refl
+opponent_cases East West ne = absurd (ne refl)
+opponent_cases South North ne = absurd (ne refl)
+opponent_cases South East ne = inl refl
+opponent_cases South South ne = absurd (ne refl)
+opponent_cases South West ne = inr refl
+opponent_cases West North ne = inr refl
+opponent_cases West East ne = absurd (ne refl)
+opponent_cases West South ne = inl refl
+opponent_cases West West ne = absurd (ne refl)
+
+pub other_cases : (place leader : Place) → place ≢ leader → (place ≡ left_of leader)
+    ⊎ ((place ≡ left_of (left_of leader)) ⊎ (place ≡ left_of (left_of (left_of leader))))
+other_cases North North ne = absurd (ne refl)
+other_cases North East ne = inr (inr refl)
+other_cases North South ne = inr (inl refl)
+other_cases North West ne = inl refl
+other_cases East North ne = inl refl
+other_cases East East ne = absurd (ne refl)
+other_cases East South ne = inr (inr refl)
+other_cases East West ne = inr (inl refl)
+other_cases South North ne = inr (inl refl)
+other_cases South East ne = inl refl
+other_cases South South ne = absurd (ne refl)
+other_cases South West ne = inr (inr refl)
+other_cases West North ne = inr (inr refl)
+other_cases West East ne = inr (inl refl)
+other_cases West South ne = inl refl
+other_cases West West ne = absurd (ne refl)
+
+pub of_opponents : (hands : Hands) (holder left right : Place) (a b all : Cards) → left ≡ left_of holder →
+    right ≡ left_of (left_of left) → a ≡ hand_of hands left → b ≡ hand_of hands right → all ≡ set.union a b →
+    (place : Place) (card : Card) → side_of place ≢ side_of holder →
+    set.contains (hand_of hands place) card ≡ true → set.contains all card ≡ true
+of_opponents hands holder left right a b all left_is right_is a_is b_is all_is place card ne held =
+    elim (opponent_cases place holder ne) [
+      | inl is ↦ in_first a b all all_is card
+          (ap (λ s. set.contains s card) (a_is ∙ ap (hand_of hands) (left_is ∙ sym is)) ∙ held)
+      | inr is ↦ in_second a b all all_is card
+          (ap (λ s. set.contains s card)
+          (b_is ∙ ap (hand_of hands) (right_is ∙ ap (λ x. left_of (left_of x)) left_is ∙ sym is)) ∙ held)
+    ]
+
+pub of_others : (hands : Hands) (leader left partner right : Place) (a b c both all : Cards) →
+    left ≡ left_of leader → partner ≡ left_of left → right ≡ left_of partner → a ≡ hand_of hands left →
+    b ≡ hand_of hands partner → c ≡ hand_of hands right → both ≡ set.union b c → all ≡ set.union a both →
+    (place : Place) (card : Card) → place ≢ leader →
+    set.contains (hand_of hands place) card ≡ true → set.contains all card ≡ true
+of_others hands leader left partner right a b c both all left_is partner_is right_is a_is b_is c_is both_is all_is
+    place card ne held =
+    elim (other_cases place leader ne) [
+      | inl is ↦ in_first a both all all_is card
+          (ap (λ s. set.contains s card) (a_is ∙ ap (hand_of hands) (left_is ∙ sym is)) ∙ held)
+      | inr (inl is) ↦ in_second a both all all_is card (in_first b c both both_is card
+          (ap (λ s. set.contains s card)
+          (b_is ∙ ap (hand_of hands) (partner_is ∙ ap left_of left_is ∙ sym is)) ∙ held))
+      | inr (inr is) ↦ in_second a both all all_is card (in_second b c both both_is card
+          (ap (λ s. set.contains s card)
+          (c_is ∙ ap (hand_of hands) (right_is ∙ ap left_of (partner_is ∙ ap left_of left_is) ∙ sym is)) ∙ held))
+    ]
+
+-- no trump is among these
+pub no_trumps : (trump : Option Suit) (suit : Suit) (cards suited : Cards) → trump ≡ Some suit →
+    suited ≡ set.retain cards (is_of suit) → suited ≡ set.empty → (card : Card) → set.contains cards card ≡ true →
+    is_trump trump card ≡ false
+no_trumps trump suit cards suited trump_is suited_is none card held =
+    ap (λ t. is_trump t card) trump_is ∙ never (is_of suit card) refl
+  where
+    never : (b : Bool) → is_of suit card ≡ b → is_of suit card ≡ false
+    never false e = e
+    never true e = absurd (none_in suited card none (in_of_suit cards suited suit card suited_is held e))
+
+-- a card that is led beats what is no trump, lower cards of its suit, and other suits
+led_beats : (to_trump lt led lc : Bool) (ho hc : ℕ) → ho < 13 → lc ≡ true → (led ≡ true → ho < hc) →
+    strength_by false led ho < strength_by to_trump lc hc
+led_beats true lt true true ho hc fits is lower = let less : ho < hc = lower refl in omega arith
+led_beats true lt false true ho hc fits is lower = omega arith
+led_beats false lt true true ho hc fits is lower = let less : ho < hc = lower refl in omega arith
+led_beats false lt false true ho hc fits is lower = omega arith
+led_beats t lt led false ho hc fits is lower = absurd (true≢false (sym is))
+
+pub unbeaten : (strain : Strain) (card other : Card) → is_trump (trump_of strain) other ≡ false →
+    (other.suit ≡ card.suit → height other.rank < height card.rank) →
+    strength_in strain card other < strength_in strain card card
+unbeaten strain card other no_trump lower =
+    subst (λ t. strength_by t (is_of card.suit other) (height other.rank)
+    < strength_by (is_trump (trump_of strain) card) (is_of card.suit card) (height card.rank)) (sym no_trump)
+    (led_beats (is_trump (trump_of strain) card) true (is_of card.suit other) (is_of card.suit card) _ _
+    (height_below other.rank) (eq-eqb _ _ refl)
+    (λ same. lower (both_of card.suit other card same (eq-eqb _ _ refl))))
+
+-- the leader's masters
+pub masters_sure : (p : Position) (mine others lone named taken : Cards) (target wanted : ℕ) → IsPosition p →
+    p.table ≡ [] → mine ≡ hand_of p.hands p.leader →
+    ((place : Place) (card : Card) → place ≢ p.leader → set.contains (hand_of p.hands place) card ≡ true →
+    set.contains others card ≡ true) →
+    ((card : Card) → set.contains others card ≡ true → is_trump (trump_of p.strain) card ≡ false) →
+    AreAmong lone mine → AreAlone lone others → AreAmong named mine → AreAbove named others →
+    taken ≡ set.union lone named →
+    ((tricks : ℕ) → wanted ≤ tricks → AreEnough (side_of p.leader) tricks p target) → wanted ≤ set.len taken →
+    IsFound p target named (wanted_answer (side_of p.leader))
+masters_sure p mine others lone named taken target wanted valid none mine_is others_has no_trump lone_in lone_alone
+    named_in named_above taken_is enough many =
+    masters_found p taken named target valid none (record {
+      held = λ card held. ap (λ s. set.contains s card) (sym mine_is)
+          ∙ among_both lone named taken mine taken_is lone_in named_in card held;
+      unbeaten = λ card other place held ne there.
+          let other_in = others_has place other ne there in
+          unbeaten p.strain card other (no_trump other other_in)
+          (λ same. elim (either lone named taken card taken_is held) [
+            | inl h ↦ absurd (lone_alone card other h other_in same)
+            | inr h ↦ named_above card other h other_in same
+          ]);
+    })
+    (λ card other place held ne there same. elim (either lone named taken card taken_is held) [
+      | inl h ↦ absurd (lone_alone card other h (others_has place other ne there) same)
+      | inr h ↦ h
+    ])
+    (enough (set.len taken) many)
+
+-- a player's best trumps
+pub trumps_sure : (p : Position) (trump : Suit) (holder : Place) (hand mine others lone named taken : Cards)
+    (target wanted : ℕ) → IsPosition p → p.table ≡ [] → trump_of p.strain ≡ Some trump →
+    hand ≡ hand_of p.hands holder → mine ≡ set.retain hand (is_of trump) →
+    ((place : Place) (card : Card) → side_of place ≢ side_of holder →
+    set.contains (hand_of p.hands place) card ≡ true → set.contains others card ≡ true) →
+    AreAmong lone mine → AreAlone lone others → AreAmong named mine → AreAbove named others →
+    taken ≡ set.union lone named →
+    ((tricks : ℕ) → wanted ≤ tricks → AreEnough (side_of holder) tricks p target) → wanted ≤ set.len taken →
+    IsFound p target named (wanted_answer (side_of holder))
+trumps_sure p trump holder hand mine others lone named taken target wanted valid none trump_is hand_is mine_is
+    others_has lone_in lone_alone named_in named_above taken_is enough many =
+    let own = λ (card : Card) (held : set.contains taken card ≡ true).
+    of_suit hand mine trump card mine_is (among_both lone named taken mine taken_is lone_in named_in card held) in
+    trumps_found p holder taken named target valid none (record {
+      held = λ card held. ap (λ s. set.contains s card) (sym hand_is) ∙ (own card held).0;
+      trumps = λ card held. ap (λ t. is_trump t card) trump_is ∙ (own card held).1;
+      higher = λ card other place held ne there is.
+          let other_in = others_has place other ne there in
+          let same : other.suit ≡ card.suit =
+          both_of trump other card (sym (ap (λ t. is_trump t other) trump_is) ∙ is) (own card held).1 in
+          elim (either lone named taken card taken_is held) [
+            | inl h ↦ absurd (lone_alone card other h other_in same)
+            | inr h ↦ named_above card other h other_in same
+          ];
+    })
+    (λ card other place held ne there same. elim (either lone named taken card taken_is held) [
+      | inl h ↦ absurd (lone_alone card other h (others_has place other ne there) same)
+      | inr h ↦ h
+    ])
+    (enough (set.len taken) many)
+
+-- the same, as the search says it
+pub masters_answer : (p : Position) (leader : Place) (side side' : Side) (mine others lone named taken known : Cards)
+    (target wanted : ℕ) (holds : Bool) → IsPosition p → p.table ≡ [] → leader ≡ p.leader → side ≡ side_of leader →
+    side' ≡ side_of leader → mine ≡ hand_of p.hands leader →
+    ((place : Place) (card : Card) → place ≢ leader → set.contains (hand_of p.hands place) card ≡ true →
+    set.contains others card ≡ true) →
+    ((card : Card) → set.contains others card ≡ true → is_trump (trump_of p.strain) card ≡ false) →
+    AreAmong lone mine → AreAlone lone others → AreAmong named mine → AreAbove named others →
+    taken ≡ set.union lone named →
+    ((tricks : ℕ) → wanted ≤ tricks → AreEnough side tricks p target) → wanted ≤ set.len taken →
+    holds ≡ wanted_answer side' → known ≡ named → IsFound p target known holds
+masters_answer p leader side side' mine others lone named taken known target wanted holds valid none leader_is side_is
+    side_is' mine_is others_has no_trump lone_in lone_alone named_in named_above taken_is enough many holds_is
+    known_is =
+    let of_leader = ap side_of leader_is in
+    subst (λ k. IsFound p target k holds) (sym known_is)
+    (subst (λ b. IsFound p target named b) (sym (holds_is ∙ ap wanted_answer (side_is' ∙ of_leader)))
+    (masters_sure p mine others lone named taken target wanted valid none (mine_is ∙ ap (hand_of p.hands) leader_is)
+    (λ place card ne. others_has place card (λ e. ne (e ∙ leader_is))) no_trump lone_in lone_alone named_in named_above
+    taken_is
+    (λ tricks more. subst (λ s. AreEnough s tricks p target) (side_is ∙ of_leader) (enough tricks more)) many))
+
+pub trumps_answer : (p : Position) (trump : Suit) (holder : Place) (side side' : Side)
+    (hand mine others lone named taken known : Cards) (target wanted : ℕ) (holds : Bool) → IsPosition p →
+    p.table ≡ [] → trump_of p.strain ≡ Some trump → side ≡ side_of holder → side' ≡ side_of holder →
+    hand ≡ hand_of p.hands holder → mine ≡ set.retain hand (is_of trump) →
+    ((place : Place) (card : Card) → side_of place ≢ side_of holder →
+    set.contains (hand_of p.hands place) card ≡ true → set.contains others card ≡ true) →
+    AreAmong lone mine → AreAlone lone others → AreAmong named mine → AreAbove named others →
+    taken ≡ set.union lone named →
+    ((tricks : ℕ) → wanted ≤ tricks → AreEnough side tricks p target) → wanted ≤ set.len taken →
+    holds ≡ wanted_answer side' → known ≡ named → IsFound p target known holds
+trumps_answer p trump holder side side' hand mine others lone named taken known target wanted holds valid none trump_is
+    side_is side_is' hand_is mine_is others_has lone_in lone_alone named_in named_above taken_is enough many holds_is
+    known_is =
+    subst (λ k. IsFound p target k holds) (sym known_is)
+    (subst (λ b. IsFound p target named b) (sym (holds_is ∙ ap wanted_answer side_is'))
+    (trumps_sure p trump holder hand mine others lone named taken target wanted valid none trump_is hand_is mine_is
+    others_has lone_in lone_alone named_in named_above taken_is
+    (λ tricks more. subst (λ s. AreEnough s tricks p target) side_is (enough tricks more)) many))

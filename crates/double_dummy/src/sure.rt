@@ -1,0 +1,265 @@
+ghost use Rattle.std.specs.Prelude.{◌≡◌, ◌≢◌, ◌+◌, ◌*◌, ◌<◌, ◌≤◌, ◌↔◌, ℕ, [], true, false, length, Some, IfSome};
+ghost use Rattle.std.specs.FinSet as set;
+ghost use Rattle.cards.specs.declared.card.Card.{Card};
+ghost use Rattle.table_terms.specs.declared.place.Place.{Place};
+ghost use Rattle.table_terms.specs.Place.{side_of};
+ghost use Rattle.table_terms.specs.Strain.{trump_of};
+ghost use Rattle.cards.specs.Hands.{hand_of};
+ghost use Rattle.cards.specs.Rank.{height};
+ghost use Rattle.cards.specs.Play.{Position, cards_left, is_trump};
+ghost use Rattle.double_dummy_laws.specs.Found.{IsFound, wanted_answer};
+ghost use Rattle.double_dummy_laws.specs.SureTricks.{AreEnough};
+
+use crate::run::common;
+use cards::{Card, Hand, Position, Rank};
+use position_patterns::Finding;
+use table_terms::{Place, Side, Suit};
+
+/// Whether North and South take so many tricks, at the beginning of a trick, where a side's best trumps or the leader's
+/// masters take as many as that needs. DDS counts more; what is counted here is known by the cards that it names.
+pub fn sure_tricks(position: &Position, target: u8, tricks_left: u8) -> Option<Finding>
+    requires start { position.now.table ≡ [] }
+    requires left { 4 * tricks_left ≡ cards_left position.now + length position.now.table }
+    requires some { target ≤ tricks_left }
+    ensures { IfSome result (λ found. IsFound position.now target found.known found.holds) }
+{
+    if let Some(found) = by_trumps(position, target, tricks_left) {
+        return Some(found);
+    }
+    by_masters(position, target, tricks_left)
+}
+
+/// The same, by the trumps of one player.
+fn by_trumps(position: &Position, target: u8, tricks_left: u8) -> Option<Finding>
+    requires start { position.now.table ≡ [] }
+    requires left { 4 * tricks_left ≡ cards_left position.now + length position.now.table }
+    requires some { target ≤ tricks_left }
+    ensures { IfSome result (λ found. IsFound position.now target found.known found.holds) }
+{
+    let trump = position.strain().trump()?;
+    if let Some(found) = by_trumps_of(position, trump, Place::North, target, tricks_left) {
+        return Some(found);
+    }
+    if let Some(found) = by_trumps_of(position, trump, Place::East, target, tricks_left) {
+        return Some(found);
+    }
+    if let Some(found) = by_trumps_of(position, trump, Place::South, target, tricks_left) {
+        return Some(found);
+    }
+    by_trumps_of(position, trump, Place::West, target, tricks_left)
+}
+
+/// The same, by those of a player's trumps that are higher than all of the opponents'.
+fn by_trumps_of(
+    position: &Position,
+    trump: Suit,
+    holder: Place,
+    target: u8,
+    tricks_left: u8,
+) -> Option<Finding>
+    requires start { position.now.table ≡ [] }
+    requires left { 4 * tricks_left ≡ cards_left position.now + length position.now.table }
+    requires some { target ≤ tricks_left }
+    requires trump { trump_of position.now.strain ≡ Some trump }
+    ensures { IfSome result (λ found. IsFound position.now target found.known found.holds) }
+{
+    let wanted = tricks_wanted(holder.side(), target, tricks_left);
+    let mine = position.hand(holder).of_suit(trump);
+    if mine.len() < wanted {
+        return None;
+    }
+    let others = opponents_cards(position, holder);
+    let alone = lone(mine, others, trump);
+    let named = fewest(higher(mine, others, trump), wanted);
+    let taken = alone.union(named);
+    if taken.len() < wanted {
+        return None;
+    }
+    Some(answer(holder.side(), named))
+}
+
+/// The same, by the leader's cards that no card of another player beats: no other player has a trump.
+fn by_masters(position: &Position, target: u8, tricks_left: u8) -> Option<Finding>
+    requires start { position.now.table ≡ [] }
+    requires left { 4 * tricks_left ≡ cards_left position.now + length position.now.table }
+    requires some { target ≤ tricks_left }
+    ensures { IfSome result (λ found. IsFound position.now target found.known found.holds) }
+{
+    let leader = position.leader();
+    let others = others_cards(position, leader);
+    if has_trump(position, others) {
+        return None;
+    }
+    let wanted = tricks_wanted(leader.side(), target, tricks_left);
+    let mine = position.hand(leader);
+    let alone = all_lone(mine, others);
+    let missing = wanted.saturating_sub(alone.len());
+    let named = fewest(all_higher(mine, others), missing);
+    let taken = alone.union(named);
+    if taken.len() < wanted {
+        return None;
+    }
+    Some(answer(leader.side(), named))
+}
+
+/// How many tricks answer whether North and South take so many as the side would have it.
+fn tricks_wanted(side: Side, target: u8, tricks_left: u8) -> u32
+    requires { target ≤ tricks_left }
+    ensures { (position : Position) (tricks : ℕ) →
+        4 * tricks_left ≡ cards_left position + length position.table → result ≤ tricks →
+        AreEnough side tricks position target }
+{
+    match side {
+        Side::NorthSouth => target as u32,
+        Side::EastWest => tricks_left as u32 + 1 - target as u32,
+    }
+}
+
+/// The answer that a side would rather have, by these cards.
+fn answer(side: Side, known: Hand) -> Finding
+    ensures holds { result.holds ≡ wanted_answer side }
+    ensures known { result.known ≡ known }
+{
+    let holds = match side {
+        Side::NorthSouth => true,
+        Side::EastWest => false,
+    };
+    Finding { holds, known }
+}
+
+/// The cards of a player's opponents.
+fn opponents_cards(position: &Position, holder: Place) -> Hand
+    ensures { (place : Place) (card : Card) → side_of place ≢ side_of holder →
+        set.contains (hand_of position.now.hands place) card ≡ true → set.contains result card ≡ true }
+{
+    let left = holder.left();
+    position.hand(left).union(position.hand(left.left().left()))
+}
+
+/// The cards of the other three players.
+fn others_cards(position: &Position, leader: Place) -> Hand
+    ensures { (place : Place) (card : Card) → place ≢ leader →
+        set.contains (hand_of position.now.hands place) card ≡ true → set.contains result card ≡ true }
+{
+    let left = leader.left();
+    let partner = left.left();
+    let right = partner.left();
+    position
+        .hand(left)
+        .union(position.hand(partner).union(position.hand(right)))
+}
+
+/// Whether there is a trump among these cards.
+fn has_trump(position: &Position, cards: Hand) -> bool
+    ensures { result ≡ false → (card : Card) → set.contains cards card ≡ true →
+        is_trump (trump_of position.now.strain) card ≡ false }
+{
+    let Some(suit) = position.strain().trump() else {
+        return false;
+    };
+    !cards.of_suit(suit).is_empty()
+}
+
+/// A player's cards of a suit of which no other has any.
+fn lone(mine: Hand, others: Hand, suit: Suit) -> Hand
+    ensures among { (card : Card) → set.contains result card ≡ true → set.contains mine card ≡ true }
+    ensures alone { (card other : Card) → set.contains result card ≡ true → set.contains others other ≡ true →
+        other.suit ≢ card.suit }
+{
+    if !others.of_suit(suit).is_empty() {
+        return Hand::new();
+    }
+    mine.of_suit(suit)
+}
+
+/// The same of all suits.
+fn all_lone(mine: Hand, others: Hand) -> Hand
+    ensures among { (card : Card) → set.contains result card ≡ true → set.contains mine card ≡ true }
+    ensures alone { (card other : Card) → set.contains result card ≡ true → set.contains others other ≡ true →
+        other.suit ≢ card.suit }
+{
+    let spades = lone(mine, others, Suit::Spades);
+    let hearts = lone(mine, others, Suit::Hearts);
+    let diamonds = lone(mine, others, Suit::Diamonds);
+    let clubs = lone(mine, others, Suit::Clubs);
+    spades.union(hearts).union(diamonds.union(clubs))
+}
+
+/// A player's cards of a suit that are higher than all of the others', of whom some have a card of it.
+fn higher(mine: Hand, others: Hand, suit: Suit) -> Hand
+    ensures among { (card : Card) → set.contains result card ≡ true → set.contains mine card ≡ true }
+    ensures above { (card other : Card) → set.contains result card ≡ true → set.contains others other ≡ true →
+        other.suit ≡ card.suit → height other.rank < height card.rank }
+{
+    let held = mine.of_suit(suit);
+    let against = others.of_suit(suit);
+    let word = against.word();
+    if word == 0 {
+        return Hand::new();
+    }
+    if held.word() <= word {
+        return Hand::new();
+    }
+    let upper = held.word() >> word.ilog2() << word.ilog2();
+    let reach = upwards(Card::from_number(upper.trailing_zeros().min(51) as u8));
+    if !against.is_disjoint(reach) {
+        return Hand::new();
+    }
+    common(held, reach)
+}
+
+/// The same of all suits.
+fn all_higher(mine: Hand, others: Hand) -> Hand
+    ensures among { (card : Card) → set.contains result card ≡ true → set.contains mine card ≡ true }
+    ensures above { (card other : Card) → set.contains result card ≡ true → set.contains others other ≡ true →
+        other.suit ≡ card.suit → height other.rank < height card.rank }
+{
+    let spades = higher(mine, others, Suit::Spades);
+    let hearts = higher(mine, others, Suit::Hearts);
+    let diamonds = higher(mine, others, Suit::Diamonds);
+    let clubs = higher(mine, others, Suit::Clubs);
+    spades.union(hearts).union(diamonds.union(clubs))
+}
+
+/// The cards of the pack from one to the ace of its suit.
+fn upwards(lowest: Card) -> Hand
+    ensures up { (card : Card) → set.contains result card ≡ true →
+        (card.suit ≡ lowest.suit) × (height lowest.rank ≤ height card.rank) }
+    ensures all { (card : Card) → card.suit ≡ lowest.suit → height lowest.rank ≤ height card.rank →
+        set.contains result card ≡ true }
+{
+    let ace = Card {
+        suit: lowest.suit,
+        rank: Rank::Ace,
+    };
+    if lowest.number() >= ace.number() {
+        return only(ace);
+    }
+    let mut cards = Hand::between(lowest, ace);
+    cards.insert(lowest);
+    cards.insert(ace);
+    cards
+}
+
+/// Just this card.
+fn only(card: Card) -> Hand
+    ensures { (other : Card) → (set.contains result other ≡ true) ↔ (other ≡ card) }
+{
+    let mut cards = Hand::new();
+    cards.insert(card);
+    cards
+}
+
+/// So many of these cards at most, without the lowest.
+fn fewest(cards: Hand, most: u32) -> Hand
+    ensures { (card : Card) → set.contains result card ≡ true → set.contains cards card ≡ true }
+{
+    let mut rest = cards;
+    while rest.len() > most {
+        let Some(card) = rest.first() else {
+            return rest;
+        };
+        rest.remove(card);
+    }
+    rest
+}
