@@ -36,12 +36,12 @@ struct Hit {
 }
 
 impl Memory {
-    /// Room for so many tricks: twice as many entries for each trick more, and at most 2^21.
+    /// Room for so many tricks: twice as many entries for each trick more, and at most 2^20: with their chains some 60 MB.
     pub fn new(alloc: Global, tricks: u8) -> Result<Memory, AllocError> {
-        let tricks = tricks.min(13);
+        let tricks = tricks.min(12);
         let room = 1 << (tricks + 8);
         let heads = Vec::from_elem(alloc, NONE, room / 4)?;
-        let blocks = Vec::with_capacity(alloc, room / 2)?;
+        let blocks = Vec::with_capacity(alloc, room / 4)?;
         Ok(Memory {
             entries: Vec::with_capacity(alloc, room)?,
             chains: Chains { heads, blocks },
@@ -163,7 +163,7 @@ impl Memory {
         requires pattern { (suit : Suit) → IsPatternOf (pattern_of pattern.now suit) (holding holders.now suit) }
         requires found { IsFound position.now target finding.now.known finding.now.holds }
     {
-        if self.entries.len() >= self.room || self.chains.blocks.len() >= self.room / 2 {
+        if self.entries.len() >= self.room || self.chains.blocks.len() >= self.room / 4 {
             self.forget();
         }
         let entry = Remembered::new(position, holders, pattern, target, finding);
