@@ -9,13 +9,14 @@ servers run at once, on 127.0.0.1; it takes about three quarters of a minute. Ea
 The status is 1 where one failed.
 """
 import json
+import pathlib
 import random
 import signal
 import sys
 import threading
 import time
 
-from raw_client import BINARY, CLOSE, CONTINUATION, NOT_SIGNED_IN, PING, PONG, STATUS, TEXT, Client, Ended, Server, frame, head, is_served, some_deals
+from raw_client import BINARY, CLOSE, CONTINUATION, NOT_SIGNED_IN, PING, PONG, STATUS, TEXT, Client, Ended, Server, frame, head, is_served, some_deals, waiting
 from write_query_runs import hold, release
 from write_stored_runs import USERS
 
@@ -28,6 +29,8 @@ IDLE, LONG_IDLE = 4, 300
 # system holds of answers
 LATE, LATE_FOR_ANSWERS = 8, 60
 OWN_ORIGIN = "https://bridge.example.org"
+# how many clients come at once: more than a listening socket has room for that isn't told how many
+CROWD = 400
 failed = []
 lock = threading.Lock()
 
@@ -266,6 +269,31 @@ def origins():
         check("after these the next is served", True, is_served(server))
 
 
+def crowd():
+    """A crowd waits at the port while the only display is taken, and then each of them is served."""
+    room = int(pathlib.Path("/proc/sys/net/core/somaxconn").read_text())
+    many = min(CROWD, room)
+    with Server(PROGRAM, "--displays", 1, "--workers", 0) as server:
+        first, streams = Client(server, 10), []
+        try:
+            while len(streams) < many:
+                streams.append(server.stream(10))
+                streams[-1].sendall(head())
+        except TimeoutError:
+            pass  # there is no room for it, and the check below says for how many there was
+        until = time.monotonic() + 5
+        while time.monotonic() < until and waiting(server.port) < many:
+            time.sleep(0.1)
+        check(f"{many} clients wait to be accepted, where the system has room for {room}", many, waiting(server.port))
+        check("the one before them is served on", NOT_SIGNED_IN, first.ask(STATUS))
+        first.leave()
+        lines = []
+        for stream in streams:
+            lines.append(stream.recv(65_536).split(b"\r\n")[0])
+            stream.close()
+        check("then each of them is served", [b"HTTP/1.1 101 Switching Protocols"] * many, lines)
+
+
 def enters(server, name, stop, receipts):
     """A director who has a board held and released by one batch after another."""
     client = Client(server, 10)
@@ -339,6 +367,7 @@ def main():
     for task in tasks:
         task.start()
     origins()
+    crowd()
     for task in tasks:
         task.join()
     for number in (signal.SIGTERM, signal.SIGINT):

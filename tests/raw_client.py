@@ -42,11 +42,15 @@ def free_port():
                 return port
 
 
-def listens(port):
-    """Whether something listens there. It isn't asked by a connection, which would be counted."""
+def waiting(port):
+    """How many connections wait there to be accepted, or nothing where nothing listens. It isn't asked by a connection, which
+    would be counted."""
     place = f"0100007F:{port:04X}"
-    rows = [line.split() for line in pathlib.Path("/proc/net/tcp").read_text().splitlines()[1:]]
-    return any(row[1] == place and row[3] == "0A" for row in rows)
+    for line in pathlib.Path("/proc/net/tcp").read_text().splitlines()[1:]:
+        row = line.split()
+        if row[1] == place and row[3] == "0A":
+            return int(row[4].split(":")[1], 16)
+    return None
 
 
 def heeds_signals():
@@ -77,7 +81,7 @@ class Server:
         self.process = subprocess.Popen([*self.words, "--port", str(self.port)], env=env, preexec_fn=heeds_signals,
                                         stdin=subprocess.DEVNULL, stdout=subprocess.PIPE, stderr=subprocess.PIPE)
         deadline = time.monotonic() + 60
-        while not listens(self.port):
+        while waiting(self.port) is None:
             if self.process.poll() is not None or time.monotonic() > deadline:
                 return False
             time.sleep(0.01)

@@ -8,6 +8,7 @@ use crate::message_server::MessageServer;
 use std::alloc::Global;
 use std::io::{self, Read, Write};
 use std::net::{Ipv4Addr, Net, OpenListener, OpenStream, SocketAddr, TcpListener};
+use std::os::fd::AsRawFd;
 use std::sync::Wait;
 use std::thread;
 use std::time::{Clock, Duration};
@@ -15,9 +16,17 @@ use std::time::{Clock, Duration};
 // How many milliseconds to wait after an accept that failed.
 const PAUSE: u64 = 100;
 
-/// Listens at a port of 127.0.0.1.
+// How many clients may wait to be accepted: as many as the system allows.
+const MOST_WAITING: i32 = i32::MAX;
+
+/// Listens at a port of 127.0.0.1. As many clients may wait to be accepted as the system allows, 4,096 where it was told
+/// nothing else.
 pub fn listen<R: Net>(rt: &R, port: u16) -> io::Result<R::Listener> {
-    TcpListener::bind(rt, SocketAddr::from((Ipv4Addr::LOCALHOST, port)))
+    let listener = TcpListener::bind(rt, SocketAddr::from((Ipv4Addr::LOCALHOST, port)))?;
+    // Who finds no room in the queue is left to the system, which breaks off with some after a minute, and std has room
+    // for 128 alone. To listen again is to have a longer queue; where that fails, the first one serves.
+    let _longer = libc::net::listen(listener.as_raw_fd(), MOST_WAITING);
+    Ok(listener)
 }
 
 /// Serves so many clients, one after another. One counts once accept has returned, be it with a fault.
