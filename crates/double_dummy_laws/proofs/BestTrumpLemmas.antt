@@ -23,13 +23,13 @@ use Rattle.double_dummy_laws.proofs.WinnerLemmas.{fourth_wins, height_below, thi
 use Rattle.double_dummy_laws.specs.SureTricks.{AreBestTrumps, TakesAtLeast}
 
 -- who sits where
-partners : (place : Place) → side_of (left_of (left_of place)) ≡ side_of place
+pub partners : (place : Place) → side_of (left_of (left_of place)) ≡ side_of place
 partners North = refl
 partners East = refl
 partners South = refl
 partners West = refl
 
-opponents : (place : Place) → side_of (left_of place) ≢ side_of place
+pub opponents : (place : Place) → side_of (left_of place) ≢ side_of place
 opponents North e = cc
 opponents East e = cc
 opponents South e = cc
@@ -63,7 +63,7 @@ side_of_third leader a b c d first last =
       | inr h ↦ ap side_of (first_best leader a b c d (omega arith) h (omega arith))
     ]
 
-side_of_second : (leader : Place) (a b c d : ℕ) → a < b → c < b →
+pub side_of_second : (leader : Place) (a b c d : ℕ) → a < b → c < b →
     side_of (strongest leader a b c d) ≡ side_of (left_of leader)
 side_of_second leader a b c d first third =
     elim (cases_lt b d) [
@@ -72,7 +72,7 @@ side_of_second leader a b c d first third =
       | inr h ↦ ap side_of (second_best leader a b c d first (omega arith) (omega arith))
     ]
 
-side_of_fourth : (leader : Place) (a b c d : ℕ) → a < d → c < d →
+pub side_of_fourth : (leader : Place) (a b c d : ℕ) → a < d → c < d →
     side_of (strongest leader a b c d) ≡ side_of (left_of leader)
 side_of_fourth leader a b c d first third =
     elim (cases_lt b d) [
@@ -89,7 +89,7 @@ beats_by false true true lc hx hc fits is lower = omega arith
 beats_by false false true lc hx hc fits is lower = omega arith
 beats_by tx lx false lc hx hc fits is lower = absurd (true≢false (sym is))
 
-trump_beats : (trump : Option Suit) (led : Suit) (other card : Card) → is_trump trump card ≡ true →
+pub trump_beats : (trump : Option Suit) (led : Suit) (other card : Card) → is_trump trump card ≡ true →
     (is_trump trump other ≡ true → height other.rank < height card.rank) →
     strength trump led other < strength trump led card
 trump_beats trump led other card is lower =

@@ -4,6 +4,7 @@ pub mod BestTrumpLemmas
 pub mod CountLemmas
 pub mod DoubleDummyLemmas
 pub mod EqualCardsLemmas
+pub mod GuardedTrumpLemmas
 pub mod HandLemmas
 pub mod MasterLemmas
 pub mod NeighbourLemmas

@@ -15,7 +15,7 @@ use Rattle.table_terms.specs.declared.place.Place.TheVariants.{North, East, Sout
 use Rattle.table_terms.specs.declared.side.Side.{Side}
 use Rattle.table_terms.specs.declared.side.Side.TheVariants.{NorthSouth, EastWest}
 use Rattle.table_terms.specs.declared.strain.Strain.{Strain}
-use Rattle.table_terms.specs.Place.{side_of}
+use Rattle.table_terms.specs.Place.{left_of, partner_of, side_of}
 use Rattle.table_terms.specs.Strain.{trump_of}
 use Rattle.cards.specs.Hands.{Hands, hand_of}
 use Rattle.cards.specs.Play.{IsPosition, Position, cards_left, is_trump, strength, strength_in}
@@ -25,11 +25,12 @@ use Rattle.double_dummy_laws.proofs.CountLemmas.{has_less}
 use Rattle.double_dummy_laws.proofs.HandLemmas.{among_items, items_among, tied}
 use Rattle.double_dummy_laws.proofs.MasterLemmas as masters
 use Rattle.double_dummy_laws.proofs.BestTrumpLemmas as trumps
+use Rattle.double_dummy_laws.proofs.GuardedTrumpLemmas as guarded
 use Rattle.double_dummy_laws.proofs.TakingLemmas.{at, has_removed, removed_had, some_of}
 use Rattle.double_dummy_laws.proofs.WinnerLemmas.{both_trumps, same_trump, stronger_stays}
 use Rattle.double_dummy_laws.specs.Found.{IsFound, wanted_answer}
 use Rattle.double_dummy_laws.specs.Renaming.{HasNames, IsRenaming, Ownership, knowing}
-use Rattle.double_dummy_laws.specs.SureTricks.{AreBestTrumps, AreEnough, AreMasters, AreMastersKnown, AreTrumpsKnown, TakesAtLeast}
+use Rattle.double_dummy_laws.specs.SureTricks.{AreBestTrumps, AreEnough, AreMasters, AreMastersKnown, AreTrumpsKnown, IsGuarded, TakesAtLeast}
 
 -- where each card of a set has its own partner in another, the other has as many
 paired_len : (n : ℕ) (R : Card → Card → Type 0) (s t : Cards) → set.len s ≤ n →
@@ -188,6 +189,32 @@ module _ (ownership : Ownership) (name : Card → Card) (renaming : IsRenaming o
         (are.higher old.0 beside.0 place old.1 ne beside.1 trump)));
   }
 
+  guarded_named : (strain : Strain) (leader holder : Place) (best second guard : Card) →
+      IsGuarded (at h strain leader []) holder best second guard → ownership.is_known second ≡ true →
+      IsGuarded (at hands strain leader []) holder (name best) (name second) (name guard)
+  guarded_named strain leader holder best second guard is known =
+      let mine = named.live holder second is.held in
+      let beside = named.live holder guard is.guarded in
+      record {
+        held = named.into holder second is.held;
+        guarded = named.into holder guard is.guarded;
+        apart = λ e. is.apart (renaming.apart guard second beside.0 mine.0 e);
+        trump = same_trump (trump_of strain) (name second) second (renaming.suit second mine.0) ∙ is.trump;
+        guard_trump = same_trump (trump_of strain) (name guard) guard (renaming.suit guard beside.0) ∙ is.guard_trump;
+        right = named.into (left_of (partner_of holder)) best is.right;
+        higher = λ other place ne there trump not_best.
+            let old = named.onto place other there in
+            let theirs = named.live place old.0 old.1 in
+            let was : is_trump (trump_of strain) old.0 ≡ true =
+            sym (same_trump (trump_of strain) (name old.0) old.0 (renaming.suit old.0 theirs.0))
+            ∙ ap (is_trump (trump_of strain)) old.2 ∙ trump in
+            subst (λ y. height y.rank < height (name second).rank) old.2
+            (renaming.order old.0 second theirs.0 mine.0 (or_right _ _ known)
+            (λ e. ne (ap side_of (sym theirs.1 ∙ e ∙ mine.1)))
+            (both_trumps (trump_of strain) old.0 second was is.trump)
+            (is.higher old.0 place ne old.1 was (λ e. not_best (sym old.2 ∙ ap name e))));
+      }
+
 -- what a side takes answers the question
 answered : (side : Side) (k more : ℕ) (p q : Position) (target : ℕ) → AreEnough side k p target → k ≤ more →
     cards_left q ≡ cards_left p → p.table ≡ [] → q.table ≡ [] →
@@ -258,6 +285,43 @@ trumps_found_at h strain leader holder cards known target valid are are_known en
     (trumps_named own name renaming h hands named strain holder cards (other_leader h strain leader holder cards are)
     are_known))
 
+-- at the left of one's right-hand opponent sits oneself
+around : (place : Place) → left_of (left_of (partner_of place)) ≡ place
+around North = refl
+around East = refl
+around South = refl
+around West = refl
+
+-- a guarded second best trump takes a trick
+guarded_at : (h : Hands) (strain : Strain) (leader holder : Place) (best second guard : Card) →
+    IsPosition (at h strain leader []) → IsGuarded (at h strain leader []) holder best second guard →
+    side_of leader ≢ side_of holder → TakesAtLeast (side_of holder) 1 (at h strain leader [])
+guarded_at h strain leader holder best second guard valid is enemy =
+    let before = left_of (partner_of holder) in
+    let there = sym (around holder) in
+    subst (λ place. TakesAtLeast (side_of place) 1 (at h strain leader [])) (around holder)
+    (guarded.taken strain before best second guard is.trump is.guard_trump is.apart
+    (cards_left (at h strain leader [])) h (omega arith) (record {
+      held = subst (λ place. set.contains (hand_of h place) second ≡ true) there is.held;
+      guarded = subst (λ place. set.contains (hand_of h place) guard ≡ true) there is.guarded;
+      right = is.right;
+      higher = λ other place ne. is.higher other place (λ e. ne (e ∙ ap side_of there));
+    }) leader valid (λ e. enemy (e ∙ ap side_of (around holder))))
+
+guarded_found_at : (h : Hands) (strain : Strain) (leader holder : Place) (best second guard : Card) (known : Cards)
+    (target : ℕ) → IsPosition (at h strain leader []) →
+    IsGuarded (at h strain leader []) holder best second guard → side_of leader ≢ side_of holder →
+    set.contains known second ≡ true → AreEnough (side_of holder) 1 (at h strain leader []) target →
+    IsFound (at h strain leader []) target known (wanted_answer (side_of holder))
+guarded_found_at h strain leader holder best second guard known target valid is enemy in_known enough ownership owned
+    tight_p name hands renaming named =
+    let own = knowing ownership known in
+    answered (side_of holder) 1 1 (at h strain leader []) (at hands strain leader []) target enough (omega arith)
+    (left_named own name renaming h hands named strain leader) refl refl
+    (guarded_at hands strain leader holder (name best) (name second) (name guard)
+    (position_named own name renaming h hands named strain leader valid)
+    (guarded_named own name renaming h hands named strain leader holder best second guard is in_known) enemy)
+
 -- at the beginning of a trick
 at_start : (P : Position → Type 0) (p : Position) → p.table ≡ [] → P (at p.hands p.strain p.leader []) → P p
 at_start P p none here = subst (λ table. P (at p.hands p.strain p.leader table)) (sym none) here
@@ -296,3 +360,20 @@ trumps_found p holder cards known target valid none are are_known enough =
     (trumps_found_at p.hands p.strain p.leader holder cards known target (from_start IsPosition p none valid)
     (from_start (λ q. AreBestTrumps q holder cards) p none are) are_known
     (from_start (λ q. AreEnough (side_of holder) (set.len cards) q target) p none enough))
+
+pub guarded_takes : (p : Position) (holder : Place) (best second guard : Card) → IsPosition p → p.table ≡ [] →
+    side_of p.leader ≢ side_of holder → IsGuarded p holder best second guard → TakesAtLeast (side_of holder) 1 p
+guarded_takes p holder best second guard valid none enemy is =
+    at_start (λ q. TakesAtLeast (side_of holder) 1 q) p none
+    (guarded_at p.hands p.strain p.leader holder best second guard (from_start IsPosition p none valid)
+    (from_start (λ q. IsGuarded q holder best second guard) p none is) enemy)
+
+pub guarded_found : (p : Position) (holder : Place) (best second guard : Card) (known : Cards) (target : ℕ) →
+    IsPosition p → p.table ≡ [] → side_of p.leader ≢ side_of holder → IsGuarded p holder best second guard →
+    set.contains known second ≡ true → AreEnough (side_of holder) 1 p target →
+    IsFound p target known (wanted_answer (side_of holder))
+guarded_found p holder best second guard known target valid none enemy is in_known enough =
+    at_start (λ q. IsFound q target known (wanted_answer (side_of holder))) p none
+    (guarded_found_at p.hands p.strain p.leader holder best second guard known target
+    (from_start IsPosition p none valid) (from_start (λ q. IsGuarded q holder best second guard) p none is) enemy
+    in_known (from_start (λ q. AreEnough (side_of holder) 1 q target) p none enough))

@@ -5,7 +5,7 @@ use Rattle.cards.specs.declared.card.Card.{Card}
 use Rattle.table_terms.specs.declared.place.Place.{Place}
 use Rattle.table_terms.specs.declared.side.Side.{Side}
 use Rattle.table_terms.specs.declared.side.Side.TheVariants.{NorthSouth, EastWest}
-use Rattle.table_terms.specs.Place.{side_of}
+use Rattle.table_terms.specs.Place.{left_of, partner_of, side_of}
 use Rattle.table_terms.specs.Strain.{trump_of}
 use Rattle.cards.specs.Cards.{Cards}
 use Rattle.cards.specs.Hands.{hand_of}
@@ -54,3 +54,16 @@ AreTrumpsKnown position holder cards known =
     (card other : Card) (place : Place) → set.contains cards card ≡ true → side_of place ≢ side_of holder →
     set.contains (hand_of position.hands place) other ≡ true → other.suit ≡ card.suit →
     set.contains known card ≡ true
+
+-- a player has a trump that is higher than all trumps of the opponents but one, and another trump to guard it; that one
+-- is with the opponent at the player's right
+pub record IsGuarded (position : Position) (holder : Place) (best second guard : Card) : Type 0 where
+  pub held : set.contains (hand_of position.hands holder) second ≡ true
+  pub guarded : set.contains (hand_of position.hands holder) guard ≡ true
+  pub apart : guard ≢ second
+  pub trump : is_trump (trump_of position.strain) second ≡ true
+  pub guard_trump : is_trump (trump_of position.strain) guard ≡ true
+  pub right : set.contains (hand_of position.hands (left_of (partner_of holder))) best ≡ true
+  pub higher : (other : Card) (place : Place) → side_of place ≢ side_of holder →
+      set.contains (hand_of position.hands place) other ≡ true → is_trump (trump_of position.strain) other ≡ true →
+      other ≢ best → height other.rank < height second.rank

@@ -1,5 +1,5 @@
 //! What follows from the definitions alone: each function here has nothing to do, and its clauses are the theorem.
-ghost use Rattle.std.specs.Prelude.{◌≡◌, ◌<◌, ◌≤◌, ℕ, ◌+◌, Bool, true, [], ◌∷◌, List, All, map, nat_le};
+ghost use Rattle.std.specs.Prelude.{◌≡◌, ◌≢◌, ◌<◌, ◌≤◌, ℕ, ◌+◌, Bool, true, [], ◌∷◌, List, All, map, nat_le};
 ghost use Rattle.std.specs.FinSet as set;
 ghost use Rattle.cards.specs.declared.card.Card.{Card};
 ghost use Rattle.table_terms.specs.declared.place.Place.{Place};
@@ -14,7 +14,7 @@ ghost use Rattle.double_dummy_laws.specs.Found.{IsCardFound, IsFound, wanted_ans
 ghost use Rattle.double_dummy_laws.specs.Neighbours.{AreNeighbours, AreUnparted, IsRun};
 ghost use Rattle.double_dummy_laws.specs.Pattern.{IsOfPattern, IsTop, holding};
 ghost use Rattle.double_dummy_laws.specs.Renaming.{Ownership, IsRenaming, HasNames, ArePlayed, AllKnown, renamed};
-ghost use Rattle.double_dummy_laws.specs.SureTricks.{AreBestTrumps, AreEnough, AreMasters, AreMastersKnown, AreTrumpsKnown, TakesAtLeast};
+ghost use Rattle.double_dummy_laws.specs.SureTricks.{AreBestTrumps, AreEnough, AreMasters, AreMastersKnown, AreTrumpsKnown, IsGuarded, TakesAtLeast};
 
 /// With cards left, a position is worth the best that the side to play gets by a legal card: the trick that the card
 /// completes and what the position after it is worth. With none left it is worth no trick.
@@ -101,5 +101,18 @@ pub fn best_trumps_take_tricks()
     ensures found { (position : Position) (holder : Place) (cards known : Cards) (target : ℕ) → IsPosition position →
         position.table ≡ [] → AreBestTrumps position holder cards → AreTrumpsKnown position holder cards known →
         AreEnough (side_of holder) (set.len cards) position target →
+        IsFound position target known (wanted_answer (side_of holder)) }
+{}
+
+/// A guarded second best trump takes a trick where an opponent leads: its holder has another trump, and the best one is
+/// at the holder's right. To know so, it has to be known, and the best one need not be.
+pub fn guarded_trump_takes_a_trick()
+    ensures tricks { (position : Position) (holder : Place) (best second guard : Card) → IsPosition position →
+        position.table ≡ [] → side_of position.leader ≢ side_of holder →
+        IsGuarded position holder best second guard → TakesAtLeast (side_of holder) 1 position }
+    ensures found { (position : Position) (holder : Place) (best second guard : Card) (known : Cards) (target : ℕ) →
+        IsPosition position → position.table ≡ [] → side_of position.leader ≢ side_of holder →
+        IsGuarded position holder best second guard → set.contains known second ≡ true →
+        AreEnough (side_of holder) 1 position target →
         IsFound position target known (wanted_answer (side_of holder)) }
 {}
