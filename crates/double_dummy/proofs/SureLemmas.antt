@@ -35,16 +35,17 @@ use Rattle.table_terms.specs.declared.place.Place.TheVariants.{North, East, Sout
 use Rattle.table_terms.specs.declared.side.Side.{Side}
 use Rattle.table_terms.specs.declared.strain.Strain.{Strain}
 use Rattle.table_terms.specs.Suit.{suit_number}
-use Rattle.table_terms.specs.Place.{left_of, side_of}
+use Rattle.table_terms.specs.Place.{left_of, partner_of, side_of}
 use Rattle.table_terms.specs.Strain.{trump_of}
 use Rattle.cards.specs.Play.{IsPosition, Position, is_of, is_trump, strength_by, strength_in}
 use Rattle.double_dummy.proofs.RunLemmas.{none_in}
 use Rattle.position_patterns.proofs.SetLemmas.{in_first, in_second, just_inserted, still_inserted, inserted}
 use Rattle.double_dummy_laws.proofs.HandLemmas.{in_suit}
-use Rattle.double_dummy_laws.proofs.SureTrickLemmas.{masters_found, trumps_found}
+use Rattle.double_dummy_laws.proofs.BestTrumpLemmas.{opponents}
+use Rattle.double_dummy_laws.proofs.SureTrickLemmas.{guarded_found, masters_found, trumps_found}
 use Rattle.double_dummy_laws.proofs.WinnerLemmas.{both_of, height_below, same_suit}
 use Rattle.double_dummy_laws.specs.Found.{IsFound, wanted_answer}
-use Rattle.double_dummy_laws.specs.SureTricks.{AreEnough}
+use Rattle.double_dummy_laws.specs.SureTricks.{AreEnough, IsGuarded}
 
 -- a set's cards are among another's
 abbrev pub AreAmong : Cards → Cards → Type 0
@@ -394,3 +395,59 @@ trumps_answer p trump holder side side' hand mine others lone named taken known 
     (trumps_sure p trump holder hand mine others lone named taken target wanted valid none trump_is hand_is mine_is
     others_has lone_in lone_alone named_in named_above taken_is
     (λ tricks more. subst (λ s. AreEnough s tricks p target) side_is (enough tricks more)) many))
+
+-- a player's highest trump, and another one
+pub is_guarded : (p : Position) (trump : Suit) (holder right : Place)
+    (hand mine others against reach above behind : Cards) (best second guard : Card) → trump_of p.strain ≡ Some trump → hand ≡ hand_of p.hands holder →
+    mine ≡ set.retain hand (is_of trump) → set.contains mine guard ≡ true → set.contains mine second ≡ true →
+    number_in_pack guard < number_in_pack second →
+    ((place : Place) (card : Card) → side_of place ≢ side_of holder →
+    set.contains (hand_of p.hands place) card ≡ true → set.contains others card ≡ true) →
+    against ≡ set.retain others (is_of trump) →
+    ((card : Card) → card.suit ≡ second.suit → height second.rank ≤ height card.rank →
+    set.contains reach card ≡ true) →
+    ((card : Card) → set.contains above card ≡ (set.contains against card && set.contains reach card)) →
+    ((card : Card) → set.contains above card ≡ true → best ≡ card) →
+    right ≡ left_of (partner_of holder) → behind ≡ hand_of p.hands right → set.contains behind best ≡ true →
+    IsGuarded p holder best second guard
+is_guarded p trump holder right hand mine others against reach above behind best second guard trump_is hand_is mine_is
+    has_guard has_second order others_has against_is all above_is alone right_is behind_is there =
+    let first = of_suit hand mine trump second mine_is has_second in
+    let low = of_suit hand mine trump guard mine_is has_guard in
+    record {
+      held = ap (λ s. set.contains s second) (sym hand_is) ∙ first.0;
+      guarded = ap (λ s. set.contains s guard) (sym hand_is) ∙ low.0;
+      apart = λ e. omega (arith, order, ap number_in_pack e);
+      trump = ap (λ t. is_trump t second) trump_is ∙ first.1;
+      guard_trump = ap (λ t. is_trump t guard) trump_is ∙ low.1;
+      right = ap (λ place. set.contains (hand_of p.hands place) best) (sym right_is)
+          ∙ ap (λ s. set.contains s best) (sym behind_is) ∙ there;
+      higher = λ other place ne held is not_best.
+          let same : is_of trump other ≡ true = sym (ap (λ t. is_trump t other) trump_is) ∙ is in
+          let opposed = in_of_suit others against trump other against_is (others_has place other ne held) same in
+          elim (cases_lt (height other.rank) (height second.rank)) [
+            | inl less ↦ less
+            | inr reaches ↦ absurd (not_best (sym (alone other (above_is other
+                ∙ and_from _ _ opposed (all other (both_of trump other second same first.1) reaches)))))
+          ];
+    }
+
+pub partners : (place : Place) → side_of (partner_of place) ≡ side_of place
+partners North = refl
+partners East = refl
+partners South = refl
+partners West = refl
+
+pub guarded_answer : (p : Position) (leader next holder : Place) (side side' : Side) (second : Card)
+    (just known : Cards) (target wanted : ℕ) (holds : Bool) → IsPosition p → p.table ≡ [] → leader ≡ p.leader →
+    next ≡ left_of leader → side_of holder ≡ side_of next → side ≡ side_of next → side' ≡ side_of next →
+    (best : Card) × ((guard : Card) × IsGuarded p holder best second guard) → set.contains just second ≡ true →
+    ((tricks : ℕ) → wanted ≤ tricks → AreEnough side tricks p target) → wanted ≤ 1 →
+    holds ≡ wanted_answer side' → known ≡ just → IsFound p target known holds
+guarded_answer p leader next holder side side' second just known target wanted holds valid none leader_is next_is same
+    side_is side_is' (best, (guard, is)) in_just enough few holds_is known_is =
+    subst (λ k. IsFound p target k holds) (sym known_is)
+    (subst (λ b. IsFound p target just b) (sym (holds_is ∙ ap wanted_answer (side_is' ∙ sym same)))
+    (guarded_found p holder best second guard just target valid none
+    (λ e. opponents p.leader (sym (e ∙ same ∙ ap side_of (next_is ∙ ap left_of leader_is)))) is in_just
+    (subst (λ s. AreEnough s 1 p target) (side_is ∙ sym same) (enough 1 few))))

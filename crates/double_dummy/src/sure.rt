@@ -6,17 +6,20 @@ ghost use Rattle.table_terms.specs.Place.{side_of};
 ghost use Rattle.table_terms.specs.Strain.{trump_of};
 ghost use Rattle.cards.specs.Hands.{hand_of};
 ghost use Rattle.cards.specs.Rank.{height};
-ghost use Rattle.cards.specs.Play.{Position, cards_left, is_trump};
+ghost use Rattle.cards.specs.Play.{IsPosition, Position, cards_left, is_trump};
 ghost use Rattle.double_dummy_laws.specs.Found.{IsFound, wanted_answer};
-ghost use Rattle.double_dummy_laws.specs.SureTricks.{AreEnough};
+ghost use Rattle.double_dummy_laws.specs.SureTricks.{AreEnough, IsGuarded};
 
+use crate::run;
 use crate::run::common;
+use crate::weights::top;
 use cards::{Card, Hand, Position, Rank};
 use position_patterns::Finding;
 use table_terms::{Place, Side, Suit};
 
-/// Whether North and South take so many tricks, at the beginning of a trick, where a side's best trumps or the leader's
-/// masters take as many as that needs. DDS counts more; what is counted here is known by the cards that it names.
+/// Whether North and South take so many tricks, at the beginning of a trick, where a side's best trumps, its guarded
+/// second best one or the leader's masters take as many as that needs. DDS counts more; what is counted here is known by
+/// the cards that it names.
 pub fn sure_tricks(position: &Position, target: u8, tricks_left: u8) -> Option<Finding>
     requires start { position.now.table ≡ [] }
     requires left { 4 * tricks_left ≡ cards_left position.now + length position.now.table }
@@ -24,6 +27,9 @@ pub fn sure_tricks(position: &Position, target: u8, tricks_left: u8) -> Option<F
     ensures { IfSome result (λ found. IsFound position.now target found.known found.holds) }
 {
     if let Some(found) = by_trumps(position, target, tricks_left) {
+        return Some(found);
+    }
+    if let Some(found) = by_guarded_trump(position, target, tricks_left) {
         return Some(found);
     }
     by_masters(position, target, tricks_left)
@@ -76,6 +82,47 @@ fn by_trumps_of(
         return None;
     }
     Some(answer(holder.side(), named))
+}
+
+/// The same, where one trick of the side that isn't on lead is enough: by a second best trump, guarded behind the best.
+fn by_guarded_trump(position: &Position, target: u8, tricks_left: u8) -> Option<Finding>
+    requires start { position.now.table ≡ [] }
+    requires left { 4 * tricks_left ≡ cards_left position.now + length position.now.table }
+    requires some { target ≤ tricks_left }
+    ensures { IfSome result (λ found. IsFound position.now target found.known found.holds) }
+{
+    let next = position.leader().left();
+    if tricks_wanted(next.side(), target, tricks_left) > 1 {
+        return None;
+    }
+    let trump = position.strain().trump()?;
+    if let Some(second) = guarded(position, trump, next) {
+        return Some(answer(next.side(), only(second)));
+    }
+    let second = guarded(position, trump, next.partner())?;
+    Some(answer(next.side(), only(second)))
+}
+
+/// A player's highest trump, if it is the second best and another trump guards it behind the best one.
+fn guarded(position: &Position, trump: Suit, holder: Place) -> Option<Card>
+    requires { trump_of position.now.strain ≡ Some trump }
+    ensures second { IfSome result (λ second. (best : Card) × ((guard : Card) ×
+        IsGuarded position.now holder best second guard)) }
+    ensures position { IsPosition position.now }
+{
+    let mine = position.hand(holder).of_suit(trump);
+    let guard = mine.first()?;
+    let second = top(mine, guard);
+    if guard.number() >= second.number() {
+        return None;
+    }
+    let against = opponents_cards(position, holder).of_suit(trump);
+    let best = run::only(common(against, upwards(second)))?;
+    let right = holder.partner().left();
+    if !position.hand(right).contains(best) {
+        return None;
+    }
+    Some(second)
 }
 
 /// The same, by the leader's cards that no card of another player beats: no other player has a trump.
