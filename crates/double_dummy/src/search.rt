@@ -67,6 +67,7 @@ pub fn search(
         return explore(position, target, patterns, memory, budget);
     }
     if let Some(found) = sure_tricks(position, target, tricks_left) {
+        // a visit too: the number of a deal takes two answers at least, so that none is found with one visit
         let Ok(()) = budget.visit() else {
             return Err(BudgetSpent);
         };
