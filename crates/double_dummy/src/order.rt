@@ -2,7 +2,7 @@ ghost use Rattle.std.specs.Prelude.{◌≡◌, true, IfSome, IfNone};
 ghost use Rattle.std.specs.FinSet as set;
 
 use crate::run::is_one_run;
-use crate::weights::{Weights, top};
+use crate::weights::{top, weigh};
 use cards::{Card, Hand, Position};
 
 // The most runs that a player's cards can be.
@@ -34,7 +34,7 @@ impl Order {
             runs: 0,
         };
         if !is_one_run(playable, others) {
-            Weights::of(position).weigh(playable, others, &mut order);
+            weigh(position, playable, others, &mut order);
         }
         order
     }
@@ -52,15 +52,13 @@ impl Order {
         ensures some { IfSome result (λ card. set.contains untried card ≡ true) }
         ensures none { IfNone result (untried ≡ set.empty) }
     {
-        let Some(lowest) = untried.first() else {
-            return None;
-        };
         if let Some(number) = self.most_promising(untried.word()) {
             let card = Card::from_number(number.min(51));
             if untried.contains(card) {
                 return Some(card);
             }
         }
+        let lowest = untried.first()?;
         Some(top(untried, lowest))
     }
 

@@ -6,7 +6,6 @@ ghost use Rattle.cards.specs.Card.{number_in_pack};
 ghost use Rattle.double_dummy.specs.Search.{AreSpokenFor, HasOthers, IsRunOf};
 ghost use Rattle.double_dummy_laws.specs.Neighbours.{IsBetween};
 
-use crate::weights::top;
 use cards::{Card, Hand, Position};
 use position_patterns::Holders;
 
@@ -70,14 +69,15 @@ pub fn only(cards: Hand) -> Option<Card>
 
 /// Whether these cards are one run, or none: where a player has no choice, none has to be weighed.
 pub fn is_one_run(playable: Hand, others: Hand) -> bool {
-    let Some(lowest) = playable.first() else {
-        return true;
-    };
-    let highest = top(playable, lowest);
-    if lowest.number() >= highest.number() {
+    let word = playable.word();
+    if word == 0 {
         return true;
     }
-    lowest.suit == highest.suit && others.is_disjoint(Hand::between(lowest, highest))
+    let lowest = word.trailing_zeros();
+    let highest = word.ilog2();
+    // the bits of the cards from the lowest to the one before the highest
+    let inner = (1u64 << highest).wrapping_sub(1 << lowest);
+    others.word() & inner == 0 && lowest / 13 == highest / 13
 }
 
 /// Those of these cards that are of the card's suit, and with none of the parting ones between it and them.
@@ -128,7 +128,7 @@ fn ends(suited: Hand, card: Card, parting: Hand) -> (Card, Card) {
     let from = if below == 0 { 0 } else { below.ilog2() + 1 };
     let nearest = above & above.wrapping_neg();
     let open = (suited.word() & nearest.wrapping_sub(1)) >> from << from;
-    if open == 0 {
+    if open & open.wrapping_sub(1) == 0 {
         return (card, card);
     }
     let low = Card::from_number(open.trailing_zeros().min(51) as u8);

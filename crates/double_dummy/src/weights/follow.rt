@@ -2,21 +2,18 @@
 
 ghost use Rattle.std.specs.Prelude.{◌≤◌};
 
-use super::{EVEN, Run, SUITS, Weights, length, rank, top};
+use super::{EVEN, Run, SUITS, TRUMP, Weights, greatest, highest, length, ranks, top_bit};
 use crate::order::Order;
-use crate::run::common;
-use cards::{Card, Hand, Rank, Trick, strength};
+use cards::{Card, Hand, Trick, strength};
 use table_terms::Suit;
 
-// Ruffs are this strong, and more.
-const RUFF: u8 = 14;
-
 impl Weights {
-    /// Takes in the cards on the table: who wins so far, and what the players can do who have still to play.
-    pub(super) fn look_at(&mut self, trick: Trick) {
+    /// Takes in the cards on the table: who wins so far, and what the players can do who have still to play. The suit
+    /// led, if one is.
+    pub(super) fn look_at(&mut self, trick: Trick) -> Option<Suit> {
         let trump = self.trump;
         let (led, ours, theirs) = match trick {
-            Trick::Empty => return,
+            Trick::Empty => return None,
             Trick::One(a) => (a.suit, 0, strength(trump, a.suit, a)),
             Trick::Two(a, b) => (
                 a.suit,
@@ -29,44 +26,58 @@ impl Weights {
                 strength(trump, a.suit, a).max(strength(trump, a.suit, c)),
             ),
         };
-        self.led = Some(led);
         self.ours = ours > theirs;
         self.beaten = ours.max(theirs);
-        if self.played < 3 {
-            self.threat = self.answer(self.left, led);
-        }
         match trick {
-            Trick::One(_) => {
-                self.help = self.answer(self.partner, led);
-                self.least_threat = self.lowest(self.left, led);
-                self.least = self.least_threat.max(self.lowest(self.partner, led));
+            Trick::One(_) => self.look_round(led),
+            Trick::Two(a, b) => {
+                let theirs = ranks(self.left, led);
+                self.threat = self.answer(self.left, theirs, led);
+                self.forcing = self.forcing_card(a, b, theirs);
             }
-            Trick::Two(a, b) => self.forcing = self.forcing_card(a, b),
             _ => {}
         }
+        Some(led)
+    }
+
+    /// What the next two players can do, and must.
+    fn look_round(&mut self, led: Suit) {
+        let left = ranks(self.left, led);
+        let partner = ranks(self.partner, led);
+        self.threat = self.answer(self.left, left, led);
+        self.help = self.answer(self.partner, partner, led);
+        self.least_threat = self.lowest(left, led);
+        self.least = self.least_threat.max(self.lowest(partner, led));
     }
 
     /// The lowest card with which third hand, who cannot win, makes fourth hand spend his best: it is above the best of
     /// the trick and above fourth hand's next best.
-    fn forcing_card(&self, first: Card, second: Card) -> Option<Card> {
+    fn forcing_card(&self, first: Card, second: Card, theirs: u64) -> u64 {
+        let led = first.suit;
         let best = if self.ours { first } else { second };
-        let mine = self.mine.of_suit(first.suit);
-        let theirs = self.left.of_suit(first.suit);
-        let cannot_win = self.greatest(mine, first.suit) < self.threat;
-        if best.suit != first.suit || self.is_won() || !cannot_win {
-            return None;
+        let mine = ranks(self.mine, led);
+        let can_win = greatest(self.base(led), mine) >= self.threat;
+        if best.suit != led || self.is_won() || can_win || theirs == 0 {
+            return 0;
         }
-        let mut others = self.all.of_suit(first.suit).difference(theirs);
-        others.insert(first);
-        others.insert(second);
-        let parting = below(others, highest(theirs)?);
-        let next = highest(below(theirs, highest(parting)?))?;
-        if next.number() > best.number() {
-            above(mine, next).first()
+        let mut others = ranks(self.all, led) & !theirs | 1 << first.rank.height();
+        if second.suit == led {
+            others |= 1 << second.rank.height();
+        }
+        let parting = below(others, highest(theirs));
+        if parting == 0 {
+            return 0;
+        }
+        let next = below(theirs, highest(parting));
+        if next == 0 {
+            return 0;
+        }
+        if highest(next) > best.rank.height() {
+            lowest_bit(above(mine, highest(next)))
         } else if self.ours {
-            None
+            0
         } else {
-            above(mine, best).first()
+            lowest_bit(above(mine, best.rank.height()))
         }
     }
 
@@ -82,251 +93,266 @@ impl Weights {
 
     /// Weighs the cards of a player who does not lead.
     pub(super) fn weigh_answers(&self, playable: Hand, others: Hand, led: Suit, order: &mut Order) {
-        let following = playable.of_suit(led);
-        if !following.is_empty() {
-            self.weigh_suit_of(led, following, others, led, order);
+        let following = ranks(playable, led);
+        if following != 0 {
+            self.weigh_following(led, following, ranks(others, led), order);
             return;
         }
         for suit in SUITS {
-            self.weigh_suit_of(suit, playable, others, led, order);
+            let mine = ranks(playable, suit);
+            if mine == 0 {
+                continue;
+            }
+            if self.trump == Some(suit) {
+                self.weigh_ruffs(suit, mine, ranks(others, suit), order);
+            } else {
+                self.weigh_discards(suit, mine, ranks(others, suit), order);
+            }
         }
     }
 
-    fn weigh_suit_of(
-        &self,
-        suit: Suit,
-        playable: Hand,
-        others: Hand,
-        led: Suit,
-        order: &mut Order,
-    ) {
-        let mut rest = playable.of_suit(suit).word();
-        let theirs = others.of_suit(suit).word();
+    fn weigh_following(&self, led: Suit, mine: u64, theirs: u64, order: &mut Order) {
+        let base = self.base(led);
+        let mut rest = mine;
         for _ in 0..13 {
             let Some(run) = Run::highest(rest, theirs) else {
                 return;
             };
-            order.push(run.number, self.answer_weight(run, led));
-            rest &= !run.word;
+            let power = base + run.height();
+            let weight = match self.played {
+                1 => self.second_hand(run, led, power),
+                2 => self.third_hand(run, led, power),
+                _ => self.fourth_hand(run, power),
+            };
+            order.push(run.number(led), weight);
+            rest &= !run.ranks;
         }
     }
 
-    fn answer_weight(&self, run: Run, led: Suit) -> u16 {
-        match self.played {
-            1 => self.second_hand(run.card, led, run.is_sequence()),
-            2 => self.third_hand(run.card, led, run),
-            _ => self.fourth_hand(run.card, led),
+    fn weigh_ruffs(&self, suit: Suit, mine: u64, theirs: u64, order: &mut Order) {
+        let length = length(mine);
+        let mut rest = mine;
+        for _ in 0..13 {
+            let Some(run) = Run::highest(rest, theirs) else {
+                return;
+            };
+            let power = TRUMP + run.height();
+            let weight = match self.played {
+                1 => self.second_hand_ruff(run, length, power),
+                2 => self.third_hand_ruff(suit, run, length, power),
+                _ => self.fourth_hand_ruff(suit, run, power),
+            };
+            order.push(run.number(suit), weight);
+            rest &= !run.ranks;
         }
     }
 
-    /// Of second hand's card.
-    fn second_hand(&self, card: Card, led: Suit, is_sequence: bool) -> u16 {
-        let power = strength(self.trump, led, card);
-        let wins = self.help.max(power) > self.bar();
-        if card.suit != led {
-            self.second_without(card, power, wins)
-        } else if self.trump.is_none() {
-            self.second_at_no_trump(card, led, power, is_sequence)
-        } else if wins {
-            self.second_winning(card, led, power, is_sequence)
+    fn weigh_discards(&self, suit: Suit, mine: u64, theirs: u64, order: &mut Order) {
+        let worth = self.discard(suit, mine) + self.discard_here();
+        let mut rest = mine;
+        for _ in 0..13 {
+            let Some(run) = Run::highest(rest, theirs) else {
+                return;
+            };
+            order.push(run.number(suit), worth - run.rank());
+            rest &= !run.ranks;
+        }
+    }
+
+    /// Of second hand's card of the suit led.
+    fn second_hand(&self, run: Run, led: Suit, power: u8) -> u16 {
+        let place = self.place_from_top(led, run);
+        if self.trump.is_none() {
+            self.second_at_no_trump(run, place, power)
+        } else if self.help.max(power) > self.bar() {
+            self.second_winning(run, led, place, power)
         } else {
-            self.second_losing(card, led, power, is_sequence)
+            self.second_losing(run, place, power)
         }
     }
 
-    fn second_at_no_trump(&self, card: Card, led: Suit, power: u8, is_sequence: bool) -> u16 {
-        let place = self.place_from_top(card);
+    fn second_at_no_trump(&self, run: Run, place: u16, power: u8) -> u16
+        requires { place ≤ 65 }
+    {
         if self.help > self.bar() {
-            EVEN - rank(card)
+            EVEN - run.rank()
         } else if power > self.bar() {
-            EVEN + 81 - rank(card)
+            EVEN + 81 - run.rank()
         } else if power < self.least {
             EVEN - 3 + place
         } else if power < self.beaten {
             EVEN - 11 + place
-        } else if is_sequence {
+        } else if run.is_sequence() {
             EVEN + 10 + place
         } else {
-            EVEN + 13 - rank(card)
+            EVEN + 13 - run.rank()
         }
     }
 
     /// With trumps, where our side wins the trick as it stands.
-    fn second_winning(&self, card: Card, led: Suit, power: u8, is_sequence: bool) -> u16 {
-        let place = self.place_from_top(card);
-        let leaders = self.greatest(self.right.of_suit(led), led);
+    fn second_winning(&self, run: Run, led: Suit, place: u16, power: u8) -> u16
+        requires { place ≤ 65 }
+    {
+        let leaders = greatest(self.base(led), ranks(self.right, led));
         if power < self.least_threat {
             EVEN + 40 + place
         } else if self.beaten < self.help && self.help < leaders {
             EVEN + 41 + place
         } else if power < self.beaten {
-            EVEN + 47 - rank(card)
+            EVEN + 47 - run.rank()
         } else if power < self.help {
-            EVEN + 78 - rank(card)
+            EVEN + 78 - run.rank()
         } else if power > self.threat {
-            EVEN + 73 - rank(card)
-        } else if is_sequence {
-            EVEN + 62 - rank(card)
+            EVEN + 73 - run.rank()
+        } else if run.is_sequence() {
+            EVEN + 62 - run.rank()
         } else {
-            EVEN + 49 - rank(card)
+            EVEN + 49 - run.rank()
         }
     }
 
     /// With trumps, where the opponents win it.
-    fn second_losing(&self, card: Card, led: Suit, power: u8, is_sequence: bool) -> u16 {
-        let place = self.place_from_top(card);
+    fn second_losing(&self, run: Run, place: u16, power: u8) -> u16
+        requires { place ≤ 65 }
+    {
         if power < self.least {
             EVEN - 9 + place
         } else if power < self.beaten {
             EVEN - 16 + place
-        } else if is_sequence {
-            EVEN + 22 - rank(card)
+        } else if run.is_sequence() {
+            EVEN + 22 - run.rank()
         } else {
-            EVEN + 10 - rank(card)
+            EVEN + 10 - run.rank()
         }
     }
 
-    /// Of second hand's ruff or discard.
-    fn second_without(&self, card: Card, power: u8, wins: bool) -> u16 {
-        if power == 0 {
-            return self.discard(card) + if wins { 60 } else { 0 };
-        }
-        let length = 2 * length(self.mine, card.suit);
-        if wins || self.threat < RUFF {
-            EVEN + 24 + length - rank(card)
+    /// Of second hand's ruff.
+    fn second_hand_ruff(&self, run: Run, length: u16, power: u8) -> u16
+        requires { length ≤ 64 }
+    {
+        if self.help.max(power) > self.bar() || self.threat < TRUMP {
+            EVEN + 24 + 2 * length - run.rank()
         } else {
-            EVEN + 15 + length - rank(card)
+            EVEN + 15 + 2 * length - run.rank()
         }
     }
 
-    /// Of third hand's card.
-    fn third_hand(&self, card: Card, led: Suit, run: Run) -> u16 {
-        let power = strength(self.trump, led, card);
-        if card.suit != led {
-            return self.third_without(card, power);
-        }
-        let forces = match self.forcing {
-            Some(forcing) => run.has(forcing),
-            None => false,
-        };
+    /// Of third hand's card of the suit led.
+    fn third_hand(&self, run: Run, led: Suit, power: u8) -> u16 {
         if self.is_won() {
-            EVEN - rank(card)
+            EVEN - run.rank()
         } else if power > self.bar() {
-            EVEN + 60 - rank(card)
-        } else if forces
-            || !self.ours && power > self.beaten && self.threat >= RUFF && self.trump != Some(led)
+            EVEN + 60 - run.rank()
+        } else if run.ranks & self.forcing != 0
+            || !self.ours
+                && power > self.beaten
+                && self.threat >= TRUMP
+                && self.trump != Some(led)
         {
-            EVEN + 20 - rank(card)
+            EVEN + 20 - run.rank()
         } else {
-            EVEN - rank(card)
+            EVEN - run.rank()
         }
     }
 
-    /// Of third hand's ruff or discard.
-    fn third_without(&self, card: Card, power: u8) -> u16 {
-        if power == 0 {
-            return self.discard(card);
-        }
+    /// Of third hand's ruff.
+    fn third_hand_ruff(&self, suit: Suit, run: Run, length: u16, power: u8) -> u16
+        requires { length ≤ 64 }
+    {
         if self.is_won() {
-            return EVEN - 50 - rank(card);
+            return EVEN - 50 - run.rank();
         }
         if power < self.beaten {
-            return EVEN - 32 + self.place_from_top(card);
+            return EVEN - 32 + self.place_from_top(suit, run);
         }
-        let length = length(self.mine, card.suit);
         match (self.ours, power > self.threat) {
-            (true, true) => EVEN + 48 + length - rank(card),
-            (true, false) => EVEN - 12 + length - rank(card),
-            (false, _) if self.threat < RUFF => EVEN + 72 + length - rank(card),
-            (false, true) => EVEN + 48 + length - rank(card),
-            (false, false) => EVEN + 36 + length - rank(card),
+            (true, true) => EVEN + 48 + length - run.rank(),
+            (true, false) => EVEN - 12 + length - run.rank(),
+            (false, _) if self.threat < TRUMP => EVEN + 72 + length - run.rank(),
+            (false, true) => EVEN + 48 + length - run.rank(),
+            (false, false) => EVEN + 36 + length - run.rank(),
         }
     }
 
-    /// Of the last card of a trick.
-    fn fourth_hand(&self, card: Card, led: Suit) -> u16 {
-        let power = strength(self.trump, led, card);
-        let wins = !self.ours && power > self.beaten;
-        if card.suit == led {
-            return if wins {
-                EVEN + 30 - rank(card)
-            } else {
-                EVEN - rank(card)
-            };
-        }
-        match (self.ours, power > 0) {
-            (true, false) => self.discard(card) + 25,
-            (true, true) => EVEN + 2 - rank(card),
-            (false, false) => self.discard(card) + 14,
-            (false, true) if wins => EVEN + 33 + self.place_from_top(card),
-            (false, true) => EVEN - 13 + self.place_from_top(card),
-        }
-    }
-
-    /// A discard: from a long suit, and not from the guard of a king or a bare ace.
-    fn discard(&self, card: Card) -> u16
-        ensures { result ≤ 300 }
-    {
-        let suited = self.all.of_suit(card.suit);
-        let mine = self.mine.of_suit(card.suit);
-        let length = mine.len() as u16;
-        let best = top(suited, card);
-        let second = top(suited.without(best), card);
-        let is_bare_best = length == 1 && mine.contains(best);
-        let guards_second = length == 2 && !mine.contains(best) && mine.contains(second);
-        if self.trump.is_none() {
-            let spoils = if is_bare_best {
-                6
-            } else if guards_second {
-                5
-            } else {
-                0
-            };
-            EVEN + 8 * length / 3 - spoils - rank(card)
+    /// Of fourth hand's card of the suit led.
+    fn fourth_hand(&self, run: Run, power: u8) -> u16 {
+        if !self.ours && power > self.beaten {
+            EVEN + 30 - run.rank()
         } else {
+            EVEN - run.rank()
+        }
+    }
+
+    /// Of fourth hand's ruff.
+    fn fourth_hand_ruff(&self, suit: Suit, run: Run, power: u8) -> u16 {
+        if self.ours {
+            EVEN + 2 - run.rank()
+        } else if power > self.beaten {
+            EVEN + 33 + self.place_from_top(suit, run)
+        } else {
+            EVEN - 13 + self.place_from_top(suit, run)
+        }
+    }
+
+    /// What a discard counts more, by who wins the trick.
+    fn discard_here(&self) -> u16
+        ensures { result ≤ 60 }
+    {
+        match self.played {
+            1 if self.help > self.bar() => 60,
+            1 | 2 => 0,
+            _ if self.ours => 25,
+            _ => 14,
+        }
+    }
+
+    /// Of a discard of a suit, less its rank: from a long suit, and not from the guard of a king or a bare ace.
+    fn discard(&self, suit: Suit, mine: u64) -> u16
+        ensures least { 94 ≤ result }
+        ensures most { result ≤ 300 }
+    {
+        let suited = ranks(self.all, suit);
+        let best = top_bit(suited);
+        let length = length(mine);
+        let guards_second = length == 2 && mine & best == 0 && mine & top_bit(suited & !best) != 0;
+        if self.trump.is_some() {
             let spoils = if guards_second { 4 } else { 0 };
-            EVEN + 8 * length / 5 - spoils - rank(card)
+            return EVEN + 8 * length / 5 - spoils;
         }
+        let spoils = if mine == best {
+            6
+        } else if guards_second {
+            5
+        } else {
+            0
+        };
+        EVEN + 8 * length / 3 - spoils
     }
 
-    /// How strong a hand's lowest card of the suit led is, 0 where it has none.
-    fn lowest(&self, hand: Hand, led: Suit) -> u8 {
-        match hand.of_suit(led).first() {
-            Some(card) => strength(self.trump, led, card),
-            None => 0,
+    /// How strong the lowest of the cards of the suit led is, 0 where there is none.
+    fn lowest(&self, ranks: u64, led: Suit) -> u8 {
+        if ranks == 0 {
+            return 0;
         }
+        self.base(led) + ranks.trailing_zeros().min(12) as u8
     }
 }
 
-/// The highest of a suit's cards.
-fn highest(cards: Hand) -> Option<Card> {
-    Some(top(cards, cards.first()?))
+/// Those of a suit's cards that are lower.
+fn below(ranks: u64, height: u8) -> u64
+    requires { height ≤ 12 }
+{
+    ranks & ((1 << height) - 1)
 }
 
-/// The cards of a card's suit that are lower.
-fn below(cards: Hand, card: Card) -> Hand {
-    let two = Card {
-        suit: card.suit,
-        rank: Rank::Two,
-    };
-    if two.number() >= card.number() {
-        return Hand::new();
-    }
-    let mut lower = Hand::between(two, card);
-    lower.insert(two);
-    common(cards, lower)
+/// Those of a suit's cards that are higher.
+fn above(ranks: u64, height: u8) -> u64
+    requires { height ≤ 12 }
+{
+    ranks >> height >> 1 << 1 << height
 }
 
-/// The cards of a card's suit that are higher.
-fn above(cards: Hand, card: Card) -> Hand {
-    let ace = Card {
-        suit: card.suit,
-        rank: Rank::Ace,
-    };
-    if card.number() >= ace.number() {
-        return Hand::new();
-    }
-    let mut higher = Hand::between(card, ace);
-    higher.insert(ace);
-    common(cards, higher)
+/// The lowest of a suit's cards alone.
+fn lowest_bit(ranks: u64) -> u64 {
+    ranks & ranks.wrapping_neg()
 }

@@ -3,9 +3,9 @@
 
 ghost use Rattle.std.specs.Prelude.{◌≤◌};
 
-use super::{Run, SUITS, Weights, length, rank, top};
+use super::{Run, SUITS, Weights, length, ranks, top_bit};
 use crate::order::Order;
-use cards::{Card, Hand, strength};
+use cards::Hand;
 use table_terms::Suit;
 
 /// Whose a card is, seen from the leader.
@@ -19,12 +19,13 @@ enum Whose {
     Nobodys,
 }
 
-/// A suit to lead: whose its three best cards are, and how many the other players have.
+/// A suit to lead: whose its three best cards are, and how many each player has.
 #[derive(Clone, Copy)]
 struct Suited {
     first: Whose,
     second: Whose,
     third: Whose,
+    mine: u16,
     left: u16,
     partner: u16,
     right: u16,
@@ -78,73 +79,47 @@ impl Weights {
     /// Weighs leads.
     pub(super) fn weigh_leads(&self, playable: Hand, others: Hand, order: &mut Order) {
         for suit in SUITS {
-            let mine = playable.of_suit(suit);
-            if !mine.is_empty() {
-                self.weigh_suit(suit, mine.word(), others.of_suit(suit).word(), order);
+            let mine = ranks(playable, suit);
+            if mine != 0 {
+                self.weigh_suit(suit, mine, ranks(others, suit), order);
             }
         }
     }
 
     fn weigh_suit(&self, suit: Suit, mine: u64, theirs: u64, order: &mut Order) {
-        let suited = self.suited(suit);
+        let left = ranks(self.left, suit);
+        let partner = ranks(self.partner, suit);
+        let right = ranks(self.right, suit);
+        let suited = lie(mine, left, partner, right);
         let base = self.suit_weight(suit, &suited);
-        let partners = self.answer(self.partner, suit);
+        let own = self.base(suit);
+        let partners = self.answer(self.partner, partner, suit);
         let most = self
-            .answer(self.left, suit)
-            .max(self.answer(self.right, suit));
+            .answer(self.left, left, suit)
+            .max(self.answer(self.right, right, suit));
         let mut rest = mine;
         for _ in 0..13 {
             let Some(run) = Run::highest(rest, theirs) else {
                 return;
             };
-            let wins = strength(self.trump, suit, run.card).max(partners) > most;
-            order.push(run.number, self.lead(run, base, &suited, wins));
-            rest &= !run.word;
+            let wins = partners.max(own + run.height()) > most;
+            let place = self.place_from_top(suit, run);
+            order.push(run.number(suit), self.lead(run, place, base, &suited, wins));
+            rest &= !run.ranks;
         }
     }
 
     /// Of a lead.
-    fn lead(&self, run: Run, base: u16, suited: &Suited, wins: bool) -> u16
+    fn lead(&self, run: Run, place: u16, base: u16, suited: &Suited, wins: bool) -> u16
+        requires place { place ≤ 65 }
         requires least { 200 ≤ base }
         requires most { base ≤ 2000 }
     {
-        let is_sequence = run.is_sequence();
         match (self.trump.is_some(), wins) {
-            (false, true) => self.winning_lead(base, run.card, suited),
-            (false, false) => self.losing_lead(base, run.card, suited, is_sequence),
-            (true, true) => self.winning_lead_at_trumps(base, run.card, suited, is_sequence),
-            (true, false) => self.losing_lead_at_trumps(base, run.card, suited, is_sequence),
-        }
-    }
-
-    /// Who has what of a suit.
-    fn suited(&self, suit: Suit) -> Suited {
-        let all = self.all.of_suit(suit);
-        let below = beheaded(all);
-        Suited {
-            first: self.whose_top(all),
-            second: self.whose_top(below),
-            third: self.whose_top(beheaded(below)),
-            left: length(self.left, suit),
-            partner: length(self.partner, suit),
-            right: length(self.right, suit),
-        }
-    }
-
-    /// Whose the highest of a suit's cards is.
-    fn whose_top(&self, cards: Hand) -> Whose {
-        let Some(lowest) = cards.first() else {
-            return Whose::Nobodys;
-        };
-        let highest = top(cards, lowest);
-        if self.mine.contains(highest) {
-            Whose::Mine
-        } else if self.left.contains(highest) {
-            Whose::Lefts
-        } else if self.partner.contains(highest) {
-            Whose::Partners
-        } else {
-            Whose::Rights
+            (false, true) => winning_lead(base, place, suited),
+            (false, false) => losing_lead(base, run, place, suited),
+            (true, true) => winning_lead_at_trumps(base, run, place, suited),
+            (true, false) => losing_lead_at_trumps(base, run, place, suited),
         }
     }
 
@@ -178,9 +153,9 @@ impl Weights {
         ensures { result ≤ 100 }
     {
         let is_side = suit != trump;
-        let left = is_side && suited.left == 0 && length(self.left, trump) > 0;
-        let right = is_side && suited.right == 0 && length(self.right, trump) > 0;
-        let partner = is_side && suited.partner == 0 && length(self.partner, trump) > 0;
+        let left = is_side && suited.left == 0 && ranks(self.left, trump) != 0;
+        let right = is_side && suited.right == 0 && ranks(self.right, trump) != 0;
+        let partner = is_side && suited.partner == 0 && ranks(self.partner, trump) != 0;
         let mut weight = if left || right { 12 } else { 24 };
         if partner && suited.right > 0 {
             weight += 17;
@@ -190,115 +165,126 @@ impl Weights {
         } else if suited.is_through_strength() {
             weight += 27;
         }
-        let is_single = is_side && length(self.mine, suit) == 1 && length(self.mine, trump) > 0;
-        if is_single && suited.first == Whose::Partners && suited.partner > 1 {
+        let may_ruff = is_side && suited.mine == 1 && ranks(self.mine, trump) != 0;
+        if may_ruff && suited.first == Whose::Partners && suited.partner > 1 {
             weight += 19;
         }
         weight
     }
+}
 
-    /// Without trumps, where we win the trick.
-    fn winning_lead(&self, base: u16, card: Card, suited: &Suited) -> u16
-        requires least { 200 ≤ base }
-        requires most { base ≤ 2000 }
-    {
-        let place = self.place_from_top(card);
-        if suited.second_stays() {
-            return match suited.second {
-                Whose::Lefts => base + 22 + 18 + place,
-                _ => base - 1 + 18 + place,
-            };
-        }
-        match suited.second {
-            Whose::Lefts => base + 16 + 45 + place,
-            _ => base + 45 + place,
-        }
+/// Of a lead without trumps, where we win the trick.
+fn winning_lead(base: u16, place: u16, suited: &Suited) -> u16
+    requires place { place ≤ 65 }
+    requires least { 200 ≤ base }
+    requires most { base ≤ 2000 }
+{
+    if suited.second_stays() {
+        return match suited.second {
+            Whose::Lefts => base + 22 + 18 + place,
+            _ => base - 1 + 18 + place,
+        };
     }
-
-    /// Without trumps, where an opponent wins it.
-    fn losing_lead(&self, base: u16, card: Card, suited: &Suited, is_sequence: bool) -> u16
-        requires least { 200 ≤ base }
-        requires most { base ≤ 2000 }
-    {
-        let place = self.place_from_top(card);
-        let mut base = base;
-        if suited.is_into_strength() {
-            base -= 10;
-        } else if suited.is_through_strength() {
-            base += 31;
-        }
-        base += suited.next_best(35, 25);
-        if suited.first_is_single() {
-            base + 28 + place
-        } else if suited.first == Whose::Mine {
-            base - 17 + place
-        } else if !is_sequence {
-            base + 12 + place
-        } else if place == 2 {
-            base + 48
-        } else {
-            base + 29 - place
-        }
-    }
-
-    /// With trumps, where we win the trick.
-    fn winning_lead_at_trumps(
-        &self,
-        base: u16,
-        card: Card,
-        suited: &Suited,
-        is_sequence: bool,
-    ) -> u16
-        requires least { 200 ≤ base }
-        requires most { base ≤ 2000 }
-    {
-        let place = self.place_from_top(card);
-        if suited.first_is_single() {
-            return base + 35 + place;
-        }
-        match (suited.first, suited.second) {
-            (Whose::Mine, Whose::Partners) => base + 48 + place,
-            (Whose::Mine, _) if place == 1 => base + 31,
-            (Whose::Mine, _) => base - 3 + place,
-            (Whose::Partners, Whose::Mine) => base + 42 + place,
-            (Whose::Partners, _) => base + 28 + place,
-            _ if !is_sequence => base + 11 + place,
-            _ if place == 2 => base + 40,
-            _ => base + 22 + place,
-        }
-    }
-
-    /// With trumps, where an opponent wins it.
-    fn losing_lead_at_trumps(
-        &self,
-        base: u16,
-        card: Card,
-        suited: &Suited,
-        is_sequence: bool,
-    ) -> u16
-        requires least { 200 ≤ base }
-        requires most { base ≤ 2000 }
-    {
-        let place = self.place_from_top(card);
-        let base = base + suited.next_best(20, 13);
-        if suited.first_is_single() {
-            return base + 2 + place;
-        }
-        match (suited.first, suited.second) {
-            (Whose::Mine, Whose::Partners) => base + 33 + place,
-            (Whose::Mine, _) if place == 1 => base + 38,
-            (Whose::Mine, _) => base - 14 + place,
-            (Whose::Partners, _) => base + 34 + place,
-            _ if is_sequence && place == 2 => base + 35,
-            _ => base + 17 - rank(card),
-        }
+    match suited.second {
+        Whose::Lefts => base + 16 + 45 + place,
+        _ => base + 45 + place,
     }
 }
 
-/// A suit's cards without the highest.
-fn beheaded(cards: Hand) -> Hand {
-    match cards.first() {
-        Some(lowest) => cards.without(top(cards, lowest)),
-        None => cards,
+/// Of a lead without trumps, where an opponent wins it.
+fn losing_lead(base: u16, run: Run, place: u16, suited: &Suited) -> u16
+    requires place { place ≤ 65 }
+    requires least { 200 ≤ base }
+    requires most { base ≤ 2000 }
+{
+    let mut base = base;
+    if suited.is_into_strength() {
+        base -= 10;
+    } else if suited.is_through_strength() {
+        base += 31;
+    }
+    base += suited.next_best(35, 25);
+    if suited.first_is_single() {
+        base + 28 + place
+    } else if suited.first == Whose::Mine {
+        base - 17 + place
+    } else if !run.is_sequence() {
+        base + 12 + place
+    } else if place == 2 {
+        base + 48
+    } else {
+        base + 29 - place
+    }
+}
+
+/// Of a lead with trumps, where we win the trick.
+fn winning_lead_at_trumps(base: u16, run: Run, place: u16, suited: &Suited) -> u16
+    requires place { place ≤ 65 }
+    requires least { 200 ≤ base }
+    requires most { base ≤ 2000 }
+{
+    if suited.first_is_single() {
+        return base + 35 + place;
+    }
+    match (suited.first, suited.second) {
+        (Whose::Mine, Whose::Partners) => base + 48 + place,
+        (Whose::Mine, _) if place == 1 => base + 31,
+        (Whose::Mine, _) => base - 3 + place,
+        (Whose::Partners, Whose::Mine) => base + 42 + place,
+        (Whose::Partners, _) => base + 28 + place,
+        _ if !run.is_sequence() => base + 11 + place,
+        _ if place == 2 => base + 40,
+        _ => base + 22 + place,
+    }
+}
+
+/// Of a lead with trumps, where an opponent wins it.
+fn losing_lead_at_trumps(base: u16, run: Run, place: u16, suited: &Suited) -> u16
+    requires place { place ≤ 65 }
+    requires least { 200 ≤ base }
+    requires most { base ≤ 2000 }
+{
+    let base = base + suited.next_best(20, 13);
+    if suited.first_is_single() {
+        return base + 2 + place;
+    }
+    match (suited.first, suited.second) {
+        (Whose::Mine, Whose::Partners) => base + 33 + place,
+        (Whose::Mine, _) if place == 1 => base + 38,
+        (Whose::Mine, _) => base - 14 + place,
+        (Whose::Partners, _) => base + 34 + place,
+        _ if run.is_sequence() && place == 2 => base + 35,
+        _ => base + 17 - run.rank(),
+    }
+}
+
+/// Who has what of a suit.
+fn lie(mine: u64, left: u64, partner: u64, right: u64) -> Suited {
+    let all = mine | left | partner | right;
+    let below = all & !top_bit(all);
+    Suited {
+        first: whose_top(all, mine, left, partner),
+        second: whose_top(below, mine, left, partner),
+        third: whose_top(below & !top_bit(below), mine, left, partner),
+        mine: length(mine),
+        left: length(left),
+        partner: length(partner),
+        right: length(right),
+    }
+}
+
+/// Whose the highest of these cards of a suit is.
+fn whose_top(ranks: u64, mine: u64, left: u64, partner: u64) -> Whose {
+    let top = top_bit(ranks);
+    if top == 0 {
+        Whose::Nobodys
+    } else if mine & top != 0 {
+        Whose::Mine
+    } else if left & top != 0 {
+        Whose::Lefts
+    } else if partner & top != 0 {
+        Whose::Partners
+    } else {
+        Whose::Rights
     }
 }
