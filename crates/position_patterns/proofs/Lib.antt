@@ -4,3 +4,4 @@ pub mod RankLemmas
 pub mod RemainderLemmas
 pub mod SetLemmas
 pub mod TopsLemmas
+pub mod UpperLemmas

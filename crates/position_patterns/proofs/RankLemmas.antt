@@ -1,39 +1,7 @@
 -- The ranks below a height, from the top down, and the cards of a suit that are held of them.
-use Rattle.std.proofs.Common.{
-  ◌≡◌,
-  ℕ,
-  ◌+◌,
-  ◌-◌,
-  ◌*◌,
-  ◌^◌,
-  ◌%◌,
-  bit_and,
-  ◌<◌,
-  ◌≤◌,
-  true,
-  false,
-  ◌⊎◌,
-  List,
-  [],
-  ◌∷◌,
-  refl,
-  sym,
-  ap,
-  ◌∙◌,
-  subst,
-  inl,
-  inr,
-  arith,
-  zero,
-  suc,
-  Some,
-  None,
-  add-one,
-  lit<,
-}
+use Rattle.std.proofs.Common.{◌≡◌, ℕ, ◌+◌, ◌-◌, ◌*◌, ◌^◌, ◌%◌, bit_and, ◌<◌, ◌≤◌, List, [], ◌∷◌, refl, sym, ap, ◌∙◌, subst, arith, zero, suc, Some, None, add-one, lit<}
 use Rattle.std.proofs.Math.Nat.{pow-suc, mul_comm}
 use Rattle.std.proofs.lemmas.Nat.{one_shl, and_mask}
-use Rattle.cards.specs.declared.card.Card.{Card}
 use Rattle.table_terms.specs.declared.suit.Suit.{Suit}
 use Rattle.cards.specs.declared.rank.Rank.{Rank}
 use Rattle.cards.specs.declared.rank.Rank.TheVariants.{
@@ -54,16 +22,12 @@ use Rattle.cards.specs.declared.rank.Rank.TheVariants.{
 use Rattle.table_terms.specs.declared.place.Place.{Place}
 use Rattle.table_terms.specs.declared.place.Place.TheVariants.{North, East, South, West}
 use Rattle.cards.specs.Hands.{Hands}
-use Rattle.cards.specs.Cards.{Cards}
-use Rattle.std.proofs.lemmas.Bool.{true≢false}
 use Rattle.cards.specs.CardBits.{each_rank}
 use Rattle.cards.specs.Rank.{height, ranks_down}
-use Rattle.std.specs.FinSet as set
 use Rattle.table_terms.specs.Place.{place_number}
 use Rattle.position_patterns.proofs.DigitLemmas.{digit_below}
-use Rattle.position_patterns.proofs.SetLemmas.{inserted, still_inserted}
-use Rattle.position_patterns.specs.Tops.{IsReach, digits, lengths_number, place_weight}
-use Rattle.double_dummy_laws.specs.Pattern.{Held, IsTop, held_before, held_of, holder_of, holding}
+use Rattle.position_patterns.specs.Tops.{digits, lengths_number, place_weight}
+use Rattle.double_dummy_laws.specs.Pattern.{Held, held_before, held_of, holder_of, holding}
 
 unfoldable pub rank_from : ℕ → Rank
 rank_from zero = Two
@@ -203,146 +167,6 @@ so_far_all hands suit k owners lengths e all = (
   all.lengths_are
       ∙ ap lengths_number (held_below-all hands suit k e),
 )
-
--- the known cards below a height, and how many cards reach down to the lowest of them
-pub record IsReachSoFar (known : Cards) (hands : Hands) (suit : Suit) (k count : ℕ) : Type 0 where
-  pub within : k ≤ 13
-  pub few : count ≤ k
-  pub reach : IsReach known (held_below hands suit k) count
-
-reach_on : (known : Cards) (x : Held) (xs : List Held) (count : ℕ) → IsReach known xs count →
-    IsReach known (x ∷ xs) (count + 1)
-reach_on known x xs count before =
-    let within = before.within in
-    record {
-      within = omega arith;
-      reach = λ card k top. subst (λ n. IsTop n (x ∷ xs) card) (sym (add-one count))
-          (elim top [ inl here ↦ inl here | inr more ↦ inr (before.reach card k more) ]);
-    }
-
-reach_off : (known : Cards) (x : Held) (xs : List Held) → set.contains known x.card ≡ false → IsReach known xs 0 →
-    IsReach known (x ∷ xs) 0
-reach_off known x xs other before =
-    record {
-      within = omega arith;
-      reach = λ card k top. elim top [
-        | inl here ↦ absurd (true≢false (sym k ∙ ap (set.contains known) (sym here) ∙ other))
-        | inr more ↦ absurd (before.reach card k more)
-      ];
-    }
-
-pub reach_start : (known : Cards) (hands : Hands) (suit : Suit) → IsReachSoFar known hands suit 0 0
-reach_start known hands suit = record {
-  within = omega arith;
-  few = omega arith;
-  reach = subst (λ xs. IsReach known xs 0) (sym (held_below-none hands suit)) (record {
-    within = omega arith;
-    reach =
-        λ card k none. none;
-  });
-}
-
-pub reach_more : (known : Cards) (hands : Hands) (suit : Suit) (rank : Rank) (k count : ℕ) (place : Place) → k < 13 →
-    height rank ≡ k →
-    Some place ≡ holder_of hands (record { suit = suit; rank = rank }) → IsReachSoFar known hands suit k count →
-    IsReachSoFar known hands suit (k + 1) (count + 1)
-reach_more known hands suit rank k count place less e held before =
-    let few = before.few in
-    record {
-      within = omega arith;
-      few = omega arith;
-      reach = subst (λ xs. IsReach known xs (count + 1)) (sym (held_below-some hands suit rank k place e held))
-          (reach_on known _ _ count before.reach);
-    }
-
-pub reach_none : (known : Cards) (hands : Hands) (suit : Suit) (rank : Rank) (k : ℕ) (place : Place) → k < 13 →
-    height rank ≡ k →
-    Some place ≡ holder_of hands (record { suit = suit; rank = rank }) →
-    set.contains known (record { suit = suit; rank = rank }) ≡ false →
-    IsReachSoFar known hands suit k 0 → IsReachSoFar known hands suit (k + 1) 0
-reach_none known hands suit rank k place less e held other before = record {
-  within = omega arith;
-  few = omega arith;
-  reach = subst (λ xs. IsReach known xs 0) (sym (held_below-some hands suit rank k place e held))
-      (reach_off known _ _ other before.reach);
-}
-
-pub reach_free : (known : Cards) (hands : Hands) (suit : Suit) (rank : Rank) (k count : ℕ) → k < 13 → height rank ≡ k →
-    None ≡ holder_of hands (record { suit = suit; rank = rank }) → IsReachSoFar known hands suit k count →
-    IsReachSoFar known hands suit (k + 1) count
-reach_free known hands suit rank k count less e free before =
-    let few = before.few in
-    record {
-      within = omega arith;
-      few = omega arith;
-      reach = subst (λ xs. IsReach known xs count) (sym (held_below-free hands suit rank k e free)) before.reach;
-    }
-
-pub reach_all : (known : Cards) (hands : Hands) (suit : Suit) (k count : ℕ) → k ≡ 13 →
-    IsReachSoFar known hands suit k count → IsReach known (holding hands suit) count
-reach_all known hands suit k count e all =
-    subst (λ xs. IsReach known xs count) (held_below-all hands suit k e) all.reach
-
--- the top cards that are not yet in the set are among those below a height
-abbrev pub AreTopsSoFar : Hands → Suit → ℕ → Cards → ℕ → ℕ → Type 0
-AreTopsSoFar hands suit count tops rest k = (card : Card) → IsTop count (holding hands suit) card →
-    (set.contains tops card ≡ true) ⊎ IsTop rest (held_below hands suit k) card
-
-pub tops_start : (hands : Hands) (suit : Suit) (count : ℕ) (tops : Cards) → AreTopsSoFar hands suit count tops count 13
-tops_start hands suit count tops card top =
-    inr (subst (λ xs. IsTop count xs card) (sym (held_below-all hands suit 13 refl)) top)
-
-first_top : (x : Held) (xs : List Held) (rest : ℕ) (card : Card) → 0 < rest → IsTop rest (x ∷ xs) card →
-    (x.card ≡ card) ⊎ IsTop (rest - 1) xs card
-first_top x xs zero card some top = absurd top
-first_top x xs (suc rest) card some (inl here) = inl here
-first_top x xs (suc rest) card some (inr more) = let e : rest ≡ suc rest - 1 =
-    omega arith in inr (subst (λ n. IsTop n xs card) e more)
-
-pub tops_more : (hands : Hands) (suit : Suit) (count : ℕ) (tops more : Cards) (rest k : ℕ) (rank : Rank)
-    (place : Place) → 0 < k → 0 < rest → height rank ≡ k - 1 →
-    Some place ≡ holder_of hands (record { suit = suit; rank = rank }) →
-    more ≡ set.insert tops (record { suit = suit; rank = rank }) →
-    AreTopsSoFar hands suit count tops rest k → AreTopsSoFar hands suit count more (rest - 1) (k - 1)
-tops_more hands suit count tops more rest k rank place some some' e held e' before card top =
-    let one : k ≡ (k - 1) + 1 = omega arith in
-    elim (before card top) [
-      | inl in' ↦ inl (still_inserted tops more _ card e' in')
-      | inr later ↦
-          elim (first_top (record { card = record { suit = suit; rank = rank }; place = place })
-          (held_below hands suit (k - 1)) rest card some'
-          (subst (λ xs. IsTop rest xs card) (ap (held_below hands suit) one
-          ∙ held_below-some hands suit rank (k - 1) place e held) later)) [
-            | inl here ↦ inl (subst (λ c. set.contains more c ≡ true) here (inserted tops more _ e'))
-            | inr more' ↦ inr more'
-          ]
-    ]
-
-pub tops_free : (hands : Hands) (suit : Suit) (count : ℕ) (tops : Cards) (rest k : ℕ) (rank : Rank) → 0 < k →
-    height rank ≡ k - 1 →
-    None ≡ holder_of hands (record { suit = suit; rank = rank }) → AreTopsSoFar hands suit count tops rest k →
-    AreTopsSoFar hands suit count tops rest (k - 1)
-tops_free hands suit count tops rest k rank some e free before card top =
-    let one : k ≡ (k - 1) + 1 = omega arith in
-    elim (before card top) [
-      | inl in' ↦ inl in'
-      | inr later ↦ inr (subst (λ xs. IsTop rest xs card) (ap (held_below hands suit) one
-          ∙ held_below-free hands suit rank (k - 1) e free) later)
-    ]
-
-no_top : (rest : ℕ) (card : Card) → IsTop rest [] card → ⊥
-no_top zero card none = none
-no_top (suc rest) card none = none
-
-pub tops_all : (hands : Hands) (suit : Suit) (count : ℕ) (tops : Cards) (rest k : ℕ) → k ≡ 0 →
-    AreTopsSoFar hands suit count tops rest k →
-    (card : Card) → IsTop count (holding hands suit) card → set.contains tops card ≡ true
-tops_all hands suit count tops rest k none all card top =
-    elim (all card top) [
-      | inl in' ↦ in'
-      | inr later ↦ absurd (no_top rest card
-          (subst (λ xs. IsTop rest xs card) (ap (held_below hands suit) none ∙ held_below-none hands suit) later))
-    ]
 
 four_pow : (k : ℕ) → 2 ^ (2 * k) ≡ 4 ^ k
 four_pow zero = refl

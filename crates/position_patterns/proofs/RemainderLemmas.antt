@@ -56,14 +56,14 @@ in_left s t card held = set.contains-union card_cmp_total s t card ∙ or_left _
 in_right : (s t : Cards) (card : Card) → set.contains t card ≡ true → set.contains (set.union s t) card ≡ true
 in_right s t card held = set.contains-union card_cmp_total s t card ∙ or_right _ _ held
 
-held_in_all : (hands : Hands) (place : Place) (card : Card) → set.contains (hand_of hands place) card ≡ true →
+pub held_in_all : (hands : Hands) (place : Place) (card : Card) → set.contains (hand_of hands place) card ≡ true →
     set.contains (all_held hands) card ≡ true
 held_in_all hands North card held = in_left _ _ card (in_left hands.north hands.east card held)
 held_in_all hands East card held = in_left _ _ card (in_right hands.north hands.east card held)
 held_in_all hands South card held = in_right _ _ card (in_left hands.south hands.west card held)
 held_in_all hands West card held = in_right _ _ card (in_right hands.south hands.west card held)
 
-held_by_one : (hands : Hands) (card : Card) → set.contains (all_held hands) card ≡ true →
+pub held_by_one : (hands : Hands) (card : Card) → set.contains (all_held hands) card ≡ true →
     (place : Place) × (set.contains (hand_of hands place) card ≡ true)
 held_by_one hands card held =
     elim (or_cases _ _ (sym (set.contains-union card_cmp_total (set.union hands.north hands.east)
@@ -92,7 +92,7 @@ same_held hands others suit same [] = refl
 same_held hands others suit same (rank ∷ ranks) =
     λ i. held_before (record { suit = suit; rank = rank }) (same rank i) (same_held hands others suit same ranks i)
 
-is_of_own : (suit : Suit) (rank : Rank) → is_of suit (record { suit = suit; rank = rank }) ≡ true
+pub is_of_own : (suit : Suit) (rank : Rank) → is_of suit (record { suit = suit; rank = rank }) ≡ true
 is_of_own suit rank = eq-eqb _ _ refl
 
 goes_over : (whole hands others : Hands) (suit : Suit) → IsApart whole → IsPartOf hands whole → IsPartOf others whole →

@@ -6,6 +6,7 @@ ghost use Rattle.double_dummy_laws.specs.Pattern.{IsTop, holder_of, holding};
 ghost use Rattle.std.specs.Prelude.{◌≡◌, ◌<◌, ◌≤◌, ◌+◌, ◌-◌, ◌*◌, ◌%◌, ◌^◌, [], true, false, length, IsTrue, bit_and};
 ghost use Rattle.std.specs.FinSet as set;
 ghost use Rattle.cards.specs.declared.card.Card.{Card};
+ghost use Rattle.cards.specs.Card.{number_in_pack};
 ghost use Rattle.table_terms.specs.declared.suit.Suit.{Suit};
 
 use crate::finding::Finding;
@@ -98,43 +99,24 @@ impl Holders {
         ensures reach { IsReach known (holding self.now suit) result }
         ensures few { result ≤ 13 }
     {
-        let mut count: u8 = 0;
-        let mut below = 0;
-        while below < 13 {
-            let card = Card {
-                suit,
-                rank: Rank::from_height(below),
-            };
-            if let Some(_) = self.holder(card) {
-                if count > 0 || known.contains(card) {
-                    count += 1;
-                }
-            }
-            below += 1;
-        }
-        count
+        let held = self.held(suit);
+        let Some(lowest) = held.difference(held.difference(known)).first() else {
+            return 0;
+        };
+        upper(held, lowest).len() as u8
     }
 
     /// So many of the suit's cards, from the top.
     pub fn top_cards(&self, suit: Suit, count: u8) -> Hand
         ensures { (card : Card) → IsTop count (holding self.now suit) card → set.contains result card ≡ true }
     {
-        let mut tops = Hand::new();
-        let mut rest = count;
-        let mut below = 13;
-        while below > 0 {
-            below -= 1;
-            let card = Card {
-                suit,
-                rank: Rank::from_height(below),
-            };
-            if rest == 0 {
-                return tops;
-            }
-            if let Some(_) = self.holder(card) {
-                tops.insert(card);
-                rest -= 1;
-            }
+        if count == 0 {
+            return Hand::new();
+        }
+        let held = self.held(suit);
+        let tops = upper(held, from_top(held, count));
+        if tops.len() < count as u32 {
+            return held;
         }
         tops
     }
@@ -152,6 +134,36 @@ impl Holders {
             lengths: pattern.lengths,
         }
     }
+}
+
+/// The cards of a set from this one up, in the order of the pack.
+fn upper(cards: Hand, lowest: Card) -> Hand
+    ensures among { (card : Card) → set.contains result card ≡ true →
+        (set.contains cards card ≡ true) × (number_in_pack lowest ≤ number_in_pack card) }
+    ensures all { (card : Card) → set.contains cards card ≡ true → number_in_pack lowest ≤ number_in_pack card →
+        set.contains result card ≡ true }
+{
+    if lowest.number() == 0 {
+        return cards;
+    }
+    let first = Card {
+        suit: Suit::Spades,
+        rank: Rank::Two,
+    };
+    let below = Hand::between(first, lowest);
+    cards.difference(below).without(first)
+}
+
+/// The card with which there are so many from the top, or the first of the pack where there are not so many.
+fn from_top(cards: Hand, count: u8) -> Card {
+    let mut rest = cards.word();
+    for _ in 1..count {
+        if rest != 0 {
+            rest &= !(1 << rest.ilog2());
+        }
+    }
+    let number = if rest == 0 { 0 } else { rest.ilog2() };
+    Card::from_number(number.min(51) as u8)
 }
 
 impl SuitTops {

@@ -1,47 +1,29 @@
-use Rattle.std.proofs.Common.{◌≡◌, ◌∙◌, ◌+◌, sym, subst, arith}
+use Rattle.std.proofs.Common.{◌∙◌, ap, sym, arith}
+use Rattle.std.proofs.lemmas.Bool.{and_from, true≢false}
+use Rattle.std.specs.FinSet as set
+use Rattle.cards.specs.Card.{card_cmp}
+use Rattle.position_patterns.proofs.SetLemmas.{in_common}
+use Rattle.position_patterns.proofs.TopsLemmas.{holding_length}
+use Rattle.position_patterns.proofs.UpperLemmas.{from_of, reach_from, reach_nothing}
 use Rattle.position_patterns.proofs.holders.Holders.reach.Goals as goal
-use Rattle.position_patterns.proofs.holders.Holders.reach.Goals.{
-  in-Some+then-count-gt0,
-  in-Some+else-count-gt0+else-contains,
-  in_default,
-}
-use Rattle.position_patterns.proofs.RankLemmas.{
-  IsReachSoFar,
-  reach_all,
-  reach_free,
-  reach_more,
-  reach_none,
-  reach_start,
-}
 
-pub loop-below-init : goal.loop-below-init
-loop-below-init c = reach_start c.args.known c.args.self.now c.args.suit
-
-pub loop-below-preserved : goal.loop-below-preserved
-loop-below-preserved c =
-    let hands = c.args.self.now in
-    let k = c.loop-below.below in
-    let count = c.loop-below.count in
-    let so = c.loop-below.invariant in
-    elim c.match-holder.branch [
-      | in-Some+then-count-gt0 w ↦ subst (λ n. IsReachSoFar c.args.known hands c.args.suit (k + 1) n) (sym w.count-is)
-          (reach_more c.args.known hands c.args.suit c.from_height.result k count _ c.loop-below-test.true
-          c.from_height.ensures (sym w.in-Some.is ∙ c.holder.ensures) so)
-      | in-Some+else-count-gt0+else-contains w ↦
-          let none : count ≡ 0 = let few = w.if-count-gt0.false in omega arith in
-          subst (λ n. IsReachSoFar c.args.known hands c.args.suit (k + 1) n) (sym (w.count-is ∙ none))
-          (reach_none c.args.known hands c.args.suit c.from_height.result k _ c.loop-below-test.true
-          c.from_height.ensures (sym w.in-Some.is ∙ c.holder.ensures)
-          (sym w.contains.ensures ∙ w.if-contains.false)
-          (subst (λ n. IsReachSoFar c.args.known hands c.args.suit k n) none so))
-      | in_default w ↦ subst (λ n. IsReachSoFar c.args.known hands c.args.suit (k + 1) n) (sym w.count-is)
-          (reach_free c.args.known hands c.args.suit c.from_height.result k count c.loop-below-test.true
-          c.from_height.ensures (sym w.in_default.is ∙ c.holder.ensures) so)
-    ]
+pub returns-in_default-clause-reach : goal.returns-in_default-clause-reach
+returns-in_default-clause-reach c =
+    reach_nothing c.args.known c.args.self.now c.args.suit (λ card known held.
+    true≢false (sym (in_common _ _ _ _ c.difference.ensures c.difference-2.ensures card
+    ∙ and_from _ _ (ap (λ s. set.contains s card) c.held-held.ensures ∙ held) known)
+    ∙ ap (λ s. set.contains s card) (c.in_default.ensures.none) ∙ set.contains-empty card_cmp card))
 
 pub returns-clause-reach : goal.returns-clause-reach
 returns-clause-reach c =
-    let within = c.loop-below.invariant.within in
-    let over = c.loop-below-test.false in
-    reach_all c.args.known c.args.self.now c.args.suit c.loop-below.below c.loop-below.count
-    (omega arith) c.loop-below.invariant
+    reach_from c.args.known c.args.self.now c.args.suit c.in-Some.lowest c.upper.result
+    (from_of c.args.self.now c.args.suit c.in-Some.lowest c.held-held.result c.upper.result c.held-held.ensures
+    c.upper.ensures.among c.upper.ensures.all)
+    (λ card known held. c.in-Some.ensures.first card
+    (in_common _ _ _ _ c.difference.ensures c.difference-2.ensures card
+    ∙ and_from _ _ (ap (λ s. set.contains s card) c.held-held.ensures ∙ held) known))
+    c.len.result c.len.ensures.cards
+
+pub returns-clause-few : goal.returns-clause-few
+returns-clause-few c =
+    omega (arith, (returns-clause-reach c).within, holding_length c.args.self.now c.args.suit)
