@@ -21,29 +21,40 @@ struct Weighed {
 pub struct Order {
     weighed: [Weighed; RUNS],
     runs: usize,
+    // The most promising of all, the first of equals.
+    first: Weighed,
 }
 
 impl Order {
-    /// Of the cards that the player in turn may play; where they are one run, there is nothing to weigh.
-    pub fn of(position: &Position, others: Hand, playable: Hand) -> Order {
-        let mut order = Order {
-            weighed: [Weighed {
-                number: 0,
-                weight: 0,
-            }; RUNS],
-            runs: 0,
+    /// Nothing weighed yet.
+    pub fn new() -> Order {
+        let nothing = Weighed {
+            number: 0,
+            weight: 0,
         };
-        if !is_one_run(playable, others) {
-            weigh(position, playable, others, &mut order);
+        Order {
+            weighed: [nothing; RUNS],
+            runs: 0,
+            first: nothing,
         }
-        order
+    }
+
+    /// Weighs the cards that the player in turn may play; where they are one run, there is nothing to weigh.
+    pub fn weigh(&mut self, position: &Position, others: Hand, playable: Hand) {
+        if !is_one_run(playable, others) {
+            weigh(position, playable, others, self);
+        }
     }
 
     /// Adds a card.
     pub(crate) fn push(&mut self, number: u8, weight: u16) {
+        let weighed = Weighed { number, weight };
         if self.runs < RUNS {
-            self.weighed[self.runs] = Weighed { number, weight };
+            self.weighed[self.runs] = weighed;
             self.runs += 1;
+            if self.first.weight < weight {
+                self.first = weighed;
+            }
         }
     }
 
@@ -52,6 +63,9 @@ impl Order {
         ensures some { IfSome result (λ card. set.contains untried card ≡ true) }
         ensures none { IfNone result (untried ≡ set.empty) }
     {
+        if untried.is_empty() {
+            return None;
+        }
         if let Some(number) = self.most_promising(untried.word()) {
             let card = Card::from_number(number.min(51));
             if untried.contains(card) {
@@ -64,6 +78,9 @@ impl Order {
 
     /// The number of the card with the most weight, of those in a word.
     fn most_promising(&self, untried: u64) -> Option<u8> {
+        if 0 < self.first.weight && untried >> (self.first.number & 63) & 1 == 1 {
+            return Some(self.first.number);
+        }
         let mut best = None;
         let mut most = 0;
         for at in 0..self.runs.min(RUNS) {

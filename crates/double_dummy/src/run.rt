@@ -59,11 +59,9 @@ pub fn only(cards: Hand) -> Option<Card>
     ensures held { IfSome result (λ card. set.contains cards card ≡ true) }
     ensures alone { IfSome result (λ card. (other : Card) → set.contains cards other ≡ true → card ≡ other) }
 {
-    let card = cards.first()?;
-    if cards.without(card).is_empty() {
-        Some(card)
-    } else {
-        None
+    match cards.first() {
+        Some(card) if cards.len() == 1 => Some(card),
+        _ => None,
     }
 }
 

@@ -5,7 +5,7 @@ ghost use Rattle.cards.specs.Play.{cards_left};
 ghost use Rattle.position_patterns.specs.Remainder.{IsLeftOf};
 ghost use Rattle.double_dummy_laws.specs.Found.{Claims, IsFound, IsOwned, IsTight};
 ghost use Rattle.double_dummy_laws.specs.Renaming.{Ownership, knowing};
-ghost use Rattle.std.specs.Prelude.{◌≡◌, ◌<◌, ◌≤◌, true, IfOk, OnErr};
+ghost use Rattle.std.specs.Prelude.{◌≡◌, ◌<◌, ◌≤◌, [], true, IfOk, OnErr};
 ghost use Rattle.std.specs.FinSet as set;
 ghost use Rattle.cards.specs.declared.card.Card.{Card};
 
@@ -52,9 +52,29 @@ pub fn search(
             known: Hand::new(),
         });
     }
-    if position.trick() != Trick::Empty {
-        return explore(position, target, patterns, memory, budget);
+    if position.trick() == Trick::Empty {
+        return at_start(position, target, patterns, memory, budget);
     }
+    explore(position, target, patterns, memory, budget)
+}
+
+/// The same, at the beginning of a trick. It stands apart, since within a trick no visit should pay for its locals.
+#[inline(never)]
+#[cycle(search)]
+fn at_start(
+    position: &Position,
+    target: u8,
+    patterns: &DealPatterns,
+    memory: &mut Memory,
+    budget: &mut Budget,
+) -> Result<Finding, BudgetSpent>
+    requires target { 0 < target }
+    requires start { position.now.table ≡ [] }
+    requires left { IsLeftOf patterns.now.whole position.now.hands }
+    ensures found { IfOk result (λ found. IsFound position.now target found.known found.holds) }
+    ensures err { OnErr result (budget.new ≡ 0) }
+    ensures spent { budget.new ≤ budget.old }
+{
     let tricks_left = position.tricks_left();
     if tricks_left < target {
         return Ok(Finding {
@@ -116,7 +136,8 @@ fn explore(
     }
     let wanted = wants(position);
     let others = run::others(position);
-    let order = Order::of(position, others, playable);
+    let mut order = Order::new();
+    order.weigh(position, others, playable);
     let mut known = Hand::new();
     while let Some(card) = order.best(untried) {
         let next = position.after(card);

@@ -91,14 +91,14 @@ explore-returns-clause-found t c =
     found_refused c.args.position.now c.args.target c.loop-card.untried c.loop-card.known _ some.0 some.1
     c.in_default-best.ensures.none c.loop-card.invariant.refused
 
-pub search-returns-then-tricks_left-target-clause-found : goal.search-returns-then-tricks_left-target-clause-found
-search-returns-then-tricks_left-target-clause-found t c =
+pub at_start-returns-then-tricks_left-target-clause-found : goal.at_start-returns-then-tricks_left-target-clause-found
+at_start-returns-then-tricks_left-target-clause-found t c =
     let few = c.if-tricks_left-target.true in
     let count = c.tricks_left-tricks_left.ensures.quarter in
     too_many c.args.position.now c.args.target _ (omega arith)
 
-pub search-store-requires-clause-found : goal.search-store-requires-clause-found
-search-store-requires-clause-found t c = c.in-Ok-explore.ensures.found
+pub at_start-store-requires-clause-found : goal.at_start-store-requires-clause-found
+at_start-store-requires-clause-found t c = c.in-Ok-explore.ensures.found
 
 pub explore-after-next-requires : goal.explore-after-next-requires
 explore-after-next-requires t c = c.loop-card.invariant.untried c.in-Some-best.card c.in-Some-best.ensures.some
@@ -119,42 +119,39 @@ pub explore-spoken_for-spoken-requires-clause-legal : goal.explore-spoken_for-sp
 explore-spoken_for-spoken-requires-clause-legal t c = c.loop-card.invariant.untried c.in-Some-best.card
     c.in-Some-best.ensures.some
 
-pub search-find-requires-clause-same : goal.search-find-requires-clause-same
-search-find-requires-clause-same t c = c.of-holders.ensures.hands
+pub at_start-find-requires-clause-same : goal.at_start-find-requires-clause-same
+at_start-find-requires-clause-same t c = c.of-holders.ensures.hands
 
-pub search-find-requires-clause-pattern : goal.search-find-requires-clause-pattern
-search-find-requires-clause-pattern t c = c.pattern-pattern.ensures
+pub at_start-find-requires-clause-pattern : goal.at_start-find-requires-clause-pattern
+at_start-find-requires-clause-pattern t c = c.pattern-pattern.ensures
 
-pub search-store-requires-clause-same : goal.search-store-requires-clause-same
-search-store-requires-clause-same t c = c.of-holders.ensures.hands
+pub at_start-store-requires-clause-same : goal.at_start-store-requires-clause-same
+at_start-store-requires-clause-same t c = c.of-holders.ensures.hands
 
-pub search-store-requires-clause-apart : goal.search-store-requires-clause-apart
-search-store-requires-clause-apart t c = c.of-holders.ensures.apart
+pub at_start-store-requires-clause-apart : goal.at_start-store-requires-clause-apart
+at_start-store-requires-clause-apart t c = c.of-holders.ensures.apart
 
-pub search-store-requires-clause-pattern : goal.search-store-requires-clause-pattern
-search-store-requires-clause-pattern t c = c.pattern-pattern.ensures
+pub at_start-store-requires-clause-pattern : goal.at_start-store-requires-clause-pattern
+at_start-store-requires-clause-pattern t c = c.pattern-pattern.ensures
 
 pub explore-returns-in_default-search-clause-err : goal.explore-returns-in_default-search-clause-err
 explore-returns-in_default-search-clause-err t c = c.in_default-search.ensures.err
 
-pub search-pattern-pattern-requires : goal.search-pattern-pattern-requires
-search-pattern-pattern-requires t c =
-    subst (IsLeftOf c.args.patterns.now.whole) (sym c.of-holders.ensures.hands) c.requires
+pub at_start-pattern-pattern-requires : goal.at_start-pattern-pattern-requires
+at_start-pattern-pattern-requires t c =
+    subst (IsLeftOf c.args.patterns.now.whole) (sym c.of-holders.ensures.hands) c.requires.left
 
-pub search-returns-then-ne-clause-found : goal.search-returns-then-ne-clause-found
-search-returns-then-ne-clause-found t c = c.explore.ensures.found
+pub at_start-returns-in-Some-clause-found : goal.at_start-returns-in-Some-clause-found
+at_start-returns-in-Some-clause-found t c = c.in-Some.ensures
 
-pub search-returns-in-Some-clause-found : goal.search-returns-in-Some-clause-found
-search-returns-in-Some-clause-found t c = c.in-Some.ensures
+pub at_start-returns-in-Some-find-clause-found : goal.at_start-returns-in-Some-find-clause-found
+at_start-returns-in-Some-find-clause-found t c = c.in-Some-find.ensures
 
-pub search-returns-in-Some-find-clause-found : goal.search-returns-in-Some-find-clause-found
-search-returns-in-Some-find-clause-found t c = c.in-Some-find.ensures
+pub at_start-returns-in_default-explore-clause-err : goal.at_start-returns-in_default-explore-clause-err
+at_start-returns-in_default-explore-clause-err t c = c.in_default-explore.ensures.err
 
-pub search-returns-in_default-explore-clause-err : goal.search-returns-in_default-explore-clause-err
-search-returns-in_default-explore-clause-err t c = c.in_default-explore.ensures.err
-
-pub search-returns-clause-found : goal.search-returns-clause-found
-search-returns-clause-found t c = c.in-Ok-explore.ensures.found
+pub at_start-returns-clause-found : goal.at_start-returns-clause-found
+at_start-returns-clause-found t c = c.in-Ok-explore.ensures.found
 
 pub forced-search-requires : goal.forced-search-requires
 forced-search-requires t c =

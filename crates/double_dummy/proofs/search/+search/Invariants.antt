@@ -17,10 +17,13 @@ abbrev pub decreases-explore-loop-card : goal.decreases-explore-loop-card
 decreases-explore-loop-card l = set.len l.untried
 
 abbrev pub decreases-search : goal.decreases-search
-decreases-search l = 2 + 3 * cards_left l.position.now
+decreases-search l = 3 + 4 * cards_left l.position.now
+
+abbrev pub decreases-at_start : goal.decreases-at_start
+decreases-at_start l = 2 + 4 * cards_left l.position.now
 
 abbrev pub decreases-explore : goal.decreases-explore
-decreases-explore l = 1 + 3 * cards_left l.position.now
+decreases-explore l = 1 + 4 * cards_left l.position.now
 
 abbrev pub decreases-forced : goal.decreases-forced
-decreases-forced l = 3 * cards_left l.position.now
+decreases-forced l = 4 * cards_left l.position.now
