@@ -34,10 +34,11 @@ use Rattle.cards.specs.Card.{card_cmp}
 use Rattle.cards.specs.Cards.{Cards}
 use Rattle.cards.specs.CardBits.{card_cmp_total, tied_is_equal}
 use Rattle.cards.proofs.CardBitsLemmas.{same_cards}
+use Rattle.table_terms.specs.declared.place.Place.{Place}
 use Rattle.table_terms.specs.Place.{side_of}
 use Rattle.cards.specs.Hands.{hand_of}
 use Rattle.std.specs.FinSet as set
-use Rattle.cards.specs.Play.{Position, after, cards_left, legal, legal_of, point, to_play}
+use Rattle.cards.specs.Play.{Position, after, cards_left, legal, legal_of, point, to_play, turn}
 use Rattle.double_dummy.proofs.ClaimLemmas.{
   card_claims,
   card_claims_within,
@@ -353,3 +354,15 @@ pub of_either : (run spoken gone : Cards) → gone ≡ set.union run spoken → 
 of_either run spoken gone gone_is card held =
     or_cases _ _ (sym (ap (λ s. set.contains s card) gone_is ∙ set.contains-union card_cmp_total run spoken card)
     ∙ held)
+
+-- whose turn it is, and what may be played, by the cards on the table
+pub is_turn : (p : Position) → {table : List Card} {leader player : Place} → table ≡ p.table → leader ≡ p.leader →
+    player ≡ turn leader table → player ≡ to_play p
+is_turn p table_is leader_is player_is = player_is ∙ (λ i. turn (leader_is i) (table_is i))
+
+pub is_legal : (p : Position) → {table : List Card} {leader player : Place} {mine playable : Cards} →
+    table ≡ p.table → leader ≡ p.leader → player ≡ turn leader table → mine ≡ hand_of p.hands player →
+    playable ≡ legal_of mine table → playable ≡ legal p
+is_legal p table_is leader_is player_is mine_is playable_is =
+    let held = mine_is ∙ ap (hand_of p.hands) (is_turn p table_is leader_is player_is) in
+    playable_is ∙ (λ i. legal_of (held i) (table_is i))

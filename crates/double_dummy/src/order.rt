@@ -4,6 +4,7 @@ ghost use Rattle.std.specs.FinSet as set;
 use crate::run::is_one_run;
 use crate::weights::{top, weigh};
 use cards::{Card, Hand, Position};
+use table_terms::Place;
 
 // The most runs that a player's cards can be.
 const RUNS: usize = 13;
@@ -40,9 +41,9 @@ impl Order {
     }
 
     /// Weighs the cards that the player in turn may play; where they are one run, there is nothing to weigh.
-    pub fn weigh(&mut self, position: &Position, others: Hand, playable: Hand) {
+    pub fn weigh(&mut self, position: &Position, player: Place, others: Hand, playable: Hand) {
         if !is_one_run(playable, others) {
-            weigh(position, playable, others, self);
+            weigh(position, player, playable, others, self);
         }
     }
 

@@ -1,7 +1,8 @@
 ghost use Rattle.std.specs.Prelude.{◌≡◌, ◌<◌, ◌≤◌, ◌&&◌, IfSome, IsTrue, true};
 ghost use Rattle.std.specs.FinSet as set;
 ghost use Rattle.cards.specs.declared.card.Card.{Card};
-ghost use Rattle.cards.specs.Play.{legal};
+ghost use Rattle.cards.specs.Hands.{hand_of};
+ghost use Rattle.cards.specs.Play.{legal, to_play};
 ghost use Rattle.cards.specs.Card.{number_in_pack};
 ghost use Rattle.double_dummy.specs.Search.{AreSpokenFor, HasOthers, IsRunOf};
 ghost use Rattle.double_dummy_laws.specs.Neighbours.{IsBetween};
@@ -9,13 +10,14 @@ ghost use Rattle.double_dummy_laws.specs.Neighbours.{IsBetween};
 use cards::{Card, Hand, Position};
 use position_patterns::Holders;
 
-/// The cards that the other players hold, and those on the table.
-pub fn others(position: &Position) -> Hand
+/// The cards that the other players hold, and those on the table, where the player in turn holds these.
+pub fn others(position: &Position, mine: Hand) -> Hand
+    requires { mine ≡ hand_of position.now.hands (to_play position.now) }
     ensures { HasOthers position.now result }
 {
     let trick = position.trick();
     let live = Holders::of(position).all().union(trick.cards());
-    live.difference(position.hand(trick.turn(position.leader())))
+    live.difference(mine)
 }
 
 /// The card, and the player's cards that are worth the same: no other player has one between.

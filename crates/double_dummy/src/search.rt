@@ -15,7 +15,7 @@ use crate::sure::sure_tricks;
 use crate::{run, trick};
 use cards::{Card, Hand, Position, Trick};
 use position_patterns::{DealPatterns, Finding, Holders, Memory};
-use table_terms::Side;
+use table_terms::{Place, Side};
 
 /// The known cards with those that decided, and the whole run of a card of them.
 fn learnt(known: Hand, decisive: Hand, run: Hand) -> Hand
@@ -120,7 +120,10 @@ fn explore(
     ensures err { OnErr result (budget.new ≡ 0) }
     ensures spent { budget.new ≤ budget.old }
 {
-    let playable = position.legal_cards();
+    let trick = position.trick();
+    let player = trick.turn(position.leader());
+    let mine = position.hand(player);
+    let playable = trick.legal(mine);
     let mut untried = playable;
     if untried.is_empty() {
         return Ok(Finding {
@@ -134,10 +137,10 @@ fn explore(
     if let Some(card) = run::only(playable) {
         return forced(position, card, target, patterns, memory, budget);
     }
-    let wanted = wants(position);
-    let others = run::others(position);
+    let wanted = wants(player);
+    let others = run::others(position, mine);
     let mut order = Order::new();
-    order.weigh(position, others, playable);
+    order.weigh(position, player, others, playable);
     let mut known = Hand::new();
     while let Some(card) = order.best(untried) {
         let next = position.after(card);
@@ -209,11 +212,11 @@ fn point(position: &Position, next: &Position) -> u8
     }
 }
 
-/// The answer that the player in turn would rather have to whether North and South take so many tricks.
-fn wants(position: &Position) -> bool
-    ensures { result ≡ wanted_answer (side_of (to_play position.now)) }
+/// The answer that a player would rather have to whether North and South take so many tricks.
+fn wants(player: Place) -> bool
+    ensures { result ≡ wanted_answer (side_of player) }
 {
-    match position.trick().turn(position.leader()).side() {
+    match player.side() {
         Side::NorthSouth => true,
         Side::EastWest => false,
     }

@@ -10,7 +10,7 @@ mod lead;
 
 use crate::order::Order;
 use cards::{Card, Hand, Position};
-use table_terms::Suit;
+use table_terms::{Place, Suit};
 
 // A weight of nothing: weights count up and down from here.
 const EVEN: u16 = 100;
@@ -50,9 +50,14 @@ struct Weights {
 }
 
 /// Puts the highest card of each run of what the player in turn may play into the order, with how promising it is.
-pub(crate) fn weigh(position: &Position, playable: Hand, others: Hand, order: &mut Order) {
+pub(crate) fn weigh(
+    position: &Position,
+    player: Place,
+    playable: Hand,
+    others: Hand,
+    order: &mut Order,
+) {
     let trick = position.trick();
-    let player = trick.turn(position.leader());
     let mine = position.hand(player);
     let left = position.hand(player.left());
     let partner = position.hand(player.partner());

@@ -12,7 +12,7 @@ use Rattle.table_terms.specs.declared.place.Place.{Place}
 use Rattle.table_terms.specs.declared.place.Place.TheVariants.{North, East, South, West}
 use Rattle.std.specs.FinSet as set
 use Rattle.double_dummy.proofs.run.others.Goals as goal
-use Rattle.cards.specs.Play.{Position, to_play, turn}
+use Rattle.cards.specs.Play.{Position, to_play}
 use Rattle.position_patterns.proofs.SetLemmas.{in_difference}
 use Rattle.double_dummy_laws.specs.Found.{IsOwned, IsTight}
 use Rattle.double_dummy_laws.specs.Renaming.{Ownership}
@@ -56,10 +56,9 @@ others_live ownership p all mine rest on_table card all_is mine_is rest_is table
 
 pub returns : goal.returns
 returns c ownership card owned tight live ne =
-    others_live ownership c.args.position.now c.union-live.result c.hand.result c.difference.result c.cards.result
+    others_live ownership c.args.position.now c.union-live.result c.args.mine c.difference.result c.cards.result
     card
-    (cc) (c.hand.ensures.hand ∙ ap (hand_of _) (c.turn.ensures
-    ∙ (λ i. turn (c.leader.ensures i) (c.trick-trick.ensures i))))
+    (cc) c.requires
     (in_difference _ _ _ c.difference.ensures) (λ x. ap (λ s. set.contains s x) c.cards.ensures ∙ set.contains-from_list
     card_cmp_total _ x
     ∙ ap (list_any (eq_by_cmp card_cmp x)) c.trick-trick.ensures)

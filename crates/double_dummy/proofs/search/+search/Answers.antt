@@ -2,6 +2,7 @@ use Rattle.std.proofs.Common.{◌∙◌, ◌-◌, ap, sym, subst, arith, refl, n
 use Rattle.std.proofs.lemmas.Bool.{and_parts, true≢false}
 use Rattle.double_dummy.proofs.search.+search.Goals as goal
 use Rattle.position_patterns.proofs.SetLemmas.{in_difference}
+use Rattle.cards.specs.Hands.{hand_of}
 use Rattle.cards.specs.Play.{cards_left, legal}
 use Rattle.double_dummy.proofs.BoundLemmas.{too_many}
 use Rattle.position_patterns.proofs.RemainderLemmas.{left_without}
@@ -11,6 +12,8 @@ use Rattle.double_dummy.proofs.SearchLemmas.{
   found_forced,
   found_next,
   found_refused,
+  is_legal,
+  is_turn,
   known_more,
   nothing_left,
   of_either,
@@ -22,11 +25,12 @@ use Rattle.double_dummy.proofs.SearchLemmas.{
 use Rattle.position_patterns.proofs.SetLemmas.{in_first, in_second}
 use Rattle.position_patterns.specs.Remainder.{IsLeftOf}
 use Rattle.double_dummy_laws.proofs.CountLemmas.{fewer_after}
-use Rattle.double_dummy_laws.specs.Found.{IsFound}
+use Rattle.double_dummy_laws.specs.Found.{IsFound, wanted_answer}
+use Rattle.table_terms.specs.Place.{side_of}
 
 pub explore-returns-then-is_empty-clause-found : goal.explore-returns-then-is_empty-clause-found
 explore-returns-then-is_empty-clause-found t c =
-    nothing_left c.args.position.now c.args.target c.new.result c.requires.target (sym c.legal_cards-playable.ensures
+    nothing_left c.args.position.now c.args.target c.new.result c.requires.target (sym (is_legal c.args.position.now c.trick-trick.ensures c.leader.ensures c.turn-player.ensures c.hand-mine.ensures.hand c.legal-playable.ensures)
     ∙ c.is_empty.ensures.0 c.if-is_empty.true)
 
 pub explore-search-requires : goal.explore-search-requires
@@ -51,7 +55,8 @@ explore-returns-then-found-wanted-clause-found t c =
     (λ ownership. known_more ownership _ _ _ _ _ (in_second _ _ _ c.union-decisive.ensures)
     (c.decisive.ensures ownership))
     (in_first _ _ _ c.union-decisive.ensures)
-    c.wants-wanted.ensures
+    (c.wants-wanted.ensures ∙ ap (λ place. wanted_answer (side_of place))
+    (is_turn c.args.position.now c.trick-trick.ensures c.leader.ensures c.turn-player.ensures))
     (found_next p c.after-next.result c.args.target _ c.point.result c.in-Some-best.card _ _ c.after-next.ensures
     (c.point.ensures.point _ c.after-next.ensures) refl found)
 
@@ -87,7 +92,7 @@ explore-loop-card-preserved t c = record {
 pub explore-returns-clause-found : goal.explore-returns-clause-found
 explore-returns-clause-found t c =
     let some = some_in (legal c.args.position.now)
-    (λ e. true≢false (sym (c.is_empty.ensures.1 (c.legal_cards-playable.ensures ∙ e)) ∙ c.if-is_empty.false)) in
+    (λ e. true≢false (sym (c.is_empty.ensures.1 ((is_legal c.args.position.now c.trick-trick.ensures c.leader.ensures c.turn-player.ensures c.hand-mine.ensures.hand c.legal-playable.ensures) ∙ e)) ∙ c.if-is_empty.false)) in
     found_refused c.args.position.now c.args.target c.loop-card.untried c.loop-card.known _ some.0 some.1
     c.in_default-best.ensures.none c.loop-card.invariant.refused
 
@@ -107,13 +112,13 @@ pub explore-run_of-run-requires-clause-others : goal.explore-run_of-run-requires
 explore-run_of-run-requires-clause-others t c = c.others-others.ensures
 
 pub explore-run_of-run-requires-clause-playable : goal.explore-run_of-run-requires-clause-playable
-explore-run_of-run-requires-clause-playable t c = c.legal_cards-playable.ensures
+explore-run_of-run-requires-clause-playable t c = (is_legal c.args.position.now c.trick-trick.ensures c.leader.ensures c.turn-player.ensures c.hand-mine.ensures.hand c.legal-playable.ensures)
 
 pub explore-run_of-run-requires-clause-legal : goal.explore-run_of-run-requires-clause-legal
 explore-run_of-run-requires-clause-legal t c = c.loop-card.invariant.untried c.in-Some-best.card c.in-Some-best.ensures.some
 
 pub explore-spoken_for-spoken-requires-clause-playable : goal.explore-spoken_for-spoken-requires-clause-playable
-explore-spoken_for-spoken-requires-clause-playable t c = c.legal_cards-playable.ensures
+explore-spoken_for-spoken-requires-clause-playable t c = (is_legal c.args.position.now c.trick-trick.ensures c.leader.ensures c.turn-player.ensures c.hand-mine.ensures.hand c.legal-playable.ensures)
 
 pub explore-spoken_for-spoken-requires-clause-legal : goal.explore-spoken_for-spoken-requires-clause-legal
 explore-spoken_for-spoken-requires-clause-legal t c = c.loop-card.invariant.untried c.in-Some-best.card
@@ -173,3 +178,7 @@ forced-returns-clause-found t c =
     (in_first _ _ _ c.union-decisive.ensures)
     (found_next p c.after-next.result c.args.target _ c.point.result c.args.card _ _ c.after-next.ensures
     (c.point.ensures.point _ c.after-next.ensures) refl c.in-Ok.ensures.found)
+
+pub explore-others-others-requires : goal.explore-others-others-requires
+explore-others-others-requires t c = c.hand-mine.ensures.hand ∙ ap (hand_of c.args.position.now.hands)
+    (is_turn c.args.position.now c.trick-trick.ensures c.leader.ensures c.turn-player.ensures)
