@@ -4,3 +4,4 @@ pub mod PlayedLemmas
 pub mod RunLemmas
 pub mod SearchLemmas
 pub mod SureLemmas
+pub mod TrickLemmas

@@ -148,7 +148,7 @@ fn explore(
         let Ok(found) = search(&next, rest, patterns, memory, budget) else {
             return Err(BudgetSpent);
         };
-        let decisive = found.known.union(trick::decisive(position, card));
+        let decisive = found.known.union(trick::decisive(position, card, &next));
         if found.holds == wanted {
             return Ok(Finding {
                 holds: wanted,
@@ -190,7 +190,7 @@ fn forced(
     let Ok(found) = search(&next, rest, patterns, memory, budget) else {
         return Err(BudgetSpent);
     };
-    let decisive = found.known.union(trick::decisive(position, card));
+    let decisive = found.known.union(trick::decisive(position, card, &next));
     Ok(Finding {
         holds: found.holds,
         known: decisive,

@@ -1,49 +1,41 @@
-ghost use Rattle.cards.specs.Play.{is_trump, strength, strongest, winner};
-ghost use Rattle.double_dummy_laws.specs.Known.{IsKnown, IsAbove, IsSettled, IsTrickKnown};
+ghost use Rattle.cards.specs.Play.{after, winner as won_by};
+ghost use Rattle.double_dummy_laws.specs.Known.{IsKnown, IsSettled, IsTrickKnown};
 ghost use Rattle.double_dummy_laws.specs.Renaming.{Ownership, knowing};
-ghost use Rattle.std.specs.Prelude.{◌≡◌, ◌≤◌, ◌↔◌, IsTrue};
+ghost use Rattle.std.specs.Prelude.{◌≡◌};
 ghost use Rattle.cards.specs.declared.card.Card.{Card};
-ghost use Rattle.table_terms.specs.Strain.{trump_of};
+ghost use Rattle.table_terms.specs.declared.strain.Strain.{Strain};
 
-use cards::{Card, Hand, Position, Trick, strength};
-use table_terms::Strain;
+use cards::{Card, Hand, Position, Trick};
+use table_terms::Place;
 
-/// The winning card of the trick that this card completes, where another card of its suit fell.
-pub fn decisive(position: &Position, card: Card) -> Hand
+/// The winning card of the trick that this card completes, where another card of its suit fell: its player leads next.
+pub fn decisive(position: &Position, card: Card, next: &Position) -> Hand
+    requires { next.now ≡ after position.now card }
     ensures { (ownership : Ownership) →
         IsKnown (knowing ownership result) position.now.strain position.now.table card }
 {
     let Trick::Three(a, b, c) = position.trick() else {
         return Hand::new();
     };
-    decisive_of(position.strain(), a, b, c, card)
+    decisive_of(position.leader(), next.leader(), a, b, c, card)
 }
 
-/// The cards whose rank decided who won the trick: the winning one, where another card of its suit fell.
-fn decisive_of(strain: Strain, a: Card, b: Card, c: Card, d: Card) -> Hand
-    ensures { (ownership : Ownership) → IsTrickKnown (knowing ownership result) strain a b c d }
+/// The winning card of a trick, by who won it, where another card of its suit fell.
+fn decisive_of(leader: Place, winner: Place, a: Card, b: Card, c: Card, d: Card) -> Hand
+    ensures { (ownership : Ownership) (strain : Strain) → winner ≡ won_by strain leader a b c d →
+        IsTrickKnown (knowing ownership result) strain a b c d }
 {
-    let trump = strain.trump();
-    let first = strength(trump, a.suit, a);
-    let second = strength(trump, a.suit, b);
-    let third = strength(trump, a.suit, c);
-    let fourth = strength(trump, a.suit, d);
-    if is_above(first, second, third, fourth) {
-        return settled(a, b, c, d);
+    let second = leader.left();
+    let third = second.left();
+    if winner == leader {
+        settled(a, b, c, d)
+    } else if winner == second {
+        settled(b, a, c, d)
+    } else if winner == third {
+        settled(c, a, b, d)
+    } else {
+        settled(d, a, b, c)
     }
-    if is_above(second, first, third, fourth) {
-        return settled(b, a, c, d);
-    }
-    if is_above(third, first, second, fourth) {
-        return settled(c, a, b, d);
-    }
-    settled(d, a, b, c)
-}
-
-fn is_above(top: u8, a: u8, b: u8, c: u8) -> bool
-    ensures { IsTrue result ↔ IsAbove top a b c }
-{
-    a < top && b < top && c < top
 }
 
 /// The card, if another is of its suit.
