@@ -398,8 +398,10 @@ trumps_answer p trump holder side side' hand mine others lone named taken known 
 
 -- a player's highest trump, and another one
 pub is_guarded : (p : Position) (trump : Suit) (holder right : Place)
-    (hand mine others against reach above behind : Cards) (best second guard : Card) → trump_of p.strain ≡ Some trump → hand ≡ hand_of p.hands holder →
-    mine ≡ set.retain hand (is_of trump) → set.contains mine guard ≡ true → set.contains mine second ≡ true →
+    (hand mine behind before others against reach above : Cards) (best second guard : Card) →
+    trump_of p.strain ≡ Some trump → hand ≡ hand_of p.hands holder → mine ≡ set.retain hand (is_of trump) →
+    right ≡ left_of (partner_of holder) → behind ≡ hand_of p.hands right → before ≡ set.retain behind (is_of trump) →
+    set.contains before best ≡ true → set.contains mine guard ≡ true → set.contains mine second ≡ true →
     number_in_pack guard < number_in_pack second →
     ((place : Place) (card : Card) → side_of place ≢ side_of holder →
     set.contains (hand_of p.hands place) card ≡ true → set.contains others card ≡ true) →
@@ -407,11 +409,9 @@ pub is_guarded : (p : Position) (trump : Suit) (holder right : Place)
     ((card : Card) → card.suit ≡ second.suit → height second.rank ≤ height card.rank →
     set.contains reach card ≡ true) →
     ((card : Card) → set.contains above card ≡ (set.contains against card && set.contains reach card)) →
-    ((card : Card) → set.contains above card ≡ true → best ≡ card) →
-    right ≡ left_of (partner_of holder) → behind ≡ hand_of p.hands right → set.contains behind best ≡ true →
-    IsGuarded p holder best second guard
-is_guarded p trump holder right hand mine others against reach above behind best second guard trump_is hand_is mine_is
-    has_guard has_second order others_has against_is all above_is alone right_is behind_is there =
+    ((card : Card) → set.contains above card ≡ true → best ≡ card) → IsGuarded p holder best second guard
+is_guarded p trump holder right hand mine behind before others against reach above best second guard trump_is hand_is
+    mine_is right_is behind_is before_is there has_guard has_second order others_has against_is all above_is alone =
     let first = of_suit hand mine trump second mine_is has_second in
     let low = of_suit hand mine trump guard mine_is has_guard in
     record {
@@ -421,7 +421,7 @@ is_guarded p trump holder right hand mine others against reach above behind best
       trump = ap (λ t. is_trump t second) trump_is ∙ first.1;
       guard_trump = ap (λ t. is_trump t guard) trump_is ∙ low.1;
       right = ap (λ place. set.contains (hand_of p.hands place) best) (sym right_is)
-          ∙ ap (λ s. set.contains s best) (sym behind_is) ∙ there;
+          ∙ ap (λ s. set.contains s best) (sym behind_is) ∙ (of_suit behind before trump best before_is there).0;
       higher = λ other place ne held is not_best.
           let same : is_of trump other ≡ true = sym (ap (λ t. is_trump t other) trump_is) ∙ is in
           let opposed = in_of_suit others against trump other against_is (others_has place other ne held) same in

@@ -18,8 +18,8 @@ use position_patterns::Finding;
 use table_terms::{Place, Side, Suit};
 
 /// Whether North and South take so many tricks, at the beginning of a trick, where a side's best trumps, its guarded
-/// second best one or the leader's masters take as many as that needs. DDS counts more; what is counted here is known by
-/// the cards that it names.
+/// second best one or the leader's masters take as many as that needs. DDS counts more; what is counted here is known
+/// by the cards that it names.
 pub fn sure_tricks(position: &Position, target: u8, tricks_left: u8) -> Option<Finding>
     requires start { position.now.table ≡ [] }
     requires left { 4 * tricks_left ≡ cards_left position.now + length position.now.table }
@@ -91,6 +91,10 @@ fn by_guarded_trump(position: &Position, target: u8, tricks_left: u8) -> Option<
     requires some { target ≤ tricks_left }
     ensures { IfSome result (λ found. IsFound position.now target found.known found.holds) }
 {
+    // for a target between, each side wants more than one trick
+    if 1 < target && target < tricks_left {
+        return None;
+    }
     let next = position.leader().left();
     if tricks_wanted(next.side(), target, tricks_left) > 1 {
         return None;
@@ -111,6 +115,11 @@ fn guarded(position: &Position, trump: Suit, holder: Place) -> Option<Card>
     ensures position { IsPosition position.now }
 {
     let mine = position.hand(holder).of_suit(trump);
+    let before = position.hand(holder.partner().left()).of_suit(trump);
+    // the best trump isn't there: asked first, since it is most often so
+    if before.word() <= mine.word() {
+        return None;
+    }
     let guard = mine.first()?;
     let second = top(mine, guard);
     if guard.number() >= second.number() {
@@ -118,11 +127,11 @@ fn guarded(position: &Position, trump: Suit, holder: Place) -> Option<Card>
     }
     let against = opponents_cards(position, holder).of_suit(trump);
     let best = run::only(common(against, upwards(second)))?;
-    let right = holder.partner().left();
-    if !position.hand(right).contains(best) {
-        return None;
+    if before.contains(best) {
+        Some(second)
+    } else {
+        None
     }
-    Some(second)
 }
 
 /// The same, by the leader's cards that no card of another player beats: no other player has a trump.
