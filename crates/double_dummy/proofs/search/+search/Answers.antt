@@ -30,7 +30,9 @@ use Rattle.table_terms.specs.Place.{side_of}
 
 pub explore-returns-then-is_empty-clause-found : goal.explore-returns-then-is_empty-clause-found
 explore-returns-then-is_empty-clause-found t c =
-    nothing_left c.args.position.now c.args.target c.new.result c.requires.target (sym (is_legal c.args.position.now c.trick-trick.ensures c.leader.ensures c.turn-player.ensures c.hand-mine.ensures.hand c.legal-playable.ensures)
+    let playable = is_legal c.args.position.now c.trick-trick.ensures c.leader.ensures c.turn-player.ensures
+    c.hand-mine.ensures.hand c.legal-playable.ensures in
+    nothing_left c.args.position.now c.args.target c.new.result c.requires.target (sym playable
     ∙ c.is_empty.ensures.0 c.if-is_empty.true)
 
 pub explore-search-requires : goal.explore-search-requires
@@ -77,7 +79,8 @@ explore-loop-card-preserved t c = record {
       (other_bool _ _ c.if-found-wanted.false) c.in-Ok-search.ensures.found in
       refused_step p c.args.target c.loop-card.untried c.difference-untried.result c.loop-card.known
       c.learnt-known.result c.in-Ok-search.found.known c.union-decisive.result c.run_of-run.result
-      c.spoken_for-spoken.result c.union.result c.in-Some-best.card (not c.wants-wanted.result) c.loop-card.invariant.refused
+      c.spoken_for-spoken.result c.union.result c.in-Some-best.card (not c.wants-wanted.result)
+      c.loop-card.invariant.refused
       (c.loop-card.invariant.untried c.in-Some-best.card c.in-Some-best.ensures.some)
       (found_next p c.after-next.result c.args.target _ c.point.result c.in-Some-best.card _ _ c.after-next.ensures
       (c.point.ensures.point _ c.after-next.ensures) refl found)
@@ -92,7 +95,8 @@ explore-loop-card-preserved t c = record {
 pub explore-returns-clause-found : goal.explore-returns-clause-found
 explore-returns-clause-found t c =
     let some = some_in (legal c.args.position.now)
-    (λ e. true≢false (sym (c.is_empty.ensures.1 ((is_legal c.args.position.now c.trick-trick.ensures c.leader.ensures c.turn-player.ensures c.hand-mine.ensures.hand c.legal-playable.ensures) ∙ e)) ∙ c.if-is_empty.false)) in
+    (λ e. true≢false (sym (c.is_empty.ensures.1 (is_legal c.args.position.now c.trick-trick.ensures c.leader.ensures
+    c.turn-player.ensures c.hand-mine.ensures.hand c.legal-playable.ensures ∙ e)) ∙ c.if-is_empty.false)) in
     found_refused c.args.position.now c.args.target c.loop-card.untried c.loop-card.known _ some.0 some.1
     c.in_default-best.ensures.none c.loop-card.invariant.refused
 
@@ -112,13 +116,18 @@ pub explore-run_of-run-requires-clause-others : goal.explore-run_of-run-requires
 explore-run_of-run-requires-clause-others t c = c.others-others.ensures
 
 pub explore-run_of-run-requires-clause-playable : goal.explore-run_of-run-requires-clause-playable
-explore-run_of-run-requires-clause-playable t c = (is_legal c.args.position.now c.trick-trick.ensures c.leader.ensures c.turn-player.ensures c.hand-mine.ensures.hand c.legal-playable.ensures)
+explore-run_of-run-requires-clause-playable t c =
+    is_legal c.args.position.now c.trick-trick.ensures c.leader.ensures c.turn-player.ensures c.hand-mine.ensures.hand
+    c.legal-playable.ensures
 
 pub explore-run_of-run-requires-clause-legal : goal.explore-run_of-run-requires-clause-legal
-explore-run_of-run-requires-clause-legal t c = c.loop-card.invariant.untried c.in-Some-best.card c.in-Some-best.ensures.some
+explore-run_of-run-requires-clause-legal t c = c.loop-card.invariant.untried c.in-Some-best.card
+    c.in-Some-best.ensures.some
 
 pub explore-spoken_for-spoken-requires-clause-playable : goal.explore-spoken_for-spoken-requires-clause-playable
-explore-spoken_for-spoken-requires-clause-playable t c = (is_legal c.args.position.now c.trick-trick.ensures c.leader.ensures c.turn-player.ensures c.hand-mine.ensures.hand c.legal-playable.ensures)
+explore-spoken_for-spoken-requires-clause-playable t c =
+    is_legal c.args.position.now c.trick-trick.ensures c.leader.ensures c.turn-player.ensures c.hand-mine.ensures.hand
+    c.legal-playable.ensures
 
 pub explore-spoken_for-spoken-requires-clause-legal : goal.explore-spoken_for-spoken-requires-clause-legal
 explore-spoken_for-spoken-requires-clause-legal t c = c.loop-card.invariant.untried c.in-Some-best.card
