@@ -41,7 +41,7 @@ use Rattle.cards.specs.Play.{IsPosition, Position, is_of, is_trump, strength_by,
 use Rattle.double_dummy.proofs.RunLemmas.{none_in}
 use Rattle.position_patterns.proofs.SetLemmas.{in_first, in_second, just_inserted, still_inserted, inserted}
 use Rattle.double_dummy_laws.proofs.HandLemmas.{in_suit}
-use Rattle.double_dummy_laws.proofs.BestTrumpLemmas.{opponents}
+use Rattle.double_dummy_laws.proofs.BestTrumpLemmas.{opponent_cases, opponents}
 use Rattle.double_dummy_laws.proofs.SureTrickLemmas.{guarded_found, masters_found, trumps_found}
 use Rattle.double_dummy_laws.proofs.WinnerLemmas.{both_of, height_below, same_suit}
 use Rattle.double_dummy_laws.specs.Found.{IsFound, wanted_answer}
@@ -195,25 +195,6 @@ from_up lowest ace inner some cards suit rank order inner_is some_is cards_is =
     )
 
 -- who plays beside whom
-pub opponent_cases : (place holder : Place) → side_of place ≢ side_of holder →
-    (place ≡ left_of holder) ⊎ (place ≡ left_of (left_of (left_of holder)))
-opponent_cases North North ne = absurd (ne refl)
-opponent_cases North East ne = inr refl
-opponent_cases North South ne = absurd (ne refl)
-opponent_cases North West ne = inl refl
-opponent_cases East North ne = inl refl
-opponent_cases East East ne = absurd (ne refl)
-opponent_cases East South ne = inr refl
-opponent_cases East West ne = absurd (ne refl)
-opponent_cases South North ne = absurd (ne refl)
-opponent_cases South East ne = inl refl
-opponent_cases South South ne = absurd (ne refl)
-opponent_cases South West ne = inr refl
-opponent_cases West North ne = inr refl
-opponent_cases West East ne = absurd (ne refl)
-opponent_cases West South ne = inl refl
-opponent_cases West West ne = absurd (ne refl)
-
 pub other_cases : (place leader : Place) → place ≢ leader → (place ≡ left_of leader)
     ⊎ ((place ≡ left_of (left_of leader)) ⊎ (place ≡ left_of (left_of (left_of leader))))
 other_cases North North ne = absurd (ne refl)

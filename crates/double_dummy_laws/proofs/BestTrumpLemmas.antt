@@ -1,5 +1,5 @@
 -- A player's trumps that are higher than every trump of the opponents take a trick each.
-use Rattle.std.proofs.Common.{◌≡◌, ◌≢◌, ℕ, ◌<◌, ◌≤◌, Bool, true, false, List, [], ◌∷◌, refl, sym, ap, ◌∙◌, subst, inl, inr, arith, zero, suc}
+use Rattle.std.proofs.Common.{◌≡◌, ◌≢◌, ◌⊎◌, ℕ, ◌<◌, ◌≤◌, Bool, true, false, List, [], ◌∷◌, refl, sym, ap, ◌∙◌, subst, inl, inr, arith, zero, suc}
 use Rattle.std.specs.Prelude.{Option}
 use Rattle.std.proofs.lemmas.Bool.{and_from, and_left, cases_eq, cases_lt, cond-false, cond-true, le-leb, lt-leb, true≢false}
 use Rattle.std.specs.FinSet as set
@@ -34,6 +34,25 @@ opponents North e = cc
 opponents East e = cc
 opponents South e = cc
 opponents West e = cc
+
+pub opponent_cases : (place holder : Place) → side_of place ≢ side_of holder →
+    (place ≡ left_of holder) ⊎ (place ≡ left_of (left_of (left_of holder)))
+opponent_cases North North ne = absurd (ne refl)
+opponent_cases North East ne = inr refl
+opponent_cases North South ne = absurd (ne refl)
+opponent_cases North West ne = inl refl
+opponent_cases East North ne = inl refl
+opponent_cases East East ne = absurd (ne refl)
+opponent_cases East South ne = inr refl
+opponent_cases East West ne = absurd (ne refl)
+opponent_cases South North ne = absurd (ne refl)
+opponent_cases South East ne = inl refl
+opponent_cases South South ne = absurd (ne refl)
+opponent_cases South West ne = inr refl
+opponent_cases West North ne = inr refl
+opponent_cases West East ne = absurd (ne refl)
+opponent_cases West South ne = inl refl
+opponent_cases West West ne = absurd (ne refl)
 
 first_best : (leader : Place) (a b c d : ℕ) → b ≤ a → c ≤ a → d ≤ a → strongest leader a b c d ≡ leader
 unfolding strongest

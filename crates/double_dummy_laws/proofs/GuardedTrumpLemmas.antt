@@ -126,7 +126,7 @@ legal_too p card other same held may =
         ]
 
 -- cards of two players are two cards
-two_cards : (h : Hands) (card other : Card) (place player : Place) → IsApart h →
+pub two_cards : (h : Hands) (card other : Card) (place player : Place) → IsApart h →
     set.contains (hand_of h place) card ≡ true → set.contains (hand_of h player) other ≡ true → place ≢ player →
     card ≢ other
 two_cards h card other place player apart held there ne e =

@@ -17,3 +17,4 @@ pub mod RenamingLemmas
 pub mod SureTrickLemmas
 pub mod TakingLemmas
 pub mod WinnerLemmas
+pub mod WinningCardLemmas

@@ -1,9 +1,9 @@
 -- Sure tricks stay sure when the cards get other names.
 use Rattle.std.proofs.Common.{◌≡◌, ◌≢◌, ℕ, ◌<◌, ◌≤◌, true, List, [], ◌∷◌, length, map, refl, sym, ap, ◌∙◌, subst, inl, inr, arith, zero, suc}
-use Rattle.std.specs.Prelude.{nat_le}
+use Rattle.std.specs.Prelude.{nat_eq, nat_le}
 use Rattle.std.specs.List.{list_any}
 use Rattle.std.specs.Ordering.{eq_by_cmp}
-use Rattle.std.proofs.lemmas.Bool.{cases_eq, le-leb, lt-leb, or_cases, or_left, or_right, true≢false}
+use Rattle.std.proofs.lemmas.Bool.{cases_eq, false_from_ne_true, le-leb, lt-leb, or_cases, or_left, or_right, true≢false}
 use Rattle.std.specs.FinSet as set
 use Rattle.cards.specs.declared.card.Card.{Card}
 use Rattle.cards.specs.Card.{card_cmp}
@@ -15,22 +15,26 @@ use Rattle.table_terms.specs.declared.place.Place.TheVariants.{North, East, Sout
 use Rattle.table_terms.specs.declared.side.Side.{Side}
 use Rattle.table_terms.specs.declared.side.Side.TheVariants.{NorthSouth, EastWest}
 use Rattle.table_terms.specs.declared.strain.Strain.{Strain}
+use Rattle.table_terms.specs.Suit.{suit_number}
 use Rattle.table_terms.specs.Place.{left_of, partner_of, side_of}
 use Rattle.table_terms.specs.Strain.{trump_of}
 use Rattle.cards.specs.Hands.{Hands, hand_of}
-use Rattle.cards.specs.Play.{IsPosition, Position, cards_left, is_trump, strength, strength_in}
+use Rattle.cards.specs.Play.{IsApart, IsPosition, Position, cards_left, is_of, is_trump, legal_of, strength, strength_in}
 use Rattle.cards.specs.DoubleDummy.{tricks}
 use Rattle.double_dummy_laws.proofs.BestLemmas.{Among}
 use Rattle.double_dummy_laws.proofs.CountLemmas.{has_less}
-use Rattle.double_dummy_laws.proofs.HandLemmas.{among_items, items_among, tied}
+use Rattle.double_dummy_laws.proofs.HandLemmas.{among_items, follows_legal, items_among, legal_follows, tied}
 use Rattle.double_dummy_laws.proofs.MasterLemmas as masters
 use Rattle.double_dummy_laws.proofs.BestTrumpLemmas as trumps
+use Rattle.double_dummy_laws.proofs.BestTrumpLemmas.{partners}
 use Rattle.double_dummy_laws.proofs.GuardedTrumpLemmas as guarded
+use Rattle.double_dummy_laws.proofs.WinningCardLemmas as winning
+use Rattle.double_dummy_laws.proofs.WinningCardLemmas.{opposite}
 use Rattle.double_dummy_laws.proofs.TakingLemmas.{at, has_removed, removed_had, some_of}
 use Rattle.double_dummy_laws.proofs.WinnerLemmas.{both_trumps, same_trump, stronger_stays}
 use Rattle.double_dummy_laws.specs.Found.{IsFound, wanted_answer}
-use Rattle.double_dummy_laws.specs.Renaming.{HasNames, IsRenaming, Ownership, knowing}
-use Rattle.double_dummy_laws.specs.SureTricks.{AreBestTrumps, AreEnough, AreMasters, AreMastersKnown, AreTrumpsKnown, IsGuarded, TakesAtLeast}
+use Rattle.double_dummy_laws.specs.Renaming.{HasNames, IsLiveCardOf, IsRenaming, Ownership, knowing}
+use Rattle.double_dummy_laws.specs.SureTricks.{AreBestTrumps, AreEnough, AreMasters, AreMastersKnown, AreTrumpsKnown, IsGuarded, IsWinningCard, IsWinningCardKnown, TakesAtLeast}
 
 -- where each card of a set has its own partner in another, the other has as many
 paired_len : (n : ℕ) (R : Card → Card → Type 0) (s t : Cards) → set.len s ≤ n →
@@ -109,16 +113,19 @@ module _ (ownership : Ownership) (name : Card → Card) (renaming : IsRenaming o
   left_named strain leader =
       omega (arith, len_named North, len_named East, len_named South, len_named West)
 
+  position_apart : IsApart h → IsApart hands
+  position_apart apart place other card held also =
+      let old = named.onto place card held in
+      let same = named.onto other card also in
+      let e : same.0 ≡ old.0 =
+      renaming.apart same.0 old.0 (named.live other same.0 same.1).0 (named.live place old.0 old.1).0
+      (same.2 ∙ sym old.2) in
+      apart place other old.0 old.1 (subst (λ x. set.contains (hand_of h other) x ≡ true) e same.1)
+
   position_named : (strain : Strain) (leader : Place) → IsPosition (at h strain leader []) →
       IsPosition (at hands strain leader [])
   position_named strain leader valid = record {
-    apart = λ place other card held also.
-        let old = named.onto place card held in
-        let same = named.onto other card also in
-        let e : same.0 ≡ old.0 =
-        renaming.apart same.0 old.0 (named.live other same.0 same.1).0 (named.live place old.0 old.1).0
-        (same.2 ∙ sym old.2) in
-        valid.apart place other old.0 old.1 (subst (λ x. set.contains (hand_of h other) x ≡ true) e same.1);
+    apart = position_apart valid.apart;
     trick = tt;
     equal = λ place other. omega (arith, len_named place, len_named other, valid.equal place other);
   }
@@ -215,23 +222,90 @@ module _ (ownership : Ownership) (name : Card → Card) (renaming : IsRenaming o
             (is.higher old.0 place ne old.1 was (λ e. not_best (sym old.2 ∙ ap name e))));
       }
 
+  -- a trick under way
+  position_led : (strain : Strain) (leader : Place) (led : Card) → ownership.is_live led ≡ true →
+      IsPosition (at h strain leader (led ∷ [])) → IsPosition (at hands strain leader (name led ∷ []))
+  position_led strain leader led live valid = record {
+    apart = position_apart valid.apart;
+    trick = λ place. false_from_ne_true _ (λ there.
+        let old = named.onto place (name led) there in
+        true≢false (sym old.1 ∙ ap (set.contains (hand_of h place))
+        (renaming.apart old.0 led (named.live place old.0 old.1).0 live old.2) ∙ valid.trick place));
+    equal = λ place other. omega (arith, len_named place, len_named other, valid.equal place other);
+  }
+
+  of_named : (led card : Card) → ownership.is_live led ≡ true → ownership.is_live card ≡ true →
+      is_of (name led).suit (name card) ≡ is_of led.suit card
+  of_named led card live_led live_card =
+      ap (λ suit. is_of suit (name card)) (renaming.suit led live_led)
+      ∙ ap (λ suit. nat_eq (suit_number led.suit) (suit_number suit)) (renaming.suit card live_card)
+
+  -- what may be played to a lead
+  into_legal : (place : Place) (led card : Card) → ownership.is_live led ≡ true →
+      set.contains (legal_of (hand_of h place) (led ∷ [])) card ≡ true →
+      set.contains (legal_of (hand_of hands place) (name led ∷ [])) (name card) ≡ true
+  into_legal place led card live may =
+      let facts = legal_follows (hand_of h place) (led ∷ []) card may in
+      follows_legal (hand_of hands place) (name led ∷ []) (name card) (named.into place card facts.0)
+      (elim facts.1 [
+        | inl same ↦ inl (of_named led card live (named.live place card facts.0).0 ∙ same)
+        | inr none ↦ inr (λ other there.
+            let old = named.onto place other there in
+            ap (is_of (name led).suit) (sym old.2) ∙ of_named led old.0 live (named.live place old.0 old.1).0
+            ∙ none old.0 old.1)
+      ])
+
+  onto_legal : (place : Place) (led card : Card) → ownership.is_live led ≡ true →
+      set.contains (legal_of (hand_of hands place) (name led ∷ [])) card ≡ true →
+      (old : Card) × (set.contains (legal_of (hand_of h place) (led ∷ [])) old ≡ true) × (name old ≡ card)
+  onto_legal place led card live may =
+      let facts = legal_follows (hand_of hands place) (name led ∷ []) card may in
+      let old = named.onto place card facts.0 in (
+        old.0,
+        follows_legal (hand_of h place) (led ∷ []) old.0 old.1 (elim facts.1 [
+          | inl same ↦ inl (sym (of_named led old.0 live (named.live place old.0 old.1).0)
+              ∙ ap (is_of (name led).suit) old.2 ∙ same)
+          | inr none ↦ inr (λ other there. sym (of_named led other live (named.live place other there).0)
+              ∙ none (name other) (named.into place other there))
+        ]),
+        old.2,
+      )
+
+  winning_named : (strain : Strain) (leader holder : Place) (led card : Card) →
+      IsLiveCardOf ownership leader led → IsWinningCard (at h strain leader (led ∷ [])) led holder card →
+      (led.suit ≡ card.suit → ownership.is_known card ≡ true) →
+      ((other : Card) → set.contains (legal_of (hand_of h (partner_of leader)) (led ∷ [])) other ≡ true →
+      other.suit ≡ card.suit → ownership.is_known card ≡ true) →
+      IsWinningCard (at hands strain leader (name led ∷ [])) (name led) holder (name card)
+  winning_named strain leader holder led card played is known_first known_third =
+      let mine = named.live holder card (legal_follows (hand_of h holder) (led ∷ []) card is.may).0 in
+      let suit = sym (renaming.suit led played.0) in
+      record {
+        opponent = is.opponent;
+        may = into_legal holder led card played.0 is.may;
+        first = subst (λ s. strength (trump_of strain) s (name led) < strength (trump_of strain) s (name card)) suit
+            (stronger_stays ownership name (trump_of strain) led.suit led card renaming played.0 mine.0
+            (λ e. is.opponent (ap side_of (sym mine.1 ∙ sym e ∙ played.1)))
+            (λ suits. or_right _ _ (known_first suits)) is.first);
+        third = λ other there.
+            let old = onto_legal (partner_of leader) led other played.0 there in
+            let theirs = named.live (partner_of leader) old.0
+            (legal_follows (hand_of h (partner_of leader)) (led ∷ []) old.0 old.1).0 in
+            subst (λ x. strength_in strain (name led) x < strength_in strain (name led) (name card)) old.2
+            (subst (λ s. strength (trump_of strain) s (name old.0) < strength (trump_of strain) s (name card)) suit
+            (stronger_stays ownership name (trump_of strain) led.suit old.0 card renaming theirs.0 mine.0
+            (λ e. is.opponent (ap side_of (sym mine.1 ∙ sym e ∙ theirs.1 ∙ opposite leader) ∙ partners leader))
+            (λ suits. or_right _ _ (known_third old.0 old.1 suits)) (is.third old.0 old.1)));
+      }
+
 -- what a side takes answers the question
 answered : (side : Side) (k more : ℕ) (p q : Position) (target : ℕ) → AreEnough side k p target → k ≤ more →
-    cards_left q ≡ cards_left p → p.table ≡ [] → q.table ≡ [] →
+    cards_left q ≡ cards_left p → length q.table ≡ length p.table →
     TakesAtLeast side more q → nat_le target (tricks (cards_left p) q) ≡ wanted_answer side
-answered NorthSouth k more p q target enough fewer same none none' takes =
+answered NorthSouth k more p q target enough fewer same as_many takes =
     le-leb target _ (omega (arith, enough, fewer, takes, ap (λ n. tricks n q) same))
-answered EastWest k more p q target enough fewer same none none' takes =
-    lt-leb target _ (omega (
-      arith,
-      enough,
-      fewer,
-      takes,
-      same,
-      ap (λ n. tricks n q) same,
-      ap length none,
-      ap length none',
-    ))
+answered EastWest k more p q target enough fewer same as_many takes =
+    lt-leb target _ (omega (arith, enough, fewer, takes, same, ap (λ n. tricks n q) same, as_many))
 
 -- masters take a trick each
 masters_at : (h : Hands) (strain : Strain) (leader : Place) (cards : Cards) → IsPosition (at h strain leader []) →
@@ -251,7 +325,7 @@ masters_found_at h strain leader cards known target valid are are_known enough o
     answered (side_of leader) (set.len cards) (set.len (named_cards name cards)) (at h strain leader [])
     (at hands strain leader []) target enough
     (len_of_named own name renaming h hands named leader cards are.held)
-    (left_named own name renaming h hands named strain leader) refl refl
+    (left_named own name renaming h hands named strain leader) refl
     (masters_at hands strain leader (named_cards name cards)
     (position_named own name renaming h hands named strain leader valid)
     (masters_named own name renaming h hands named strain leader cards are are_known))
@@ -279,7 +353,7 @@ trumps_found_at h strain leader holder cards known target valid are are_known en
     answered (side_of holder) (set.len cards) (set.len (named_cards name cards)) (at h strain leader [])
     (at hands strain leader []) target enough
     (len_of_named own name renaming h hands named holder cards are.held)
-    (left_named own name renaming h hands named strain leader) refl refl
+    (left_named own name renaming h hands named strain leader) refl
     (trumps_at hands strain leader holder (named_cards name cards)
     (position_named own name renaming h hands named strain leader valid)
     (trumps_named own name renaming h hands named strain holder cards (other_leader h strain leader holder cards are)
@@ -317,10 +391,27 @@ guarded_found_at h strain leader holder best second guard known target valid is 
     tight_p name hands renaming named =
     let own = knowing ownership known in
     answered (side_of holder) 1 1 (at h strain leader []) (at hands strain leader []) target enough (omega arith)
-    (left_named own name renaming h hands named strain leader) refl refl
+    (left_named own name renaming h hands named strain leader) refl
     (guarded_at hands strain leader holder (name best) (name second) (name guard)
     (position_named own name renaming h hands named strain leader valid)
     (guarded_named own name renaming h hands named strain leader holder best second guard is in_known) enemy)
+
+-- a card that beats the lead and all of third hand's
+winning_found_at : (h : Hands) (strain : Strain) (leader holder : Place) (led card : Card) (known : Cards)
+    (target : ℕ) → IsPosition (at h strain leader (led ∷ [])) →
+    IsWinningCard (at h strain leader (led ∷ [])) led holder card →
+    IsWinningCardKnown (at h strain leader (led ∷ [])) led card known →
+    AreEnough (side_of holder) 1 (at h strain leader (led ∷ [])) target →
+    IsFound (at h strain leader (led ∷ [])) target known (wanted_answer (side_of holder))
+winning_found_at h strain leader holder led card known target valid is is_known enough ownership owned tight_p name
+    hands renaming named =
+    let own = knowing ownership known in
+    answered (side_of holder) 1 1 (at h strain leader (led ∷ [])) (at hands strain leader (name led ∷ [])) target enough
+    (omega arith) (left_named own name renaming h hands named strain leader) refl
+    (winning.taken hands strain leader holder (name led) (name card)
+    (position_led own name renaming h hands named strain leader led owned.on_table.0 valid)
+    (winning_named own name renaming h hands named strain leader holder led card owned.on_table is is_known.first
+    is_known.third))
 
 -- at the beginning of a trick
 at_start : (P : Position → Type 0) (p : Position) → p.table ≡ [] → P (at p.hands p.strain p.leader []) → P p
@@ -377,3 +468,24 @@ guarded_found p holder best second guard known target valid none enemy is in_kno
     (guarded_found_at p.hands p.strain p.leader holder best second guard known target
     (from_start IsPosition p none valid) (from_start (λ q. IsGuarded q holder best second guard) p none is) enemy
     in_known (from_start (λ q. AreEnough (side_of holder) 1 q target) p none enough))
+
+-- with one card on the table
+pub winning_takes : (p : Position) (led : Card) (holder : Place) (card : Card) → IsPosition p → p.table ≡ led ∷ [] →
+    IsWinningCard p led holder card → TakesAtLeast (side_of holder) 1 p
+winning_takes p led holder card valid table is =
+    subst (λ table. TakesAtLeast (side_of holder) 1 (at p.hands p.strain p.leader table)) (sym table)
+    (winning.taken p.hands p.strain p.leader holder led card
+    (subst (λ table. IsPosition (at p.hands p.strain p.leader table)) table valid)
+    (subst (λ table. IsWinningCard (at p.hands p.strain p.leader table) led holder card) table is))
+
+pub winning_found : (p : Position) (led : Card) (holder : Place) (card : Card) (known : Cards) (target : ℕ) →
+    IsPosition p → p.table ≡ led ∷ [] → IsWinningCard p led holder card → IsWinningCardKnown p led card known →
+    AreEnough (side_of holder) 1 p target → IsFound p target known (wanted_answer (side_of holder))
+winning_found p led holder card known target valid table is is_known enough =
+    subst (λ table. IsFound (at p.hands p.strain p.leader table) target known (wanted_answer (side_of holder)))
+    (sym table)
+    (winning_found_at p.hands p.strain p.leader holder led card known target
+    (subst (λ table. IsPosition (at p.hands p.strain p.leader table)) table valid)
+    (subst (λ table. IsWinningCard (at p.hands p.strain p.leader table) led holder card) table is)
+    (subst (λ table. IsWinningCardKnown (at p.hands p.strain p.leader table) led card known) table is_known)
+    (subst (λ table. AreEnough (side_of holder) 1 (at p.hands p.strain p.leader table) target) table enough))

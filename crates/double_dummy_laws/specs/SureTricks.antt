@@ -1,5 +1,5 @@
 -- Cards that take tricks whatever the others play, and which of them have to be known.
-use Rattle.std.specs.Prelude.{◌≡◌, ◌≢◌, ◌+◌, ◌*◌, ◌<◌, ◌≤◌, ℕ, true, length}
+use Rattle.std.specs.Prelude.{◌≡◌, ◌≢◌, ◌+◌, ◌*◌, ◌<◌, ◌≤◌, ℕ, true, length, [], ◌∷◌}
 use Rattle.std.specs.FinSet as set
 use Rattle.cards.specs.declared.card.Card.{Card}
 use Rattle.table_terms.specs.declared.place.Place.{Place}
@@ -10,7 +10,7 @@ use Rattle.table_terms.specs.Strain.{trump_of}
 use Rattle.cards.specs.Cards.{Cards}
 use Rattle.cards.specs.Hands.{hand_of}
 use Rattle.cards.specs.Rank.{height}
-use Rattle.cards.specs.Play.{Position, cards_left, is_trump, strength_in}
+use Rattle.cards.specs.Play.{Position, cards_left, is_trump, legal_of, strength_in}
 use Rattle.cards.specs.DoubleDummy.{double_dummy}
 
 -- a side takes so many tricks at least of those that are left
@@ -67,3 +67,20 @@ pub record IsGuarded (position : Position) (holder : Place) (best second guard :
   pub higher : (other : Card) (place : Place) → side_of place ≢ side_of holder →
       set.contains (hand_of position.hands place) other ≡ true → is_trump (trump_of position.strain) other ≡ true →
       other ≢ best → height other.rank < height second.rank
+
+-- a player of the side that did not lead has a card that may be played to this lead, and that beats it and every card
+-- that third hand may play
+pub record IsWinningCard (position : Position) (led : Card) (holder : Place) (card : Card) : Type 0 where
+  pub opponent : side_of holder ≢ side_of position.leader
+  pub may : set.contains (legal_of (hand_of position.hands holder) (led ∷ [])) card ≡ true
+  pub first : strength_in position.strain led led < strength_in position.strain led card
+  pub third : (other : Card) →
+      set.contains (legal_of (hand_of position.hands (partner_of position.leader)) (led ∷ [])) other ≡ true →
+      strength_in position.strain led other < strength_in position.strain led card
+
+-- the card is known, if the lead or a card that third hand may play is of its suit
+pub record IsWinningCardKnown (position : Position) (led card : Card) (known : Cards) : Type 0 where
+  pub first : led.suit ≡ card.suit → set.contains known card ≡ true
+  pub third : (other : Card) →
+      set.contains (legal_of (hand_of position.hands (partner_of position.leader)) (led ∷ [])) other ≡ true →
+      other.suit ≡ card.suit → set.contains known card ≡ true

@@ -14,7 +14,7 @@ ghost use Rattle.double_dummy_laws.specs.Found.{IsCardFound, IsFound, wanted_ans
 ghost use Rattle.double_dummy_laws.specs.Neighbours.{AreNeighbours, AreUnparted, IsRun};
 ghost use Rattle.double_dummy_laws.specs.Pattern.{IsOfPattern, IsTop, holding};
 ghost use Rattle.double_dummy_laws.specs.Renaming.{Ownership, IsRenaming, HasNames, ArePlayed, AllKnown, renamed};
-ghost use Rattle.double_dummy_laws.specs.SureTricks.{AreBestTrumps, AreEnough, AreMasters, AreMastersKnown, AreTrumpsKnown, IsGuarded, TakesAtLeast};
+ghost use Rattle.double_dummy_laws.specs.SureTricks.{AreBestTrumps, AreEnough, AreMasters, AreMastersKnown, AreTrumpsKnown, IsGuarded, IsWinningCard, IsWinningCardKnown, TakesAtLeast};
 
 /// With cards left, a position is worth the best that the side to play gets by a legal card: the trick that the card
 /// completes and what the position after it is worth. With none left it is worth no trick.
@@ -114,5 +114,18 @@ pub fn guarded_trump_takes_a_trick()
         IsPosition position → position.table ≡ [] → side_of position.leader ≢ side_of holder →
         IsGuarded position holder best second guard → set.contains known second ≡ true →
         AreEnough (side_of holder) 1 position target →
+        IsFound position target known (wanted_answer (side_of holder)) }
+{}
+
+/// Second hand's side takes the trick under way with a card that beats the lead and every card that third hand may
+/// play: second or fourth hand has it and may play it, be it a higher card of the suit or a ruff. To know so, it has to
+/// be known, if the lead or a card that third hand may play is of its suit.
+pub fn winning_card_takes_the_trick()
+    ensures tricks { (position : Position) (led : Card) (holder : Place) (card : Card) → IsPosition position →
+        position.table ≡ led ∷ [] → IsWinningCard position led holder card →
+        TakesAtLeast (side_of holder) 1 position }
+    ensures found { (position : Position) (led : Card) (holder : Place) (card : Card) (known : Cards) (target : ℕ) →
+        IsPosition position → position.table ≡ led ∷ [] → IsWinningCard position led holder card →
+        IsWinningCardKnown position led card known → AreEnough (side_of holder) 1 position target →
         IsFound position target known (wanted_answer (side_of holder)) }
 {}
