@@ -10,6 +10,7 @@ use Rattle.std.proofs.Common.{
   true,
   false,
   [],
+  ◌∷◌,
   refl,
   sym,
   ap,
@@ -20,7 +21,7 @@ use Rattle.std.proofs.Common.{
   arith,
 }
 use Rattle.std.specs.Prelude.{◌&&◌, Option, Some, nat_eq, nat_lt}
-use Rattle.std.proofs.lemmas.Bool.{and_from, and_parts, cases_lt, eq-eqb, lt-ltb, ltb-true, or_cases, true≢false}
+use Rattle.std.proofs.lemmas.Bool.{and_from, and_parts, cases_Bool, cases_lt, eq-eqb, false_from_ne_true, lt-ltb, ltb-true, or_cases, true≢false}
 use Rattle.std.specs.FinSet as set
 use Rattle.cards.specs.declared.card.Card.{Card}
 use Rattle.cards.specs.declared.rank.Rank.TheVariants.{Ace}
@@ -37,15 +38,17 @@ use Rattle.table_terms.specs.declared.strain.Strain.{Strain}
 use Rattle.table_terms.specs.Suit.{suit_number}
 use Rattle.table_terms.specs.Place.{left_of, partner_of, side_of}
 use Rattle.table_terms.specs.Strain.{trump_of}
-use Rattle.cards.specs.Play.{IsPosition, Position, is_of, is_trump, strength_by, strength_in}
+use Rattle.cards.specs.Play.{IsPosition, Position, is_of, is_trump, legal_of, strength, strength_by, strength_in}
 use Rattle.double_dummy.proofs.RunLemmas.{none_in}
 use Rattle.position_patterns.proofs.SetLemmas.{in_first, in_second, just_inserted, still_inserted, inserted}
-use Rattle.double_dummy_laws.proofs.HandLemmas.{in_suit}
-use Rattle.double_dummy_laws.proofs.BestTrumpLemmas.{opponent_cases, opponents}
-use Rattle.double_dummy_laws.proofs.SureTrickLemmas.{guarded_found, masters_found, trumps_found}
-use Rattle.double_dummy_laws.proofs.WinnerLemmas.{both_of, height_below, same_suit}
+use Rattle.double_dummy_laws.proofs.HandLemmas.{follows_legal, in_suit, legal_follows}
+use Rattle.double_dummy_laws.proofs.BestTrumpLemmas.{opponent_cases, opponents, trump_beats}
+use Rattle.double_dummy_laws.proofs.SureTrickLemmas.{guarded_found, masters_found, trumps_found, winning_found}
+use Rattle.double_dummy_laws.proofs.WinnerLemmas.{both_of, both_trumps, height_below, same_suit, same_trump}
 use Rattle.double_dummy_laws.specs.Found.{IsFound, wanted_answer}
-use Rattle.double_dummy_laws.specs.SureTricks.{AreEnough, IsGuarded}
+use Rattle.double_dummy_laws.specs.SureTricks.{AreEnough, IsGuarded, IsWinningCard, IsWinningCardKnown}
+use Rattle.double_dummy.specs.Search.{MayNotRuff}
+use Rattle.double_dummy.proofs.SearchLemmas.{some_in}
 
 -- a set's cards are among another's
 abbrev pub AreAmong : Cards → Cards → Type 0
@@ -431,4 +434,140 @@ guarded_answer p leader next holder side side' second just known target wanted h
     (subst (λ b. IsFound p target just b) (sym (holds_is ∙ ap wanted_answer (side_is' ∙ sym same)))
     (guarded_found p holder best second guard just target valid none
     (λ e. opponents p.leader (sym (e ∙ same ∙ ap side_of (next_is ∙ ap left_of leader_is)))) is in_just
+    (subst (λ s. AreEnough s 1 p target) (side_is ∙ sym same) (enough 1 few))))
+
+-- of two cards of a suit the higher one is the stronger
+stronger : (trump : Option Suit) (led : Suit) (other card : Card) → is_of led card ≡ true → other.suit ≡ card.suit →
+    height other.rank < height card.rank → strength trump led other < strength trump led card
+stronger trump led other card is same lower =
+    subst (λ t. strength_by t (is_of led other) (height other.rank) < strength trump led card)
+    (sym (same_trump trump other card same))
+    (by_height (is_trump trump card) (is_of led other) (is_of led card) _ _ is lower)
+  where
+    by_height : (t lo lc : Bool) (ho hc : ℕ) → lc ≡ true → ho < hc → strength_by t lo ho < strength_by t lc hc
+    by_height true lo lc ho hc is less = omega arith
+    by_height false true true ho hc is less = omega arith
+    by_height false false true ho hc is less = omega arith
+    by_height false lo false ho hc is less = absurd (true≢false (sym is))
+
+-- a discard is weaker than a card of the suit
+discarded : (trump : Option Suit) (led : Suit) (other card : Card) → is_of led card ≡ true → is_of led other ≡ false →
+    is_trump trump other ≡ false → strength trump led other < strength trump led card
+discarded trump led other card is apart no_trump =
+    subst (λ l. strength_by (is_trump trump other) l (height other.rank) < strength trump led card) (sym apart)
+    (subst (λ t. strength_by t false (height other.rank) < strength trump led card) (sym no_trump)
+    (counts (is_trump trump card) (is_of led card) (height card.rank) is))
+  where
+    counts : (t l : Bool) (h : ℕ) → l ≡ true → 0 < strength_by t l h
+    counts true l h e = omega arith
+    counts false true h e = omega arith
+    counts false false h e = absurd (true≢false (sym e))
+
+-- a higher card of the suit, and any trump of a hand without the suit, take the trick where third hand may not ruff
+pub higher_wins : (p : Position) (led : Card) (holder : Place) (hand held third reach just : Cards) (card : Card) →
+    side_of holder ≢ side_of p.leader → third ≡ hand_of p.hands (partner_of p.leader) → MayNotRuff p led third →
+    hand ≡ hand_of p.hands holder → held ≡ set.retain hand (is_of led.suit) → set.contains held card ≡ true →
+    number_in_pack led < number_in_pack card →
+    ((other : Card) → other.suit ≡ card.suit → height card.rank ≤ height other.rank →
+    set.contains reach other ≡ true) → AreDisjoint third reach → set.contains just card ≡ true →
+    (card : Card) × (IsWinningCard p led holder card × IsWinningCardKnown p led card just)
+higher_wins p led holder hand held third reach just card opponent third_is no_ruff hand_is held_is has order all apart
+    in_just =
+    let own = of_suit hand held led.suit card held_is has in
+    let suits : led.suit ≡ card.suit = both_of led.suit led card (eq-eqb _ _ refl) own.1 in
+    let numbers = ap suit_number suits in
+    let small = height_below led.rank in
+    let there = λ (other : Card) (may : set.contains (legal_of (hand_of p.hands (partner_of p.leader)) (led ∷ []))
+    other ≡ true). subst (λ s. set.contains (legal_of s (led ∷ [])) other ≡ true) (sym third_is) may in (
+      card,
+      (
+        record {
+          opponent = opponent;
+          may = follows_legal (hand_of p.hands holder) (led ∷ []) card
+              (ap (λ s. set.contains s card) (sym hand_is) ∙ own.0) (inl own.1);
+          first = stronger (trump_of p.strain) led.suit led card own.1 suits (omega arith);
+          third = λ other may.
+              let plays = there other may in
+              let holds = (legal_follows third (led ∷ []) other plays).0 in
+              elim (cases_Bool (is_of led.suit other)) [
+                | inl same ↦
+                    let alike : other.suit ≡ card.suit = both_of led.suit other card same own.1 in
+                    elim (cases_lt (height other.rank) (height card.rank)) [
+                      | inl less ↦ stronger (trump_of p.strain) led.suit other card own.1 alike less
+                      | inr reaches ↦ absurd (true≢false (sym (all other alike reaches) ∙ apart other holds))
+                    ]
+                | inr differs ↦ elim (no_ruff other plays) [
+                  | inl alike ↦ absurd (true≢false (sym (eq-eqb _ _ (ap suit_number (sym alike))) ∙ differs))
+                  | inr no_trump ↦ discarded (trump_of p.strain) led.suit other card own.1 differs no_trump
+                ]
+              ];
+        },
+        record { first = λ _. in_just; third = λ _ _ _. in_just },
+      ),
+    )
+
+pub ruff_wins : (p : Position) (trump : Suit) (led : Card) (holder : Place) (hand held trumps third known : Cards)
+    (card : Card) → side_of holder ≢ side_of p.leader → third ≡ hand_of p.hands (partner_of p.leader) →
+    MayNotRuff p led third → trump_of p.strain ≡ Some trump → hand ≡ hand_of p.hands holder →
+    held ≡ set.retain hand (is_of led.suit) → held ≡ set.empty → trumps ≡ set.retain hand (is_of trump) →
+    set.contains trumps card ≡ true →
+    (card : Card) × (IsWinningCard p led holder card × IsWinningCardKnown p led card known)
+ruff_wins p trump led holder hand held trumps third known card opponent third_is no_ruff trump_is hand_is held_is void
+    trumps_is has =
+    let own = of_suit hand trumps trump card trumps_is has in
+    let is : is_trump (trump_of p.strain) card ≡ true = ap (λ t. is_trump t card) trump_is ∙ own.1 in
+    let none = λ (other : Card) (holds : set.contains (hand_of p.hands holder) other ≡ true).
+    false_from_ne_true (is_of led.suit other) (λ same. none_in held other void
+    (in_of_suit hand held led.suit other held_is (ap (λ s. set.contains s other) hand_is ∙ holds) same)) in
+    let mine = ap (λ s. set.contains s card) (sym hand_is) ∙ own.0 in
+    let apart = λ (e : led.suit ≡ card.suit).
+    true≢false (sym (eq-eqb _ _ (ap suit_number e)) ∙ none card mine) in
+    let no_trump : (other : Card) →
+    set.contains (legal_of (hand_of p.hands (partner_of p.leader)) (led ∷ [])) other ≡ true →
+    is_trump (trump_of p.strain) other ≡ true → ⊥ = λ other may trump'.
+    elim (no_ruff other (subst (λ s. set.contains (legal_of s (led ∷ [])) other ≡ true) (sym third_is) may)) [
+      | inl alike ↦ apart (sym alike ∙ both_trumps (trump_of p.strain) other card trump' is)
+      | inr never ↦ true≢false (sym trump' ∙ never)
+    ] in (
+      card,
+      (
+        record {
+          opponent = opponent;
+          may = follows_legal (hand_of p.hands holder) (led ∷ []) card mine (inr none);
+          first = trump_beats (trump_of p.strain) led.suit led card is
+              (λ trump'. absurd (apart (both_trumps (trump_of p.strain) led card trump' is)));
+          third = λ other may. trump_beats (trump_of p.strain) led.suit other card is
+              (λ trump'. absurd (no_trump other may trump'));
+        },
+        record {
+          first = λ e. absurd (apart e);
+          third = λ other may e. absurd (no_trump other may (same_trump (trump_of p.strain) other card e ∙ is));
+        },
+      ),
+    )
+
+-- a hand that follows suit, or has no trump, may not ruff
+pub follows : (p : Position) (led : Card) (hand suited : Cards) → suited ≡ set.retain hand (is_of led.suit) →
+    (suited ≡ set.empty → ⊥) → MayNotRuff p led hand
+follows p led hand suited suited_is some other may =
+    let facts = legal_follows hand (led ∷ []) other may in
+    elim facts.1 [
+      | inl same ↦ inl (both_of led.suit other led same (eq-eqb _ _ refl))
+      | inr none ↦
+          let one = some_in suited some in
+          let own = of_suit hand suited led.suit one.0 suited_is one.1 in
+          absurd (true≢false (sym own.1 ∙ none one.0 own.0))
+    ]
+
+pub winning_answer : (p : Position) (second holder : Place) (side side' : Side) (led : Card) (wins known : Cards)
+    (target wanted : ℕ) (holds : Bool) → IsPosition p → p.table ≡ led ∷ [] → side_of holder ≡ side_of second →
+    side ≡ side_of second → side' ≡ side_of second →
+    (card : Card) × (IsWinningCard p led holder card × IsWinningCardKnown p led card wins) →
+    ((tricks : ℕ) → wanted ≤ tricks → AreEnough side tricks p target) → wanted ≤ 1 →
+    holds ≡ wanted_answer side' → known ≡ wins → IsFound p target known holds
+winning_answer p second holder side side' led wins known target wanted holds valid table same side_is side_is'
+    (card, (is, is_known)) enough few holds_is known_is =
+    subst (λ k. IsFound p target k holds) (sym known_is)
+    (subst (λ b. IsFound p target wins b) (sym (holds_is ∙ ap wanted_answer (side_is' ∙ sym same)))
+    (winning_found p led holder card wins target valid table is is_known
     (subst (λ s. AreEnough s 1 p target) (side_is ∙ sym same) (enough 1 few))))

@@ -1,9 +1,10 @@
 -- For private clauses: what a search keeps from card to card.
-use Rattle.std.specs.Prelude.{◌≡◌, ◌≢◌, ℕ, suc, ◌⊎◌, Bool, true, false}
+use Rattle.std.specs.Prelude.{◌≡◌, ◌≢◌, ℕ, suc, ◌⊎◌, Bool, true, false, [], ◌∷◌}
 use Rattle.cards.specs.Cards.{Cards}
 use Rattle.cards.specs.declared.card.Card.{Card}
 use Rattle.std.specs.FinSet as set
-use Rattle.cards.specs.Play.{Position, cards_left, legal, to_play}
+use Rattle.table_terms.specs.Strain.{trump_of}
+use Rattle.cards.specs.Play.{Position, cards_left, is_trump, legal, legal_of, to_play}
 use Rattle.double_dummy_laws.specs.Found.{CardClaims, IsOwned, IsTight}
 use Rattle.double_dummy_laws.specs.Known.{IsLike}
 use Rattle.double_dummy_laws.specs.Neighbours.{AreUnparted}
@@ -35,3 +36,9 @@ AreTriedInVain position target untried known answer =
     cards_left position ≡ suc left →
     (card : Card) → set.contains (legal position) card ≡ true → set.contains untried card ≡ false →
     CardClaims (knowing ownership known) left position target card answer
+
+-- what a hand may play to this lead is of its suit or no trump
+abbrev pub MayNotRuff : Position → Card → Cards → Type 0
+MayNotRuff position led hand =
+    (card : Card) → set.contains (legal_of hand (led ∷ [])) card ≡ true →
+    (card.suit ≡ led.suit) ⊎ (is_trump (trump_of position.strain) card ≡ false)

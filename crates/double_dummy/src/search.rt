@@ -11,7 +11,7 @@ ghost use Rattle.cards.specs.declared.card.Card.{Card};
 
 use crate::budget::{Budget, BudgetSpent};
 use crate::order::Order;
-use crate::sure::sure_tricks;
+use crate::sure::{sure_tricks, winning_card};
 use crate::{run, trick};
 use cards::{Card, Hand, Position, Trick};
 use position_patterns::{DealPatterns, Finding, Holders, Memory};
@@ -54,6 +54,14 @@ pub fn search(
     }
     if position.trick() == Trick::Empty {
         return at_start(position, target, patterns, memory, budget);
+    }
+    if let Trick::One(led) = position.trick() {
+        if let Some(found) = winning_card(position, led, target) {
+            let Ok(()) = budget.visit() else {
+                return Err(BudgetSpent);
+            };
+            return Ok(found);
+        }
     }
     explore(position, target, patterns, memory, budget)
 }

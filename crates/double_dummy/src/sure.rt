@@ -1,14 +1,15 @@
-ghost use Rattle.std.specs.Prelude.{◌≡◌, ◌≢◌, ◌+◌, ◌*◌, ◌<◌, ◌≤◌, ◌↔◌, ℕ, [], true, false, length, Some, IfSome};
+ghost use Rattle.std.specs.Prelude.{◌≡◌, ◌≢◌, ◌+◌, ◌*◌, ◌<◌, ◌≤◌, ◌↔◌, ℕ, [], ◌∷◌, true, false, length, Some, IfSome};
 ghost use Rattle.std.specs.FinSet as set;
 ghost use Rattle.cards.specs.declared.card.Card.{Card};
 ghost use Rattle.table_terms.specs.declared.place.Place.{Place};
-ghost use Rattle.table_terms.specs.Place.{side_of};
+ghost use Rattle.table_terms.specs.Place.{partner_of, side_of};
 ghost use Rattle.table_terms.specs.Strain.{trump_of};
 ghost use Rattle.cards.specs.Hands.{hand_of};
 ghost use Rattle.cards.specs.Rank.{height};
 ghost use Rattle.cards.specs.Play.{IsPosition, Position, cards_left, is_trump};
 ghost use Rattle.double_dummy_laws.specs.Found.{IsFound, wanted_answer};
-ghost use Rattle.double_dummy_laws.specs.SureTricks.{AreEnough, IsGuarded};
+ghost use Rattle.double_dummy.specs.Search.{MayNotRuff};
+ghost use Rattle.double_dummy_laws.specs.SureTricks.{AreEnough, IsGuarded, IsWinningCard, IsWinningCardKnown};
 
 use crate::run;
 use crate::run::common;
@@ -156,6 +157,70 @@ fn by_masters(position: &Position, target: u8, tricks_left: u8) -> Option<Findin
         return None;
     }
     Some(answer(leader.side(), named))
+}
+
+/// Whether North and South take so many tricks, with one card on the table, where the trick under way is enough for
+/// second hand's side and it is theirs: by a higher card of the suit in second or fourth hand, or by a ruff.
+pub fn winning_card(position: &Position, led: Card, target: u8) -> Option<Finding>
+    requires { position.now.table ≡ led ∷ [] }
+    ensures { IfSome result (λ found. IsFound position.now target found.known found.holds) }
+{
+    let tricks_left = position.tricks_left();
+    if tricks_left < target {
+        return None;
+    }
+    let second = position.leader().left();
+    if tricks_wanted(second.side(), target, tricks_left) > 1 {
+        return None;
+    }
+    let third = position.hand(second.left());
+    if may_ruff(position, led, third) {
+        return None;
+    }
+    if let Some(known) = wins(position, led, third, second) {
+        return Some(answer(second.side(), known));
+    }
+    let known = wins(position, led, third, second.partner())?;
+    Some(answer(second.side(), known))
+}
+
+/// Whether a hand may ruff this lead.
+fn may_ruff(position: &Position, led: Card, hand: Hand) -> bool
+    ensures { result ≡ false → MayNotRuff position.now led hand }
+{
+    let Some(trump) = position.strain().trump() else {
+        return false;
+    };
+    if !hand.of_suit(led.suit).is_empty() {
+        return false;
+    }
+    trump != led.suit && !hand.of_suit(trump).is_empty()
+}
+
+/// What has to be known of a player's card that takes the trick under way: his highest one of the suit, or any trump
+/// where he has none of it.
+fn wins(position: &Position, led: Card, third: Hand, holder: Place) -> Option<Hand>
+    requires opponent { side_of holder ≢ side_of position.now.leader }
+    requires third { third ≡ hand_of position.now.hands (partner_of position.now.leader) }
+    requires ruff { MayNotRuff position.now led third }
+    ensures { IfSome result (λ known. (card : Card) × (IsWinningCard position.now led holder card ×
+        IsWinningCardKnown position.now led card known)) }
+{
+    let hand = position.hand(holder);
+    let held = hand.of_suit(led.suit);
+    let Some(lowest) = held.first() else {
+        let trump = position.strain().trump()?;
+        let _ruff = hand.of_suit(trump).first()?;
+        return Some(Hand::new());
+    };
+    let card = top(held, lowest);
+    if card.number() <= led.number() {
+        return None;
+    }
+    if !third.is_disjoint(upwards(card)) {
+        return None;
+    }
+    Some(only(card))
 }
 
 /// How many tricks answer whether North and South take so many as the side would have it.
