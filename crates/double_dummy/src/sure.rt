@@ -44,16 +44,24 @@ fn by_trumps(position: &Position, target: u8, tricks_left: u8) -> Option<Finding
     ensures { IfSome result (λ found. IsFound position.now target found.known found.holds) }
 {
     let trump = position.strain().trump()?;
-    if let Some(found) = by_trumps_of(position, trump, Place::North, target, tricks_left) {
+    let (one, partner) = with_best_trump(position, trump);
+    if let Some(found) = by_trumps_of(position, trump, one, target, tricks_left) {
         return Some(found);
     }
-    if let Some(found) = by_trumps_of(position, trump, Place::East, target, tricks_left) {
-        return Some(found);
+    by_trumps_of(position, trump, partner, target, tricks_left)
+}
+
+/// The side that has the best trump: no other has one that is higher than all of its opponents'.
+fn with_best_trump(position: &Position, trump: Suit) -> (Place, Place) {
+    let norths = position
+        .hand(Place::North)
+        .union(position.hand(Place::South));
+    let easts = position.hand(Place::East).union(position.hand(Place::West));
+    if easts.of_suit(trump).word() < norths.of_suit(trump).word() {
+        (Place::North, Place::South)
+    } else {
+        (Place::East, Place::West)
     }
-    if let Some(found) = by_trumps_of(position, trump, Place::South, target, tricks_left) {
-        return Some(found);
-    }
-    by_trumps_of(position, trump, Place::West, target, tricks_left)
 }
 
 /// The same, by those of a player's trumps that are higher than all of the opponents'.
