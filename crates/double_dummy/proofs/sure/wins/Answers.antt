@@ -7,8 +7,9 @@ pub returns-in_default : goal.returns-in_default
 returns-in_default c =
     ruff_wins c.args.position.now c.in_ok-trump.trump c.args.led c.args.holder c.hand-hand.result
     c.of_suit-held.result c.of_suit.result c.args.third c.new.result c.in_ok-_ruff._ruff c.requires.opponent
-    c.requires.third c.requires.ruff (ap trump_of (sym c.strain.ensures) ∙ sym c.in_ok-trump.ensures) c.hand-hand.ensures.hand c.of_suit-held.ensures
-    c.in_default.ensures.none c.of_suit.ensures c.in_ok-_ruff.ensures.some
+    c.requires.third c.requires.ruff (ap trump_of (sym c.strain.ensures) ∙ sym c.in_ok-trump.ensures)
+    c.hand-hand.ensures.hand c.of_suit-held.ensures c.in_default.ensures.none c.of_suit.ensures
+    c.in_ok-_ruff.ensures.some
 
 pub returns : goal.returns
 returns c =
