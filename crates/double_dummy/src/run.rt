@@ -35,7 +35,7 @@ pub fn run_of(position: &Position, others: Hand, playable: Hand, card: Card) -> 
 
 /// The cards that a refused card speaks for, where these cards mattered: those of its suit that none of them parts from
 /// it, if it did not matter itself. In this the search differs from DDS, which drops what is lower than all cards that
-/// mattered so far. Where no card is left to try, it need not speak.
+/// mattered so far. Where no card of its suit is left to try, it need not speak.
 pub fn spoken_for(
     position: &Position,
     playable: Hand,
@@ -47,7 +47,7 @@ pub fn spoken_for(
     requires legal { set.contains (legal position.now) card ≡ true }
     ensures { AreSpokenFor position.now decisive card result }
 {
-    if rest.is_empty() {
+    if rest.of_suit(card.suit).is_empty() {
         return Hand::new();
     }
     if decisive.contains(card) {

@@ -9,7 +9,22 @@ use cards::{Card, Hand, Position, Trick};
 use table_terms::Place;
 
 /// The winning card of the trick that this card completes, where another card of its suit fell: its player leads next.
+#[inline(always)]
 pub fn decisive(position: &Position, card: Card, next: &Position) -> Hand
+    requires { next.now ≡ after position.now card }
+    ensures { (ownership : Ownership) →
+        IsKnown (knowing ownership result) position.now.strain position.now.table card }
+{
+    // most cards complete no trick: those should not pay for a call
+    let Trick::Three(_, _, _) = position.trick() else {
+        return Hand::new();
+    };
+    decisive_of_fourth(position, card, next)
+}
+
+/// The same, for a fourth card.
+#[inline(never)]
+fn decisive_of_fourth(position: &Position, card: Card, next: &Position) -> Hand
     requires { next.now ≡ after position.now card }
     ensures { (ownership : Ownership) →
         IsKnown (knowing ownership result) position.now.strain position.now.table card }
