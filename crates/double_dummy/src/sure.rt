@@ -36,7 +36,8 @@ pub fn sure_tricks(position: &Position, target: u8, tricks_left: u8) -> Option<F
     by_masters(position, target, tricks_left)
 }
 
-/// The same, by the trumps of one player.
+/// The same, by the trumps of one player: of the side that has the best trump, since no other has one that is higher
+/// than all of its opponents'.
 fn by_trumps(position: &Position, target: u8, tricks_left: u8) -> Option<Finding>
     requires start { position.now.table ≡ [] }
     requires left { 4 * tricks_left ≡ cards_left position.now + length position.now.table }
@@ -44,27 +45,54 @@ fn by_trumps(position: &Position, target: u8, tricks_left: u8) -> Option<Finding
     ensures { IfSome result (λ found. IsFound position.now target found.known found.holds) }
 {
     let trump = position.strain().trump()?;
-    let (one, partner) = with_best_trump(position, trump);
-    if let Some(found) = by_trumps_of(position, trump, one, target, tricks_left) {
-        return Some(found);
+    let norths = trumps_of(position, trump, Place::North, Place::South);
+    let easts = trumps_of(position, trump, Place::East, Place::West);
+    if easts.word() < norths.word() {
+        by_trumps_of_side(position, trump, Place::North, target, tricks_left)
+    } else {
+        by_trumps_of_side(position, trump, Place::East, target, tricks_left)
     }
-    by_trumps_of(position, trump, partner, target, tricks_left)
 }
 
-/// The side that has the best trump: no other has one that is higher than all of its opponents'.
-fn with_best_trump(position: &Position, trump: Suit) -> (Place, Place) {
-    let norths = position
-        .hand(Place::North)
-        .union(position.hand(Place::South));
-    let easts = position.hand(Place::East).union(position.hand(Place::West));
-    if easts.of_suit(trump).word() < norths.of_suit(trump).word() {
-        (Place::North, Place::South)
-    } else {
-        (Place::East, Place::West)
+/// The trumps of two players.
+fn trumps_of(position: &Position, trump: Suit, one: Place, other: Place) -> Hand {
+    position
+        .hand(one)
+        .union(position.hand(other))
+        .of_suit(trump)
+}
+
+/// The same, by those of a player or of the partner.
+#[inline(always)]
+fn by_trumps_of_side(
+    position: &Position,
+    trump: Suit,
+    one: Place,
+    target: u8,
+    tricks_left: u8,
+) -> Option<Finding>
+    requires start { position.now.table ≡ [] }
+    requires left { 4 * tricks_left ≡ cards_left position.now + length position.now.table }
+    requires some { target ≤ tricks_left }
+    requires trump { trump_of position.now.strain ≡ Some trump }
+    ensures { IfSome result (λ found. IsFound position.now target found.known found.holds) }
+{
+    // most often neither has as many trumps as tricks are wanted
+    let wanted = tricks_wanted(one.side(), target, tricks_left);
+    if position.hand(one).of_suit(trump).len() >= wanted {
+        if let Some(found) = by_trumps_of(position, trump, one, target, tricks_left) {
+            return Some(found);
+        }
     }
+    let partner = one.partner();
+    if position.hand(partner).of_suit(trump).len() >= wanted {
+        return by_trumps_of(position, trump, partner, target, tricks_left);
+    }
+    None
 }
 
 /// The same, by those of a player's trumps that are higher than all of the opponents'.
+#[inline(never)]
 fn by_trumps_of(
     position: &Position,
     trump: Suit,
@@ -80,9 +108,6 @@ fn by_trumps_of(
 {
     let wanted = tricks_wanted(holder.side(), target, tricks_left);
     let mine = position.hand(holder).of_suit(trump);
-    if mine.len() < wanted {
-        return None;
-    }
     let others = opponents_cards(position, holder);
     let alone = lone(mine, others, trump);
     let named = fewest(higher(mine, others, trump), wanted);

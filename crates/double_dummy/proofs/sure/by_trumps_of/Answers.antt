@@ -13,4 +13,4 @@ returns c =
     (λ card other held. c.higher.ensures.above card other (c.fewest-named.ensures card held))
     c.union-taken.ensures
     (λ tricks. c.tricks_wanted-wanted.ensures c.args.position.now tricks c.requires.left)
-    (omega (arith, c.len-2.ensures.cards, c.if-len-wanted-2.false)) c.answer.ensures.holds c.answer.ensures.known
+    (omega (arith, c.len.ensures.cards, c.if-len-wanted.false)) c.answer.ensures.holds c.answer.ensures.known
