@@ -112,6 +112,24 @@ impl Weights {
     }
 
     fn weigh_following(&self, led: Suit, mine: u64, theirs: u64, order: &mut Order) {
+        // a loop for each hand, so that none pays for what the others look at
+        match self.played {
+            1 => self.weigh_following_as(1, led, mine, theirs, order),
+            2 => self.weigh_following_as(2, led, mine, theirs, order),
+            _ => self.weigh_following_as(3, led, mine, theirs, order),
+        }
+    }
+
+    /// The same, where so many cards are on the table.
+    #[inline(always)]
+    fn weigh_following_as(
+        &self,
+        played: u32,
+        led: Suit,
+        mine: u64,
+        theirs: u64,
+        order: &mut Order,
+    ) {
         let base = self.base(led);
         let mut rest = mine;
         for _ in 0..13 {
@@ -119,7 +137,7 @@ impl Weights {
                 return;
             };
             let power = base + run.height();
-            let weight = match self.played {
+            let weight = match played {
                 1 => self.second_hand(run, led, power),
                 2 => self.third_hand(run, led, power),
                 _ => self.fourth_hand(run, power),

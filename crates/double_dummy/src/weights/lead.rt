@@ -80,13 +80,21 @@ impl Weights {
     pub(super) fn weigh_leads(&self, playable: Hand, others: Hand, order: &mut Order) {
         for suit in SUITS {
             let mine = ranks(playable, suit);
-            if mine != 0 {
-                self.weigh_suit(suit, mine, ranks(others, suit), order);
+            if mine == 0 {
+                continue;
+            }
+            // a loop with trumps and one without, so that neither pays for what the other looks at
+            if self.trump.is_some() {
+                self.weigh_suit(true, suit, mine, ranks(others, suit), order);
+            } else {
+                self.weigh_suit(false, suit, mine, ranks(others, suit), order);
             }
         }
     }
 
-    fn weigh_suit(&self, suit: Suit, mine: u64, theirs: u64, order: &mut Order) {
+    /// Weighs leads of a suit, with trumps or without.
+    #[inline(always)]
+    fn weigh_suit(&self, trumps: bool, suit: Suit, mine: u64, theirs: u64, order: &mut Order) {
         let left = ranks(self.left, suit);
         let partner = ranks(self.partner, suit);
         let right = ranks(self.right, suit);
@@ -104,22 +112,11 @@ impl Weights {
             };
             let wins = partners.max(own + run.height()) > most;
             let place = self.place_from_top(suit, run);
-            order.push(run.number(suit), self.lead(run, place, base, &suited, wins));
+            order.push(
+                run.number(suit),
+                lead(trumps, run, place, base, &suited, wins),
+            );
             rest &= !run.ranks;
-        }
-    }
-
-    /// Of a lead.
-    fn lead(&self, run: Run, place: u16, base: u16, suited: &Suited, wins: bool) -> u16
-        requires place { place ≤ 65 }
-        requires least { 200 ≤ base }
-        requires most { base ≤ 2000 }
-    {
-        match (self.trump.is_some(), wins) {
-            (false, true) => winning_lead(base, place, suited),
-            (false, false) => losing_lead(base, run, place, suited),
-            (true, true) => winning_lead_at_trumps(base, run, place, suited),
-            (true, false) => losing_lead_at_trumps(base, run, place, suited),
         }
     }
 
@@ -170,6 +167,20 @@ impl Weights {
             weight += 19;
         }
         weight
+    }
+}
+
+/// Of a lead, with trumps or without.
+fn lead(trumps: bool, run: Run, place: u16, base: u16, suited: &Suited, wins: bool) -> u16
+    requires place { place ≤ 65 }
+    requires least { 200 ≤ base }
+    requires most { base ≤ 2000 }
+{
+    match (trumps, wins) {
+        (false, true) => winning_lead(base, place, suited),
+        (false, false) => losing_lead(base, run, place, suited),
+        (true, true) => winning_lead_at_trumps(base, run, place, suited),
+        (true, false) => losing_lead_at_trumps(base, run, place, suited),
     }
 }
 
