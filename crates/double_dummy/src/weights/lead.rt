@@ -122,6 +122,7 @@ impl Weights {
 
     /// What a suit is worth as a lead: the more, the fewer cards the opponents have. One who has none counts as if all
     /// his cards were of it, since he may ruff.
+    #[inline(always)]
     fn suit_weight(&self, suit: Suit, suited: &Suited) -> u16
         ensures least { 200 ≤ result }
         ensures most { result ≤ 2000 }
