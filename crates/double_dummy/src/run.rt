@@ -88,7 +88,7 @@ fn unparted(cards: Hand, card: Card, parting: Hand) -> Hand
         ¬ IsBetween card other between }
 {
     let suited = cards.of_suit(card.suit);
-    let (low, high) = ends(suited, card, parting.of_suit(card.suit));
+    let (low, high) = ends(suited, card, parting);
     common(suited, stretch(low, card, high, parting))
 }
 
