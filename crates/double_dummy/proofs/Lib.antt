@@ -1,5 +1,6 @@
 pub mod BoundLemmas
 pub mod ClaimLemmas
+pub mod LastTrickLemmas
 pub mod PlayedLemmas
 pub mod RunLemmas
 pub mod SearchLemmas

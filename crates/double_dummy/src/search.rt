@@ -1,11 +1,11 @@
 ghost use Rattle.table_terms.specs.Place.{side_of};
-ghost use Rattle.cards.specs.Play.{after, legal, point, to_play};
+ghost use Rattle.cards.specs.Play.{after, legal, point, to_play, trick_for};
 ghost use Rattle.double_dummy_laws.specs.Found.{wanted_answer};
 ghost use Rattle.cards.specs.Play.{cards_left};
 ghost use Rattle.position_patterns.specs.Remainder.{IsLeftOf};
 ghost use Rattle.double_dummy_laws.specs.Found.{Claims, IsFound, IsOwned, IsTight};
 ghost use Rattle.double_dummy_laws.specs.Renaming.{Ownership, knowing};
-ghost use Rattle.std.specs.Prelude.{◌≡◌, ◌<◌, ◌≤◌, [], true, IfOk, OnErr};
+ghost use Rattle.std.specs.Prelude.{◌≡◌, ◌+◌, ◌*◌, ◌<◌, ◌≤◌, [], length, true, IfOk, IfSome, OnErr};
 ghost use Rattle.std.specs.FinSet as set;
 ghost use Rattle.cards.specs.declared.card.Card.{Card};
 
@@ -90,11 +90,7 @@ fn at_start(
             known: Hand::new(),
         });
     }
-    // the last trick is played sooner than it is remembered
-    if tricks_left <= 1 {
-        return explore(position, target, patterns, memory, budget);
-    }
-    if let Some(found) = sure_tricks(position, target, tricks_left) {
+    if let Some(found) = at_once(position, target, tricks_left) {
         // a visit too: the number of a deal takes two answers at least, so that none is found with one visit
         let Ok(()) = budget.visit() else {
             return Err(BudgetSpent);
@@ -205,6 +201,44 @@ fn forced(
     })
 }
 
+/// The same, where no card has to be tried.
+fn at_once(position: &Position, target: u8, tricks_left: u8) -> Option<Finding>
+    requires start { position.now.table ≡ [] }
+    requires left { 4 * tricks_left ≡ cards_left position.now + length position.now.table }
+    requires target { 0 < target }
+    requires some { target ≤ tricks_left }
+    ensures { IfSome result (λ found. IsFound position.now target found.known found.holds) }
+{
+    // the last trick is played sooner than it is counted or remembered
+    if tricks_left <= 1 {
+        return last_trick(position, target);
+    }
+    sure_tricks(position, target, tricks_left)
+}
+
+/// The same, of the last trick: each player has one card, so that nothing more than who wins it is looked at.
+fn last_trick(position: &Position, target: u8) -> Option<Finding>
+    requires target { 0 < target }
+    requires start { position.now.table ≡ [] }
+    requires few { cards_left position.now ≤ 4 }
+    ensures { IfSome result (λ found. IsFound position.now target found.known found.holds) }
+{
+    let leader = position.leader();
+    let second = leader.left();
+    let third = second.left();
+    let fourth = third.left();
+    let a = run::only(position.hand(leader))?;
+    let b = run::only(position.hand(second))?;
+    let c = run::only(position.hand(third))?;
+    let d = run::only(position.hand(fourth))?;
+    let winner = cards::winner(position.strain(), leader, a, b, c, d);
+    let rest = target - trick_for(winner.side());
+    Some(Finding {
+        holds: rest == 0,
+        known: trick::decisive_of(leader, winner, a, b, c, d),
+    })
+}
+
 /// 1 where the card that was played to a position completed a trick that North and South won, else 0: its winner is
 /// next to lead.
 fn point(position: &Position, next: &Position) -> u8
@@ -214,7 +248,15 @@ fn point(position: &Position, next: &Position) -> u8
     let Trick::Three(_, _, _) = position.trick() else {
         return 0;
     };
-    match next.leader().side() {
+    trick_for(next.leader().side())
+}
+
+/// A trick that a side took, counted for North and South.
+fn trick_for(side: Side) -> u8
+    ensures trick { result ≡ trick_for side }
+    ensures small { result ≤ 1 }
+{
+    match side {
         Side::NorthSouth => 1,
         Side::EastWest => 0,
     }

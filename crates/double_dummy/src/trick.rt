@@ -36,7 +36,7 @@ fn decisive_of_fourth(position: &Position, card: Card, next: &Position) -> Hand
 }
 
 /// The winning card of a trick, by who won it, where another card of its suit fell.
-fn decisive_of(leader: Place, winner: Place, a: Card, b: Card, c: Card, d: Card) -> Hand
+pub fn decisive_of(leader: Place, winner: Place, a: Card, b: Card, c: Card, d: Card) -> Hand
     ensures { (ownership : Ownership) (strain : Strain) → winner ≡ won_by strain leader a b c d →
         IsTrickKnown (knowing ownership result) strain a b c d }
 {
