@@ -27,6 +27,7 @@ CHECKS = (
     ("tests/session_doctor.py", "--check"),
     ("tests/model_runs.py",),
     ("tests/links.py",),
+    ("tests/document_sizes.py",),
 )
 NODE = 20
 # named one by one, since versions of Node.js differ in how they read a folder
