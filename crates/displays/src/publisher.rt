@@ -93,6 +93,21 @@ impl<N: Server> Publisher<N> {
         }
     }
 
+    /// What is still to be published. It may follow what is published.
+    pub fn pending(&self) -> &[Entry]
+        ensures entries { result.now ≡ self.now.pending }
+        ensures accepted { IsAccepted N.opening (entries_of self.now.published ++ self.now.pending) }
+    {
+        &self.pending
+    }
+
+    /// Drops what is pending: no display ever sees it.
+    pub fn drop_pending(&mut self)
+        ensures { self.new ≡ record self.old { pending = [] } }
+    {
+        self.pending.clear();
+    }
+
     /// Shows what is pending, at one exchange of the copies. It waits for those that still read the other copy.
     pub fn publish<R: Wait>(&mut self, rt: &R) -> Receipt<N>
         requires { 0 < length self.old.pending }

@@ -1,5 +1,10 @@
 -- A journal of one entry more.
 use Rattle.std.proofs.Common.{
+  zero,
+  suc,
+  take,
+  get_or,
+  append-nil,
   ◌≡◌,
   ℕ,
   ◌≤◌,
@@ -75,3 +80,16 @@ follow_length opening before (entry ∷ entries) follow few =
 pub accepted_length : (opening : SessionState) (journal : List Entry) → IsAccepted opening journal →
     length journal ≤ most_entries
 accepted_length opening journal accepted = follow_length opening [] journal accepted (omega arith)
+
+follow_at : (opening : SessionState) (before entries : List Entry) (k : ℕ) (d : Entry) → k < length entries → Follow opening before entries →
+    MayFollow opening (before ++ take k entries) (get_or entries k d)
+follow_at opening before [] k d low follow = absurd (omega (arith, low))
+follow_at opening before (entry ∷ entries) zero d low follow = subst (λ journal. MayFollow opening journal entry) (sym (append-nil before)) follow.0
+follow_at opening before (entry ∷ entries) (suc k) d low follow =
+    subst (λ journal. MayFollow opening journal (get_or entries k d)) (append_assoc before (entry ∷ []) (take k entries))
+    (follow_at opening (before ++ entry ∷ []) entries k d (omega (arith, low)) follow.1)
+
+-- each entry of an accepted journal may follow those before it
+pub accepted_at : (opening : SessionState) (journal : List Entry) (k : ℕ) (d : Entry) → k < length journal → IsAccepted opening journal →
+    MayFollow opening (take k journal) (get_or journal k d)
+accepted_at opening journal k d low accepted = follow_at opening [] journal k d low accepted

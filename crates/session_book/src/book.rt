@@ -1,4 +1,4 @@
-ghost use Rattle.std.specs.Prelude.{◌≡◌, ℕ, ◌+◌, ◌-◌, ◌≤◌, ◌<◌, ◌⊎◌, ◌||◌, Bool, false, List, [], ◌∷◌, ◌++◌, None, Some, length, slice_get, slice_index_or, map, Contains, IfOk, IfErr, OnOk, OnErr, IfSome, IfNone, IsTrue, ◌↔◌, true};
+ghost use Rattle.std.specs.Prelude.{◌≡◌, ℕ, ◌+◌, ◌-◌, ◌≤◌, ◌<◌, ◌⊎◌, ◌||◌, Bool, false, List, [], ◌∷◌, ◌++◌, None, Some, take, length, slice_get, slice_index_or, map, Contains, IfOk, IfErr, OnOk, OnErr, IfSome, IfNone, IsTrue, ◌↔◌, true};
 ghost use Rattle.std.specs.Option.{option_copied};
 ghost use Rattle.movement.specs.Movement.{IsCell, boards_of, most_boards};
 ghost use Rattle.disclosure_rules.specs.Seating.{is_seated_at};
@@ -114,6 +114,35 @@ impl Book {
             exposure,
             alloc,
         })
+    }
+
+    /// Goes back to the book as it was at an earlier version. Where memory is refused, it stays as it is.
+    pub fn take_back(&mut self, version: usize) -> Result<(), AllocError>
+        requires { version ≤ length self.old.journal }
+        ensures opening { self.new.opening ≡ self.old.opening }
+        ensures ok { OnOk result (self.new.journal ≡ take version self.old.journal) }
+        ensures err { OnErr result (self.new.journal ≡ self.old.journal) }
+    {
+        let again = self.replayed(version)?;
+        *self = again;
+        Ok(())
+    }
+
+    // The book that the first entries of the journal lead to.
+    fn replayed(&self, version: usize) -> Result<Book, AllocError>
+        requires { version ≤ length self.now.journal }
+        ensures opening { IfOk result (λ book. book.opening ≡ self.now.opening) }
+        ensures journal { IfOk result (λ book. book.journal ≡ take version self.now.journal) }
+    {
+        let opening = self.opening.copy(self.alloc)?;
+        let mut book = Book::at_opening(self.alloc, opening)?;
+        'entries: for place in 0..version {
+            if book.journal.reserve(1).is_err() {
+                return Err(AllocError);
+            }
+            book.commit(self.journal[place]);
+        }
+        Ok(book)
     }
 
     /// The edition of the policy that the session is of.
