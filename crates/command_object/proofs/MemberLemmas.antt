@@ -94,7 +94,7 @@ use Rattle.command_object.proofs.LetterLemmas.{suit_reads, rank_reads}
 
 -- ---- outcomes
 
-doubled_agrees : Agrees doubled
+pub doubled_agrees : Agrees doubled
 doubled_agrees = record {
   read = λ o x h. let found = means_read doubling_numbered o x h in found.1 ∙ ap Some (doubling_is found.0 x found.2);
   reads = λ o x is. means_reads doubling_numbered o (times_doubled x) x is (doubling_small x) (doubling_back x);
@@ -114,7 +114,7 @@ level_back n least most =
     ap (λ b. cond (b && nat_le n 7) (Some n) None) (most_is 1 n least)
     ∙ ap (λ b. cond b (Some n) None) (most_is n 7 most)
 
-level_agrees : Agrees level
+pub level_agrees : Agrees level
 level_agrees = record {
   read = λ o n h.
       let found = means_read level_numbered o n h in

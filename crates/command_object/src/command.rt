@@ -10,7 +10,7 @@ ghost use Rattle.session_roles.specs.declared.edition.Edition.TheVariants.{First
 ghost use Rattle.command_object.specs.Command.{added_commands, commands, north_south, east_west, reason, role_called, role, senior, junior, is_unknown, has_unknown, command_called, command_of, commands_in};
 
 use crate::commands::Commands;
-use crate::play::play_of;
+use crate::play::read_play;
 use crate::result::result_of;
 use json_fields::{
     RequestFault, has_only, is_one_of, name_at, read_board, read_digest, read_pair, read_place,
@@ -148,7 +148,7 @@ fn enter_of(alloc: Global, value: &Value) -> Result<Command, RequestFault>
     let Some(outcome) = result_of(value) else {
         return Err(RequestFault::BadField);
     };
-    let play = play_of(alloc, value)?;
+    let play = read_play(alloc, value)?;
     Ok(Command::Enter {
         cell: Cell { table, board },
         outcome,
@@ -186,7 +186,7 @@ fn correct_of(alloc: Global, value: &Value) -> Result<Command, RequestFault>
     let Some(outcome) = result_of(value) else {
         return Err(RequestFault::BadField);
     };
-    let play = play_of(alloc, value)?;
+    let play = read_play(alloc, value)?;
     Ok(Command::Correct {
         cell: Cell { table, board },
         outcome,
@@ -450,8 +450,9 @@ fn second_command(word: &str, value: &Value) -> Option<Command>
     }
 }
 
+/// The command that a value is, as an edition has them.
 #[tactic(auto, unfolding(crate::specs::Command::command_of))]
-fn command_of(alloc: Global, value: &Value, edition: Edition) -> Result<Command, RequestFault>
+pub fn command_of(alloc: Global, value: &Value, edition: Edition) -> Result<Command, RequestFault>
     ensures { Gives result (wanted (command_of edition (view value.now))) }
 {
     match text_at(value, "cmd") {

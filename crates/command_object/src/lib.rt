@@ -6,5 +6,7 @@ mod commands;
 mod play;
 mod result;
 
-pub use command::{commands_in, has_unknown};
+pub use command::{command_of, commands_in, has_unknown};
 pub use commands::Commands;
+pub use play::read_play;
+pub use result::{doubling_of, level_of};

@@ -54,8 +54,9 @@ fn play_in(alloc: Global, list: &[Value]) -> Result<Play, RequestFault>
     Play::new(cards.as_slice()).ok_or(RequestFault::BadField)
 }
 
+/// The cards of a board, by the member `play`: none where nothing stands there.
 #[tactic(auto, unfolding(crate::specs::Play::play_by))]
-pub(crate) fn play_of(alloc: Global, value: &Value) -> Result<Play, RequestFault>
+pub fn read_play(alloc: Global, value: &Value) -> Result<Play, RequestFault>
     ensures { Gives result (wanted (play.value (get play.name (view value.now)))) }
 {
     let Some(member) = value.get("play") else {

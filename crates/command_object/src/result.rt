@@ -10,13 +10,15 @@ use json_fields::{doubling_numbered, has_only, read_declarer, read_strain, small
 use scoring::{Contract, Doubling, Level, Outcome, Tricks};
 use serde_json::Value;
 
-fn doubling_of(value: &Value) -> Option<Doubling>
+/// How often a contract was doubled, by the member `doubled`.
+pub fn doubling_of(value: &Value) -> Option<Doubling>
     ensures { result ≡ doubled.value (get doubled.name (view value.now)) }
 {
     doubling_numbered(small_number_at(value, "doubled")?)
 }
 
-fn level_of(value: &Value) -> Option<Level>
+/// The level of a contract, by the member `level`.
+pub fn level_of(value: &Value) -> Option<Level>
     ensures { result ≡ level.value (get level.name (view value.now)) }
 {
     Level::new(small_number_at(value, "level")?)

@@ -1,0 +1,3 @@
+pub mod DepthLemmas
+pub mod TellingLemmas
+pub mod WrittenLemmas

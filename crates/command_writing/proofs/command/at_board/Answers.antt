@@ -1,0 +1,6 @@
+use Rattle.std.proofs.Common.{refl}
+use Rattle.command_writing.proofs.command.at_board.Goals as goal
+
+pub returns-clause-value : goal.returns-clause-value
+returns-clause-value c =
+    c.object.ensures _ (c.member.ensures _ _ (c.number.ensures _ _ c.new.ensures refl) c.try_from_str.ensures)

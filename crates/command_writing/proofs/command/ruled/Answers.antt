@@ -1,0 +1,11 @@
+use Rattle.std.proofs.Common.{refl}
+use Rattle.command_writing.proofs.command.ruled.Goals as goal
+
+pub returns-clause-value : goal.returns-clause-value
+returns-clause-value c =
+    c.object.ensures _
+    (c.number-5.ensures _ _
+    (c.number-4.ensures _ _
+    (c.number-3.ensures _ _
+    (c.number-2.ensures _ _
+    (c.member.ensures _ _ (c.number.ensures _ _ c.new.ensures refl) c.try_from_str.ensures) refl) refl) refl) refl)

@@ -1,0 +1,5 @@
+pub mod NumberData
+pub mod ResultData
+pub mod FoundData
+pub mod CommandData
+pub mod Writable
