@@ -1,0 +1,185 @@
+-- What the texts of an entry tell, by what is read of them.
+use Rattle.std.proofs.Common.{◌≡◌, ◌<◌, ℕ, List, false, Option, Some, None, Result, Ok, Err, refl, sym, ap, subst, ◌∙◌}
+use Rattle.std.proofs.lemmas.Option.{same_Some}
+use Rattle.serde_json.specs.Data.{Data}
+use Rattle.serde_json.specs.Find.{get}
+use Rattle.cards.specs.declared.card.Card.{Card}
+use Rattle.cards.specs.declared.deal_reading.DealTextError.{DealTextError}
+use Rattle.cards.specs.Hands.{Hands, IsDeal}
+use Rattle.cards.specs.HandText.{deal_text}
+use Rattle.cards.specs.HandReading.{ReadsDeal}
+use Rattle.cards.proofs.ReadBackLemmas.{deal_back}
+use Rattle.movement.specs.declared.cell.Cell.{Cell}
+use Rattle.solver_results.specs.PlayAnswer.{PlayedDeal}
+use Rattle.session_commands.specs.declared.actor.Actor.{Actor}
+use Rattle.session_commands.specs.declared.actor.Actor.TheVariants.{User, Solver}
+use Rattle.session_commands.specs.declared.command.Command.{Command}
+use Rattle.session_commands.specs.declared.command.Command.TheVariants as command
+use Rattle.session_commands.specs.declared.entry.Entry.{Entry}
+use Rattle.session_commands.specs.Command.{is_solvers}
+use Rattle.json_fields.specs.Reading.{wanted, Fails}
+use Rattle.json_fields.specs.declared.request_fault.RequestFault.{RequestFault}
+use Rattle.json_fields.specs.declared.request_fault.RequestFault.TheVariants as request
+use Rattle.session_roles.specs.declared.edition.Edition.TheVariants.{Second}
+use Rattle.command_object.specs.Command.{command_of}
+use Rattle.command_object.specs.Play.{play}
+use Rattle.command_object.proofs.MemberLemmas.{play_agrees}
+use Rattle.command_writing.specs.ResultData.{written_play}
+use Rattle.command_writing.specs.CommandData.{command_data, solved_data, analysed_data}
+use Rattle.command_writing.specs.Writable.{IsWritablePlay, IsWritable}
+use Rattle.command_writing.proofs.WrittenLemmas.{play_is, read_back}
+use Rattle.entry_texts.specs.declared.kept_entry.KeptEntry.{KeptEntry}
+use Rattle.entry_texts.specs.declared.kept_entry.KeptEntry.TheVariants.{Given, Solved, Analysed}
+use Rattle.entry_texts.specs.declared.text_fault.TextFault.{TextFault}
+use Rattle.entry_texts.specs.declared.text_fault.TextFault.TheVariants.{OutOfMemory}
+use Rattle.entry_texts.specs.EntryTexts.{IsKeepable}
+use Rattle.entry_texts.specs.Kept.{IsReadable, TellsEntry, kept_command, kept_of, fault_of}
+use Rattle.entry_texts.proofs.UserLemmas.{is_users}
+
+-- a command that isn't the solver's is told whole
+pub told_whole : (entry : Entry) (c : Command) → is_solvers c ≡ false → Given entry ≡ kept_command entry c
+told_whole entry (command.Enter cell outcome play) is = refl
+told_whole entry (command.Confirm cell outcome) is = refl
+told_whole entry (command.Correct cell outcome play) is = refl
+told_whole entry (command.Rule cell north_south east_west reason) is = refl
+told_whole entry (command.Void cell) is = refl
+told_whole entry (command.Hold board) is = refl
+told_whole entry (command.Release board) is = refl
+told_whole entry (command.Seat name pair place) is = refl
+told_whole entry (command.Unseat name) is = refl
+told_whole entry command.NextRound is = refl
+told_whole entry command.Close is = refl
+told_whole entry command.Finalise is = refl
+told_whole entry (command.AddUser name digest) is = refl
+told_whole entry (command.Assign name role) is = refl
+told_whole entry (command.Deassign name role) is = refl
+told_whole entry (command.AddInheritance senior junior) is = refl
+told_whole entry (command.DeleteInheritance senior junior) is = refl
+told_whole entry (command.Solved board table) is = absurd (cc)
+told_whole entry (command.Analysed cell costs) is = absurd (cc)
+told_whole entry command.Embargo is = refl
+told_whole entry command.Lift is = refl
+
+-- with the actor that was read
+with_actor : (entry : Entry) (actor : Actor) (read : Result KeptEntry TextFault) → entry.actor ≡ actor
+    → TellsEntry (record { actor = actor; command = entry.command }) read → TellsEntry entry read
+with_actor entry actor read is tells =
+    subst (λ a. TellsEntry (record { actor = a; command = entry.command }) read) (sym is) tells
+
+-- a user's entry, by its command
+pub user_told : (entry : Entry) (name : List ℕ) (d : Data) (read : Result KeptEntry TextFault) → entry.actor ≡ User name
+    → IsKeepable entry → IsReadable entry.actor entry.command → command_data entry.command ≡ d
+    → ((c : Command) → command_of Second d ≡ Some c → TellsEntry (record { actor = User name; command = c }) read)
+    → TellsEntry entry read
+user_told entry name d read is keepable readable same each =
+    let sent = subst (λ actor. IsReadable actor entry.command) is readable in
+    let told = read_back entry.command keepable.command sent in
+    with_actor entry (User name) read is (each entry.command (ap (command_of Second) (sym same) ∙ told))
+
+-- what the solver told
+found_told : (c : Command) (d : Data) (read : Result KeptEntry TextFault) → IsWritable c → IsReadable Solver c
+    → command_data c ≡ d
+    → ((board : ℕ) (deal : Hands) → board < 256 → IsDeal deal → d ≡ solved_data board deal
+    → read ≡ Ok (Solved board deal))
+    → ((cell : Cell) (played : PlayedDeal) → IsWritable (command.Analysed cell played) → d ≡ analysed_data cell played
+    → TellsEntry (record { actor = Solver; command = command.Analysed cell played }) read)
+    → TellsEntry (record { actor = Solver; command = c }) read
+found_told (command.Solved board deal) d read is readable same solved analysed =
+    subst (TellsEntry (record { actor = Solver; command = command.Solved board deal }))
+    (sym (solved board deal is.0 is.1 (sym same))) refl
+found_told (command.Analysed cell played) d read is readable same solved analysed = analysed cell played is (sym same)
+found_told (command.Enter cell outcome play) d read is readable same solved analysed = absurd readable
+found_told (command.Confirm cell outcome) d read is readable same solved analysed = absurd readable
+found_told (command.Correct cell outcome play) d read is readable same solved analysed = absurd readable
+found_told (command.Rule cell north_south east_west reason) d read is readable same solved analysed = absurd readable
+found_told (command.Void cell) d read is readable same solved analysed = absurd readable
+found_told (command.Hold board) d read is readable same solved analysed = absurd readable
+found_told (command.Release board) d read is readable same solved analysed = absurd readable
+found_told (command.Seat name pair place) d read is readable same solved analysed = absurd readable
+found_told (command.Unseat name) d read is readable same solved analysed = absurd readable
+found_told command.NextRound d read is readable same solved analysed = absurd readable
+found_told command.Close d read is readable same solved analysed = absurd readable
+found_told command.Finalise d read is readable same solved analysed = absurd readable
+found_told (command.AddUser name digest) d read is readable same solved analysed = absurd readable
+found_told (command.Assign name role) d read is readable same solved analysed = absurd readable
+found_told (command.Deassign name role) d read is readable same solved analysed = absurd readable
+found_told (command.AddInheritance senior junior) d read is readable same solved analysed = absurd readable
+found_told (command.DeleteInheritance senior junior) d read is readable same solved analysed = absurd readable
+found_told command.Embargo d read is readable same solved analysed = absurd readable
+found_told command.Lift d read is readable same solved analysed = absurd readable
+
+pub solver_told : (entry : Entry) (d : Data) (read : Result KeptEntry TextFault) → entry.actor ≡ Solver
+    → IsKeepable entry → IsReadable entry.actor entry.command → command_data entry.command ≡ d
+    → ((board : ℕ) (deal : Hands) → board < 256 → IsDeal deal → d ≡ solved_data board deal
+    → read ≡ Ok (Solved board deal))
+    → ((cell : Cell) (played : PlayedDeal) → IsWritable (command.Analysed cell played) → d ≡ analysed_data cell played
+    → TellsEntry (record { actor = Solver; command = command.Analysed cell played }) read)
+    → TellsEntry entry read
+solver_told entry d read is keepable readable same solved analysed =
+    with_actor entry Solver read is
+    (found_told entry.command d read keepable.command (subst (λ actor. IsReadable actor entry.command) is readable) same
+    solved analysed)
+
+-- ---- what was read
+
+same_Ok : {A E : Type 0} (x y : A) (one other : Result A E) → one ≡ Ok x → other ≡ Ok y → one ≡ other → x ≡ y
+same_Ok x y one other is also same = cc (is, also, same)
+
+pub deal_found : (deal other : Hands) (text : List ℕ) (read : Result Hands DealTextError) → IsDeal deal
+    → text ≡ deal_text deal → ReadsDeal text read → read ≡ Ok other → Some other ≡ Some deal
+deal_found deal other text read is same reads was =
+    ap Some (same_Ok other deal read read was (deal_back deal read is (subst (λ t. ReadsDeal t read) same reads)) refl)
+
+pub no_deal_found : (deal : Hands) (text : List ℕ) (error : DealTextError) (read : Result Hands DealTextError)
+    → IsDeal deal → text ≡ deal_text deal → ReadsDeal text read → read ≡ Err error → None ≡ Some deal
+no_deal_found deal text error read is same reads was =
+    let back = deal_back deal read is (subst (λ t. ReadsDeal t read) same reads) in absurd (cc)
+
+there : {A : Type 0} (found : Option A) (x : A) → wanted found ≡ Ok x → found ≡ Some x
+there None x same = absurd (cc)
+there (Some y) x same = ap Some (same_Ok y x (wanted (Some y)) (wanted (Some y)) refl same refl)
+
+pub given_whole : (name : List ℕ) (d : Data) (read c : Command) → wanted (command_of Second d) ≡ Ok read
+    → command_of Second d ≡ Some c
+    → Given (record { actor = User name; command = read }) ≡ kept_of (record { actor = User name; command = c })
+given_whole name d read c was same =
+    let one = same_Some read c (sym (there (command_of Second d) read was) ∙ same) in
+    ap (λ (x : Command). Given (record { actor = User name; command = x })) one
+    ∙ told_whole (record { actor = User name; command = c }) c (is_users d c same)
+
+pub given_own : (d : Data) (read : Command) → wanted (command_of Second d) ≡ Ok read → is_solvers read ≡ false
+given_own d read was = is_users d read (there (command_of Second d) read was)
+
+play_there : (cell : Cell) (played : PlayedDeal) (d : Data) → IsWritablePlay played.play → d ≡ analysed_data cell played
+    → play.value (get play.name d) ≡ Some played.play
+play_there cell played d few same =
+    ap (λ x. play.value (get play.name x)) same
+    ∙ play_agrees.reads (Some (written_play played.play)) played.play (play_is played.play few)
+
+pub analysed_told : (cell : Cell) (played : PlayedDeal) (d : Data) (cards : List Card)
+    (read : Result KeptEntry TextFault) → IsWritablePlay played.play → d ≡ analysed_data cell played
+    → wanted (play.value (get play.name d)) ≡ Ok cards → read ≡ Ok (Analysed cell played.deal played.contract cards)
+    → TellsEntry (record { actor = Solver; command = command.Analysed cell played }) read
+analysed_told cell played d cards read few same found was =
+    let one = same_Some cards played.play
+    (sym (there (play.value (get play.name d)) cards found) ∙ play_there cell played d few same) in
+    subst (TellsEntry (record { actor = Solver; command = command.Analysed cell played })) (sym was)
+    (ap (λ (x : List Card). Analysed cell played.deal played.contract x) one)
+
+-- where there is something to be read, only memory is refused
+refused : {A : Type 0} (fault : RequestFault) (x : A) → Fails fault (Ok x) → fault_of fault ≡ OutOfMemory
+refused request.TooLong x fails = absurd (cc)
+refused request.Malformed x fails = absurd (cc)
+refused request.UnknownRequest x fails = absurd (cc)
+refused request.BadField x fails = absurd (cc)
+refused request.OutOfMemory x fails = refl
+
+pub no_play_refused : (cell : Cell) (played : PlayedDeal) (d : Data) (fault : RequestFault) → IsWritablePlay played.play
+    → d ≡ analysed_data cell played → Fails fault (wanted (play.value (get play.name d)))
+    → fault_of fault ≡ OutOfMemory
+no_play_refused cell played d fault few same fails =
+    refused fault played.play (subst (λ found. Fails fault (wanted found)) (play_there cell played d few same) fails)
+
+pub no_command_refused : (d : Data) (c : Command) (fault : RequestFault) → command_of Second d ≡ Some c
+    → Fails fault (wanted (command_of Second d)) → fault_of fault ≡ OutOfMemory
+no_command_refused d c fault same fails = refused fault c (subst (λ found. Fails fault (wanted found)) same fails)

@@ -1,0 +1,2 @@
+pub mod EntryTexts
+pub mod Kept
