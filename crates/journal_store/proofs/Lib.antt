@@ -1,0 +1,6 @@
+pub mod TextLemmas
+pub mod KeptLemmas
+pub mod SelectLemmas
+pub mod CreateLemmas
+pub mod RestartLemmas
+pub mod ReadingLemmas

@@ -1,0 +1,22 @@
+use Rattle.std.proofs.Common.{◌≡◌, ◌∙◌, ap, rules}
+use Rattle.sqlite.specs.Effect.{Database}
+use Rattle.sqlite.specs.State.{HasCleanDisk, IsUnchanged}
+use Rattle.sqlite.specs.Held.{state}
+use Rattle.journal_store.specs.Tables.{journal_schema}
+use Rattle.journal_store.proofs.KeptLemmas.{reads_on}
+use Rattle.journal_store.proofs.kept.read_both.Goals as goal
+
+pub returns-in-Ok-Some-read_entries-clause-reads : goal.returns-in-Ok-Some-read_entries-clause-reads
+returns-in-Ok-Some-read_entries-clause-reads g c clean idle =
+    let a = state g.S.Store c.args.conn.now in
+    let b = state g.S.Store c.read_session.new.conn in
+    let d = state g.S.Store c.read_entries.new.conn in
+    let early : HasCleanDisk b = c.read_entries.ensures.clean clean in
+    let one : IsUnchanged a b = c.in-Ok-Some.ensures.same early c.requires.journal in
+    let has : b.now.schema ≡ journal_schema = ap (λ (d : Database). d.schema) one.0.now_is ∙ c.requires.journal in
+    let two : IsUnchanged b d = c.in-Ok-Some-read_entries.ensures.same clean has in
+    let session = c.in-Ok-Some.ensures.reads early c.requires.journal in
+    let rows = c.in-Ok-Some-read_entries.ensures.reads clean has in
+    reads_on a b d _ _ idle c.requires.journal one two
+    (λ is_open db may. g.met.S.Store.settled c.read_entries.new.conn.store db is_open may)
+    (search rules) (search rules) (search rules)

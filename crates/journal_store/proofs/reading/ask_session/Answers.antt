@@ -1,0 +1,18 @@
+use Rattle.sqlite.specs.Held.{state}
+use Rattle.journal_store.specs.Tables.{shown_session}
+use Rattle.journal_store.proofs.SelectLemmas.{session_text, asks_session, all_rows, only_read, looks}
+use Rattle.journal_store.proofs.reading.ask_session.Goals as goal
+
+pub returns-clause-reads : goal.returns-clause-reads
+returns-clause-reads g c clean has =
+    all_rows session_text 0 shown_session asks_session (state g.S.Store c.args.conn.now)
+    (state g.S.Store c.query_all.new.self) c.query_all.result has (c.query_all.ensures.ok clean)
+
+pub returns-clause-same : goal.returns-clause-same
+returns-clause-same g c clean has =
+    only_read session_text 0 shown_session asks_session (state g.S.Store c.args.conn.now)
+    (state g.S.Store c.query_all.new.self) c.query_all.result has (c.query_all.ensures.ok clean)
+
+pub returns-clause-looks : goal.returns-clause-looks
+returns-clause-looks g c = looks session_text 0 shown_session asks_session (state g.S.Store c.args.conn.now)
+    (state g.S.Store c.query_all.new.self) c.query_all.ensures.survives
