@@ -1,0 +1,4 @@
+pub mod OneJournal
+pub mod Publications
+pub mod Restart
+pub mod Runs
