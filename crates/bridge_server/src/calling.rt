@@ -1,16 +1,24 @@
 //! The program as it is called: with words, and with streams to read and to write.
 
-ghost use Rattle.std.specs.Prelude.{◌≡◌, ◌≢◌, ◌⊎◌, [], IfSome, map, string_bytes};
+ghost use Rattle.std.specs.Prelude.{◌≡◌, ◌≢◌, ◌⊎◌, ℕ, List, [], IfSome, map, string_bytes};
+ghost use Rattle.std.specs.Borrow.{Bor};
 ghost use Rattle.std.specs.Io.KnownBytes.{Consumes, Appends};
 ghost use Rattle.program.specs.declared.fault.Fault.{Fault};
 ghost use Rattle.program.specs.declared.fault.Fault.TheVariants.{Input, Output, OutOfMemory};
 ghost use Rattle.program.specs.Writes.{IsDone, EndsWith};
 ghost use Rattle.server_words.specs.Words.{AsksFor, IsMistaken};
-ghost use Rattle.server_words.specs.declared.words.Words.TheVariants.{Script, Serve};
+ghost use Rattle.server_words.specs.declared.words.Words.TheVariants.{Script, Serve, Audit, Copy};
 ghost use Rattle.server_words.specs.declared.words.Serving.{Serving};
+ghost use Rattle.server_words.specs.declared.words.JournalCopy.{JournalCopy};
 ghost use Rattle.program.specs.Status.{IsStatus, status_of};
+ghost use Rattle.script_lines.specs.Writing.{WritesPart};
+ghost use Rattle.bridge_server.specs.Audited.{TellsJournal};
+ghost use Rattle.bridge_server.specs.Said.{IsSaidOnErrors, IsToldUnkept};
 
+use crate::auditing::status_of_audit;
+use crate::copying::status_of_copy;
 use crate::serving::status_of_serving;
+use journal_store::JournalFiles;
 use program::status_of_script;
 use server_words::{Words, called_with, read_words, status_of_words};
 use std::io::{self, BufReader, Read, Write};
@@ -22,7 +30,7 @@ use std::time::Clock;
 
 /// Runs the program with these words, its name first, and answers the status with which it ends.
 pub(crate) fn run_words<
-    R: Files + Net + Clock + Wait + Threads + AllocGlobal + Sync,
+    R: Files + Net + Clock + Wait + Threads + JournalFiles + AllocGlobal + Sync,
     I: Read,
     W: Write,
     E: Write,
@@ -36,7 +44,8 @@ where
     ensures mistaken { IsMistaken (map string_bytes words.now) →
         ((result ≡ 2) ⊎ (result ≡ 4)) × Appends (W.contents writer.old) (W.contents writer.new) [] }
     ensures unwritten { result ≡ 2 → Appends (W.contents writer.old) (W.contents writer.new) [] }
-    ensures silent { result ≢ 1 → result ≢ 2 → Appends (E.contents errors.old) (E.contents errors.new) [] }
+    ensures silent { result ≢ 1 → result ≢ 2 →
+        IsSaidOnErrors (map string_bytes words.now) result (E.contents errors.old) (E.contents errors.new) }
     ensures understood { AsksFor (map string_bytes words.now) Script → result ≢ 2 }
     ensures refused { AsksFor (map string_bytes words.now) Script → result ≡ 1 →
         IfSome (I.remaining reader.old) (λ input. (fault : Fault)
@@ -54,19 +63,30 @@ where
         EndsWith OutOfMemory input (I.remaining reader.new) (W.contents writer.old) (W.contents writer.new)) }
     ensures served { (serving : Serving) → AsksFor (map string_bytes words.now) (Serve serving) →
         Appends (W.contents writer.old) (W.contents writer.new) [] }
+    ensures unkept { (serving : Serving) → AsksFor (map string_bytes words.now) (Serve serving) → result ≡ 0 →
+        IsToldUnkept serving.source (E.contents errors.old) (E.contents errors.new) }
+    ensures audited { (path : Bor (List ℕ)) → AsksFor (map string_bytes words.now) (Audit path) → result ≡ 0 →
+        (text : List ℕ) × TellsJournal text × Appends (W.contents writer.old) (W.contents writer.new) text }
+    ensures unaudited { (path : Bor (List ℕ)) → AsksFor (map string_bytes words.now) (Audit path) → result ≢ 0 →
+        Appends (W.contents writer.old) (W.contents writer.new) []
+        ⊎ ((text : List ℕ) × TellsJournal text × WritesPart (W.contents writer.old) (W.contents writer.new) text) }
+    ensures copied { (copy : JournalCopy) → AsksFor (map string_bytes words.now) (Copy copy) →
+        Appends (W.contents writer.old) (W.contents writer.new) [] }
 {
     match read_words(rt.alloc(), words) {
         Ok(Words::Script) => status_of_script(rt.alloc(), reader, writer, errors),
         Ok(Words::Serve(serving)) => status_of_serving(rt, &serving, errors),
+        Ok(Words::Audit(path)) => status_of_audit(rt, path, writer, errors),
+        Ok(Words::Copy(copy)) => status_of_copy(rt, &copy, errors),
         Err(error) => status_of_words(rt.alloc(), &error, writer, errors),
     }
 }
 
 /// Hands over the words that the program was called with, and its standard streams but the one for errors.
-pub(crate) fn run_program<R: Runtime + Net + Wait + Threads + AllocGlobal + Sync, E: Write>(
-    rt: &R,
-    errors: &mut E,
-) -> u8
+pub(crate) fn run_program<
+    R: Runtime + Net + Wait + Threads + JournalFiles + AllocGlobal + Sync,
+    E: Write,
+>(rt: &R, errors: &mut E) -> u8
 where
     R::Listener: Sync,
     R::Stream: Send,

@@ -1,11 +1,15 @@
 //! The results server's program. `bridge_server script` answers a script on standard input, line by line;
-//! `bridge_server serve` serves clients over WebSockets.
+//! `bridge_server serve` serves clients over WebSockets; `bridge_server audit` and `bridge_server copy` read a journal that no
+//! server has open.
 #![tactic(auto)]
 
+mod auditing;
 mod calling;
+mod copying;
 mod files;
 mod serving;
 mod serving_fault;
+mod session_source;
 #[cfg(test)]
 mod tests;
 

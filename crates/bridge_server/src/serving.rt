@@ -1,14 +1,25 @@
 //! Clients that are served over WebSockets.
 
-ghost use Rattle.std.specs.Prelude.{◌≡◌, ◌≢◌, [], IfOk};
+ghost use Rattle.std.specs.Prelude.{◌≡◌, ◌≢◌, ◌⊎◌, [], false, map, IfErr};
 ghost use Rattle.std.specs.Io.KnownBytes.{Appends};
+ghost use Rattle.sqlite.specs.Held.{state};
+ghost use Rattle.desks.specs.Kept.{LeavesJust};
+ghost use Rattle.kept_entries.specs.KeptRows.{lists_in};
 ghost use Rattle.program.specs.Status.{IsStatus};
+ghost use Rattle.bridge_server.specs.Kept.{KeepsJust};
+ghost use Rattle.bridge_server.specs.Said.{SaysOf, IsToldUnkept, TellsLine, is_of_a_journal, unkept_line};
 
-use crate::files::read_file;
 use crate::serving_fault::{ServingFault, status_of_serving_fault};
-use opened_session::{OpenedSession, open_session};
-use server_words::Serving;
+use crate::session_source::{kept_session_for, session_of_files};
+use entry_store::{EntryStore, NoStore};
+use journal_store::JournalFiles;
+use opened_session::OpenedSession;
+use row_journal::OpenedJournal;
+use script_lines::write_text;
+use server_words::{Serving, SessionFiles, SessionSource};
+use session_commands::Entry;
 use session_threads::{ServingError, ServingPlan, serve_book};
+use sqlite::Alter;
 use std::io::Write;
 use std::net::Net;
 use std::rt::Files;
@@ -24,49 +35,151 @@ const _: () = prove!(LONGEST_MESSAGE == MOST_MESSAGE_BYTES + 1);
 // The words may ask for as many displays as a server has at most, and for no more.
 const _: () = prove!(server_words::DISPLAYS_AT_MOST as usize == displays::MOST_DISPLAYS);
 
-/// Serves clients in a session of files, and answers the status after it, or where none could be served.
+/// Serves clients in a session, and answers the status after it, or where none could be served.
 pub(crate) fn status_of_serving<
-    R: Files + Net + Clock + Wait + Threads + AllocGlobal + Sync,
+    R: Files + Net + Clock + Wait + Threads + JournalFiles + AllocGlobal + Sync,
     E: Write,
 >(rt: &R, serving: &Serving<'_>, errors: &mut E) -> u8
 where
     R::Listener: Sync,
     R::Stream: Send,
     ensures statuses { IsStatus result }
-    ensures silent { result ≢ 1 → Appends (E.contents errors.old) (E.contents errors.new) [] }
+    ensures silent { result ≢ 1 → SaysOf serving.now.source result (E.contents errors.old) (E.contents errors.new) }
+    ensures told { result ≡ 0 → IsToldUnkept serving.now.source (E.contents errors.old) (E.contents errors.new) }
     ensures understood { result ≢ 2 }
 {
-    match serve(rt, serving) {
+    match serving.source {
+        SessionSource::Files(files) => status_of_files(rt, serving, &files, errors),
+        SessionSource::Journal(path, files) => status_of_journal(rt, serving, path, &files, errors),
+    }
+}
+
+// Serves clients in a session of files, which is kept nowhere.
+fn status_of_files<R: Files + Net + Clock + Wait + Threads + AllocGlobal + Sync, E: Write>(
+    rt: &R,
+    serving: &Serving<'_>,
+    files: &SessionFiles<'_>,
+    errors: &mut E,
+) -> u8
+where
+    R::Listener: Sync,
+    R::Stream: Send,
+    ensures statuses { IsStatus result }
+    ensures silent { result ≢ 1 → Appends (E.contents errors.old) (E.contents errors.new) []
+        ⊎ TellsLine (E.contents errors.old) (E.contents errors.new) unkept_line }
+    ensures told { result ≡ 0 → TellsLine (E.contents errors.old) (E.contents errors.new) unkept_line }
+    ensures understood { result ≢ 2 }
+{
+    match session_of_files(rt, files) {
+        Ok(session) => status_of_unkept(rt, serving, session, errors),
+        Err(fault) => status_of_serving_fault(fault, errors),
+    }
+}
+
+// TellsLine that a session is kept nowhere, and serves clients in it.
+fn status_of_unkept<R: Net + Clock + Wait + Threads + AllocGlobal + Sync, E: Write>(
+    rt: &R,
+    serving: &Serving<'_>,
+    session: OpenedSession,
+    errors: &mut E,
+) -> u8
+where
+    R::Listener: Sync,
+    R::Stream: Send,
+    requires { session.book.journal ≡ [] }
+    ensures statuses { IsStatus result }
+    ensures silent { result ≢ 1 → TellsLine (E.contents errors.old) (E.contents errors.new) unkept_line }
+    ensures understood { result ≢ 2 }
+{
+    tell_unkept(errors);
+    match serve_session(rt, serving, session, NoStore, Vec::new(rt.alloc())) {
+        Ok(_store) => 0,
+        Err(fault) => status_of_serving_fault(fault, errors),
+    }
+}
+
+// TellsLine that a session is kept nowhere. Where it can't be written, clients are served all the same.
+fn tell_unkept<E: Write>(errors: &mut E)
+    ensures { TellsLine (E.contents errors.old) (E.contents errors.new) unkept_line }
+{
+    let line = "bridge_server: without --journal nothing is kept when the server ends\n";
+    let _unwritten = write_text(errors, line.as_bytes());
+}
+
+// Serves clients in a session that a journal keeps.
+fn status_of_journal<
+    R: Files + Net + Clock + Wait + Threads + JournalFiles + AllocGlobal + Sync,
+    E: Write,
+>(rt: &R, serving: &Serving<'_>, path: &str, files: &Option<SessionFiles<'_>>, errors: &mut E) -> u8
+where
+    R::Listener: Sync,
+    R::Stream: Send,
+    ensures statuses { IsStatus result }
+    ensures silent { result ≢ 1 → result ≢ 3 → Appends (E.contents errors.old) (E.contents errors.new) [] }
+    ensures understood { result ≢ 2 }
+{
+    match serve_journal(rt, serving, path, files) {
         Ok(()) => 0,
         Err(fault) => status_of_serving_fault(fault, errors),
     }
 }
 
-// Serves clients in a session of files.
-fn serve<R: Files + Net + Clock + Wait + Threads + AllocGlobal + Sync>(
+// Serves clients in a session that a journal keeps. What the solver found is found again even where nobody is to solve.
+fn serve_journal<R: Files + Net + Clock + Wait + Threads + JournalFiles + AllocGlobal + Sync>(
     rt: &R,
     serving: &Serving<'_>,
+    path: &str,
+    files: &Option<SessionFiles<'_>>,
 ) -> Result<(), ServingFault>
 where
     R::Listener: Sync,
     R::Stream: Send,
 {
-    match session_of_files(rt, serving) {
-        Ok(session) => serve_session(rt, serving, session),
+    let workers = serving.workers.max(1) as usize;
+    match kept_session_for(rt, path, files, workers) {
+        Ok((session, journal)) => serve_kept(rt, serving, session, journal),
         Err(fault) => Err(fault),
     }
 }
 
-// Serves clients in an open session. For want of places or of threads it ends as for want of memory.
-fn serve_session<R: Net + Clock + Wait + Threads + AllocGlobal + Sync>(
+// Serves clients in a session with a journal that was read.
+fn serve_kept<R: Net + Clock + Wait + Threads + AllocGlobal + Sync, S: Alter + Drop + Send>(
     rt: &R,
     serving: &Serving<'_>,
     session: OpenedSession,
+    journal: OpenedJournal<S>,
 ) -> Result<(), ServingFault>
 where
     R::Listener: Sync,
     R::Stream: Send,
-    requires { session.book.journal ≡ [] }
+    requires opening { session.book.journal ≡ [] }
+    requires kept { KeepsJust (state S.Store journal.store.conn) (lists_in journal.publications.items) }
+{
+    let OpenedJournal {
+        store,
+        publications,
+    } = journal;
+    match serve_session(rt, serving, session, store, publications) {
+        Ok(_store) => Ok(()),
+        Err(fault) => Err(fault),
+    }
+}
+
+// Serves clients in an open session, and gives its store back. For want of places or of threads it ends as for want of
+// memory.
+fn serve_session<R: Net + Clock + Wait + Threads + AllocGlobal + Sync, K: EntryStore + Send>(
+    rt: &R,
+    serving: &Serving<'_>,
+    session: OpenedSession,
+    store: K,
+    publications: Vec<Vec<Entry>>,
+) -> Result<K, ServingFault>
+where
+    R::Listener: Sync,
+    R::Stream: Send,
+    requires journal { session.book.journal ≡ [] }
+    requires kept { LeavesJust (map (λ publication. publication.items) publications.items) (K.doubt store) (K.leaves store) }
+    ensures { IfErr result (λ fault. is_of_a_journal fault ≡ false) }
 {
     let OpenedSession { book, budget } = session;
     let plan = ServingPlan {
@@ -80,26 +193,12 @@ where
             origin: serving.origin,
         },
     };
-    match serve_book(rt, rt.alloc(), book, plan) {
-        Ok(()) => Ok(()),
+    match serve_book(rt, rt.alloc(), book, plan, store, publications) {
+        Ok(store) => Ok(store),
+        Err(ServingError::NotAccepted(number)) => Err(ServingFault::NotAccepted(number)),
         Err(ServingError::NotListening) => Err(ServingFault::NotListening),
         Err(ServingError::OutOfMemory | ServingError::NoPlace | ServingError::NoThread) => {
             Err(ServingFault::NoRoom)
         }
-    }
-}
-
-// The session that the files open: the session object's file is read first.
-fn session_of_files<R: Files + AllocGlobal>(
-    rt: &R,
-    serving: &Serving<'_>,
-) -> Result<OpenedSession, ServingFault>
-    ensures { IfOk result (λ session. session.book.journal ≡ []) }
-{
-    let session = read_file(rt, serving.session)?;
-    let deals = read_file(rt, serving.deals)?;
-    match open_session(rt.alloc(), session.as_slice(), Some(deals.as_slice())) {
-        Ok(opened) => Ok(opened),
-        Err(fault) => Err(ServingFault::Unopened(fault)),
     }
 }

@@ -3,6 +3,7 @@ mod calling;
 mod client;
 mod devices;
 mod endings;
+mod keeping;
 mod names;
 mod running;
 mod serving;

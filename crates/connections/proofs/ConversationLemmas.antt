@@ -1,5 +1,5 @@
 -- A conversation on connections is one of users with who keeps the session.
-use Rattle.std.proofs.Common.{◌≡◌, ◌⊎◌, inl, inr, ℕ, List, [], ◌∷◌, refl, sym, ap, subst, ◌∙◌}
+use Rattle.std.proofs.Common.{◌≡◌, ◌≢◌, ◌⊎◌, inl, inr, ℕ, List, [], ◌∷◌, refl, sym, ap, subst, ◌∙◌}
 use Rattle.std.specs.Prelude.{Option, Some, None, Result, Ok, Err}
 use Rattle.session_state.specs.SessionState.{SessionState}
 use Rattle.session_commands.specs.declared.entry.Entry.{Entry}
@@ -7,10 +7,19 @@ use Rattle.session_book.specs.Journal.{IsAccepted}
 use Rattle.json_fields.specs.declared.request_fault.RequestFault.{RequestFault}
 use Rattle.wire.specs.ReceiptText.{connection_fault_text}
 use Rattle.wire.specs.Request.{connection_meaning}
-use Rattle.wire.specs.declared.connection_fault.ConnectionFault.TheVariants.{NoEntry}
+use Rattle.wire.specs.declared.connection_fault.ConnectionFault.{ConnectionFault}
+use Rattle.wire.specs.declared.connection_fault.ConnectionFault.TheVariants.{
+  NotSignedIn,
+  NotKnown,
+  NoEntry,
+  NotKept,
+  Unsure,
+  OutOfMemory,
+}
 use Rattle.wire.specs.declared.request.RequestBody.{RequestBody}
 use Rattle.wire.specs.declared.request.RequestBody.TheVariants.{OfUser, Hello}
 use Rattle.wire.specs.declared.request.UserRequest.{UserRequest}
+use Rattle.wire.specs.declared.request.UserRequest.TheVariants.{Query, Batch, Audit}
 use Rattle.request_answers.specs.Answering.{IsAnsweredOnce}
 use Rattle.request_answers.specs.Conversing.{
   Turn,
@@ -22,34 +31,74 @@ use Rattle.request_answers.specs.Conversing.{
   IsConversation,
   journal_now,
 }
-use Rattle.connections.specs.Conversation.{Exchange, AreExchanged, AreStopsOf, IsExchanged, journal_then}
+use Rattle.connections.specs.Conversation.{Exchange, AreExchanged, AreStopsOf, IsExchanged, IsFaultFor, journal_then}
 use Rattle.connections.specs.Linked.{Linked}
-use Rattle.connections.specs.Serving.{ForUser, HasNoAnswer, Leaves, LeavesRequest, Serves, ServesRead}
+use Rattle.connections.specs.Serving.{ForUser, HasNoAnswer, IsUnserved, Leaves, LeavesRequest, Serves, ServesRead}
 
 -- a turn for an exchange
-record IsTurnFor (Others : List Entry → List Entry → Type 0) (no_entry : Type 0) (before : Linked) (message : List ℕ)
-    (answer : Option (List ℕ)) (after : Linked) : Type 0 where
+record IsTurnFor (Others : List Entry → List Entry → Type 0) (no_entry not_kept : Type 0) (before : Linked)
+    (message : List ℕ) (answer : Option (List ℕ)) (after : Linked) : Type 0 where
   turn : Turn
   takes : TakesTurn Others before.opening before.journal turn after.journal
   accepted : IsAccepted before.opening after.journal
   answered : (user : List ℕ) (request : UserRequest) (text : List ℕ) →
       connection_meaning before.opening.public.edition message ≡ Ok (OfUser request) →
       before.user ≡ Some user → answer ≡ Some text →
-      (turn ≡ Answered user request text) ⊎ (no_entry × (text ≡ connection_fault_text NoEntry))
+      (turn ≡ Answered user request text) ⊎ ((turn ≡ Passed) × IsFaultFor no_entry not_kept request text)
 
-module _ (Others : List Entry → List Entry → Type 0) (no_entry : Type 0) (before after : Linked) (message : List ℕ)
-    (accepted : IsAccepted before.opening before.journal) where
+-- the text of a fault for which a request has no answer
+fault_for : (Others : List Entry → List Entry → Type 0) (no_entry not_kept : Type 0) (before after : Linked)
+    (user : List ℕ) (request : UserRequest) (text : List ℕ) (fault : ConnectionFault) →
+    IsUnserved Others no_entry not_kept before after user request fault → fault ≢ OutOfMemory →
+    text ≡ connection_fault_text fault → IsFaultFor no_entry not_kept request text
+fault_for Others no_entry not_kept before after user request text NotSignedIn why has_text says = absurd why
+fault_for Others no_entry not_kept before after user request text NotKnown why has_text says = absurd why
+fault_for Others no_entry not_kept before after user (Query query since) text NoEntry why has_text says =
+    (why.1, says)
+fault_for Others no_entry not_kept before after user (Batch commands) text NoEntry why has_text says = absurd why.0
+fault_for Others no_entry not_kept before after user (Audit range) text NoEntry why has_text says = absurd why.0
+fault_for Others no_entry not_kept before after user (Query query since) text NotKept why has_text says = absurd why.0
+fault_for Others no_entry not_kept before after user (Batch commands) text NotKept why has_text says =
+    (why.1, inl says)
+fault_for Others no_entry not_kept before after user (Audit range) text NotKept why has_text says = absurd why.0
+fault_for Others no_entry not_kept before after user (Query query since) text Unsure why has_text says = absurd why.0
+fault_for Others no_entry not_kept before after user (Batch commands) text Unsure why has_text says =
+    (why.1, inr says)
+fault_for Others no_entry not_kept before after user (Audit range) text Unsure why has_text says = absurd why.0
+fault_for Others no_entry not_kept before after user request text OutOfMemory why has_text says =
+    absurd (has_text refl)
+
+-- nothing came of a request for which the text of a fault is told
+fault_passes : (Others : List Entry → List Entry → Type 0) (no_entry not_kept : Type 0) (before after : Linked)
+    (user : List ℕ) (request : UserRequest) (fault : ConnectionFault) →
+    IsUnserved Others no_entry not_kept before after user request fault → fault ≢ OutOfMemory →
+    TakesTurn Others before.opening before.journal Passed after.journal
+fault_passes Others no_entry not_kept before after user request NotSignedIn why has_text = absurd why
+fault_passes Others no_entry not_kept before after user request NotKnown why has_text = absurd why
+fault_passes Others no_entry not_kept before after user request NoEntry why has_text = inl why.2
+fault_passes Others no_entry not_kept before after user request NotKept why has_text = inr why.2
+fault_passes Others no_entry not_kept before after user request Unsure why has_text = inr why.2
+fault_passes Others no_entry not_kept before after user request OutOfMemory why has_text = absurd (has_text refl)
+
+module _ (Others : List Entry → List Entry → Type 0) (no_entry not_kept : Type 0) (before after : Linked)
+    (message : List ℕ) (accepted : IsAccepted before.opening before.journal) where
   -- where the journal stays as it is, it is accepted as before
   stays_accepted : after.journal ≡ before.journal → IsAccepted before.opening after.journal
   stays_accepted same = subst (IsAccepted before.opening) (sym same) accepted
 
   -- a text for what was read
   module _ (text : List ℕ) where
+    same_fault : {request : UserRequest} (asked : UserRequest) (said : List ℕ) → request ≡ asked → text ≡ said →
+        IsFaultFor no_entry not_kept request text → IsFaultFor no_entry not_kept asked said
+    same_fault asked said is_request is_text fault =
+        subst (λ t. IsFaultFor no_entry not_kept asked t) is_text
+        (subst (λ r. IsFaultFor no_entry not_kept r text) is_request fault)
+
     at_user : (request : UserRequest) → connection_meaning before.opening.public.edition message ≡ Ok
         (OfUser request) →
         (signed_in : Option (List ℕ)) →
-        before.user ≡ signed_in → ForUser Others no_entry before after request text signed_in →
-        IsTurnFor Others no_entry before message (Some text) after
+        before.user ≡ signed_in → ForUser Others no_entry not_kept before after request text signed_in →
+        IsTurnFor Others no_entry not_kept before message (Some text) after
     at_user request means None nobody (told, same) = record {
       turn = Passed;
       takes = inl (ap (λ (l : Linked). l.journal) same);
@@ -63,16 +112,21 @@ module _ (Others : List Entry → List Entry → Type 0) (no_entry : Type 0) (be
       accepted = subst (λ opening. IsAccepted opening after.journal) stays.later.same now_accepted;
       answered = λ user asked said also is_user is_text. inl (cc);
     }
-    at_user request means (Some name) is_name (inr (unserved, is_fault), stays, now_accepted) = record {
-      turn = Passed;
-      takes = inl unserved.2;
-      accepted = subst (λ opening. IsAccepted opening after.journal) stays.later.same now_accepted;
-      answered = λ user asked said also is_user is_text. inr (unserved.1, cc);
-    }
+    at_user request means (Some name) is_name (inr told, stays, now_accepted) =
+        let is_fault : IsFaultFor no_entry not_kept request text = fault_for Others no_entry not_kept before after name
+        request text told.fault told.why told.has_text told.says in
+        record {
+          turn = Passed;
+          takes = fault_passes Others no_entry not_kept before after name request told.fault told.why told.has_text;
+          accepted = subst (λ opening. IsAccepted opening after.journal) stays.later.same now_accepted;
+          answered = λ user asked said also is_user is_text.
+              inr (refl, same_fault asked said (cc) (cc) is_fault);
+        }
 
     at_read : (read : Result RequestBody RequestFault) →
         connection_meaning before.opening.public.edition message ≡ read →
-        ServesRead Others no_entry before after text read → IsTurnFor Others no_entry before message (Some text) after
+        ServesRead Others no_entry not_kept before after text read →
+        IsTurnFor Others no_entry not_kept before message (Some text) after
     at_read (Ok (OfUser request)) means serves = at_user request means before.user refl serves
     at_read (Ok (Hello name token)) means greets = record {
       turn = Passed;
@@ -88,7 +142,7 @@ module _ (Others : List Entry → List Entry → Type 0) (no_entry : Type 0) (be
     }
 
   -- no text, since memory was refused
-  passes : after.journal ≡ before.journal → IsTurnFor Others no_entry before message None after
+  passes : after.journal ≡ before.journal → IsTurnFor Others no_entry not_kept before message None after
   passes same = record {
     turn = Passed;
     takes = inl same;
@@ -99,7 +153,7 @@ module _ (Others : List Entry → List Entry → Type 0) (no_entry : Type 0) (be
   module _ (same_opening : after.opening ≡ before.opening) where
     left_by : (request : UserRequest) → (signed_in : Option (List ℕ)) → LeavesRequest Others before after request
         signed_in →
-        IsTurnFor Others no_entry before message None after
+        IsTurnFor Others no_entry not_kept before message None after
     left_by request None same = passes same
     left_by request (Some name) (inl same) = passes same
     left_by request (Some name) (inr (inl others, now_accepted)) = record {
@@ -120,7 +174,7 @@ module _ (Others : List Entry → List Entry → Type 0) (no_entry : Type 0) (be
     }
 
     left : (read : Result RequestBody RequestFault) → Leaves Others before after read →
-        IsTurnFor Others no_entry before message None after
+        IsTurnFor Others no_entry not_kept before message None after
     left (Ok (OfUser request)) leaves = left_by request before.user leaves
     left (Ok (Hello name token)) (inl same) = passes same
     left (Ok (Hello name token)) (inr (others, now_accepted)) = record {
@@ -131,38 +185,38 @@ module _ (Others : List Entry → List Entry → Type 0) (no_entry : Type 0) (be
     }
     left (Err fault) same = passes same
 
-  turn_for : (answer : Option (List ℕ)) → IsExchanged Others no_entry before message answer after →
-      IsTurnFor Others no_entry before message answer after
+  turn_for : (answer : Option (List ℕ)) → IsExchanged Others no_entry not_kept before message answer after →
+      IsTurnFor Others no_entry not_kept before message answer after
   unfolding Serves HasNoAnswer
   turn_for (Some text) serves = at_read text (connection_meaning before.opening.public.edition message) refl serves
   turn_for None (stays, leaves) =
       left stays.later.same (connection_meaning before.opening.public.edition message) leaves
 
 -- the stops of a conversation on connections
-record Conversed (Others : List Entry → List Entry → Type 0) (no_entry : Type 0) (opening : SessionState)
+record Conversed (Others : List Entry → List Entry → Type 0) (no_entry not_kept : Type 0) (opening : SessionState)
     (exchanges : List Exchange) : Type 0 where
   stops : List Stop
-  each : AreStopsOf no_entry exchanges stops
+  each : AreStopsOf no_entry not_kept exchanges stops
   journal : journal_now stops ≡ journal_then exchanges
   accepted : IsAccepted opening (journal_then exchanges)
   conversation : IsConversation Others opening stops
 
-pub conversed : (Others : List Entry → List Entry → Type 0) (no_entry : Type 0) (opening : SessionState)
-    (exchanges : List Exchange) → AreExchanged Others no_entry opening exchanges →
-    (stops : List Stop) × AreStopsOf no_entry exchanges stops × IsConversation Others opening stops
-conversed Others no_entry opening exchanges exchanged =
+pub conversed : (Others : List Entry → List Entry → Type 0) (no_entry not_kept : Type 0) (opening : SessionState)
+    (exchanges : List Exchange) → AreExchanged Others no_entry not_kept opening exchanges →
+    (stops : List Stop) × AreStopsOf no_entry not_kept exchanges stops × IsConversation Others opening stops
+conversed Others no_entry not_kept opening exchanges exchanged =
     let all = each_of exchanges exchanged in (all.stops, all.each, all.conversation)
   where
-    each_of : (exchanges : List Exchange) → AreExchanged Others no_entry opening exchanges →
-        Conversed Others no_entry opening exchanges
+    each_of : (exchanges : List Exchange) → AreExchanged Others no_entry not_kept opening exchanges →
+        Conversed Others no_entry not_kept opening exchanges
     each_of [] exchanged = record { stops = []; each = tt; journal = refl; accepted = tt; conversation = tt }
     each_of (exchange ∷ earlier) (same, at, exchanged, before) =
         let so_far = each_of earlier before in
         let accepted : IsAccepted exchange.before.opening exchange.before.journal =
         subst (λ o. IsAccepted o exchange.before.journal) (sym same)
         (subst (IsAccepted opening) (sym at) so_far.accepted) in
-        let found = turn_for Others no_entry exchange.before exchange.after exchange.message accepted exchange.answer
-        exchanged in
+        let found = turn_for Others no_entry not_kept exchange.before exchange.after exchange.message accepted
+        exchange.answer exchanged in
         record {
           stops = record { turn = found.turn; journal = exchange.after.journal } ∷ so_far.stops;
           each = (record { journal = refl; answered = found.answered }, so_far.each);

@@ -7,8 +7,6 @@ use Rattle.sha2.specs.Sha256.{sha256}
 use Rattle.session_commands.specs.declared.entry.Entry.{Entry}
 use Rattle.session_book.specs.Journal.{IsAccepted}
 use Rattle.published_view.specs.View.{digest_after}
-use Rattle.published_view.specs.declared.query_fault.QueryFault.{QueryFault}
-use Rattle.published_view.specs.declared.query_fault.QueryFault.TheVariants as query_fault
 use Rattle.json_fields.specs.declared.request_fault.RequestFault.{RequestFault}
 use Rattle.wire.specs.ReceiptText.{fault_text, connection_fault_text}
 use Rattle.wire.specs.Request.{connection_meaning}
@@ -17,12 +15,16 @@ use Rattle.wire.specs.declared.connection_fault.ConnectionFault.TheVariants.{
   NotSignedIn,
   NotKnown,
   NoEntry,
+  NotKept,
+  Unsure,
   OutOfMemory,
 }
 use Rattle.wire.specs.declared.request.RequestBody.{RequestBody}
 use Rattle.wire.specs.declared.request.RequestBody.TheVariants.{OfUser, Hello}
 use Rattle.wire.specs.declared.request.UserRequest.{UserRequest}
 use Rattle.request_answers.specs.Answering.{IsAnsweredOnce, IsTakenIn, IsUnanswered}
+use Rattle.request_answers.specs.declared.answer_fault.AnswerFault.{AnswerFault}
+use Rattle.request_answers.specs.declared.answer_fault.AnswerFault.TheVariants as unanswered
 use Rattle.connections.specs.Linked.{Linked, HasGoneOn, StaysOn}
 
 -- ---- signing in
@@ -40,36 +42,56 @@ hello_text name = compact_text (hello_data name)
 
 -- ---- a request of a user
 
+-- a request of a user has no answer for this reason, over the journals of a connection before and after it
+abbrev pub GoesUnanswered : (List Entry → List Entry → Type 0) → Type 0 → Type 0 → Linked → Linked → List ℕ → UserRequest
+    → AnswerFault → Type 0
+GoesUnanswered Others no_entry not_kept before after user request why =
+    IsUnanswered Others no_entry not_kept after.opening before.journal user request why after.journal
+
 -- why a request of a user is not answered on a connection; somebody is signed in
-abbrev pub IsUnserved : (List Entry → List Entry → Type 0) → Type 0 → Linked → Linked → List ℕ → UserRequest
+abbrev pub IsUnserved : (List Entry → List Entry → Type 0) → Type 0 → Type 0 → Linked → Linked → List ℕ → UserRequest
     → ConnectionFault → Type 0
-IsUnserved Others no_entry before after user request NotSignedIn = ⊥
-IsUnserved Others no_entry before after user request NotKnown = ⊥
-IsUnserved Others no_entry before after user request NoEntry =
-    IsUnanswered Others no_entry after.opening before.journal user request query_fault.NoEntry after.journal
-IsUnserved Others no_entry before after user request OutOfMemory =
-    IsUnanswered Others no_entry after.opening before.journal user request query_fault.OutOfMemory after.journal
+IsUnserved Others no_entry not_kept before after user request NotSignedIn = ⊥
+IsUnserved Others no_entry not_kept before after user request NotKnown = ⊥
+IsUnserved Others no_entry not_kept before after user request NoEntry =
+    GoesUnanswered Others no_entry not_kept before after user request unanswered.NoEntry
+IsUnserved Others no_entry not_kept before after user request NotKept =
+    GoesUnanswered Others no_entry not_kept before after user request unanswered.NotKept
+IsUnserved Others no_entry not_kept before after user request Unsure =
+    GoesUnanswered Others no_entry not_kept before after user request unanswered.Unsure
+IsUnserved Others no_entry not_kept before after user request OutOfMemory =
+    GoesUnanswered Others no_entry not_kept before after user request unanswered.OutOfMemory
 
 -- where somebody is signed in, the answer to a request of that user, or why there is none, over an accepted journal
 -- that goes on from the one before; where nobody is, that fault, and all is as before
-abbrev pub IsServed : (List Entry → List Entry → Type 0) → Type 0 → {S : Type 0} → (S → List ℕ) → Linked → Linked
-    → UserRequest → Result S ConnectionFault → Option (List ℕ) → Type 0
-IsServed Others no_entry bytes before after request served None = (served ≡ Err NotSignedIn) × (after ≡ before)
-IsServed Others no_entry bytes before after request served (Some user) =
+abbrev pub IsServed : (List Entry → List Entry → Type 0) → Type 0 → Type 0 → {S : Type 0} → (S → List ℕ) → Linked
+    → Linked → UserRequest → Result S ConnectionFault → Option (List ℕ) → Type 0
+IsServed Others no_entry not_kept bytes before after request served None =
+    (served ≡ Err NotSignedIn) × (after ≡ before)
+IsServed Others no_entry not_kept bytes before after request served (Some user) =
     IfOk served (λ text. IsAnsweredOnce Others after.opening before.journal user request (bytes text) after.journal)
-    × IfErr served (λ fault. IsUnserved Others no_entry before after user request fault)
+    × IfErr served (λ fault. IsUnserved Others no_entry not_kept before after user request fault)
     × StaysOn before after × IsAccepted after.opening after.journal
 
 -- ---- messages
 
--- the text for a request of a user: where somebody is signed in its answer, or that no version could be entered; where
--- nobody is, that fault, and all is as before
-abbrev pub ForUser : (List Entry → List Entry → Type 0) → Type 0 → Linked → Linked → UserRequest → List ℕ
+-- the text is that of a fault, for which a request of a user has no answer; want of memory has no text
+pub record TellsFault (Others : List Entry → List Entry → Type 0) (no_entry not_kept : Type 0) (before after : Linked)
+    (user : List ℕ) (request : UserRequest) (text : List ℕ) : Type 0 where
+  pub fault : ConnectionFault
+  pub why : IsUnserved Others no_entry not_kept before after user request fault
+  pub has_text : fault ≢ OutOfMemory
+  pub says : text ≡ connection_fault_text fault
+
+-- the text for a request of a user: where somebody is signed in its answer, or that no version could be entered, or that
+-- a batch isn't kept, or may not be; where nobody is, that fault, and all is as before
+abbrev pub ForUser : (List Entry → List Entry → Type 0) → Type 0 → Type 0 → Linked → Linked → UserRequest → List ℕ
     → Option (List ℕ) → Type 0
-ForUser Others no_entry before after request text None = (text ≡ connection_fault_text NotSignedIn) × (after ≡ before)
-ForUser Others no_entry before after request text (Some user) =
+ForUser Others no_entry not_kept before after request text None =
+    (text ≡ connection_fault_text NotSignedIn) × (after ≡ before)
+ForUser Others no_entry not_kept before after request text (Some user) =
     (IsAnsweredOnce Others after.opening before.journal user request text after.journal
-    ⊎ (IsUnserved Others no_entry before after user request NoEntry × (text ≡ connection_fault_text NoEntry)))
+    ⊎ TellsFault Others no_entry not_kept before after user request text)
     × StaysOn before after × IsAccepted after.opening after.journal
 
 -- what is answered to a greeting: the user is signed in, or isn't known, or no version could be entered
@@ -85,21 +107,25 @@ pub record Greets (Others : List Entry → List Entry → Type 0) (no_entry : Ty
       × (text ≡ connection_fault_text NoEntry)))
 
 -- what is answered to what a message wants
-abbrev pub ServesBody : (List Entry → List Entry → Type 0) → Type 0 → Linked → Linked → List ℕ → RequestBody → Type 0
-ServesBody Others no_entry before after text (OfUser request) =
-    ForUser Others no_entry before after request text before.user
-ServesBody Others no_entry before after text (Hello name token) = Greets Others no_entry before after name token text
+abbrev pub ServesBody : (List Entry → List Entry → Type 0) → Type 0 → Type 0 → Linked → Linked → List ℕ → RequestBody
+    → Type 0
+ServesBody Others no_entry not_kept before after text (OfUser request) =
+    ForUser Others no_entry not_kept before after request text before.user
+ServesBody Others no_entry not_kept before after text (Hello name token) =
+    Greets Others no_entry before after name token text
 
 -- what is answered to what was read, if anything was
-abbrev pub ServesRead : (List Entry → List Entry → Type 0) → Type 0 → Linked → Linked → List ℕ
+abbrev pub ServesRead : (List Entry → List Entry → Type 0) → Type 0 → Type 0 → Linked → Linked → List ℕ
     → Result RequestBody RequestFault → Type 0
-ServesRead Others no_entry before after text (Ok wanted) = ServesBody Others no_entry before after text wanted
-ServesRead Others no_entry before after text (Err fault) = (text ≡ fault_text fault) × (after ≡ before)
+ServesRead Others no_entry not_kept before after text (Ok wanted) =
+    ServesBody Others no_entry not_kept before after text wanted
+ServesRead Others no_entry not_kept before after text (Err fault) = (text ≡ fault_text fault) × (after ≡ before)
 
 -- what is answered to a message, which is read by the session's edition of the policy
-unfoldable pub Serves : (List Entry → List Entry → Type 0) → Type 0 → Linked → Linked → List ℕ → List ℕ → Type 0
-Serves Others no_entry before after message text =
-    ServesRead Others no_entry before after text (connection_meaning before.opening.public.edition message)
+unfoldable pub Serves : (List Entry → List Entry → Type 0) → Type 0 → Type 0 → Linked → Linked → List ℕ → List ℕ
+    → Type 0
+Serves Others no_entry not_kept before after message text =
+    ServesRead Others no_entry not_kept before after text (connection_meaning before.opening.public.edition message)
 
 -- ---- messages to which memory was refused
 
@@ -130,10 +156,12 @@ HasNoAnswer Others before after message =
 -- ---- for private clauses
 
 -- the fault of a connection for why a request has no answer
-abbrev pub is_fault_of : {S : Type 0} → Result S QueryFault → Result S ConnectionFault
+abbrev pub is_fault_of : {S : Type 0} → Result S AnswerFault → Result S ConnectionFault
 is_fault_of (Ok text) = Ok text
-is_fault_of (Err query_fault.NoEntry) = Err NoEntry
-is_fault_of (Err query_fault.OutOfMemory) = Err OutOfMemory
+is_fault_of (Err unanswered.NoEntry) = Err NoEntry
+is_fault_of (Err unanswered.NotKept) = Err NotKept
+is_fault_of (Err unanswered.Unsure) = Err Unsure
+is_fault_of (Err unanswered.OutOfMemory) = Err OutOfMemory
 
 -- the text that was written, or that of the fault in its place; want of memory has none
 abbrev pub IsToldOf : {S : Type 0} → (S → List ℕ) → Result S ConnectionFault → List ℕ → Type 0

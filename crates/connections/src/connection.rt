@@ -8,8 +8,7 @@ ghost use Rattle.wire.specs.declared.request.UserRequest.TheVariants as wanting;
 ghost use Rattle.connections.specs.Linked.{HasGoneOn};
 ghost use Rattle.connections.specs.Serving.{IsOwnToken, IsServed, is_fault_of};
 
-use published_view::QueryFault;
-use request_answers::{answer_query, answer_request};
+use request_answers::{AnswerFault, answer_query, answer_request};
 use session_keeper::{CommandKeeper, Keeper};
 use session_queries::Query;
 use session_roles::Edition;
@@ -100,8 +99,8 @@ impl<K: Keeper> Connection<K> {
         query: &Query,
         since: u64,
     ) -> Result<String, ConnectionFault>
-        ensures { IsServed K.others K.no_entry string_bytes self.old self.new (wanting.Query query.now since)
-            result self.old.user }
+        ensures { IsServed K.others K.no_entry K.not_kept string_bytes self.old self.new
+            (wanting.Query query.now since) result self.old.user }
     {
         match self.user {
             Some(user) => or_fault(answer_query(alloc, &mut self.keeper, user, query, since)),
@@ -110,7 +109,7 @@ impl<K: Keeper> Connection<K> {
     }
 
     /// The text that answers a request of the user who is signed in. It waits only where the keeper does. Where memory
-    /// is refused for the text of a receipt, the commands that were accepted stand.
+    /// is refused for the text of a receipt, the commands that were accepted stand; where a batch isn't kept, none does.
     pub fn serve_command<H>(
         &mut self,
         rt: &H,
@@ -120,7 +119,8 @@ impl<K: Keeper> Connection<K> {
     where
         K: CommandKeeper<H>,
         requires { HasFew request.now }
-        ensures { IsServed K.others K.no_entry string_bytes self.old self.new request.now result self.old.user }
+        ensures { IsServed K.others K.no_entry K.not_kept string_bytes self.old self.new request.now
+            result self.old.user }
     {
         match self.user {
             Some(user) => or_fault(answer_request(rt, alloc, &mut self.keeper, user, request)),
@@ -137,12 +137,14 @@ fn is_digest(digest: &TokenDigest, bytes: &[u8]) -> bool
 }
 
 // A text, or why there is none, as a connection says it.
-fn or_fault(answer: Result<String, QueryFault>) -> Result<String, ConnectionFault>
+fn or_fault(answer: Result<String, AnswerFault>) -> Result<String, ConnectionFault>
     ensures { result ≡ is_fault_of answer }
 {
     match answer {
         Ok(text) => Ok(text),
-        Err(QueryFault::NoEntry) => Err(ConnectionFault::NoEntry),
-        Err(QueryFault::OutOfMemory) => Err(ConnectionFault::OutOfMemory),
+        Err(AnswerFault::NoEntry) => Err(ConnectionFault::NoEntry),
+        Err(AnswerFault::NotKept) => Err(ConnectionFault::NotKept),
+        Err(AnswerFault::Unsure) => Err(ConnectionFault::Unsure),
+        Err(AnswerFault::OutOfMemory) => Err(ConnectionFault::OutOfMemory),
     }
 }

@@ -14,7 +14,7 @@ use session_keeper::Keeper;
 /// sent to a client.
 pub fn every_exchange<K: Keeper>()
     ensures { (opening : SessionState) (exchanges : List Exchange) →
-        OnlyAdd K.others → AreExchanged K.others K.no_entry opening exchanges →
-        (stops : List Stop) × AreStopsOf K.no_entry exchanges stops × IsConversation K.others opening stops
+        OnlyAdd K.others → AreExchanged K.others K.no_entry K.not_kept opening exchanges →
+        (stops : List Stop) × AreStopsOf K.no_entry K.not_kept exchanges stops × IsConversation K.others opening stops
         × (history : List Moment) × IsHistory opening history × IsToldBy opening stops history }
 {}

@@ -33,7 +33,7 @@ impl<K: Keeper> Connection<K> {
     where
         K: CommandKeeper<H>,
         ensures served { IfOk result (λ text.
-            Serves K.others K.no_entry self.old self.new message.now (cow_str_bytes text)) }
+            Serves K.others K.no_entry K.not_kept self.old self.new message.now (cow_str_bytes text)) }
         ensures refused { OnErr result (HasNoAnswer K.others self.old self.new message.now) }
         ensures memory { OnErr result (is_message_text message.now ≡ true) }
     {
@@ -55,7 +55,7 @@ impl<K: Keeper> Connection<K> {
         K: CommandKeeper<H>,
         requires { HasFewIn body.now }
         ensures served { IfOk result (λ text.
-            ServesBody K.others K.no_entry self.old self.new (cow_str_bytes text) body.now) }
+            ServesBody K.others K.no_entry K.not_kept self.old self.new (cow_str_bytes text) body.now) }
         ensures refused { OnErr result (StaysOn self.old self.new × LeavesBody K.others self.old self.new body.now) }
     {
         match body {
@@ -75,7 +75,7 @@ impl<K: Keeper> Connection<K> {
         K: CommandKeeper<H>,
         requires { HasFew request.now }
         ensures served { IfOk result (λ text.
-            ForUser K.others K.no_entry self.old self.new request.now (cow_str_bytes text) self.old.user) }
+            ForUser K.others K.no_entry K.not_kept self.old self.new request.now (cow_str_bytes text) self.old.user) }
         ensures refused { OnErr result
             (StaysOn self.old self.new × LeavesRequest K.others self.old self.new request.now self.old.user) }
     {

@@ -19,8 +19,10 @@ use Rattle.std.proofs.Common.{
   subst,
   ◌∙◌,
   arith,
+  take,
 }
 use Rattle.std.proofs.lemmas.Bool.Decides.{nat_tests}
+use Rattle.std.proofs.Math.Seq.{take-append_seam}
 use Rattle.session_commands.specs.declared.entry.Entry.{Entry}
 use Rattle.std.specs.Prelude.{Some, None, ◌||◌}
 use Rattle.session_state.specs.SessionState.{SessionState}
@@ -37,12 +39,48 @@ use Rattle.session_commands.specs.declared.actor.Actor.{Actor}
 use Rattle.session_book.proofs.RunLemmas.{runs_accepted, runs_refused}
 use Rattle.history.specs.Prefixes.{entries_of}
 use Rattle.displays.proofs.PublishingLemmas.{entries_of_more}
-use Rattle.desks.specs.Batch.{with_publication}
+use Rattle.displays.specs.Publishing.{Outgoing}
+use Rattle.desks.specs.Batch.{with_publication, after_showing, only_published}
 
 pub entries_of_with_publication : (bs : List (List Entry)) (more : List Entry) → entries_of (with_publication bs more) ≡
     entries_of bs ++ more
 entries_of_with_publication bs [] = sym (append-nil (entries_of bs))
 entries_of_with_publication bs (e ∷ es) = entries_of_more bs (e ∷ es)
+
+-- once what is pending is published, the entries of what is published are the journal, and nothing is pending
+pub shows_journal : (before after : Outgoing) (journal : List Entry) → after ≡ after_showing before →
+    journal ≡ entries_of before.published ++ before.pending →
+    (entries_of after.published ≡ journal) × (after.pending ≡ [])
+shows_journal before after journal line is = (
+  ap (λ (l : Outgoing). entries_of l.published) line
+      ∙ (entries_of_with_publication before.published before.pending ∙ sym is),
+  ap (λ (l : Outgoing). l.pending) line,
+)
+
+-- once it is dropped, all is as before, and so is the book that was taken back
+pub drops_pending : (old before after : Outgoing) → before.published ≡ old.published → old.pending ≡ [] →
+    after ≡ only_published before → after ≡ old
+drops_pending old before after same none is = is ∙ (λ i. record { published = same i; pending = sym none i })
+
+-- a book and a publisher of one entry more
+pub one_entered : (old appended : Outgoing) (entry : Entry) (before checked after : List Entry) →
+    entries_of old.published ≡ before → old.pending ≡ [] →
+    appended ≡ record { published = old.published; pending = old.pending ++ entry ∷ [] } → checked ≡ before →
+    after ≡ checked ++ entry ∷ [] → after ≡ entries_of appended.published ++ appended.pending
+one_entered old appended entry before checked after all none is same more =
+    more ∙ (ap (λ (l : List Entry). l ++ entry ∷ []) (same ∙ sym all)
+    ∙ (sym (ap (λ (l : List Entry). entries_of old.published ++ (l ++ entry ∷ [])) none)
+    ∙ sym (ap (λ (o : Outgoing). entries_of o.published ++ o.pending) is)))
+
+pub goes_back : (old : Outgoing) (before : Outgoing) (journal now back : List Entry) (version : ℕ) →
+    entries_of old.published ≡ journal → before.published ≡ old.published →
+    now ≡ entries_of before.published ++ before.pending → version ≡ length journal → back ≡ take version now →
+    back ≡ journal
+goes_back old before journal now back version all same is count taken =
+    let whole : now ≡ journal ++ before.pending =
+    is ∙ ap (λ (l : List Entry). l ++ before.pending) (ap (λ (l : List (List Entry)). entries_of l) same ∙ all) in
+    taken ∙ (ap (λ (n : ℕ). take n now) count ∙ (ap (λ (l : List Entry). take (length journal) l) whole
+    ∙ take-append_seam journal before.pending))
 
 -- the numbers of a publication that is not empty
 pub first_grown : (m n : ℕ) → m < n → first_number m n ≡ m + 1

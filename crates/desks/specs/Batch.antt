@@ -1,12 +1,11 @@
 -- What desks do: a batch, or a command of the solver's, is tried after some journal, and what was accepted is published
 -- as one publication.
 use Rattle.std.specs.Prelude.{◌≡◌, ℕ, Bool, List, [], ◌∷◌, ◌++◌, length, refl}
-use Rattle.std.specs.Coded.{Coded, code_by, coded×, coded_list}
+use Rattle.std.specs.Coded.{Coded, code_by, coded×}
 use Rattle.session_state.specs.SessionState.{SessionState}
 use Rattle.session_commands.specs.declared.actor.Actor.TheVariants.{Solver}
 use Rattle.session_commands.specs.declared.command.Command.{Command}
 use Rattle.session_commands.specs.declared.entry.Entry.{Entry}
-use Rattle.session_commands.specs.contracts.entry.Entry as the_entry
 use Rattle.session_book.specs.declared.answer.Answer.{Answer}
 use Rattle.session_book.specs.Run.{Runs, IsTried, first_number, last_number}
 use Rattle.history.specs.Prefixes.{entries_of}
@@ -44,18 +43,22 @@ pub record IsEntered (opening : SessionState) (before : List Entry) (command : C
   pub published : IsPublished opening receipt.published
   pub told : receipt ≡ receipt_after before receipt.published
 
--- what lies under the lock: a journal, and the publications of it
-pub record PublishedJournal : Type 0 where
-  pub journal : List Entry
+-- what lies under the lock: what is published, and the store that keeps it
+pub record KeptPublications (K : Type 0) : Type 0 where
   pub published : List (List Entry)
+  pub store : K
 
-abbrev pub published_journal_code : Coded PublishedJournal
-published_journal_code =
-    code_by (List Entry × List (List Entry)) (coded× (coded_list the_entry.the_row.coded) publications_code)
-    (λ s. (s.journal, s.published)) (λ p. record { journal = p.0; published = p.1 }) (λ _. refl)
+abbrev pub kept_publications_code : {K : Type 0} → Coded K → Coded (KeptPublications K)
+kept_publications_code {K} store =
+    code_by (List (List Entry) × K) (coded× publications_code store) (λ s. (s.published, s.store))
+    (λ p. record { published = p.0; store = p.1 }) (λ _. refl)
 
 -- ---- for private clauses
 
 -- once what is pending is published, if anything is
 abbrev pub after_showing : Outgoing → Outgoing
 after_showing outgoing = record { published = with_publication outgoing.published outgoing.pending; pending = [] }
+
+-- once what is pending is dropped
+abbrev pub only_published : Outgoing → Outgoing
+only_published outgoing = record { published = outgoing.published; pending = [] }

@@ -1,1 +1,3 @@
 pub mod Batch
+pub mod Kept
+pub mod Reentry

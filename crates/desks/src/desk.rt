@@ -1,6 +1,6 @@
 //! A desk, from which batches come.
 
-ghost use Rattle.std.specs.Prelude.{◌≡◌, ◌≤◌, ◌↔◌, List, length, IfOk, IfErr, OnOk};
+ghost use Rattle.std.specs.Prelude.{◌≡◌, ◌≢◌, ◌≤◌, ◌↔◌, List, length, IfOk, IfErr, OnOk};
 ghost use mathlib.Core.List.{IsPrefix};
 ghost use Rattle.rbac.specs.Authorization.{HasPermission, IsValid};
 ghost use Rattle.session_roles.specs.declared.operation.Operation.TheVariants.{Audit};
@@ -13,43 +13,50 @@ ghost use Rattle.session_book.specs.Run.{most_commands};
 ghost use Rattle.history.specs.Prefixes.{entries_of};
 ghost use Rattle.displays.specs.Copies.{IsPublished};
 ghost use Rattle.displays.specs.Publishing.{receipted};
+ghost use Rattle.session_keeper.specs.declared.submit_fault.SubmitFault.TheVariants.{OutOfMemory};
 ghost use Rattle.desks.specs.Batch.{IsSubmitted, IsEntered};
+ghost use Rattle.desks.specs.Kept.{IsKeptBy, LeavesJust};
 
 use crate::locked_book::LockedBook;
 use crate::work::work_of;
 use displays::{Display, Receipt, Server};
+use entry_store::EntryStore;
 use movement::Cell;
 use session_book::{Answer, AuditError, AuditRows};
 use session_commands::Command;
+use session_keeper::SubmitFault;
 use solver_pool::Work;
 use solver_results::{DdTable, PlayCosts};
-use std::alloc::AllocError;
 use std::sync::{Mutex, Wait};
 use user_names::Name;
 
 /// Puts commands into the book that it shares with other desks. Each call waits for the lock; one that publishes waits
-/// for displays that still read the older copy.
+/// for displays that still read the older copy, and one that is to be kept for its store. What is told is kept: of the
+/// store under the lock, whatever a crash leaves then is what the receipt tells.
 #[derive(Drop)]
-pub struct Desk<'a, N: Server> {
-    lock: &'a Mutex<LockedBook<N>>,
+pub struct Desk<'a, N: Server, K: EntryStore> {
+    lock: &'a Mutex<LockedBook<N, K>>,
 }
 
-impl<'a, N: Server> Desk<'a, N> {
-    pub(crate) fn over(lock: &'a Mutex<LockedBook<N>>) -> Desk<'a, N> {
+impl<'a, N: Server, K: EntryStore> Desk<'a, N, K> {
+    pub(crate) fn over(lock: &'a Mutex<LockedBook<N, K>>) -> Desk<'a, N, K> {
         Desk { lock }
     }
 
     /// Tries the commands of a user, one after another, behind all that was entered before. Where memory is refused for
-    /// the answers, none is tried.
+    /// the answers, or the store is shut, none is tried; where what was accepted isn't kept, nothing of it is entered.
     pub fn submit<R: Wait>(
         &self,
         rt: &R,
         actor: Name,
         batch: &[Command],
-    ) -> Result<(Vec<Answer>, Receipt<N>), AllocError>
+    ) -> Result<(Vec<Answer>, Receipt<N>), SubmitFault>
         requires { length batch.now ≤ most_commands }
-        ensures { IfOk result (λ t. (before : List Entry) ×
+        ensures receipt { IfOk result (λ t. (before : List Entry) ×
             IsSubmitted N.opening before actor batch.now t.0.items t.1) }
+        ensures kept { IfOk result (λ t. (store : K) ×
+            LeavesJust t.1.published (K.doubt store) (K.leaves store)) }
+        ensures fault { IfErr result (λ fault. fault ≢ OutOfMemory → K.fails) }
     {
         let mut locked = self.lock.lock(rt);
         locked.submit(rt, actor, batch)
@@ -62,11 +69,14 @@ impl<'a, N: Server> Desk<'a, N> {
         display: &Display<N>,
         actor: Name,
         batch: &[Command],
-    ) -> Result<(Vec<Answer>, Receipt<N>), AllocError>
+    ) -> Result<(Vec<Answer>, Receipt<N>), SubmitFault>
         requires { length batch.now ≤ most_commands }
         ensures published { IsPublished N.opening display.now }
         ensures receipt { IfOk result (λ t. (before : List Entry) × IsPrefix (entries_of display.now) before
             × IsSubmitted N.opening before actor batch.now t.0.items t.1) }
+        ensures kept { IfOk result (λ t. (store : K) ×
+            LeavesJust t.1.published (K.doubt store) (K.leaves store)) }
+        ensures fault { IfErr result (λ fault. fault ≢ OutOfMemory → K.fails) }
     {
         // A display sees nothing that isn't published, so the first turn does.
         for _ in rt.forever() {
@@ -85,8 +95,10 @@ impl<'a, N: Server> Desk<'a, N> {
         display: &Display<N>,
         command: &Command,
     ) -> (Answer, Receipt<N>)
-        ensures { (before : List Entry) × IsPrefix (entries_of display.now) before
+        ensures entered { (before : List Entry) × IsPrefix (entries_of display.now) before
             × IsEntered N.opening before command.now result.0 result.1 }
+        ensures kept { (store : K) × IsKeptBy N.opening result.1.published
+            (K.doubt store) (K.is_open store) (K.leaves store) }
     {
         // A display sees nothing that isn't published, so the first turn does.
         for _ in rt.forever() {
@@ -100,7 +112,10 @@ impl<'a, N: Server> Desk<'a, N> {
 
     /// Tries what the solver found of a board.
     pub fn submit_solved<R: Wait>(&self, rt: &R, board: u8, table: DdTable) -> (Answer, Receipt<N>)
-        ensures { (before : List Entry) × IsEntered N.opening before (Solved board table) result.0 result.1 }
+        ensures entered { (before : List Entry) ×
+            IsEntered N.opening before (Solved board table) result.0 result.1 }
+        ensures kept { (store : K) × IsKeptBy N.opening result.1.published
+            (K.doubt store) (K.is_open store) (K.leaves store) }
     {
         let mut locked = self.lock.lock(rt);
         locked.submit_found(rt, &Command::Solved { board, table })
@@ -113,8 +128,10 @@ impl<'a, N: Server> Desk<'a, N> {
         cell: Cell,
         costs: PlayCosts,
     ) -> (Answer, Receipt<N>)
-        ensures { (before : List Entry) ×
+        ensures entered { (before : List Entry) ×
             IsEntered N.opening before (Analysed cell costs) result.0 result.1 }
+        ensures kept { (store : K) × IsKeptBy N.opening result.1.published
+            (K.doubt store) (K.is_open store) (K.leaves store) }
     {
         let mut locked = self.lock.lock(rt);
         locked.submit_found(rt, &Command::Analysed { cell, costs })
@@ -137,6 +154,8 @@ impl<'a, N: Server> Desk<'a, N> {
         ensures valid { IsValid (replay N.opening (entries_of result.1.published)).roles }
         ensures published { IsPublished N.opening result.1.published }
         ensures receipt { result.1 ≡ receipted 0 0 result.1.published }
+        ensures kept { (store : K) × IsKeptBy N.opening result.1.published
+            (K.doubt store) (K.is_open store) (K.leaves store) }
     {
         let locked = self.lock.lock(rt);
         locked.audit(actor, from, limit)
@@ -160,6 +179,8 @@ impl<'a, N: Server> Desk<'a, N> {
         ensures valid { IsValid (replay N.opening (entries_of result.1.published)).roles }
         ensures published { IsPublished N.opening result.1.published }
         ensures receipt { result.1 ≡ receipted 0 0 result.1.published }
+        ensures kept { (store : K) × IsKeptBy N.opening result.1.published
+            (K.doubt store) (K.is_open store) (K.leaves store) }
     {
         // A display sees nothing that isn't published, so the first turn does.
         for _ in rt.forever() {

@@ -4,30 +4,31 @@ ghost use Rattle.std.specs.Prelude.{◌≡◌};
 
 use crate::desk::Desk;
 use displays::{Display, Server};
+use entry_store::EntryStore;
 use movement::Cell;
 use published_view::{NoEntry, QueryFault};
 use session_book::{Answer, Submission};
 use session_commands::Command;
-use session_keeper::{AuditReceipt, BatchReceipt, CommandKeeper, Keeper};
+use session_keeper::{AuditReceipt, BatchReceipt, CommandKeeper, Keeper, SubmitFault};
 use session_queries::{Query, Reply};
 use session_roles::Edition;
 use solver_pool::Work;
 use solver_results::{DdTable, PlayCosts};
-use std::alloc::{AllocError, Global};
+use std::alloc::Global;
 use std::sync::Wait;
 use user_names::{Digest, Name};
 
 /// Keeps a session for a connection beside others: a desk, to which its commands go, and a display, which answers its
 /// queries and learns of each receipt. It stands for what the display has seen.
 #[derive(Drop)]
-pub struct DeskKeeper<'a, N: Server> {
-    desk: Desk<'a, N>,
+pub struct DeskKeeper<'a, N: Server, K: EntryStore> {
+    desk: Desk<'a, N, K>,
     display: Display<N>,
 }
 
-impl<'a, N: Server> DeskKeeper<'a, N> {
+impl<'a, N: Server, K: EntryStore> DeskKeeper<'a, N, K> {
     /// A keeper of what the display has seen.
-    pub fn new(desk: Desk<'a, N>, display: Display<N>) -> DeskKeeper<'a, N>
+    pub fn new(desk: Desk<'a, N, K>, display: Display<N>) -> DeskKeeper<'a, N, K>
         ensures { result.display ≡ display }
     {
         DeskKeeper { desk, display }
@@ -39,7 +40,7 @@ impl<'a, N: Server> DeskKeeper<'a, N> {
     }
 }
 
-impl<'a, N: Server> Keeper for DeskKeeper<'a, N> {
+impl<'a, N: Server, K: EntryStore> Keeper for DeskKeeper<'a, N, K> {
     ghost use mathlib.Core.List.{IsPrefix};
     ghost use Rattle.history.specs.Prefixes.{entries_of};
 
@@ -50,6 +51,8 @@ impl<'a, N: Server> Keeper for DeskKeeper<'a, N> {
     ghost others = { λ before after. IsPrefix before after };
 
     ghost no_entry = { Unit {0} };
+
+    ghost not_kept = { K.fails };
 
     fn edition(&self) -> Edition {
         self.display.edition()
@@ -70,13 +73,13 @@ impl<'a, N: Server> Keeper for DeskKeeper<'a, N> {
     }
 }
 
-impl<'a, N: Server, R: Wait> CommandKeeper<R> for DeskKeeper<'a, N> {
+impl<'a, N: Server, K: EntryStore, R: Wait> CommandKeeper<R> for DeskKeeper<'a, N, K> {
     fn submit(
         &mut self,
         rt: &R,
         actor: Name,
         batch: &[Command],
-    ) -> Result<BatchReceipt, AllocError> {
+    ) -> Result<BatchReceipt, SubmitFault> {
         let (answers, receipt) = self.desk.submit_from(rt, &self.display, actor, batch)?;
         self.display.learn(&receipt);
         let submission = Submission {

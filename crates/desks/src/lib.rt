@@ -1,15 +1,19 @@
-//! Desks, from which threads put commands into one book under a lock: what a batch had accepted is published at once, as
-//! one publication, before the lock is let go. A desk and a display together keep a session for a connection.
+//! Desks, from which threads put commands into one book under a lock: what a batch had accepted is kept by a store, then
+//! published at once, as one publication, before the lock is let go. A desk and a display together keep a session for a
+//! connection.
 #![tactic(auto)]
 
+pub mod batches;
 mod desk;
 mod desk_keeper;
-pub mod laws;
 mod locked_book;
+mod reentry;
 mod shared;
 mod work;
 
 pub use desk::Desk;
 pub use desk_keeper::DeskKeeper;
 pub use locked_book::LockedBook;
+pub use reentry::{ReentryFault, reenter, reenter_all};
 pub use shared::Shared;
+pub use work::work_of;

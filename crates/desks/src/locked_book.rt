@@ -1,6 +1,6 @@
 //! What lies under the lock.
 
-ghost use Rattle.std.specs.Prelude.{◌≡◌, ◌≤◌, ◌↔◌, true, [], length, IfOk, IfErr, OnOk};
+ghost use Rattle.std.specs.Prelude.{◌≡◌, ◌≢◌, ◌≤◌, ◌↔◌, List, true, [], length, IfOk, IfErr, OnOk};
 ghost use mathlib.Core.List.{IsPrefix};
 ghost use Rattle.rbac.specs.Authorization.{HasPermission, IsValid};
 ghost use Rattle.session_roles.specs.declared.operation.Operation.TheVariants.{Audit};
@@ -8,60 +8,77 @@ ghost use Rattle.session_book.specs.Audit.{audit_rows};
 ghost use Rattle.session_book.specs.declared.audit.AuditError.TheVariants.{NotPermitted};
 ghost use Rattle.session_book.specs.Journal.{replay};
 ghost use Rattle.session_book.specs.Run.{most_commands};
+ghost use Rattle.session_commands.specs.declared.entry.Entry.{Entry};
+ghost use Rattle.session_keeper.specs.declared.submit_fault.SubmitFault.TheVariants.{OutOfMemory};
 ghost use Rattle.history.specs.Prefixes.{entries_of};
 ghost use Rattle.displays.specs.Copies.{IsPublished};
-ghost use Rattle.displays.specs.Publishing.{nothing_outgoing, receipted};
-ghost use Rattle.desks.specs.Batch.{PublishedJournal, IsSubmitted, IsEntered};
+ghost use Rattle.displays.specs.Publishing.{receipted};
+ghost use Rattle.desks.specs.Batch.{IsSubmitted, IsEntered};
+ghost use Rattle.desks.specs.Kept.{IsKeptBy, LeavesJust, LeavesAll};
 
-use crate::laws::{batch, found};
+use crate::batches::{batch, found};
 use displays::{Display, Publisher, Receipt, Server};
+use entry_store::EntryStore;
 use session_book::{Answer, AuditError, AuditRows, Book};
 use session_commands::Command;
+use session_keeper::SubmitFault;
 use session_state::State;
-use std::alloc::{AllocError, Global};
+use std::alloc::Global;
 use std::marker::Model;
 use std::mem::ManuallyDrop;
 use std::sync::Wait;
 use user_names::Name;
 
-/// A book beside its publisher: the journal is what was published, and nothing is pending. Contracts see the journal and
-/// the publications.
-pub struct LockedBook<N: Server> {
+/// A book, its publisher and its store: the journal is what was published, nothing is pending, and whatever a crash leaves
+/// is what was published, or, where the store has shut, maybe one publication more. Contracts see the publications and the
+/// store.
+pub struct LockedBook<N: Server, K: EntryStore> {
     book: Book,
     // A guard drops nothing, so that what it lends may be what can't be dropped.
     publisher: ManuallyDrop<Publisher<N>>,
+    store: K,
     alloc: Global,
 }
 
-impl<N: Server> Model for LockedBook<N> {
+impl<N: Server, K: EntryStore> Model for LockedBook<N, K> {
     ghost use Rattle.std.specs.Prelude.{◌≡◌, []};
     ghost use Rattle.std.specs.Mem.{manually_drop_value};
     ghost use Rattle.history.specs.Prefixes.{entries_of};
-    ghost use Rattle.desks.specs.Batch.{PublishedJournal, published_journal_code};
+    ghost use Rattle.desks.specs.Batch.{KeptPublications, kept_publications_code};
+    ghost use Rattle.desks.specs.Kept.{IsKeptBy};
 
-    ghost Value = { PublishedJournal };
+    ghost Value = { KeptPublications K };
 
-    ghost coded = { published_journal_code };
+    ghost coded = { kept_publications_code K.code };
 
     ghost view = { λ l. record {
-      journal = l.book.journal;
       published = (manually_drop_value l.publisher).published;
+      store = l.store;
     } };
 
     ghost invariant = { λ l. (l.book.opening ≡ N.opening)
         × (entries_of (manually_drop_value l.publisher).published ≡ l.book.journal)
-        × ((manually_drop_value l.publisher).pending ≡ []) };
+        × ((manually_drop_value l.publisher).pending ≡ [])
+        × IsKeptBy N.opening (manually_drop_value l.publisher).published (K.doubt l.store)
+        (K.is_open l.store) (K.leaves l.store) };
 }
 
-impl<N: Server> LockedBook<N> {
-    pub(crate) fn new(alloc: Global, book: Book, publisher: Publisher<N>) -> LockedBook<N>
-        requires book { (book.opening ≡ N.opening) × (book.journal ≡ []) }
-        requires publisher { publisher ≡ nothing_outgoing }
-        ensures { result ≡ record { journal = []; published = [] } }
+impl<N: Server, K: EntryStore> LockedBook<N, K> {
+    pub(crate) fn new(
+        alloc: Global,
+        book: Book,
+        publisher: Publisher<N>,
+        store: K,
+    ) -> LockedBook<N, K>
+        requires opening { book.opening ≡ N.opening }
+        requires published { (entries_of publisher.published ≡ book.journal) × (publisher.pending ≡ []) }
+        requires kept { LeavesJust publisher.published (K.doubt store) (K.leaves store) }
+        ensures { result ≡ record { published = publisher.published; store = store } }
     {
         LockedBook {
             book,
             publisher: unsafe { ManuallyDrop::new_unchecked(publisher) },
+            store,
             alloc,
         }
     }
@@ -77,15 +94,20 @@ impl<N: Server> LockedBook<N> {
         rt: &R,
         actor: Name,
         commands: &[Command],
-    ) -> Result<(Vec<Answer>, Receipt<N>), AllocError>
+    ) -> Result<(Vec<Answer>, Receipt<N>), SubmitFault>
         requires { length commands.now ≤ most_commands }
-        ensures { IfOk result (λ t. IsSubmitted N.opening self.old.journal actor commands.now t.0.items t.1) }
+        ensures submitted { IfOk result (λ t.
+            IsSubmitted N.opening (entries_of self.old.published) actor commands.now t.0.items t.1) }
+        ensures kept { IfOk result (λ t.
+            LeavesJust t.1.published (K.doubt self.new.store) (K.leaves self.new.store)) }
+        ensures fault { IfErr result (λ fault. fault ≢ OutOfMemory → K.fails) }
     {
         batch(
             rt,
             self.alloc,
             &mut self.book,
             &mut self.publisher,
+            &mut self.store,
             actor,
             commands,
         )
@@ -97,16 +119,27 @@ impl<N: Server> LockedBook<N> {
         rt: &R,
         command: &Command,
     ) -> (Answer, Receipt<N>)
-        ensures { IsEntered N.opening self.old.journal command.now result.0 result.1 }
+        ensures entered { IsEntered N.opening (entries_of self.old.published) command.now result.0 result.1 }
+        ensures kept { IsKeptBy N.opening result.1.published
+            (K.doubt self.new.store) (K.is_open self.new.store) (K.leaves self.new.store) }
     {
-        found(rt, &mut self.book, &mut self.publisher, command)
+        found(
+            rt,
+            &mut self.book,
+            &mut self.publisher,
+            &mut self.store,
+            command,
+        )
     }
 
-    /// Whether all that a display has seen is published here.
-    pub(crate) fn has_seen(&self, display: &Display<N>) -> bool
-        ensures begins { result ≡ true → IsPrefix (entries_of display.now) self.now.journal }
+    /// Whether all that a display has seen is published here. Then whatever a crash leaves now begins with all of it.
+    pub fn has_seen(&self, display: &Display<N>) -> bool
+        ensures begins { result ≡ true → IsPrefix (entries_of display.now) (entries_of self.now.published) }
         ensures published { IsPublished N.opening display.now }
+        ensures kept { result ≡ true →
+            LeavesAll N.opening display.now (K.doubt self.now.store) (K.leaves self.now.store) }
     {
+        let _published = self.publisher.tell();
         display.is_behind(&self.publisher)
     }
 
@@ -124,21 +157,30 @@ impl<N: Server> LockedBook<N> {
             ↔ (¬ HasPermission (replay N.opening (entries_of result.1.published)).roles actor Audit)) }
         ensures valid { IsValid (replay N.opening (entries_of result.1.published)).roles }
         ensures published { IsPublished N.opening result.1.published }
-        ensures receipt { result.1 ≡ receipted 0 0 result.1.published }
-        ensures journal { entries_of result.1.published ≡ self.now.journal }
+        ensures receipt { result.1 ≡ receipted 0 0 self.now.published }
+        ensures kept { IsKeptBy N.opening result.1.published
+            (K.doubt self.now.store) (K.is_open self.now.store) (K.leaves self.now.store) }
     {
         let rows = self.book.audit(actor, from, limit);
         (rows, self.publisher.tell())
     }
 
-    /// Drops the book and ends the publisher. It may wait for readers.
-    pub(crate) fn close<R: Wait>(self, rt: &R) {
+    /// Drops the book, ends the publisher, and gives the store back, of which whatever a crash leaves is an accepted journal
+    /// in publications. It may wait for readers.
+    pub(crate) fn close<R: Wait>(self, rt: &R) -> K
+        ensures kept { (published : List (List Entry)) × IsPublished N.opening published
+            × IsKeptBy N.opening published (K.doubt result) (K.is_open result) (K.leaves result) }
+    {
         let LockedBook {
             book,
             publisher,
+            store,
             alloc: _,
         } = self;
         drop(book);
-        ManuallyDrop::into_inner(publisher).close(rt);
+        let publisher = ManuallyDrop::into_inner(publisher);
+        let _published = publisher.tell();
+        publisher.close(rt);
+        store
     }
 }

@@ -12,7 +12,7 @@ use solver_pool::Work;
 use solver_results::PlayCosts;
 
 /// The costs that are left to find at a cell: of a confirmed result with a contract and a play, which aren't there yet.
-pub(crate) fn work_of(state: &State, cell: Cell) -> Option<Work> {
+pub fn work_of(state: &State, cell: Cell) -> Option<Work> {
     let cell = state.public().movement.cell(cell.table, cell.board)?;
     work_at(state, cell)
 }

@@ -5,6 +5,7 @@ ghost use Rattle.std.specs.Prelude.{◌≡◌, []};
 use crate::tasks::{Counts, End, Read, Rest, Write};
 use desks::Shared;
 use displays::{Display, Server, open_displays};
+use entry_store::NoStore;
 use history::History;
 use opened_session::{OpenedSession, open_session};
 use published_view::View;
@@ -101,9 +102,9 @@ fn measure_named<N: Server + Send + Sync, R: Threads + Wait + Clock + Sync>(
     };
     match open_displays::<N, R>(rt, alloc, history, first, second, plan.readers) {
         Ok((publisher, displays)) => {
-            let shared = Shared::new(alloc, book, publisher);
+            let shared = Shared::new(alloc, book, publisher, NoStore);
             let figures = measure_shared(rt, alloc, &shared, displays, messages, plan);
-            shared.close(rt);
+            let _store = shared.close(rt);
             figures
         }
         Err(_) => None,
@@ -114,7 +115,7 @@ fn measure_named<N: Server + Send + Sync, R: Threads + Wait + Clock + Sync>(
 fn measure_shared<N: Server + Send + Sync, R: Threads + Wait + Clock + Sync>(
     rt: &R,
     alloc: Global,
-    shared: &Shared<N>,
+    shared: &Shared<N, NoStore>,
     displays: Vec<Display<N>>,
     messages: Messages<'_>,
     plan: Plan,

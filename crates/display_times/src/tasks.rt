@@ -4,6 +4,7 @@ ghost use Rattle.wire.specs.Request.{HasFew};
 
 use desks::Desk;
 use displays::{Display, Server};
+use entry_store::NoStore;
 use service_threads::Task;
 use session_roles::Edition;
 use std::alloc::Global;
@@ -84,7 +85,7 @@ fn is_over<R: Clock>(rt: &R, start: Instant, milliseconds: u64) -> bool {
 #[derive(Drop)]
 pub(crate) struct Write<'a, N: Server> {
     pub(crate) alloc: Global,
-    pub(crate) desk: Desk<'a, N>,
+    pub(crate) desk: Desk<'a, N, NoStore>,
     pub(crate) edition: Edition,
     pub(crate) message: &'a str,
     pub(crate) pause: Option<u64>,
@@ -120,7 +121,7 @@ impl<'a, N: Server> Task for Write<'a, N> {
 fn is_told<N: Server, R: Wait>(
     rt: &R,
     alloc: Global,
-    desk: &Desk<'_, N>,
+    desk: &Desk<'_, N, NoStore>,
     edition: Edition,
     message: &str,
 ) -> bool {
@@ -130,7 +131,7 @@ fn is_told<N: Server, R: Wait>(
     }
 }
 
-fn is_tried<N: Server, R: Wait>(rt: &R, desk: &Desk<'_, N>, said: &ScriptRequest) -> bool
+fn is_tried<N: Server, R: Wait>(rt: &R, desk: &Desk<'_, N, NoStore>, said: &ScriptRequest) -> bool
     requires { HasFew said.now.request }
 {
     match &said.request {

@@ -9,8 +9,7 @@ ghost use Rattle.program.specs.Standing.{line_of};
 ghost use Rattle.program.specs.Writes.{Responds};
 
 use json_fields::RequestFault;
-use published_view::QueryFault;
-use request_answers::answer_request;
+use request_answers::{AnswerFault, answer_request};
 use script_lines::{WriteFault, write_text};
 use session_keeper::{Keeper, PlainKeeper};
 use std::alloc::Global;
@@ -75,9 +74,9 @@ fn response_to_request(
 {
     match answer_request(&(), alloc, keeper, said.user, &said.request) {
         Ok(text) => with_line_feed(text),
-        Err(QueryFault::OutOfMemory) => Err(RequestFault::OutOfMemory),
-        // A session that is kept alone can be entered at each version.
-        Err(QueryFault::NoEntry) => unreachable!(),
+        Err(AnswerFault::OutOfMemory) => Err(RequestFault::OutOfMemory),
+        // A session that is kept alone can be entered at each version, and each of its batches is kept.
+        Err(AnswerFault::NoEntry | AnswerFault::NotKept | AnswerFault::Unsure) => unreachable!(),
     }
 }
 

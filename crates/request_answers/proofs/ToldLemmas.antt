@@ -1,26 +1,60 @@
 -- What tells a turn, in the whole of a history.
-use Rattle.std.proofs.Common.{◌≡◌, inl, inr, ◌⊎◌, ℕ, List, [], ◌∷◌, ◌++◌, sym, ap, subst, ◌∙◌, append_assoc, append-nil}
+use Rattle.std.proofs.Common.{
+  ◌≡◌,
+  ◌≢◌,
+  inl,
+  inr,
+  ◌⊎◌,
+  ℕ,
+  List,
+  [],
+  ◌∷◌,
+  ◌++◌,
+  refl,
+  sym,
+  ap,
+  subst,
+  ◌∙◌,
+  append_assoc,
+  append-nil,
+}
 use Rattle.session_state.specs.SessionState.{SessionState}
 use Rattle.session_commands.specs.declared.entry.Entry.{Entry}
 use Rattle.session_book.specs.Run.{Runs}
-use Rattle.published_view.specs.declared.query_fault.QueryFault.{QueryFault}
-use Rattle.published_view.specs.declared.query_fault.QueryFault.TheVariants.{NoEntry, OutOfMemory}
 use Rattle.published_view.specs.World.{Moment, Submit, now, with_journal}
 use Rattle.wire.specs.declared.request.UserRequest.{UserRequest}
 use Rattle.wire.specs.declared.request.UserRequest.TheVariants.{Query, Batch, Audit}
 use Rattle.request_answers.specs.Answering.{IsUnanswered}
 use Rattle.request_answers.specs.Conversing.{Answered, TakenIn, Passed, TakesTurn, Stop, IsTextSince, IsToldBy}
 use Rattle.request_answers.specs.Response.{audit_reply, receipt_of}
+use Rattle.request_answers.specs.declared.answer_fault.AnswerFault.{AnswerFault}
+use Rattle.request_answers.specs.declared.answer_fault.AnswerFault.TheVariants.{
+  NoEntry,
+  NotKept,
+  Unsure,
+  OutOfMemory,
+}
 
--- what has no answer took effect, or passed
-pub taken_in_or_passed : (Others : List Entry → List Entry → Type 0) (no_entry : Type 0) (opening : SessionState)
-    (before : List Entry) (user : List ℕ)
-    (request : UserRequest) (fault : QueryFault) (after : List Entry) → IsUnanswered Others no_entry opening before user
-    request fault after →
-    TakesTurn Others opening before (TakenIn user request) after ⊎ TakesTurn Others opening before Passed after
-taken_in_or_passed Others no_entry opening before user request NoEntry after unanswered = inr (inl unanswered.2)
-taken_in_or_passed Others no_entry opening before user request OutOfMemory after (inl others) = inr (inr others)
-taken_in_or_passed Others no_entry opening before user request OutOfMemory after (inr answer) = inl answer
+module _ (Others : List Entry → List Entry → Type 0) (no_entry not_kept : Type 0) (opening : SessionState)
+    (before : List Entry) (user : List ℕ) (request : UserRequest) (after : List Entry) where
+  -- what has no answer for another reason than want of memory passed
+  pub passed : (fault : AnswerFault) → fault ≢ OutOfMemory →
+      IsUnanswered Others no_entry not_kept opening before user request fault after →
+      TakesTurn Others opening before Passed after
+  passed NoEntry other unanswered = inl unanswered.2
+  passed NotKept other unanswered = inr unanswered.2
+  passed Unsure other unanswered = inr unanswered.2
+  passed OutOfMemory other unanswered = absurd (other refl)
+
+  -- what has no answer took effect, or passed
+  pub taken_in_or_passed : (fault : AnswerFault) →
+      IsUnanswered Others no_entry not_kept opening before user request fault after →
+      TakesTurn Others opening before (TakenIn user request) after ⊎ TakesTurn Others opening before Passed after
+  taken_in_or_passed NoEntry unanswered = inr (inl unanswered.2)
+  taken_in_or_passed NotKept unanswered = inr (inr unanswered.2)
+  taken_in_or_passed Unsure unanswered = inr (inr unanswered.2)
+  taken_in_or_passed OutOfMemory (inl others) = inr (inr others)
+  taken_in_or_passed OutOfMemory (inr answer) = inl answer
 
 module _ (opening : SessionState) (user : List ℕ) where
   -- what happened since some moments happened since earlier ones

@@ -7,12 +7,17 @@ use Rattle.session_commands.specs.declared.entry.Entry.{Entry}
 use Rattle.session_book.specs.declared.audit.AuditError.{AuditError}
 use Rattle.session_book.specs.declared.audit.AuditError.TheVariants as error
 use Rattle.session_book.specs.declared.audit.AuditRow.{AuditRow}
-use Rattle.published_view.specs.declared.query_fault.QueryFault.{QueryFault}
-use Rattle.published_view.specs.declared.query_fault.QueryFault.TheVariants.{NoEntry, OutOfMemory}
 use Rattle.wire.specs.AuditText.{audit_text, audit_refusal_text}
 use Rattle.wire.specs.declared.request.UserRequest.{UserRequest}
 use Rattle.wire.specs.declared.request.UserRequest.TheVariants.{Query, Batch, Audit}
 use Rattle.request_answers.specs.Response.{response_at}
+use Rattle.request_answers.specs.declared.answer_fault.AnswerFault.{AnswerFault}
+use Rattle.request_answers.specs.declared.answer_fault.AnswerFault.TheVariants.{
+  NoEntry,
+  NotKept,
+  Unsure,
+  OutOfMemory,
+}
 
 -- the journal for which the keeper stands after it left one: a query is answered of the journal that is then known;
 -- after a batch or an audit others may have led on
@@ -46,11 +51,23 @@ WantsReply (Query query since) = Unit {0}
 WantsReply (Batch commands) = ⊥
 WantsReply (Audit range) = ⊥
 
--- why a request has no answer: to a query no version could be entered, which left all as it was; or memory was refused
-abbrev pub IsUnanswered : (List Entry → List Entry → Type 0) → Type 0 → SessionState → List Entry → List ℕ → UserRequest
-    → QueryFault → List Entry → Type 0
-IsUnanswered Others no_entry opening before user request NoEntry now = WantsReply request × no_entry × (now ≡ before)
-IsUnanswered Others no_entry opening before user request OutOfMemory now =
+-- a batch
+abbrev pub WantsReceipt : UserRequest → Type 0
+WantsReceipt (Query query since) = ⊥
+WantsReceipt (Batch commands) = Unit {0}
+WantsReceipt (Audit range) = ⊥
+
+-- why a request has no answer: to a query no version could be entered, which left all as it was; a batch isn't kept, or
+-- it isn't known whether it is, and nothing but what others did has joined; or memory was refused
+abbrev pub IsUnanswered : (List Entry → List Entry → Type 0) → Type 0 → Type 0 → SessionState → List Entry → List ℕ
+    → UserRequest → AnswerFault → List Entry → Type 0
+IsUnanswered Others no_entry not_kept opening before user request NoEntry now =
+    WantsReply request × no_entry × (now ≡ before)
+IsUnanswered Others no_entry not_kept opening before user request NotKept now =
+    WantsReceipt request × not_kept × Others before now
+IsUnanswered Others no_entry not_kept opening before user request Unsure now =
+    WantsReceipt request × not_kept × Others before now
+IsUnanswered Others no_entry not_kept opening before user request OutOfMemory now =
     IsTakenIn Others opening before user request now
 
 -- ---- for private clauses

@@ -7,13 +7,14 @@ ghost use Rattle.session_keeper.specs.Keeping.{GoesOn};
 ghost use Rattle.wire.specs.Request.{HasFew};
 ghost use Rattle.wire.specs.declared.request.UserRequest.TheVariants as wanting;
 ghost use Rattle.request_answers.specs.Answering.{IsAnsweredOnce, IsUnanswered, IsTakenIn, IsRowsText};
-ghost use Rattle.published_view.specs.declared.query_fault.QueryFault.TheVariants.{OutOfMemory};
+ghost use Rattle.request_answers.specs.declared.answer_fault.AnswerFault.TheVariants.{OutOfMemory};
 
+use crate::answer_fault::AnswerFault;
 use command_object::Commands;
 use published_view::QueryFault;
 use reply_texts::reply_text;
 use session_book::AuditError;
-use session_keeper::{AuditReceipt, CommandKeeper, Keeper};
+use session_keeper::{AuditReceipt, CommandKeeper, Keeper, SubmitFault};
 use session_queries::Query;
 use std::alloc::{AllocError, Global};
 use user_names::Name;
@@ -27,20 +28,18 @@ pub fn answer_request<H, K: CommandKeeper<H>>(
     keeper: &mut K,
     user: Name,
     request: &UserRequest,
-) -> Result<String, QueryFault>
+) -> Result<String, AnswerFault>
     requires { HasFew request.now }
     ensures later { GoesOn (K.opening keeper.old) (K.journal keeper.old) (K.opening keeper.new) (K.journal keeper.new) }
     ensures accepted { IsAccepted (K.opening keeper.new) (K.journal keeper.new) }
     ensures answered { IfOk result (λ text. IsAnsweredOnce K.others (K.opening keeper.new) (K.journal keeper.old)
         user request.now (string_bytes text) (K.journal keeper.new)) }
-    ensures unanswered { IfErr result (λ fault. IsUnanswered K.others K.no_entry (K.opening keeper.new)
+    ensures unanswered { IfErr result (λ fault. IsUnanswered K.others K.no_entry K.not_kept (K.opening keeper.new)
         (K.journal keeper.old) user request.now fault (K.journal keeper.new)) }
 {
     match request {
         UserRequest::Query { query, since } => answer_query(alloc, keeper, user, query, *since),
-        UserRequest::Batch { commands } => {
-            or_out_of_memory(answer_batch(rt, alloc, keeper, user, commands))
-        }
+        UserRequest::Batch { commands } => answer_batch(rt, alloc, keeper, user, commands),
         UserRequest::Audit { range } => {
             or_out_of_memory(answer_audit(rt, alloc, keeper, user, *range))
         }
@@ -54,17 +53,18 @@ pub fn answer_query<K: Keeper>(
     user: Name,
     query: &Query,
     since: u64,
-) -> Result<String, QueryFault>
+) -> Result<String, AnswerFault>
     ensures later { GoesOn (K.opening keeper.old) (K.journal keeper.old) (K.opening keeper.new) (K.journal keeper.new) }
     ensures accepted { IsAccepted (K.opening keeper.new) (K.journal keeper.new) }
     ensures answered { IfOk result (λ text. IsAnsweredOnce K.others (K.opening keeper.new) (K.journal keeper.old)
         user (wanting.Query query.now since) (string_bytes text) (K.journal keeper.new)) }
-    ensures unanswered { IfErr result (λ fault. IsUnanswered K.others K.no_entry (K.opening keeper.new)
+    ensures unanswered { IfErr result (λ fault. IsUnanswered K.others K.no_entry K.not_kept (K.opening keeper.new)
         (K.journal keeper.old) user (wanting.Query query.now since) fault (K.journal keeper.new)) }
 {
     match keeper.query(alloc, user, query, since) {
         Ok(reply) => or_out_of_memory(reply_text(alloc, &reply)),
-        Err(fault) => Err(fault),
+        Err(QueryFault::NoEntry) => Err(AnswerFault::NoEntry),
+        Err(QueryFault::OutOfMemory) => Err(AnswerFault::OutOfMemory),
     }
 }
 
@@ -76,17 +76,21 @@ pub fn answer_batch<H, K: CommandKeeper<H>>(
     keeper: &mut K,
     user: Name,
     commands: &Commands,
-) -> Result<String, AllocError>
+) -> Result<String, AnswerFault>
     requires { length commands.now ≤ most_commands }
     ensures later { GoesOn (K.opening keeper.old) (K.journal keeper.old) (K.opening keeper.new) (K.journal keeper.new) }
     ensures accepted { IsAccepted (K.opening keeper.new) (K.journal keeper.new) }
     ensures answered { IfOk result (λ text. IsAnsweredOnce K.others (K.opening keeper.new) (K.journal keeper.old)
         user (wanting.Batch commands.now) (string_bytes text) (K.journal keeper.new)) }
-    ensures unanswered { OnErr result (IsTakenIn K.others (K.opening keeper.new) (K.journal keeper.old)
-        user (wanting.Batch commands.now) (K.journal keeper.new)) }
+    ensures unanswered { IfErr result (λ fault. IsUnanswered K.others K.no_entry K.not_kept (K.opening keeper.new)
+        (K.journal keeper.old) user (wanting.Batch commands.now) fault (K.journal keeper.new)) }
 {
-    let receipt = keeper.submit(rt, user, commands.as_slice())?;
-    receipt_text(alloc, &receipt.submission, receipt.version)
+    match keeper.submit(rt, user, commands.as_slice()) {
+        Ok(receipt) => or_out_of_memory(receipt_text(alloc, &receipt.submission, receipt.version)),
+        Err(SubmitFault::NotKept) => Err(AnswerFault::NotKept),
+        Err(SubmitFault::Unsure) => Err(AnswerFault::Unsure),
+        Err(SubmitFault::OutOfMemory) => Err(AnswerFault::OutOfMemory),
+    }
 }
 
 /// The text of an audit for a user.
@@ -120,12 +124,12 @@ fn text_of_audit(alloc: Global, receipt: &AuditReceipt) -> Result<String, AllocE
 }
 
 // A text, or that there was no memory for it.
-fn or_out_of_memory(text: Result<String, AllocError>) -> Result<String, QueryFault>
+fn or_out_of_memory(text: Result<String, AllocError>) -> Result<String, AnswerFault>
     ensures ok { IfOk result (λ found. text ≡ Ok found) }
     ensures err { IfErr result (λ fault. (fault ≡ OutOfMemory) × IsErr text) }
 {
     match text {
         Ok(text) => Ok(text),
-        Err(_) => Err(QueryFault::OutOfMemory),
+        Err(_) => Err(AnswerFault::OutOfMemory),
     }
 }

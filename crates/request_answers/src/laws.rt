@@ -1,16 +1,17 @@
 //! What holds of the answers: each function here has nothing to do, and its clauses are the theorem.
 
-ghost use Rattle.std.specs.Prelude.{◌≡◌, ◌⊎◌, ℕ, List, [], ◌∷◌, ◌++◌};
+ghost use Rattle.std.specs.Prelude.{◌≡◌, ◌≢◌, ◌⊎◌, ℕ, List, [], ◌∷◌, ◌++◌};
 ghost use mathlib.Core.List.{IsPrefix};
 ghost use Rattle.session_state.specs.SessionState.{SessionState};
 ghost use Rattle.session_commands.specs.declared.entry.Entry.{Entry};
 ghost use Rattle.published_view.specs.World.{Moment, IsHistory};
-ghost use Rattle.published_view.specs.declared.query_fault.QueryFault.{QueryFault};
 ghost use Rattle.wire.specs.declared.request.UserRequest.{UserRequest};
 ghost use Rattle.request_answers.specs.Answering.{IsAnsweredOnce, IsUnanswered};
 ghost use Rattle.request_answers.specs.Conversing.{Answered, TakenIn, Passed, TakesTurn, Stop};
 ghost use Rattle.request_answers.specs.Conversing.{IsConversation, IsTextSince, IsToldBy, OnlyAdd};
 ghost use Rattle.request_answers.specs.Response.{response_at};
+ghost use Rattle.request_answers.specs.declared.answer_fault.AnswerFault.{AnswerFault};
+ghost use Rattle.request_answers.specs.declared.answer_fault.AnswerFault.TheVariants.{OutOfMemory};
 
 use session_keeper::Keeper;
 
@@ -34,16 +35,21 @@ pub fn every_conversation<K: Keeper>()
 {}
 
 /// Whatever comes of a request is a turn of a conversation: it was answered, or took effect though there was no memory
-/// for its text, or nothing came of it.
+/// for its text, or nothing came of it. Where memory wasn't refused, but no version could be entered or a batch wasn't
+/// kept, nothing came of it.
 pub fn every_outcome_is_a_turn<K: Keeper>()
     ensures answered { (opening : SessionState) (before after : List Entry) (user : List ℕ) (request : UserRequest)
         (text : List ℕ) →
         IsAnsweredOnce K.others opening before user request text after →
         TakesTurn K.others opening before (Answered user request text) after }
     ensures unanswered { (opening : SessionState) (before after : List Entry) (user : List ℕ) (request : UserRequest)
-        (fault : QueryFault) →
-        IsUnanswered K.others K.no_entry opening before user request fault after →
+        (fault : AnswerFault) →
+        IsUnanswered K.others K.no_entry K.not_kept opening before user request fault after →
         TakesTurn K.others opening before (TakenIn user request) after ⊎ TakesTurn K.others opening before Passed after }
+    ensures passed { (opening : SessionState) (before after : List Entry) (user : List ℕ) (request : UserRequest)
+        (fault : AnswerFault) → fault ≢ OutOfMemory →
+        IsUnanswered K.others K.no_entry K.not_kept opening before user request fault after →
+        TakesTurn K.others opening before Passed after }
 {}
 
 /// Each text in a conversation is that of what happened since the opening, in the whole history that tells it. So the

@@ -8,3 +8,4 @@ mod scores;
 mod told;
 mod visits;
 mod walked;
+mod written;

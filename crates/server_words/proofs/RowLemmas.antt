@@ -18,11 +18,6 @@ pub maybe_first_in_rows : (m : ArgMatches) (id : List ℕ) (value : Option (List
     → first_of id (rows_of (found_of m)) ≡ value
 maybe_first_in_rows m id value is = sym (first_value-rows (found_of m) id) ∙ is
 
--- an option's first value stands in its row
-pub first_in_rows : (m : ArgMatches) (id text : List ℕ) → first_value (found_of m) id ≡ Some text
-    → first_of id (rows_of (found_of m)) ≡ Some text
-first_in_rows m id text is = maybe_first_in_rows m id (Some text) is
-
 -- a number that is read of an option is what the digits of its text write
 module _ (m : ArgMatches) (id : List ℕ) (bits : ℕ) (found : Option ℕ) (number : ℕ) (is : found ≡ Some number) where
   pub number_in_rows : (one_text (found_of m) id ≡ None → found ≡ None)

@@ -1,6 +1,8 @@
--- The program's command line, as `clap` reads it: a subcommand `script` with nothing after it, and a subcommand `serve`
--- with options, of which each has a value. `clap` adds its help.
-use Rattle.std.specs.Prelude.{ℕ, ℤ, [], ◌∷◌, Some, true, pos, codes}
+-- The program's command line, as `clap` reads it: a subcommand `script` with nothing after it, and subcommands `serve`,
+-- `audit` and `copy` with options, of which each has a value. `clap` adds its help.
+use Rattle.std.specs.Prelude.{Bool, ℕ, ℤ, List, [], ◌∷◌, ◌||◌, Some, true, not, pos, codes, drop, eqb}
+use Rattle.std.specs.List.{list_any, starts_with}
+use Rattle.std.specs.Str.{bytes_eq}
 use Rattle.clap.specs.Words.{App, Rule, Text, new_app, new_rule, with_rule, with_subcommand}
 use Rattle.server_words.specs.declared.words.TheConstants.{DISPLAYS_AT_MOST, MOST_WORKERS, MOST_CONNECTIONS}
 use Rattle.clap.specs.declared.builder.value_parser.ValueParser.TheVariants.{Signed}
@@ -34,9 +36,9 @@ most_idle = 86400
 abbrev pub option_rule : Text → Rule
 option_rule name = record (new_rule name) { long = Some name; value_names = 1 }
 
--- an option that has to be there
-abbrev pub file_rule : Text → Rule
-file_rule name = record (option_rule name) { required = true }
+-- an option that names a file, and that may have to be there
+abbrev pub file_rule : Bool → Text → Rule
+file_rule needed name = record (option_rule name) { required = needed }
 
 -- an option with a number from one limit to the other
 abbrev pub number_rule : Text → ℤ → ℤ → Rule
@@ -46,9 +48,12 @@ number_rule name least most = record (option_rule name) { parser = Some (Signed 
 abbrev pub default_rule : Text → ℤ → ℤ → Text → Rule
 default_rule name least most default = record (number_rule name least most) { defaults = default ∷ [] }
 
--- the files of the session
-abbrev pub with_files : App → App
-with_files line = with_rule (with_rule line (file_rule (codes "session"))) (file_rule (codes "deals"))
+-- the files of the session, if they are needed, and its journal
+abbrev pub with_files : Bool → App → App
+with_files needed line =
+    with_rule
+    (with_rule (with_rule line (file_rule needed (codes "session"))) (file_rule needed (codes "deals")))
+    (option_rule (codes "journal"))
 
 abbrev pub port_rule : Rule
 port_rule = record (number_rule (codes "port") (pos least_port) (pos most_port)) { required = true }
@@ -73,9 +78,18 @@ idle_rule = default_rule (codes "idle") (pos least_idle) (pos most_idle) (codes 
 abbrev pub with_clients : App → App
 with_clients line = with_rule (with_rule line idle_rule) (option_rule (codes "origin"))
 
--- how clients are served
-abbrev pub serve_line : App
-serve_line = with_clients (with_counts (with_rule (with_files (new_app (codes "serve"))) port_rule))
+-- how clients are served, where the files of the session may be needed
+abbrev pub serve_line : Bool → App
+serve_line needed = with_clients (with_counts (with_rule (with_files needed (new_app (codes "serve"))) port_rule))
+
+-- which journal's audit is told
+abbrev pub audit_line : App
+audit_line = with_rule (new_app (codes "audit")) (file_rule true (codes "journal"))
+
+-- which journal is copied, and to where
+abbrev pub copy_line : App
+copy_line =
+    with_rule (with_rule (new_app (codes "copy")) (file_rule true (codes "journal"))) (file_rule true (codes "to"))
 
 -- one of the subcommands has to be there
 abbrev pub needing_one : App
@@ -83,11 +97,34 @@ needing_one =
     let plain = new_app (codes "bridge_server") in
     record plain { top = record plain.top { subcommand_required = true } }
 
--- the whole
-abbrev pub command_line : App
-command_line =
+-- the whole, where the files of the session may be needed
+abbrev pub command_line : Bool → App
+command_line needed =
     with_subcommand
+    (with_subcommand
+    (with_subcommand
     (with_subcommand
     needing_one
     (new_app (codes "script")).top)
-    serve_line.top
+    (serve_line needed).top)
+    audit_line.top)
+    copy_line.top
+
+-- a word is an option, or the option with its value, which begins so
+abbrev pub is_option : Text → Text → Text → Bool
+is_option alone beginning word = bytes_eq word alone || starts_with eqb word beginning
+
+-- one of the words after the program's name is this option
+abbrev pub names_option : Text → Text → List Text → Bool
+names_option alone beginning words = list_any (is_option alone beginning) (drop 1 words)
+
+-- the files of a session are needed, unless words name a journal and neither file
+abbrev pub needs_files : List Text → Bool
+needs_files words =
+    not (names_option (codes "--journal") (codes "--journal=") words)
+    || (names_option (codes "--session") (codes "--session=") words
+    || names_option (codes "--deals") (codes "--deals=") words)
+
+-- the command line by which words are read
+abbrev pub line_for : List Text → App
+line_for words = command_line (needs_files words)

@@ -1,12 +1,12 @@
 -- What the program's words ask for.
-use Rattle.std.specs.Prelude.{◌≡◌, ◌≢◌, ◌≤◌, ℕ, List, [], Option, Some, IsSomeAnd, codes, option_map}
+use Rattle.std.specs.Prelude.{◌≡◌, ◌≢◌, ◌≤◌, ℕ, List, [], Option, Some, None, IsSomeAnd, codes, option_map}
 use Rattle.std.specs.Option.{option_map_or}
 use Rattle.std.specs.Str.Parse.{digits_value, without_leading_plus}
 use Rattle.clap.specs.Words.{IsAmong, Kinds, Row, Text, fault_of, first_of, one_of, subcommand_of, subcommand_rows_of}
 use Rattle.clap.specs.declared.error.kind.ErrorKind.TheVariants.{DisplayHelp, DisplayVersion}
 use Rattle.clap.specs.declared.parser.matches.ArgMatches.{ArgMatches}
 use Rattle.server_words.specs.CommandLine.{
-  command_line,
+  line_for,
   least_port,
   most_port,
   least_displays,
@@ -17,8 +17,10 @@ use Rattle.server_words.specs.CommandLine.{
   most_idle,
 }
 use Rattle.server_words.specs.declared.words.Words.{Words}
-use Rattle.server_words.specs.declared.words.Words.TheVariants.{Script, Serve}
+use Rattle.server_words.specs.declared.words.Words.TheVariants.{Script, Serve, Audit, Copy}
 use Rattle.server_words.specs.declared.words.Serving.{Serving}
+use Rattle.server_words.specs.declared.words.SessionSource.{SessionSource}
+use Rattle.server_words.specs.declared.words.SessionSource.TheVariants.{Files, Journal}
 
 -- own: each number is in its range
 pub record AreNumbersInRange (serving : Serving) : Type 0 where
@@ -43,11 +45,11 @@ pub record AreNumbersGiven (options : List Row) (serving : Serving) : Type 0 whe
 
 -- the subcommand that the words name, with its options
 abbrev pub subcommand_in : List Text → Option (Text × List Row)
-subcommand_in words = subcommand_of command_line words
+subcommand_in words = subcommand_of (line_for words) words
 
 -- the kinds of fault that the words have, of which a request for help is one
 abbrev pub faults_in : List Text → Kinds
-faults_in words = fault_of command_line words
+faults_in words = fault_of (line_for words) words
 
 -- the words don't ask for help, nor for the version
 abbrev pub AsksNoHelp : List Text → Type 0
@@ -57,18 +59,48 @@ AsksNoHelp words = (¬ IsAmong DisplayHelp (faults_in words)) × (¬ IsAmong Dis
 abbrev pub IsMistaken : List Text → Type 0
 IsMistaken words = (faults_in words ≢ []) × AsksNoHelp words
 
+-- own: the session is from the files that the options name, and kept in the journal that they name, if any
+abbrev pub IsSourceGiven : List Row → SessionSource → Type 0
+IsSourceGiven options (Files files) =
+    (first_of (codes "journal") options ≡ None)
+    × (first_of (codes "session") options ≡ Some files.session.now)
+    × (first_of (codes "deals") options ≡ Some files.deals.now)
+IsSourceGiven options (Journal path (Some files)) =
+    (first_of (codes "journal") options ≡ Some path.now)
+    × (first_of (codes "session") options ≡ Some files.session.now)
+    × (first_of (codes "deals") options ≡ Some files.deals.now)
+IsSourceGiven options (Journal path None) =
+    (first_of (codes "journal") options ≡ Some path.now)
+    × (first_of (codes "session") options ≡ None)
+    × (first_of (codes "deals") options ≡ None)
+
+-- own: each option of `serve` is as it is given
+pub record IsServingGiven (options : List Row) (serving : Serving) : Type 0 where
+  pub source : IsSourceGiven options serving.source
+  pub origin : first_of (codes "origin") options ≡ option_map (λ o. o.now) serving.origin
+  pub range : AreNumbersInRange serving
+  pub numbers : AreNumbersGiven options serving
+
+-- the name of the subcommand that the words name
+abbrev pub name_in : List Text → Option Text
+name_in words = option_map (λ p. p.0) (subcommand_in words)
+
+-- its options
+abbrev pub options_in : List Text → List Row
+options_in words = option_map_or (λ p. p.1) (subcommand_in words) []
+
 -- the words have no fault, and ask for this
 abbrev pub AsksFor : List Text → Words → Type 0
-AsksFor words Script =
-    (faults_in words ≡ []) × (option_map (λ p. p.0) (subcommand_in words) ≡ Some (codes "script"))
+AsksFor words Script = (faults_in words ≡ []) × (name_in words ≡ Some (codes "script"))
 AsksFor words (Serve serving) =
-    (faults_in words ≡ []) × (option_map (λ p. p.0) (subcommand_in words) ≡ Some (codes "serve"))
-    × (first_of (codes "session") (option_map_or (λ p. p.1) (subcommand_in words) []) ≡ Some serving.session.now)
-    × (first_of (codes "deals") (option_map_or (λ p. p.1) (subcommand_in words) []) ≡ Some serving.deals.now)
-    × (first_of (codes "origin") (option_map_or (λ p. p.1) (subcommand_in words) [])
-    ≡ option_map (λ o. o.now) serving.origin)
-    × AreNumbersInRange serving
-    × AreNumbersGiven (option_map_or (λ p. p.1) (subcommand_in words) []) serving
+    (faults_in words ≡ []) × (name_in words ≡ Some (codes "serve")) × IsServingGiven (options_in words) serving
+AsksFor words (Audit path) =
+    (faults_in words ≡ []) × (name_in words ≡ Some (codes "audit"))
+    × (first_of (codes "journal") (options_in words) ≡ Some path.now)
+AsksFor words (Copy copy) =
+    (faults_in words ≡ []) × (name_in words ≡ Some (codes "copy"))
+    × (first_of (codes "journal") (options_in words) ≡ Some copy.journal.now)
+    × (first_of (codes "to") (options_in words) ≡ Some copy.to.now)
 
 -- ---- for private clauses
 

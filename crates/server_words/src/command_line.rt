@@ -1,9 +1,9 @@
 //! The command line as `clap` takes it.
 
-ghost use Rattle.std.specs.Prelude.{◌≡◌, false, Ok, OnOk, codes};
+ghost use Rattle.std.specs.Prelude.{◌≡◌, false, true, Ok, OnOk, codes};
 ghost use Rattle.clap.specs.Words.{app_of, new_app, rule_of, shape_of, with_rule, with_subcommand};
 ghost use Rattle.clap.specs.declared.builder.command.Command.TheViews.{out-Command};
-ghost use Rattle.server_words.specs.CommandLine.{command_line, needing_one, serve_line, with_files, with_counts, with_clients, option_rule, port_rule, file_rule, number_rule, default_rule};
+ghost use Rattle.server_words.specs.CommandLine.{command_line, needing_one, serve_line, audit_line, copy_line, with_files, with_counts, with_clients, option_rule, port_rule, file_rule, number_rule, default_rule};
 
 use crate::words::{DISPLAYS_AT_MOST, MOST_CONNECTIONS, MOST_IDLE, MOST_WORKERS};
 use clap::builder::ValueParser;
@@ -20,12 +20,18 @@ pub(crate) fn plain_line<'a>(alloc: Global) -> Command<'a>
         .subcommand_required(true)
 }
 
-/// Adds the two subcommands.
-pub(crate) fn add_subcommands(alloc: Global, command: &mut Command<'_>) -> Result<(), AllocError>
-    ensures { app_of command.old ≡ needing_one → OnOk result (app_of command.new ≡ command_line) }
+/// Adds the subcommands. Whether the files of a session are needed is told by the words.
+pub(crate) fn add_subcommands(
+    alloc: Global,
+    command: &mut Command<'_>,
+    needed: bool,
+) -> Result<(), AllocError>
+    ensures { app_of command.old ≡ needing_one → OnOk result (app_of command.new ≡ command_line needed) }
 {
     add_script(alloc, command)?;
-    add_serve(alloc, command)
+    add_serve(alloc, command, needed)?;
+    add_audit(alloc, command)?;
+    add_copy(alloc, command)
 }
 
 // Adds the subcommand that answers a script.
@@ -40,13 +46,13 @@ fn add_script(alloc: Global, command: &mut Command<'_>) -> Result<(), AllocError
 
 // Adds the subcommand that serves clients. It is added whatever came of its options, so that it is moved on one way
 // alone.
-fn add_serve(alloc: Global, command: &mut Command<'_>) -> Result<(), AllocError>
-    ensures { OnOk result (app_of command.new ≡ with_subcommand (app_of command.old) serve_line.top) }
+fn add_serve(alloc: Global, command: &mut Command<'_>, needed: bool) -> Result<(), AllocError>
+    ensures { OnOk result (app_of command.new ≡ with_subcommand (app_of command.old) (serve_line needed).top) }
 {
     let mut serve = Command::new(alloc, "serve").about(
         "Serves clients over WebSockets on 127.0.0.1",
     );
-    let filled = add_options(alloc, &mut serve);
+    let filled = add_options(alloc, &mut serve, needed);
     let added = add_subcommand(alloc, command, serve);
     match filled {
         Ok(()) => added,
@@ -54,24 +60,90 @@ fn add_serve(alloc: Global, command: &mut Command<'_>) -> Result<(), AllocError>
     }
 }
 
-// Adds the options of the subcommand that serves clients.
-fn add_options(alloc: Global, command: &mut Command<'_>) -> Result<(), AllocError>
-    ensures line { OnOk result (app_of command.new ≡ with_clients (with_counts (with_rule (with_files (app_of command.old)) port_rule))) }
+// Adds the subcommand that tells the audit of a journal.
+fn add_audit(alloc: Global, command: &mut Command<'_>) -> Result<(), AllocError>
+    ensures { OnOk result (app_of command.new ≡ with_subcommand (app_of command.old) audit_line.top) }
+{
+    let mut audit = Command::new(alloc, "audit").about(
+        "Tells the audit of a journal, a line for each entry",
+    );
+    let filled = add_journal(alloc, &mut audit);
+    let added = add_subcommand(alloc, command, audit);
+    match filled {
+        Ok(()) => added,
+        Err(error) => Err(error),
+    }
+}
+
+// Adds the subcommand that copies a journal.
+fn add_copy(alloc: Global, command: &mut Command<'_>) -> Result<(), AllocError>
+    ensures { OnOk result (app_of command.new ≡ with_subcommand (app_of command.old) copy_line.top) }
+{
+    let mut copy = Command::new(alloc, "copy").about("Copies a journal that no server has open");
+    let filled = add_copy_files(alloc, &mut copy);
+    let added = add_subcommand(alloc, command, copy);
+    match filled {
+        Ok(()) => added,
+        Err(error) => Err(error),
+    }
+}
+
+// Adds a journal, which has to be there.
+fn add_journal(alloc: Global, command: &mut Command<'_>) -> Result<(), AllocError>
+    ensures line { OnOk result (app_of command.new ≡ with_rule (app_of command.old) (file_rule true (codes "journal"))) }
     ensures local { OnOk result ((out-Command command.new).has_globals ≡ (out-Command command.old).has_globals) }
 {
-    add_files(alloc, command)?;
+    add_file(alloc, command, "journal", "The journal", true)
+}
+
+// Adds the files of a copy.
+fn add_copy_files(alloc: Global, command: &mut Command<'_>) -> Result<(), AllocError>
+    ensures line { OnOk result (app_of command.new
+        ≡ with_rule (with_rule (app_of command.old) (file_rule true (codes "journal"))) (file_rule true (codes "to"))) }
+    ensures local { OnOk result ((out-Command command.new).has_globals ≡ (out-Command command.old).has_globals) }
+{
+    add_journal(alloc, command)?;
+    add_file(
+        alloc,
+        command,
+        "to",
+        "The copy, at a path where nothing is yet",
+        true,
+    )
+}
+
+// Adds the options of the subcommand that serves clients.
+fn add_options(alloc: Global, command: &mut Command<'_>, needed: bool) -> Result<(), AllocError>
+    ensures line { OnOk result (app_of command.new
+        ≡ with_clients (with_counts (with_rule (with_files needed (app_of command.old)) port_rule))) }
+    ensures local { OnOk result ((out-Command command.new).has_globals ≡ (out-Command command.old).has_globals) }
+{
+    add_files(alloc, command, needed)?;
     add_port(alloc, command)?;
     add_counts(alloc, command)?;
     add_clients(alloc, command)
 }
 
-// Adds the files of the session.
-fn add_files(alloc: Global, command: &mut Command<'_>) -> Result<(), AllocError>
-    ensures line { OnOk result (app_of command.new ≡ with_files (app_of command.old)) }
+// Adds the files of the session, and its journal.
+fn add_files(alloc: Global, command: &mut Command<'_>, needed: bool) -> Result<(), AllocError>
+    ensures line { OnOk result (app_of command.new ≡ with_files needed (app_of command.old)) }
     ensures local { OnOk result ((out-Command command.new).has_globals ≡ (out-Command command.old).has_globals) }
 {
-    add_file(alloc, command, "session", "The session object")?;
-    add_file(alloc, command, "deals", "The deals of the session, in PBN")
+    add_file(alloc, command, "session", "The session object", needed)?;
+    add_file(
+        alloc,
+        command,
+        "deals",
+        "The deals of the session, in PBN",
+        needed,
+    )?;
+    let journal = option(
+        alloc,
+        "journal",
+        "FILE",
+        "The file that keeps the session. Where it has one, the other files aren't needed",
+    );
+    add(alloc, command, journal)
 }
 
 // Adds the numbers that have a default.
@@ -127,17 +199,18 @@ fn add_clients(alloc: Global, command: &mut Command<'_>) -> Result<(), AllocErro
     add(alloc, command, origin)
 }
 
-// Adds an option that has to name a file.
+// Adds an option that names a file, and that may have to be there.
 fn add_file<'a>(
     alloc: Global,
     command: &mut Command<'a>,
     name: &'a str,
     help: &'a str,
+    needed: bool,
 ) -> Result<(), AllocError>
-    ensures line { OnOk result (app_of command.new ≡ with_rule (app_of command.old) (file_rule name.now)) }
+    ensures line { OnOk result (app_of command.new ≡ with_rule (app_of command.old) (file_rule needed name.now)) }
     ensures local { OnOk result ((out-Command command.new).has_globals ≡ (out-Command command.old).has_globals) }
 {
-    let file = option(alloc, name, "FILE", help).required(true);
+    let file = option(alloc, name, "FILE", help).required(needed);
     add(alloc, command, file)
 }
 

@@ -4,6 +4,7 @@
 mod called;
 mod command_line;
 pub mod laws;
+mod options_named;
 mod reading;
 mod statuses;
 mod words;
@@ -11,4 +12,4 @@ mod words;
 pub use called::called_with;
 pub use reading::read_words;
 pub use statuses::status_of_words;
-pub use words::{DISPLAYS_AT_MOST, Serving, Words};
+pub use words::{DISPLAYS_AT_MOST, JournalCopy, Serving, SessionFiles, SessionSource, Words};

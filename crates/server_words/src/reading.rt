@@ -4,10 +4,11 @@ ghost use Rattle.std.specs.Prelude.{MatchResult, ◌≡◌, ◌⊎◌, ℕ, List
 ghost use Rattle.clap.specs.Words.{HasKind, app_of, first_of, found_of, kind_of, rows_of};
 ghost use Rattle.clap.specs.declared.error.kind.ErrorKind.TheVariants.{InvalidValue, OutOfMemory};
 ghost use Rattle.server_words.specs.CommandLine.{needing_one};
-ghost use Rattle.server_words.specs.Words.{AsksFor, AreNumbersGiven, AreNumbersInRange, IsReadFrom, faults_in};
+ghost use Rattle.server_words.specs.Words.{AsksFor, IsReadFrom, IsServingGiven, IsSourceGiven, faults_in};
 
 use crate::command_line::{add_subcommands, plain_line};
-use crate::words::{Serving, Words};
+use crate::options_named::need_files;
+use crate::words::{JournalCopy, Serving, SessionFiles, SessionSource, Words};
 use clap::error::ErrorKind;
 use clap::{ArgMatches, Command, Error};
 use std::alloc::Global;
@@ -58,6 +59,14 @@ fn words_of<'a>(matches: &ArgMatches<'a>) -> Option<Words<'a>>
             Some(serving) => Some(Words::Serve(serving)),
             None => None,
         },
+        Some(("audit", given)) => match text_of(given, "journal") {
+            Some(path) => Some(Words::Audit(path)),
+            None => None,
+        },
+        Some(("copy", given)) => match copy_of(given) {
+            Some(copy) => Some(Words::Copy(copy)),
+            None => None,
+        },
         _ => None,
     }
 }
@@ -72,7 +81,7 @@ fn matches_of<'a>(
     ensures { MatchResult result (IsReadFrom (map string_bytes words.entry.now))
         (HasKind (faults_in (map string_bytes words.entry.now))) }
 {
-    match add_subcommands(alloc, command) {
+    match add_subcommands(alloc, command, need_files(words)) {
         Ok(()) => command.try_get_matches_from_mut(words),
         Err(error) => Err(Error::from(error)),
     }
@@ -80,28 +89,61 @@ fn matches_of<'a>(
 
 // How clients are to be served.
 fn serving_of<'a>(given: &ArgMatches<'a>) -> Option<Serving<'a>>
-    ensures session { IfSome result (λ serving. first_of (codes "session") (rows_of (found_of given.now)) ≡ Some serving.session.now) }
-    ensures deals { IfSome result (λ serving. first_of (codes "deals") (rows_of (found_of given.now)) ≡ Some serving.deals.now) }
-    ensures origin { IfSome result (λ serving.
-        first_of (codes "origin") (rows_of (found_of given.now)) ≡ option_map (λ o. o.now) serving.origin) }
-    ensures range { IfSome result AreNumbersInRange }
-    ensures given { IfSome result (AreNumbersGiven (rows_of (found_of given.now))) }
+    ensures { IfSome result (IsServingGiven (rows_of (found_of given.now))) }
 {
     let serving = Serving {
-        session: given.get_str("session")?,
-        deals: given.get_str("deals")?,
+        source: source_of(given)?,
         port: given.get_one("port")?,
         displays: given.get_one("displays")?,
         workers: given.get_one("workers")?,
         connections: given.get_one("connections")?,
         idle: given.get_one("idle")?,
-        origin: given.get_str("origin"),
+        origin: text_of(given, "origin"),
     };
     if serving.is_in_range() {
         Some(serving)
     } else {
         None
     }
+}
+
+// Which session is to be served.
+fn source_of<'a>(given: &ArgMatches<'a>) -> Option<SessionSource<'a>>
+    ensures { IfSome result (IsSourceGiven (rows_of (found_of given.now))) }
+{
+    match (
+        text_of(given, "journal"),
+        text_of(given, "session"),
+        text_of(given, "deals"),
+    ) {
+        (None, Some(session), Some(deals)) => Some(SessionSource::Files(SessionFiles {
+            session,
+            deals,
+        })),
+        (Some(path), Some(session), Some(deals)) => {
+            Some(SessionSource::Journal(path, Some(SessionFiles { session, deals })))
+        }
+        (Some(path), None, None) => Some(SessionSource::Journal(path, None)),
+        _ => None,
+    }
+}
+
+// Which journal is to be copied, and to where.
+fn copy_of<'a>(given: &ArgMatches<'a>) -> Option<JournalCopy<'a>>
+    ensures journal { IfSome result (λ copy. first_of (codes "journal") (rows_of (found_of given.now)) ≡ Some copy.journal.now) }
+    ensures to { IfSome result (λ copy. first_of (codes "to") (rows_of (found_of given.now)) ≡ Some copy.to.now) }
+{
+    Some(JournalCopy {
+        journal: text_of(given, "journal")?,
+        to: text_of(given, "to")?,
+    })
+}
+
+// The text of an option, if it is there.
+fn text_of<'a>(given: &ArgMatches<'a>, name: &str) -> Option<&'a str>
+    ensures { first_of name.now (rows_of (found_of given.now)) ≡ option_map (λ text. text.now) result }
+{
+    given.get_str(name)
 }
 
 // What is said of a value out of its range. `clap` takes no such words: each option has a value, which is in its range.

@@ -20,15 +20,44 @@ pub enum Words<'a> {
     Script,
     /// To serve clients over WebSockets.
     Serve(Serving<'a>),
+    /// To tell the audit of the journal at this path.
+    Audit(&'a str),
+    /// To copy a journal.
+    Copy(JournalCopy<'a>),
+}
+
+/// The paths of the files of a session.
+#[derive(Clone, Copy, PartialEq)]
+pub struct SessionFiles<'a> {
+    /// That of the session object.
+    pub session: &'a str,
+    /// That of the deals.
+    pub deals: &'a str,
+}
+
+/// Which session is served.
+#[derive(Clone, Copy, PartialEq)]
+pub enum SessionSource<'a> {
+    /// That of files, which nobody keeps.
+    Files(SessionFiles<'a>),
+    /// That of the journal at this path, which keeps it. If there are files too, it is theirs.
+    Journal(&'a str, Option<SessionFiles<'a>>),
+}
+
+/// Paths of a journal.
+#[derive(Clone, Copy, PartialEq)]
+pub struct JournalCopy<'a> {
+    /// That of the journal.
+    pub journal: &'a str,
+    /// That of the copy.
+    pub to: &'a str,
 }
 
 /// How clients are served.
 #[derive(Clone, Copy, PartialEq)]
 pub struct Serving<'a> {
-    /// The path of the file with the session object.
-    pub session: &'a str,
-    /// The path of the file with the deals.
-    pub deals: &'a str,
+    /// Which session is served.
+    pub source: SessionSource<'a>,
     /// The port on 127.0.0.1, from 1.
     pub port: u16,
     /// How many displays there are, 1 to 32.

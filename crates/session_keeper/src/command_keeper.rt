@@ -1,32 +1,40 @@
 //! Who keeps a session, as commands see it.
 
-ghost use Rattle.std.specs.Prelude.{◌≡◌, ◌≤◌, length, IfOk, OnErr};
+ghost use Rattle.std.specs.Prelude.{◌≢◌, ◌≤◌, length, IfOk, IfErr, OnErr};
 ghost use Rattle.session_commands.specs.declared.command.Command.TheVariants.{Solved, Analysed};
 ghost use Rattle.session_book.specs.Journal.{IsAccepted};
 ghost use Rattle.session_book.specs.Run.{most_commands};
 ghost use Rattle.session_keeper.specs.Keeping.{GoesOn, RanOnce, TriedOnce, IsAuditOf};
+ghost use Rattle.session_keeper.specs.declared.submit_fault.SubmitFault.TheVariants.{OutOfMemory};
 
 use crate::keeper::Keeper;
 use crate::receipt::{AuditReceipt, BatchReceipt};
+use crate::submit_fault::SubmitFault;
 use movement::Cell;
 use session_book::Answer;
 use session_commands::Command;
 use solver_results::{DdTable, PlayCosts};
-use std::alloc::AllocError;
 use user_names::Name;
 
 /// A keeper that takes commands. `H` is what it waits by: a handle of the runtime, where it may wait for others who
 /// submit, and anything, where it waits for nobody.
 pub trait CommandKeeper<H>: Keeper {
-    /// Tries the commands of a user, one after another. Where memory is refused for the answers, none is tried.
-    fn submit(&mut self, rt: &H, actor: Name, batch: &[Command]) -> Result<BatchReceipt, AllocError>
+    /// Tries the commands of a user, one after another. Where memory is refused for the answers, or the batch isn't kept,
+    /// nothing of it joins the journal.
+    fn submit(
+        &mut self,
+        rt: &H,
+        actor: Name,
+        batch: &[Command],
+    ) -> Result<BatchReceipt, SubmitFault>
         requires { length batch.now ≤ most_commands }
         ensures later { GoesOn (Self.opening self.old) (Self.journal self.old)
             (Self.opening self.new) (Self.journal self.new) }
         ensures accepted { IsAccepted (Self.opening self.new) (Self.journal self.new) }
         ensures receipt { IfOk result (λ receipt. RanOnce Self.others (Self.opening self.new) (Self.journal self.old)
             actor batch.now receipt (Self.journal self.new)) }
-        ensures untried { OnErr result (Self.others (Self.journal self.old) (Self.journal self.new)) };
+        ensures untried { OnErr result (Self.others (Self.journal self.old) (Self.journal self.new)) }
+        ensures not_kept { IfErr result (λ why. why ≢ OutOfMemory → Self.not_kept) };
 
     /// Tries what the solver found of a board.
     fn submit_solved(&mut self, rt: &H, board: u8, table: DdTable) -> Answer

@@ -29,6 +29,9 @@ pub trait Keeper: Drop {
     // What it takes for no version to be entered; where that never happens nothing does.
     ghost no_entry: { Type 0 };
 
+    // What it takes for a batch not to be kept; where that never happens nothing does.
+    ghost not_kept: { Type 0 };
+
     /// The edition of the policy that the session is of. It is told whatever the keeper does otherwise.
     fn edition(&self) -> Edition
         ensures { result ≡ (opening self.now).public.edition };

@@ -6,8 +6,10 @@ mod command_keeper;
 mod keeper;
 mod plain_keeper;
 mod receipt;
+mod submit_fault;
 
 pub use command_keeper::CommandKeeper;
 pub use keeper::Keeper;
 pub use plain_keeper::PlainKeeper;
 pub use receipt::{AuditReceipt, BatchReceipt};
+pub use submit_fault::SubmitFault;

@@ -9,6 +9,7 @@ ghost use Rattle.session_keeper.specs.PlainKeeping.{IsBehind};
 use crate::command_keeper::CommandKeeper;
 use crate::keeper::Keeper;
 use crate::receipt::{AuditReceipt, BatchReceipt};
+use crate::submit_fault::SubmitFault;
 use movement::Cell;
 use published_view::{NoEntry, QueryFault, View};
 use session_book::{Answer, Book};
@@ -73,6 +74,8 @@ impl Keeper for PlainKeeper {
 
     ghost no_entry = { ⊥ };
 
+    ghost not_kept = { ⊥ };
+
     fn edition(&self) -> Edition {
         self.book.edition()
     }
@@ -101,8 +104,10 @@ impl<H> CommandKeeper<H> for PlainKeeper {
         _rt: &H,
         actor: Name,
         batch: &[Command],
-    ) -> Result<BatchReceipt, AllocError> {
-        let submission = self.book.submit(actor, batch)?;
+    ) -> Result<BatchReceipt, SubmitFault> {
+        let Ok(submission) = self.book.submit(actor, batch) else {
+            return Err(SubmitFault::OutOfMemory);
+        };
         absorb_new(&mut self.view, &self.book);
         Ok(BatchReceipt {
             submission,

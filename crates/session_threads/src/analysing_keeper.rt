@@ -3,31 +3,32 @@
 use crate::job_queue::JobQueue;
 use desks::DeskKeeper;
 use displays::Server;
+use entry_store::EntryStore;
 use movement::Cell;
 use published_view::{NoEntry, QueryFault};
 use session_book::Answer;
 use session_commands::Command;
-use session_keeper::{AuditReceipt, BatchReceipt, CommandKeeper, Keeper};
+use session_keeper::{AuditReceipt, BatchReceipt, CommandKeeper, Keeper, SubmitFault};
 use session_queries::{Query, Reply};
 use session_roles::Edition;
 use solver_results::{DdTable, PlayCosts};
-use std::alloc::{AllocError, Global};
+use std::alloc::Global;
 use std::sync::Wait;
 use user_names::{Digest, Name};
 
 /// A desk and a display that keep a session, and the queue of jobs, if anybody solves: what a confirmed or a corrected
 /// result leaves to find is queued before the batch is answered.
 #[derive(Drop)]
-pub(crate) struct AnalysingKeeper<'a, N: Server> {
-    keeper: DeskKeeper<'a, N>,
+pub(crate) struct AnalysingKeeper<'a, N: Server, K: EntryStore> {
+    keeper: DeskKeeper<'a, N, K>,
     queue: Option<JobQueue<'a>>,
 }
 
-impl<'a, N: Server> AnalysingKeeper<'a, N> {
+impl<'a, N: Server, K: EntryStore> AnalysingKeeper<'a, N, K> {
     pub(crate) fn new(
-        keeper: DeskKeeper<'a, N>,
+        keeper: DeskKeeper<'a, N, K>,
         queue: Option<JobQueue<'a>>,
-    ) -> AnalysingKeeper<'a, N> {
+    ) -> AnalysingKeeper<'a, N, K> {
         AnalysingKeeper { keeper, queue }
     }
 
@@ -59,7 +60,7 @@ impl<'a, N: Server> AnalysingKeeper<'a, N> {
     }
 }
 
-impl<'a, N: Server> Keeper for AnalysingKeeper<'a, N> {
+impl<'a, N: Server, K: EntryStore> Keeper for AnalysingKeeper<'a, N, K> {
     ghost use mathlib.Core.List.{IsPrefix};
     ghost use Rattle.history.specs.Prefixes.{entries_of};
 
@@ -70,6 +71,8 @@ impl<'a, N: Server> Keeper for AnalysingKeeper<'a, N> {
     ghost others = { λ before after. IsPrefix before after };
 
     ghost no_entry = { Unit {0} };
+
+    ghost not_kept = { K.fails };
 
     fn edition(&self) -> Edition {
         self.keeper.edition()
@@ -90,13 +93,13 @@ impl<'a, N: Server> Keeper for AnalysingKeeper<'a, N> {
     }
 }
 
-impl<'a, N: Server, R: Wait> CommandKeeper<R> for AnalysingKeeper<'a, N> {
+impl<'a, N: Server, K: EntryStore, R: Wait> CommandKeeper<R> for AnalysingKeeper<'a, N, K> {
     fn submit(
         &mut self,
         rt: &R,
         actor: Name,
         batch: &[Command],
-    ) -> Result<BatchReceipt, AllocError> {
+    ) -> Result<BatchReceipt, SubmitFault> {
         let receipt = self.keeper.submit(rt, actor, batch)?;
         self.analyse(rt, batch, receipt.submission.answers.as_slice());
         Ok(receipt)

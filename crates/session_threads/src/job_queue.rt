@@ -1,7 +1,10 @@
 //! The jobs of a session, on their way to the workers.
 
 use crossbeam_channel::Sender;
+use desks::work_of;
+use movement::Cell;
 use session_book::Book;
+use session_state::State;
 use solver_pool::{Done, Job, Pool, Work};
 use std::alloc::AllocError;
 use std::sync::{Mutex, Wait};
@@ -39,13 +42,37 @@ impl<'a> JobQueue<'a> {
         }
     }
 
-    /// Gives the workers each board's table to find, in the order of the boards.
-    pub(crate) fn add_tables<R: Wait>(&self, rt: &R, book: &Book) {
+    /// Gives the workers what is left to find in a session: each board's table, in the order of the boards, and then what
+    /// the cards cost that were played at a cell.
+    pub fn add_left<R: Wait>(&self, rt: &R, book: &Book) {
         let state = book.state();
+        self.add_tables(rt, state);
+        for table in 0..state.public().movement.tables() {
+            self.add_costs(rt, state, table + 1);
+        }
+    }
+
+    // Gives the workers the tables that are left to find.
+    fn add_tables<R: Wait>(&self, rt: &R, state: &State) {
         for before in 0..state.public().movement.boards() {
             let board = before + 1;
-            let deal = state.deal(board);
-            self.add(rt, Work::Table { board, deal });
+            if state.table(board).is_none() {
+                let deal = state.deal(board);
+                self.add(rt, Work::Table { board, deal });
+            }
+        }
+    }
+
+    // Gives the workers the costs that are left to find at a table.
+    fn add_costs<R: Wait>(&self, rt: &R, state: &State, table: u8) {
+        for before in 0..state.public().movement.boards() {
+            let cell = Cell {
+                table,
+                board: before + 1,
+            };
+            if let Some(work) = work_of(state, cell) {
+                self.add(rt, work);
+            }
         }
     }
 }

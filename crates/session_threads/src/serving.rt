@@ -1,16 +1,22 @@
 //! Serving a session in threads, from its book to the end of the last of them.
 
-ghost use Rattle.std.specs.Prelude.{◌≡◌, []};
+ghost use Rattle.std.specs.Prelude.{◌≡◌, List, [], map, IfOk};
+ghost use Rattle.session_commands.specs.declared.entry.Entry.{Entry};
+ghost use Rattle.displays.specs.Copies.{IsPublished};
+ghost use Rattle.displays.specs.Publishing.{nothing_outgoing};
+ghost use Rattle.desks.specs.Kept.{IsKeptBy, LeavesJust};
 
 use crate::job_queue::JobQueue;
 use crate::tasks::{CloseQueue, Collect, ServeClients, Solve};
 use crossbeam_channel::{Receiver, Sender, unbounded};
-use desks::Shared;
-use displays::{Display, OpenError, Server, open_displays};
+use desks::{ReentryFault, Shared, reenter_all};
+use displays::{Display, OpenError, Publisher, Server, open_displays};
+use entry_store::EntryStore;
 use history::History;
 use published_view::View;
 use service_threads::run_tasks;
 use session_book::Book;
+use session_commands::Entry;
 use solver_pool::{Done, Job, Pool};
 use std::alloc::{AllocError, Global};
 use std::fmt;
@@ -49,6 +55,8 @@ pub enum ServingError {
     OutOfMemory,
     /// There is no place for a display.
     NoPlace,
+    /// The entry of this number, from 1, isn't accepted where it stands among those that the store keeps.
+    NotAccepted(u32),
     /// Nothing can listen at the port.
     NotListening,
     /// No thread could be started for any display.
@@ -62,43 +70,52 @@ impl fmt::Display for ServingError {
     }
 }
 
-/// Serves a session in which nothing is entered yet, until each display has served its connections.
-pub fn serve_book<R: Threads + Wait + Clock + Net + Sync>(
+/// Serves a session, until each display has served its connections, and gives back its store. The book has nothing entered
+/// yet: the publications that the store keeps are entered first, each as one, and nothing listens before.
+pub fn serve_book<R: Threads + Wait + Clock + Net + Sync, K: EntryStore + Send>(
     rt: &R,
     alloc: Global,
     book: Book,
     plan: ServingPlan<'_>,
-) -> Result<(), ServingError>
+    store: K,
+    publications: Vec<Vec<Entry>>,
+) -> Result<K, ServingError>
 where
     R::Listener: Sync,
     R::Stream: Send,
-    requires { book.journal ≡ [] }
+    requires journal { book.journal ≡ [] }
+    requires kept { LeavesJust (map (λ publication. publication.items) publications.items) (K.doubt store) (K.leaves store) }
+    ensures kept { IfOk result (λ after. (published : List (List Entry)) × IsPublished book.opening published
+        × IsKeptBy book.opening published (K.doubt after) (K.is_open after) (K.leaves after)) }
 {
     let history = History::new();
-    serve_named::<Brand, R>(rt, alloc, book, history, plan)
+    serve_named::<Brand, R, K>(rt, alloc, book, history, plan, store, publications)
 }
 
 // Serves a session under a server's name.
-fn serve_named<N: Server + Send + Sync, R: Threads + Wait + Clock + Net + Sync>(
+fn serve_named<
+    N: Server + Send + Sync,
+    R: Threads + Wait + Clock + Net + Sync,
+    K: EntryStore + Send,
+>(
     rt: &R,
     alloc: Global,
     book: Book,
     history: History,
     plan: ServingPlan<'_>,
-) -> Result<(), ServingError>
+    store: K,
+    publications: Vec<Vec<Entry>>,
+) -> Result<K, ServingError>
 where
     R::Listener: Sync,
     R::Stream: Send,
     requires journal { book.journal ≡ [] }
     requires opening { book.opening ≡ N.opening }
     requires history { history ≡ N.history }
+    requires kept { LeavesJust (map (λ publication. publication.items) publications.items) (K.doubt store) (K.leaves store) }
+    ensures kept { IfOk result (λ after. (published : List (List Entry)) × IsPublished N.opening published
+        × IsKeptBy N.opening published (K.doubt after) (K.is_open after) (K.leaves after)) }
 {
-    let Ok(first) = View::open(alloc, &book) else {
-        return Err(ServingError::OutOfMemory);
-    };
-    let Ok(second) = View::open(alloc, &book) else {
-        return Err(ServingError::OutOfMemory);
-    };
     let (Ok(pool), Ok((to_workers, jobs)), Ok((from_workers, results))) = (
         Pool::new(alloc),
         unbounded::<Job, Global>(alloc),
@@ -106,38 +123,109 @@ where
     ) else {
         return Err(ServingError::OutOfMemory);
     };
+    let (publisher, displays) = open_views::<N, R>(rt, alloc, &book, history, plan.displays)?;
     let pool = Mutex::new(pool);
     let queue = JobQueue::new(&pool, to_workers);
-    if plan.workers > 0 {
-        queue.add_tables(rt, &book);
+    let shared = share::<N, R, K>(
+        rt,
+        alloc,
+        book,
+        publisher,
+        store,
+        publications,
+        &queue,
+        plan.workers,
+    )?;
+    let served = serve_shared(
+        rt,
+        alloc,
+        &shared,
+        displays,
+        queue,
+        &jobs,
+        from_workers,
+        results,
+        plan,
+    );
+    let store = shared.close(rt);
+    match served {
+        Ok(()) => Ok(store),
+        Err(error) => Err(error),
     }
-    match open_displays::<N, R>(rt, alloc, history, first, second, plan.displays as usize) {
-        Ok((publisher, displays)) => {
-            let shared = Shared::new(alloc, book, publisher);
-            let served = serve_shared(
-                rt,
-                alloc,
-                &shared,
-                displays,
-                queue,
-                &jobs,
-                from_workers,
-                results,
-                plan,
-            );
-            shared.close(rt);
-            served
-        }
+}
+
+// The publisher of a book in which nothing is entered yet, and so many displays.
+fn open_views<N: Server, R: Wait>(
+    rt: &R,
+    alloc: Global,
+    book: &Book,
+    history: History,
+    displays: u8,
+) -> Result<(Publisher<N>, Vec<Display<N>>), ServingError>
+    requires journal { book.now.journal ≡ [] }
+    requires opening { book.now.opening ≡ N.opening }
+    requires history { history ≡ N.history }
+    ensures { IfOk result (λ t. t.0 ≡ nothing_outgoing) }
+{
+    let (Ok(first), Ok(second)) = (View::open(alloc, book), View::open(alloc, book)) else {
+        return Err(ServingError::OutOfMemory);
+    };
+    match open_displays::<N, R>(rt, alloc, history, first, second, displays as usize) {
+        Ok(opened) => Ok(opened),
         Err(OpenError::NoPlace) => Err(ServingError::NoPlace),
         Err(OpenError::OutOfMemory) => Err(ServingError::OutOfMemory),
     }
 }
 
-// Serves a session that threads share.
-fn serve_shared<N: Server + Send + Sync, R: Threads + Wait + Clock + Net + Sync>(
+// Enters what a store keeps, and puts all of it under a lock. What is left to find is queued, if there are workers.
+fn share<N: Server, R: Wait, K: EntryStore>(
     rt: &R,
     alloc: Global,
-    shared: &Shared<N>,
+    mut book: Book,
+    mut publisher: Publisher<N>,
+    store: K,
+    publications: Vec<Vec<Entry>>,
+    queue: &JobQueue<'_>,
+    workers: u8,
+) -> Result<Shared<N, K>, ServingError>
+    requires journal { book.journal ≡ [] }
+    requires opening { book.opening ≡ N.opening }
+    requires publisher { publisher ≡ nothing_outgoing }
+    requires kept { LeavesJust (map (λ publication. publication.items) publications.items) (K.doubt store) (K.leaves store) }
+{
+    match reenter_all(rt, &mut book, &mut publisher, publications.as_slice()) {
+        Ok(()) => {
+            if workers > 0 {
+                queue.add_left(rt, &book);
+            }
+            Ok(Shared::new(alloc, book, publisher, store))
+        }
+        Err((number, fault)) => {
+            publisher.close(rt);
+            Err(not_reentered(number, fault))
+        }
+    }
+}
+
+// Why nothing is served where an entry isn't entered again.
+fn not_reentered(number: usize, fault: ReentryFault) -> ServingError {
+    match fault {
+        ReentryFault::OutOfMemory => ServingError::OutOfMemory,
+        ReentryFault::Refused(_) | ReentryFault::Empty => {
+            ServingError::NotAccepted(u32::try_from(number).unwrap_or(u32::MAX))
+        }
+    }
+}
+
+// Serves a session that threads share.
+fn serve_shared<
+    N: Server + Send + Sync,
+    R: Threads + Wait + Clock + Net + Sync,
+    K: EntryStore + Send,
+>(
+    rt: &R,
+    alloc: Global,
+    shared: &Shared<N, K>,
     displays: Vec<Display<N>>,
     queue: JobQueue<'_>,
     jobs: &Receiver<Job>,
@@ -191,14 +279,14 @@ fn solvers<'a>(
 }
 
 // What the displays' threads do.
-fn servers<'a, N: Server, L: OpenListener>(
+fn servers<'a, N: Server, K: EntryStore, L: OpenListener>(
     alloc: Global,
     listener: &'a L,
-    shared: &'a Shared<N>,
+    shared: &'a Shared<N, K>,
     displays: Vec<Display<N>>,
     queue: &JobQueue<'a>,
     plan: ServingPlan<'a>,
-) -> Result<Vec<ServeClients<'a, N, L>>, AllocError> {
+) -> Result<Vec<ServeClients<'a, N, K, L>>, AllocError> {
     let mut servers = Vec::with_capacity(alloc, displays.len())?;
     for display in displays {
         let queue = if plan.workers > 0 {

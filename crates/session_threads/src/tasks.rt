@@ -6,6 +6,7 @@ use crate::session_server::SessionServer;
 use crossbeam_channel::{Receiver, Sender};
 use desks::{Desk, DeskKeeper};
 use displays::{Display, Server};
+use entry_store::EntryStore;
 use service_threads::Task;
 use solver_pool::{Done, Found, Job, OpenGate, Pool, Work, run_worker};
 use solver_results::{DdTable, PlayCosts};
@@ -18,17 +19,17 @@ use websocket_server::{ClientTerms, serve_clients, serve_forever};
 
 /// Serves the clients of a listener, one after another, by one display: so many, or with 0 all that come.
 #[derive(Drop)]
-pub(crate) struct ServeClients<'a, N: Server, L: OpenListener> {
+pub(crate) struct ServeClients<'a, N: Server, K: EntryStore, L: OpenListener> {
     pub(crate) alloc: Global,
     pub(crate) listener: &'a L,
-    pub(crate) desk: Desk<'a, N>,
+    pub(crate) desk: Desk<'a, N, K>,
     pub(crate) display: Display<N>,
     pub(crate) queue: Option<JobQueue<'a>>,
     pub(crate) connections: u32,
     pub(crate) terms: ClientTerms<'a>,
 }
 
-impl<'a, N: Server, L: OpenListener> Task for ServeClients<'a, N, L>
+impl<'a, N: Server, K: EntryStore, L: OpenListener> Task for ServeClients<'a, N, K, L>
 where
     L::Stream: Read + Write + OpenStream,
 {
@@ -77,13 +78,13 @@ impl<'a> Task for Solve<'a> {
 /// Enters what the workers find. What was found before, or within too few visits or too little memory, is dropped, and so
 /// is what the book refuses.
 #[derive(Drop)]
-pub(crate) struct Collect<'a, N: Server> {
-    pub(crate) desk: Desk<'a, N>,
+pub(crate) struct Collect<'a, N: Server, K: EntryStore> {
+    pub(crate) desk: Desk<'a, N, K>,
     pub(crate) pool: &'a Mutex<Pool>,
     pub(crate) results: Receiver<Done>,
 }
 
-impl<'a, N: Server> Task for Collect<'a, N> {
+impl<'a, N: Server, K: EntryStore> Task for Collect<'a, N, K> {
     fn run<R: Wait + Clock>(self, rt: &R) {
         let Collect {
             desk,
@@ -102,7 +103,7 @@ impl<'a, N: Server> Task for Collect<'a, N> {
 }
 
 // Enters what was found of a job, if anything was.
-fn enter<N: Server, R: Wait>(rt: &R, desk: &Desk<'_, N>, done: &Done) {
+fn enter<N: Server, K: EntryStore, R: Wait>(rt: &R, desk: &Desk<'_, N, K>, done: &Done) {
     match done.found() {
         Found::Table(table) => enter_table(rt, desk, done.job().work, *table),
         Found::Costs(costs) => enter_costs(rt, desk, done.job().work, *costs),
@@ -110,13 +111,23 @@ fn enter<N: Server, R: Wait>(rt: &R, desk: &Desk<'_, N>, done: &Done) {
     }
 }
 
-fn enter_table<N: Server, R: Wait>(rt: &R, desk: &Desk<'_, N>, work: Work, table: DdTable) {
+fn enter_table<N: Server, K: EntryStore, R: Wait>(
+    rt: &R,
+    desk: &Desk<'_, N, K>,
+    work: Work,
+    table: DdTable,
+) {
     if let Work::Table { board, .. } = work {
         let _told = desk.submit_solved(rt, board, table);
     }
 }
 
-fn enter_costs<N: Server, R: Wait>(rt: &R, desk: &Desk<'_, N>, work: Work, costs: PlayCosts) {
+fn enter_costs<N: Server, K: EntryStore, R: Wait>(
+    rt: &R,
+    desk: &Desk<'_, N, K>,
+    work: Work,
+    costs: PlayCosts,
+) {
     if let Work::Costs { cell, .. } = work {
         let _told = desk.submit_analysed(rt, cell, costs);
     }

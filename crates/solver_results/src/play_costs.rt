@@ -1,4 +1,4 @@
-ghost use Rattle.std.specs.Prelude.{◌≡◌};
+ghost use Rattle.std.specs.Prelude.{◌≡◌, ◌≤◌, length};
 ghost use Rattle.solver_results.specs.PlayAnswer.{answer_for_play};
 
 use crate::play_answer::PlayAnswer;
@@ -61,7 +61,8 @@ impl PlayCosts {
 
     /// The cards that were played.
     pub fn play(&self) -> &[Card]
-        ensures { result.now ≡ self.now.play }
+        ensures cards { result.now ≡ self.now.play }
+        ensures short { length result.now ≤ 52 }
     {
         self.play.as_slice()
     }

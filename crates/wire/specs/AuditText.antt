@@ -81,6 +81,10 @@ audit_row_data row =
     ∷ string (target_text row.target)
     ∷ []))
 
+-- a row as it is written by itself
+unfoldable pub audit_row_text : AuditRow → List ℕ
+audit_row_text row = compact_text (audit_row_data row)
+
 -- the rows, at a version
 abbrev pub audit_data : List AuditRow → ℕ → Data
 audit_data rows version =

@@ -119,6 +119,8 @@ abbrev pub connection_fault_name : ConnectionFault → List ℕ
 connection_fault_name connection.NotSignedIn = codes "NotSignedIn"
 connection_fault_name connection.NotKnown = codes "NotKnown"
 connection_fault_name connection.NoEntry = codes "NoEntry"
+connection_fault_name connection.NotKept = codes "NotKept"
+connection_fault_name connection.Unsure = codes "Unsure"
 connection_fault_name connection.OutOfMemory = codes "OutOfMemory"
 
 -- and how it is written

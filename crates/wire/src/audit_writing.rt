@@ -3,7 +3,7 @@
 ghost use Rattle.std.specs.Prelude.{◌≡◌, map, IfOk, string_bytes};
 ghost use Rattle.serde_json.specs.Data.{array};
 ghost use Rattle.serde_json.specs.View.{view, items_of};
-ghost use Rattle.wire.specs.AuditText.{actor_data, word_text, target_text, audit_row_data, audit_data, audit_text, refusal_data, audit_refusal_text};
+ghost use Rattle.wire.specs.AuditText.{actor_data, word_text, target_text, audit_row_data, audit_row_text, audit_data, audit_text, refusal_data, audit_refusal_text};
 
 use json_fields::{ArrayWriter, ObjectWriter, array_value, string_value};
 use serde_json::{Value, push};
@@ -16,6 +16,14 @@ pub fn audit_text(alloc: Global, rows: &AuditRows, version: usize) -> Result<Str
     ensures { IfOk result (λ text. string_bytes text ≡ audit_text rows.now version) }
 {
     let value = audit_value(alloc, rows, version)?;
+    value.to_string(alloc)
+}
+
+/// The text of one row of an audit.
+pub fn audit_row_text(alloc: Global, row: &AuditRow) -> Result<String, AllocError>
+    ensures { IfOk result (λ text. string_bytes text ≡ audit_row_text row.now) }
+{
+    let value = row_value(alloc, row)?;
     value.to_string(alloc)
 }
 

@@ -10,6 +10,10 @@ pub enum ConnectionFault {
     NotKnown,
     /// No published version could be entered.
     NoEntry,
+    /// A batch isn't kept: nothing of it is there, nor will be.
+    NotKept,
+    /// Whether a batch is kept isn't known: the next start may find all of it or nothing.
+    Unsure,
     /// Memory was refused.
     OutOfMemory,
 }

@@ -43,6 +43,8 @@ pub fn connection_fault_text(fault: ConnectionFault) -> &'static str
         ConnectionFault::NotSignedIn => "{\"error\":\"NotSignedIn\"}",
         ConnectionFault::NotKnown => "{\"error\":\"NotKnown\"}",
         ConnectionFault::NoEntry => "{\"error\":\"NoEntry\"}",
+        ConnectionFault::NotKept => "{\"error\":\"NotKept\"}",
+        ConnectionFault::Unsure => "{\"error\":\"Unsure\"}",
         ConnectionFault::OutOfMemory => "{\"error\":\"OutOfMemory\"}",
     }
 }

@@ -19,7 +19,7 @@ mod source;
 mod token;
 
 pub use audit_range::AuditRange;
-pub use audit_writing::{audit_refusal_text, audit_text};
+pub use audit_writing::{audit_refusal_text, audit_row_text, audit_text};
 pub use connection_fault::ConnectionFault;
 pub use fault_writing::{connection_fault_text, fault_line, fault_text};
 pub use reading::{MOST_MESSAGE_BYTES, read_connection_request, read_request, read_script_request};

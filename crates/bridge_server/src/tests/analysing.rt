@@ -3,7 +3,7 @@
 use super::client::Turn::{Says, Sends, ShakesHands};
 use super::client::{Turn, connect, is_answered, is_ended, is_told};
 use super::running::ends;
-use super::serving::port_and_line;
+use super::serving::{UNKEPT, port_and_line};
 use std::io::{Read, Write};
 use std::net::Net;
 use std::test::Fail;
@@ -65,7 +65,12 @@ fn shows_what_a_worker_finds(rt: HostRuntime) -> Result<(), Fail> {
     let (port, line) = port_and_line(&rt, WORDS)?;
     let server_rt = rt.clone()?;
     let server = thread::spawn(&rt, move || {
-        ends(&server_rt, line.as_str(), &mut io::empty(), &(0, "", ""))
+        ends(
+            &server_rt,
+            line.as_str(),
+            &mut io::empty(),
+            &(0, "", UNKEPT),
+        )
     })?;
     assert!(rt; is_analysed(&rt, port));
     assert!(rt; server.join(&rt));

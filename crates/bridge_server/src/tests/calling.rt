@@ -4,6 +4,7 @@ use super::devices::FailingWriter;
 use super::running::{Ending, ends, status_of};
 use super::session::{script_of, session, session_alone};
 use crate::calling::run_program;
+use journal_store::JournalFiles;
 use std::io::{self, ErrorKind};
 use std::net::Net;
 use std::rt::Files;
@@ -32,6 +33,24 @@ const SERVE_HELP: Ending = (
     "Serves clients over WebSockets on 127.0.0.1\n\nUsage: bridge_server serve",
     "",
 );
+
+const AUDIT_HELP: Ending = (
+    0,
+    "TellsLine the audit of a journal, a line for each entry\n\nUsage: bridge_server audit",
+    "",
+);
+
+const COPY_HELP: Ending = (
+    0,
+    "Copies a journal that no server has open\n\nUsage: bridge_server copy",
+    "",
+);
+
+// There is no journal.
+const NO_JOURNAL: Ending = (1, "", "bridge_server: NotAJournal\n");
+
+// A journal can't be read.
+const UNREAD_JOURNAL: Ending = (3, "", "bridge_server: JournalUnread\n");
 
 const MALFORMED: Ending = (1, "", "bridge_server: Malformed\n");
 
@@ -63,6 +82,30 @@ static WORDS: &[(&str, Ending)] = &[
     ("serve --session s --deals d", MISSING),
     ("serve --session s --port 1", MISSING),
     ("serve --deals d --port 1", MISSING),
+    // A journal is named, and one file alone; or no port.
+    ("serve --journal j --session s --port 1", MISSING),
+    ("serve --journal j --deals d --port 1", MISSING),
+    ("serve --journal j", MISSING),
+    ("audit", MISSING),
+    ("copy --journal j", MISSING),
+    ("copy --to k", MISSING),
+    (
+        "serve --journal j --journal k --port 1",
+        (2, "", "error: the argument '--journal"),
+    ),
+    (
+        "serve --port 1 --journal",
+        (2, "", "error: a value is required for '--journal"),
+    ),
+    // A value isn't an option that is named.
+    (
+        "serve --session=--journal --port 1",
+        (2, "", "error: the following required arguments were"),
+    ),
+    (
+        "audit --journal j --to k",
+        (2, "", "error: unexpected argument '--to'"),
+    ),
     ("serve --session s --deals d --port 0", BAD_VALUE),
     ("serve --session s --deals d --port 65536", BAD_VALUE),
     ("serve --session s --deals d --port ws", BAD_VALUE),
@@ -122,6 +165,9 @@ static WORDS: &[(&str, Ending)] = &[
     ("serve --help", SERVE_HELP),
     ("serve -h", SERVE_HELP),
     ("script -h", SCRIPT_HELP),
+    ("serve --journal j -h", SERVE_HELP),
+    ("audit -h", AUDIT_HELP),
+    ("copy -h", COPY_HELP),
     // There is no such file, or it is a folder, or too long. Both files are read before either is judged.
     ("serve --session /nothing --deals /nothing --port 1", FAULT),
     ("serve --session / --deals /dev/null --port 1", FAULT),
@@ -134,6 +180,21 @@ static WORDS: &[(&str, Ending)] = &[
         "serve --session /dev/null --deals /dev/null --port 1",
         MALFORMED,
     ),
+    // The files are read and judged before the journal is opened.
+    (
+        "serve --session /dev/null --deals /nothing --journal / --port 1",
+        FAULT,
+    ),
+    (
+        "serve --session /dev/null --deals /dev/null --journal / --port 1",
+        MALFORMED,
+    ),
+    ("serve --journal /nothing --port 1", NO_JOURNAL),
+    ("serve --journal / --port 1", UNREAD_JOURNAL),
+    ("audit --journal /nothing", NO_JOURNAL),
+    ("audit --journal /", UNREAD_JOURNAL),
+    ("copy --journal /nothing --to /nothing", NO_JOURNAL),
+    ("copy --journal / --to /nothing", UNREAD_JOURNAL),
 ];
 
 #[test]
@@ -179,7 +240,7 @@ static NO_SESSIONS: &[(&str, Ending)] = &[
 ];
 
 // Whether a row's script ends so.
-fn script_ends<R: Files + Net + Clock + Wait + Threads + AllocGlobal + Sync>(
+fn script_ends<R: Files + Net + Clock + Wait + Threads + JournalFiles + AllocGlobal + Sync>(
     rt: &R,
     (length, rest, ending): &(usize, &str, Ending),
 ) -> bool
@@ -216,7 +277,7 @@ fn ends_by_its_script(rt: HostRuntime) {
 
 // Whether a word, which leaves its script alone, ends so over writers that fail after seven bytes: the status, and
 // how much is written and said.
-fn ends_in_little_room<R: Files + Net + Clock + Wait + Threads + AllocGlobal + Sync>(
+fn ends_in_little_room<R: Files + Net + Clock + Wait + Threads + JournalFiles + AllocGlobal + Sync>(
     rt: &R,
     word: &str,
     (status, written, said): (u8, usize, usize),

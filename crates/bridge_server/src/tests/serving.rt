@@ -5,6 +5,7 @@ use super::client::{Client, Turn, is_served};
 use super::running::{Ending, ends};
 use super::session::{deals, session, session_alone};
 use crate::files::MOST_FILE_BYTES;
+use journal_store::JournalFiles;
 use std::alloc::{AllocError, Global};
 use std::net::{Ipv4Addr, Net, OpenListener, TcpListener};
 use std::rt::Files;
@@ -158,6 +159,10 @@ fn write_files<R: Files>(rt: &R) -> io::Result<()> {
     Ok(())
 }
 
+/// What is told where what is served is kept nowhere.
+pub(super) const UNKEPT: &str =
+    "bridge_server: without --journal nothing is kept when the server ends\n";
+
 // Words by which nobody is served where another listens at the port, and how they end.
 static ENDINGS: &[(&str, Ending)] = &[
     ("serve --session out/session --deals /nothing", (3, "", "")),
@@ -173,7 +178,32 @@ static ENDINGS: &[(&str, Ending)] = &[
         "serve --session out/with_deals --deals out/deals",
         (1, "", "bridge_server: BadField\n"),
     ),
-    ("serve --session out/session --deals out/deals", (3, "", "")),
+    (
+        "serve --session out/session --deals out/deals",
+        (3, "", UNKEPT),
+    ),
+    // A journal is made, or one is damaged.
+    (
+        "serve --session out/session --deals out/deals --journal out/new_journal",
+        (3, "", ""),
+    ),
+    (
+        "serve --session out/session --deals out/deals --journal out/longest",
+        (3, "", "bridge_server: JournalDamaged\n"),
+    ),
+    // Too short a file is no journal, and stays as it is.
+    (
+        "serve --journal out/no_deals",
+        (1, "", "bridge_server: NotAJournal\n"),
+    ),
+    (
+        "serve --journal out/no_deals",
+        (1, "", "bridge_server: NotAJournal\n"),
+    ),
+    (
+        "serve --journal out/longest",
+        (3, "", "bridge_server: JournalDamaged\n"),
+    ),
     // As many bytes as a file can have, and one more: what can't be read is told before anything else.
     (
         "serve --session out/session --deals out/longest",
@@ -186,7 +216,7 @@ static ENDINGS: &[(&str, Ending)] = &[
 ];
 
 // Whether a row's words end so.
-fn ends_at<R: Files + Net + Clock + Wait + Threads + AllocGlobal + Sync>(
+fn ends_at<R: Files + Net + Clock + Wait + Threads + JournalFiles + AllocGlobal + Sync>(
     rt: &R,
     port: u16,
     (words, ending): &(&str, Ending),
@@ -250,7 +280,12 @@ fn serves_one_client_after_another(rt: HostRuntime) -> Result<(), Fail> {
     let (port, line) = port_and_line(&rt, WORDS)?;
     let server_rt = rt.clone()?;
     let server = thread::spawn(&rt, move || {
-        ends(&server_rt, line.as_str(), &mut io::empty(), &(0, "", ""))
+        ends(
+            &server_rt,
+            line.as_str(),
+            &mut io::empty(),
+            &(0, "", UNKEPT),
+        )
     })?;
     let unserved = unserved(&rt, port);
     assert!(rt; unserved.is_none(), "{unserved:?}");

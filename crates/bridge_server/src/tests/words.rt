@@ -1,13 +1,17 @@
 //! What words ask for that are understood.
 
 use super::running::words_of;
-use server_words::{Serving, Words, read_words};
+use server_words::{JournalCopy, Serving, SessionFiles, SessionSource, Words, read_words};
 use std::alloc::Global;
+
+const FILES: SessionFiles<'static> = SessionFiles {
+    session: "s.json",
+    deals: "d.pbn",
+};
 
 // What is served where only what must be said is said.
 const DEFAULTS: Serving<'static> = Serving {
-    session: "s.json",
-    deals: "d.pbn",
+    source: SessionSource::Files(FILES),
     port: 8080,
     displays: 4,
     workers: 2,
@@ -34,6 +38,21 @@ const MOST: Serving<'static> = Serving {
     ..DEFAULTS
 };
 
+const KEPT: Serving<'static> = Serving {
+    source: SessionSource::Journal("j", Some(FILES)),
+    ..DEFAULTS
+};
+
+const KEPT_ALONE: Serving<'static> = Serving {
+    source: SessionSource::Journal("j", None),
+    ..DEFAULTS
+};
+
+const COPY: JournalCopy<'static> = JournalCopy {
+    journal: "j",
+    to: "k",
+};
+
 static LINES: &[(&str, Words<'static>)] = &[
     ("script", Words::Script),
     (
@@ -52,6 +71,18 @@ static LINES: &[(&str, Words<'static>)] = &[
         "serve --origin https://bridge.example.org --idle 86400 --connections 1000000 --workers 16 --displays 32 --port 65535 --deals d.pbn --session s.json",
         Words::Serve(MOST),
     ),
+    (
+        "serve --session s.json --deals d.pbn --journal j --port 8080",
+        Words::Serve(KEPT),
+    ),
+    (
+        "serve --journal=j --deals=d.pbn --session=s.json --port=8080",
+        Words::Serve(KEPT),
+    ),
+    ("serve --journal j --port 8080", Words::Serve(KEPT_ALONE)),
+    ("serve --port 8080 --journal=j", Words::Serve(KEPT_ALONE)),
+    ("audit --journal j", Words::Audit("j")),
+    ("copy --journal j --to k", Words::Copy(COPY)),
 ];
 
 // Whether the words of a line ask for this.

@@ -10,6 +10,7 @@ use connections::Connection;
 use desks::{Desk, DeskKeeper, Shared};
 use displays::{Display, Server};
 use double_dummy::{Budget, table};
+use entry_store::NoStore;
 use movement::Cell;
 use session_book::Answer;
 use session_commands::Refusal;
@@ -73,7 +74,7 @@ impl Part for Desks {
         &self,
         rt: &R,
         alloc: Global,
-        shared: &Shared<N>,
+        shared: &Shared<N, NoStore>,
         displays: Vec<Display<N>>,
     ) -> bool {
         let desk = shared.desk();
@@ -99,7 +100,7 @@ impl Part for Desks {
 fn tells_all<N: Server, R: Wait>(
     rt: &R,
     alloc: Global,
-    desk: &Desk<'_, N>,
+    desk: &Desk<'_, N, NoStore>,
     rows: &[(&str, &str)],
 ) -> bool {
     for &(message, answer) in rows {
@@ -121,7 +122,7 @@ fn shows_all<N: Server>(alloc: Global, display: Display<N>) -> bool {
 }
 
 /// Another board's table is refused, the board's own is entered, and once.
-fn takes_tables<N: Server, R: Wait>(rt: &R, alloc: Global, desk: &Desk<'_, N>) -> bool {
+fn takes_tables<N: Server, R: Wait>(rt: &R, alloc: Global, desk: &Desk<'_, N, NoStore>) -> bool {
     matches!(
         solved(rt, alloc, desk, SECOND_DEAL),
         Some((Answer::Refused(Refusal::StrangeDeal), 0, 0, 3))
@@ -138,7 +139,12 @@ fn takes_tables<N: Server, R: Wait>(rt: &R, alloc: Global, desk: &Desk<'_, N>) -
 type Entered = Option<(Answer, usize, usize, usize)>;
 
 // What a desk tells of a deal's table, given as that of board 1.
-fn solved<N: Server, R: Wait>(rt: &R, alloc: Global, desk: &Desk<'_, N>, deal: &str) -> Entered {
+fn solved<N: Server, R: Wait>(
+    rt: &R,
+    alloc: Global,
+    desk: &Desk<'_, N, NoStore>,
+    deal: &str,
+) -> Entered {
     let deal = deal.parse::<Deal>().ok()?;
     let Ok(found) = table(alloc, deal, &mut Budget::new(1_000_000)) else {
         return None;
@@ -148,7 +154,7 @@ fn solved<N: Server, R: Wait>(rt: &R, alloc: Global, desk: &Desk<'_, N>, deal: &
 }
 
 /// At table 2 there is no result of board 1; that of table 1 has no play.
-fn takes_costs<N: Server, R: Wait>(rt: &R, alloc: Global, desk: &Desk<'_, N>) -> bool {
+fn takes_costs<N: Server, R: Wait>(rt: &R, alloc: Global, desk: &Desk<'_, N, NoStore>) -> bool {
     matches!(
         analysed(rt, alloc, desk, 2),
         Some((Answer::Refused(Refusal::NotLive), 0, 0, 4))
@@ -159,7 +165,12 @@ fn takes_costs<N: Server, R: Wait>(rt: &R, alloc: Global, desk: &Desk<'_, N>) ->
 }
 
 // What a desk tells of the costs of a card, given as those of board 1 at a table.
-fn analysed<N: Server, R: Wait>(rt: &R, alloc: Global, desk: &Desk<'_, N>, table: u8) -> Entered {
+fn analysed<N: Server, R: Wait>(
+    rt: &R,
+    alloc: Global,
+    desk: &Desk<'_, N, NoStore>,
+    table: u8,
+) -> Entered {
     let costs = costs_of(alloc)?;
     let (answer, receipt) = desk.submit_analysed(rt, Cell { table, board: 1 }, costs);
     Some((answer, receipt.first(), receipt.last(), receipt.version()))
@@ -203,7 +214,7 @@ impl Part for Connected {
         &self,
         rt: &R,
         alloc: Global,
-        shared: &Shared<N>,
+        shared: &Shared<N, NoStore>,
         displays: Vec<Display<N>>,
     ) -> bool {
         let mut displays = displays;
@@ -223,7 +234,7 @@ impl Part for Connected {
 fn is_answered<N: Server, R: Wait>(
     rt: &R,
     alloc: Global,
-    connection: &mut Connection<DeskKeeper<'_, N>>,
+    connection: &mut Connection<DeskKeeper<'_, N, NoStore>>,
     message: &str,
     answer: &str,
 ) -> bool {

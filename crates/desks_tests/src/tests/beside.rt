@@ -6,6 +6,7 @@ use super::serving::{opened_book, shared_by};
 use super::texts::{shown, told};
 use desks::{Desk, Shared};
 use displays::{Display, Server};
+use entry_store::NoStore;
 use history::History;
 use session_book::Book;
 use session_queries::Query;
@@ -46,10 +47,10 @@ fn learn_receipts_by<N: Server + Send + Sync, R: Threads + Wait + Sync>(
     requires opening { book.opening ≡ N.opening }
     requires history { history ≡ N.history }
 {
-    match shared_by::<N, R>(rt, alloc, book, history, 3) {
+    match shared_by::<N, NoStore, R>(rt, alloc, book, history, 3, NoStore) {
         Some((shared, displays)) => {
             let goes = learn_receipts_in(rt, alloc, &shared, displays);
-            shared.close(rt);
+            let _store = shared.close(rt);
             goes
         }
         None => false,
@@ -59,7 +60,7 @@ fn learn_receipts_by<N: Server + Send + Sync, R: Threads + Wait + Sync>(
 fn learn_receipts_in<N: Server + Send + Sync, R: Threads + Wait + Sync>(
     rt: &R,
     alloc: Global,
-    shared: &Shared<N>,
+    shared: &Shared<N, NoStore>,
     displays: Vec<Display<N>>,
 ) -> bool {
     let mut displays = displays;
@@ -80,7 +81,7 @@ fn learn_receipts_in<N: Server + Send + Sync, R: Threads + Wait + Sync>(
 fn learns<N: Server, R: Wait>(
     rt: &R,
     alloc: Global,
-    desk: &Desk<'_, N>,
+    desk: &Desk<'_, N, NoStore>,
     display: Display<N>,
     message: &str,
 ) -> bool {
@@ -170,10 +171,10 @@ fn share_a_journal_by<N: Server + Send + Sync, R: Threads + Wait + Sync>(
     requires opening { book.opening ≡ N.opening }
     requires history { history ≡ N.history }
 {
-    match shared_by::<N, R>(rt, alloc, book, history, 1) {
+    match shared_by::<N, NoStore, R>(rt, alloc, book, history, 1, NoStore) {
         Some((shared, displays)) => {
             let goes = share_a_journal_in(rt, alloc, &shared, displays);
-            shared.close(rt);
+            let _store = shared.close(rt);
             goes
         }
         None => false,
@@ -183,7 +184,7 @@ fn share_a_journal_by<N: Server + Send + Sync, R: Threads + Wait + Sync>(
 fn share_a_journal_in<N: Server + Send + Sync, R: Threads + Wait + Sync>(
     rt: &R,
     alloc: Global,
-    shared: &Shared<N>,
+    shared: &Shared<N, NoStore>,
     displays: Vec<Display<N>>,
 ) -> bool {
     let mut displays = displays;
@@ -220,7 +221,7 @@ fn share_a_journal_in<N: Server + Send + Sync, R: Threads + Wait + Sync>(
 fn numbers_told<N: Server, R: Wait>(
     rt: &R,
     alloc: Global,
-    desk: &Desk<'_, N>,
+    desk: &Desk<'_, N, NoStore>,
     message: &str,
 ) -> Option<Numbers> {
     let mut numbers = Numbers {

@@ -4,6 +4,7 @@ use super::serving::{Part, is_served};
 use super::texts::shows;
 use desks::Shared;
 use displays::{Display, Server};
+use entry_store::NoStore;
 use std::alloc::Global;
 use std::sync::Wait;
 
@@ -22,7 +23,7 @@ impl Part for Answers {
         &self,
         _rt: &R,
         alloc: Global,
-        _shared: &Shared<N>,
+        _shared: &Shared<N, NoStore>,
         displays: Vec<Display<N>>,
     ) -> bool {
         if displays.len() != self.displays {

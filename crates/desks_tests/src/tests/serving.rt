@@ -1,10 +1,12 @@
 //! A session that desks and displays share, for as long as a part of a test takes.
 
 ghost use Rattle.std.specs.Prelude.{◌≡◌, [], IfSome};
+ghost use Rattle.desks.specs.Kept.{LeavesJust};
 
 use super::session::session;
 use desks::Shared;
 use displays::{Display, Server, open_displays};
+use entry_store::{EntryStore, NoStore};
 use history::History;
 use opened_session::{OpenedSession, open_session};
 use published_view::View;
@@ -20,7 +22,7 @@ pub(super) trait Part {
         &self,
         rt: &R,
         alloc: Global,
-        shared: &Shared<N>,
+        shared: &Shared<N, NoStore>,
         displays: Vec<Display<N>>,
     ) -> bool;
 }
@@ -54,10 +56,10 @@ fn is_served_by<N: Server, R: Wait, P: Part>(
     requires opening { book.opening ≡ N.opening }
     requires history { history ≡ N.history }
 {
-    match shared_by::<N, R>(rt, alloc, book, history, displays) {
+    match shared_by::<N, NoStore, R>(rt, alloc, book, history, displays, NoStore) {
         Some((shared, displays)) => {
             let goes = part.goes(rt, alloc, &shared, displays);
-            shared.close(rt);
+            let _store = shared.close(rt);
             goes
         }
         None => false,
@@ -74,23 +76,27 @@ pub(super) fn opened_book(alloc: Global) -> Option<Book>
     }
 }
 
-/// A book as desks share it, and so many displays, if there is a place for them.
-pub(super) fn shared_by<N: Server, R: Wait>(
+/// A book as desks share it with a store in which nothing is kept yet, and so many displays, if there is a place for them.
+pub(super) fn shared_by<N: Server, K: EntryStore, R: Wait>(
     rt: &R,
     alloc: Global,
     book: Book,
     history: History,
     displays: usize,
-) -> Option<(Shared<N>, Vec<Display<N>>)>
+    store: K,
+) -> Option<(Shared<N, K>, Vec<Display<N>>)>
     requires journal { book.journal ≡ [] }
     requires opening { book.opening ≡ N.opening }
     requires history { history ≡ N.history }
+    requires store { LeavesJust [] (K.doubt store) (K.leaves store) }
 {
     let (Ok(first), Ok(second)) = (View::open(alloc, &book), View::open(alloc, &book)) else {
         return None;
     };
     match open_displays::<N, R>(rt, alloc, history, first, second, displays) {
-        Ok((publisher, displays)) => Some((Shared::new(alloc, book, publisher), displays)),
+        Ok((publisher, displays)) => {
+            Some((Shared::new(alloc, book, publisher, store), displays))
+        }
         Err(_) => None,
     }
 }

@@ -6,6 +6,7 @@ use super::serving::{opened_book, shared_by};
 use super::texts::{shown, shows, told};
 use desks::{Desk, Shared};
 use displays::{Display, Receipt, Server};
+use entry_store::NoStore;
 use history::History;
 use session_book::Book;
 use std::alloc::Global;
@@ -55,10 +56,10 @@ fn shows_result_by<N: Server + Send + Sync, R: Threads + Wait + Sync>(
     requires opening { book.opening ≡ N.opening }
     requires history { history ≡ N.history }
 {
-    match shared_by::<N, R>(rt, alloc, book, history, 2) {
+    match shared_by::<N, NoStore, R>(rt, alloc, book, history, 2, NoStore) {
         Some((shared, displays)) => {
             let goes = shows_result_in(rt, alloc, &shared, displays);
-            shared.close(rt);
+            let _store = shared.close(rt);
             goes
         }
         None => false,
@@ -68,7 +69,7 @@ fn shows_result_by<N: Server + Send + Sync, R: Threads + Wait + Sync>(
 fn shows_result_in<N: Server + Send + Sync, R: Threads + Wait + Sync>(
     rt: &R,
     alloc: Global,
-    shared: &Shared<N>,
+    shared: &Shared<N, NoStore>,
     displays: Vec<Display<N>>,
 ) -> bool {
     let mut displays = displays;
@@ -94,7 +95,11 @@ fn shows_result_in<N: Server + Send + Sync, R: Threads + Wait + Sync>(
 }
 
 // The receipt for the result, if it is told as it should be.
-fn confirmed<N: Server, R: Wait>(rt: &R, alloc: Global, desk: &Desk<'_, N>) -> Option<Receipt<N>> {
+fn confirmed<N: Server, R: Wait>(
+    rt: &R,
+    alloc: Global,
+    desk: &Desk<'_, N, NoStore>,
+) -> Option<Receipt<N>> {
     let (text, receipt) = told(rt, alloc, desk, RESULT)?;
     if text.as_str() == TOLD {
         Some(receipt)

@@ -6,9 +6,11 @@ ghost use Rattle.wire.specs.Request.{HasFew};
 
 use desks::Desk;
 use displays::{Display, Receipt, Server};
+use entry_store::EntryStore;
 use reply_texts::reply_text;
 use session_book::Submission;
 use session_commands::Command;
+use session_keeper::SubmitFault;
 use session_roles::Edition;
 use std::alloc::Global;
 use std::sync::Wait;
@@ -22,10 +24,10 @@ use wire::{
 pub(super) type Told<N> = Option<(String, Receipt<N>)>;
 
 /// What a desk answers a message.
-pub(super) fn told<N: Server, R: Wait>(
+pub(super) fn told<N: Server, K: EntryStore, R: Wait>(
     rt: &R,
     alloc: Global,
-    desk: &Desk<'_, N>,
+    desk: &Desk<'_, N, K>,
     message: &str,
 ) -> Told<N> {
     match read_script_request(alloc, message.as_bytes(), Edition::First) {
@@ -34,10 +36,10 @@ pub(super) fn told<N: Server, R: Wait>(
     }
 }
 
-fn told_of<N: Server, R: Wait>(
+fn told_of<N: Server, K: EntryStore, R: Wait>(
     rt: &R,
     alloc: Global,
-    desk: &Desk<'_, N>,
+    desk: &Desk<'_, N, K>,
     said: &ScriptRequest,
 ) -> Told<N>
     requires { HasFew said.now.request }
@@ -51,10 +53,10 @@ fn told_of<N: Server, R: Wait>(
     }
 }
 
-fn told_of_batch<N: Server, R: Wait>(
+fn told_of_batch<N: Server, K: EntryStore, R: Wait>(
     rt: &R,
     alloc: Global,
-    desk: &Desk<'_, N>,
+    desk: &Desk<'_, N, K>,
     user: Name,
     batch: &[Command],
 ) -> Told<N>
@@ -74,10 +76,26 @@ fn told_of_batch<N: Server, R: Wait>(
     Some((text, receipt))
 }
 
-fn told_of_audit<N: Server, R: Wait>(
+/// Why a batch has no receipt, if it hasn't.
+pub(super) fn fault<N: Server, K: EntryStore, R: Wait>(
     rt: &R,
     alloc: Global,
-    desk: &Desk<'_, N>,
+    desk: &Desk<'_, N, K>,
+    message: &str,
+) -> Option<SubmitFault> {
+    let Ok(said) = read_script_request(alloc, message.as_bytes(), Edition::First) else {
+        return None;
+    };
+    let UserRequest::Batch { commands } = &said.request else {
+        return None;
+    };
+    desk.submit(rt, said.user, commands.as_slice()).err()
+}
+
+fn told_of_audit<N: Server, K: EntryStore, R: Wait>(
+    rt: &R,
+    alloc: Global,
+    desk: &Desk<'_, N, K>,
     user: Name,
     range: &AuditRange,
 ) -> Told<N> {
@@ -124,10 +142,10 @@ pub(super) fn shows<N: Server>(
 }
 
 /// Whether a desk answers a message so.
-pub(super) fn tells<N: Server, R: Wait>(
+pub(super) fn tells<N: Server, K: EntryStore, R: Wait>(
     rt: &R,
     alloc: Global,
-    desk: &Desk<'_, N>,
+    desk: &Desk<'_, N, K>,
     message: &str,
     answer: &str,
 ) -> bool {

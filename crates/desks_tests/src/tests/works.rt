@@ -7,6 +7,7 @@ use cards::{Card, Deal, Play, Rank};
 use desks::{Desk, Shared};
 use displays::{Display, Server};
 use double_dummy::{Budget, play_costs};
+use entry_store::NoStore;
 use movement::Cell;
 use scoring::{Contract, Doubling, Level};
 use session_book::Answer;
@@ -106,7 +107,7 @@ impl Part for Works {
         &self,
         rt: &R,
         alloc: Global,
-        shared: &Shared<N>,
+        shared: &Shared<N, NoStore>,
         _displays: Vec<Display<N>>,
     ) -> bool {
         let desk = shared.desk();
@@ -123,7 +124,7 @@ impl Part for Works {
 fn leaves<N: Server, R: Wait>(
     rt: &R,
     alloc: Global,
-    desk: &Desk<'_, N>,
+    desk: &Desk<'_, N, NoStore>,
     &(message, table, board, is_left): &(&str, u8, u8, bool),
 ) -> bool {
     if told(rt, alloc, desk, message).is_none() {
@@ -154,7 +155,7 @@ fn is_of_the_lead(work: Work) -> bool {
 }
 
 // Whether the costs are entered, and then none are left to find.
-fn is_found<N: Server, R: Wait>(rt: &R, alloc: Global, desk: &Desk<'_, N>) -> bool {
+fn is_found<N: Server, R: Wait>(rt: &R, alloc: Global, desk: &Desk<'_, N, NoStore>) -> bool {
     let Some(costs) = costs_of(alloc) else {
         return false;
     };

@@ -23,8 +23,8 @@ returns-in-Err-OutOfMemory-clause-response c line means =
     let said = c.args.said.now in
     let after = c.answer_request.new.keeper.journal in
     let taken : IsTakenIn Alone c.answer_request.new.keeper.opening before.journal said.user said.request after =
-    subst (λ fault. IsUnanswered Alone ⊥ c.answer_request.new.keeper.opening before.journal said.user said.request fault
-    after)
+    subst (λ fault. IsUnanswered Alone ⊥ ⊥ c.answer_request.new.keeper.opening before.journal said.user said.request
+    fault after)
     c.in-Err-OutOfMemory.field-0-is c.in-Err-OutOfMemory.ensures.unanswered in
     responds_taken_in before.opening before.journal line said after means
     (subst (λ opening. IsTakenIn Alone opening before.journal said.user said.request after)

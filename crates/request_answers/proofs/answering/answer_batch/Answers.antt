@@ -1,15 +1,17 @@
-use Rattle.std.proofs.lemmas.Result.{IfOk-weaker}
-use Rattle.request_answers.proofs.AnsweringLemmas.{batch_answered, batch_taken_in, on_err, same_batch}
+use Rattle.std.proofs.lemmas.Result.{IfOk-weaker, IfErr-weaker}
+use Rattle.request_answers.proofs.AnsweringLemmas.{batch_answered, batch_taken_in, same_batch}
 use Rattle.request_answers.proofs.answering.answer_batch.Goals as goal
 
-pub returns-clause-answered : goal.returns-clause-answered
-returns-clause-answered g c =
-    IfOk-weaker c.receipt_text.result _ _
+pub returns-in-Ok-clause-answered : goal.returns-in-Ok-clause-answered
+returns-in-Ok-clause-answered g c =
+    IfOk-weaker c.or_out_of_memory.result _ _
     (λ text is. batch_answered _ _ _ _ _ _ _ _ (same_batch _ _ _ _ _ _ _ _ c.as_slice.ensures
-    c.in_ok-receipt.ensures.receipt) is)
-    c.receipt_text.ensures
+    c.in-Ok.ensures.receipt) (rw is at c.receipt_text.ensures))
+    c.or_out_of_memory.ensures.ok
 
-pub returns-clause-unanswered : goal.returns-clause-unanswered
-returns-clause-unanswered g c =
-    on_err c.receipt_text.result _
-    (batch_taken_in _ _ _ _ _ _ _ (same_batch _ _ _ _ _ _ _ _ c.as_slice.ensures c.in_ok-receipt.ensures.receipt))
+pub returns-in-Ok-clause-unanswered : goal.returns-in-Ok-clause-unanswered
+returns-in-Ok-clause-unanswered g c =
+    IfErr-weaker c.or_out_of_memory.result _ _
+    (λ fault is. rw is.0 (batch_taken_in _ _ _ _ _ _ _ (same_batch _ _ _ _ _ _ _ _ c.as_slice.ensures
+    c.in-Ok.ensures.receipt)))
+    c.or_out_of_memory.ensures.err

@@ -1,34 +1,24 @@
-use Rattle.std.proofs.Common.{codes, sym}
-use Rattle.server_words.proofs.RowLemmas.{first_in_rows, maybe_first_in_rows, number_in_rows}
+use Rattle.std.proofs.Common.{codes}
+use Rattle.server_words.proofs.RowLemmas.{number_in_rows}
 use Rattle.server_words.proofs.reading.serving_of.Goals as goal
 
-pub returns-then-is_in_range-clause-session : goal.returns-then-is_in_range-clause-session
-returns-then-is_in_range-clause-session c =
-    first_in_rows c.args.given.now (codes "session") c.in_ok-get_str.field-0.now (sym c.in_ok-get_str.ensures)
-
-pub returns-then-is_in_range-clause-deals : goal.returns-then-is_in_range-clause-deals
-returns-then-is_in_range-clause-deals c =
-    first_in_rows c.args.given.now (codes "deals") c.in_ok-get_str-2.field-0.now (sym c.in_ok-get_str-2.ensures)
-
-pub returns-then-is_in_range-clause-origin : goal.returns-then-is_in_range-clause-origin
-returns-then-is_in_range-clause-origin c =
-    maybe_first_in_rows c.args.given.now (codes "origin") _ (sym c.get_str-3.ensures)
-
-pub returns-then-is_in_range-clause-range : goal.returns-then-is_in_range-clause-range
-returns-then-is_in_range-clause-range c = c.is_in_range.ensures c.if-is_in_range.true
-
-pub returns-then-is_in_range-clause-given : goal.returns-then-is_in_range-clause-given
-returns-then-is_in_range-clause-given c =
+pub returns-then-is_in_range : goal.returns-then-is_in_range
+returns-then-is_in_range c =
     let m = c.args.given.now in
     record {
-      port = number_in_rows m (codes "port") 16 c.get_one.result c.in_ok-get_one.field-0 c.in_ok-get_one.was
-          c.get_one.ensures.none c.get_one.ensures.value;
-      displays = number_in_rows m (codes "displays") 8 c.get_one-2.result c.in_ok-get_one-2.field-0
-          c.in_ok-get_one-2.was c.get_one-2.ensures.none c.get_one-2.ensures.value;
-      workers = number_in_rows m (codes "workers") 8 c.get_one-3.result c.in_ok-get_one-3.field-0 c.in_ok-get_one-3.was
-          c.get_one-3.ensures.none c.get_one-3.ensures.value;
-      connections = number_in_rows m (codes "connections") 32 c.get_one-4.result c.in_ok-get_one-4.field-0
-          c.in_ok-get_one-4.was c.get_one-4.ensures.none c.get_one-4.ensures.value;
-      idle = number_in_rows m (codes "idle") 32 c.get_one-5.result c.in_ok-get_one-5.field-0 c.in_ok-get_one-5.was
-          c.get_one-5.ensures.none c.get_one-5.ensures.value;
+      source = c.in_ok-source_of.ensures;
+      origin = c.text_of.ensures;
+      range = c.is_in_range.ensures c.if-is_in_range.true;
+      numbers = record {
+        port = number_in_rows m (codes "port") 16 c.get_one.result c.in_ok-get_one.field-0 c.in_ok-get_one.was
+            c.get_one.ensures.none c.get_one.ensures.value;
+        displays = number_in_rows m (codes "displays") 8 c.get_one-2.result c.in_ok-get_one-2.field-0
+            c.in_ok-get_one-2.was c.get_one-2.ensures.none c.get_one-2.ensures.value;
+        workers = number_in_rows m (codes "workers") 8 c.get_one-3.result c.in_ok-get_one-3.field-0
+            c.in_ok-get_one-3.was c.get_one-3.ensures.none c.get_one-3.ensures.value;
+        connections = number_in_rows m (codes "connections") 32 c.get_one-4.result c.in_ok-get_one-4.field-0
+            c.in_ok-get_one-4.was c.get_one-4.ensures.none c.get_one-4.ensures.value;
+        idle = number_in_rows m (codes "idle") 32 c.get_one-5.result c.in_ok-get_one-5.field-0 c.in_ok-get_one-5.was
+            c.get_one-5.ensures.none c.get_one-5.ensures.value;
+      };
     }

@@ -7,7 +7,6 @@ use Rattle.session_book.specs.declared.audit.AuditError.TheVariants.{NotPermitte
 use Rattle.session_book.specs.Journal.{replay}
 use Rattle.history.specs.Prefixes.{entries_of}
 use Rattle.displays.specs.Publishing.{Outgoing, Receipted}
-use Rattle.desks.specs.Batch.{PublishedJournal}
 use Rattle.desks.proofs.locked_book.LockedBook.audit.Goals as goal
 
 pub returns-clause-refused : goal.returns-clause-refused
@@ -30,11 +29,3 @@ returns-clause-valid g c =
     let same : replay book.opening book.journal ≡ replay g.N.Server.opening (entries_of c.tell.result.published) =
     λ i. replay (c.self.invariant.0 i) (journal i) in
     subst (λ (s : SessionState). IsValid s.roles) same c.audit-rows.ensures.valid
-
-pub returns-clause-journal : goal.returns-clause-journal
-returns-clause-journal g c =
-    let book = c.self.inside.book in
-    let journal : book.journal ≡ entries_of c.tell.result.published =
-    sym c.self.invariant.1 ∙ (ap (λ (l : Outgoing). entries_of l.published) (sym c.deref.ensures)
-    ∙ ap (λ (r : Receipted). entries_of r.published) (sym c.tell.ensures.receipt)) in
-    sym journal ∙ ap (λ (s : PublishedJournal). s.journal) c.self.view_is

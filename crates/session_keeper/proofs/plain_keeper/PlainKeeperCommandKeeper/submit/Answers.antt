@@ -8,7 +8,7 @@ use Rattle.session_keeper.proofs.plain_keeper.PlainKeeperCommandKeeper.submit.Go
 
 pub absorb_new-requires : goal.absorb_new-requires
 absorb_new-requires g c =
-    let (stopped, runs) = c.in_ok-submission.ensures.ran in
+    let (stopped, runs) = c.in-Ok.ensures.ran in
     let before = c.self.inside.book in
     record {
       behind =
@@ -21,7 +21,7 @@ absorb_new-requires g c =
 
 pub returns-clause-later : goal.returns-clause-later
 returns-clause-later g c =
-    let (stopped, runs) = c.in_ok-submission.ensures.ran in
+    let (stopped, runs) = c.in-Ok.ensures.ran in
     subst (λ (l : Ledger). GoesOn l.opening l.journal c.submit.new.self.opening c.submit.new.self.journal)
     c.self.view_is
     (record { same = c.submit.ensures.opening; begins = runs_begin stopped _ _ _ _ _ runs })

@@ -1,0 +1,17 @@
+use Rattle.std.proofs.Common.{◌≡◌, ◌∙◌, sym, ap, ℕ, ◌+◌, List, [], ◌∷◌, ◌++◌, length, arith, rules}
+use Rattle.bridge_server.specs.Audited.{line_of_row, lines_from}
+use Rattle.bridge_server.proofs.LineLemmas.{lines_from_more}
+use Rattle.bridge_server.proofs.auditing.tell.Goals as goal
+
+pub returns-in-Ok-add_line : goal.returns-in-Ok-add_line
+returns-in-Ok-add_line c =
+    let journal = c.args.book.now.journal in
+    let entry = c.args.entry.now in
+    let number : ℕ = c.version-number.result + 1 in
+    let next : number ≡ 1 + length journal = omega (arith, c.version-number.ensures.version) in
+    let entered : c.commit.new.self.journal ≡ journal ++ entry ∷ [] =
+    rw (c.in-Ok.ensures.ok, c.check.ensures.same) at c.commit.ensures.journal in
+    c.in-Ok-add_line.ensures
+    ∙ ap (λ (lines : List ℕ). lines ++ line_of_row number entry) c.requires
+    ∙ sym (lines_from_more 1 journal entry number next)
+    ∙ ap (lines_from 1) (sym entered)
