@@ -3,6 +3,8 @@ RT ?= rt
 # The built server: `rt run` in crates/bridge_server builds it.
 PROGRAM ?= crates/bridge_server/out/bridge_server
 PORT ?= 8080
+# What `make serve` keeps: started again it goes on with the evening. Remove the file, and its log beside it, to begin a new one.
+JOURNAL ?= out/serve.journal
 PAGE_PORT ?= 8000
 
 .PHONY: demo quick serve demo-page test test-page
@@ -23,7 +25,8 @@ quick:
 
 # The example session for clients over WebSocket, on this computer, until Ctrl-C.
 serve: $(PROGRAM)
-	$(PROGRAM) serve --session examples/session.json --deals examples/club.pbn --port $(PORT)
+	mkdir -p out
+	$(PROGRAM) serve --session examples/session.json --deals examples/club.pbn --journal $(JOURNAL) --port $(PORT)
 
 # The page with the example session, on this computer, until Ctrl-C.
 demo-page: $(PROGRAM)

@@ -113,4 +113,5 @@ def main():
     print(f"a command more, where the journal is full: {1e6 * min(full for took, full in runs):.0f} us")
 
 
-main()
+if __name__ == "__main__":
+    main()

@@ -4,7 +4,8 @@
     python3 client/demo.py crates/bridge_server/out/bridge_server [port of the page, else 8000]
 
 It starts the server, hands out the page at 127.0.0.1, and passes what comes for /session on to the server, as a web server in
-front of it does (docs/RUNNING.md). It needs nothing but Python. It is made for trying the page out, not for a club's afternoon.
+front of it does (docs/RUNNING.md). It needs nothing but Python. It is made for trying the page out, not for a club's afternoon: the
+journal lies in a folder that goes away with it.
 """
 import asyncio
 import pathlib
@@ -12,6 +13,7 @@ import signal
 import socket
 import subprocess
 import sys
+import tempfile
 
 CLIENT = pathlib.Path(__file__).resolve().parent
 EXAMPLES = CLIENT.parent / "examples"
@@ -86,10 +88,11 @@ def say(port):
     print("Open it in two windows, as sam and as anna: enter and confirm board 1 at table 1, and see it open for anna.", flush=True)
 
 
-async def run(program, port):
+async def run(program, port, folder):
     server_port = free_port()
     server = subprocess.Popen([program, "serve", "--session", EXAMPLES / "session.json", "--deals", EXAMPLES / "club.pbn",
-                               "--port", str(server_port), "--displays", "16", "--workers", "1"], stdin=subprocess.DEVNULL)
+                               "--journal", pathlib.Path(folder, "demo.journal"), "--port", str(server_port), "--displays", "16",
+                               "--workers", "1"], stdin=subprocess.DEVNULL)
     try:
         listener = await asyncio.start_server(lambda reader, writer: serve(reader, writer, server_port), "127.0.0.1", port, limit=LONGEST_HEAD)
         stopped = asyncio.Event()
@@ -106,4 +109,5 @@ async def run(program, port):
 if __name__ == "__main__":
     if len(sys.argv) not in (2, 3) or not pathlib.Path(sys.argv[1]).is_file():
         sys.exit(f"{__doc__}\nThere is no built program at {sys.argv[1:2] or 'no path'}.")
-    asyncio.run(run(sys.argv[1], int(sys.argv[2]) if len(sys.argv) == 3 else 8000))
+    with tempfile.TemporaryDirectory() as kept_in:
+        asyncio.run(run(sys.argv[1], int(sys.argv[2]) if len(sys.argv) == 3 else 8000, kept_in))

@@ -68,6 +68,8 @@ const errors = {
   NoSuchCell: "This table isn't scheduled to play this board.",
   NotPermitted: "This is for directors and administrators.",
   NotSignedIn: "Nobody is signed in.",
+  NotKept: "The server couldn't write this to its disk, so nothing of it was taken and nobody was shown it. What you typed is kept: try again. If this comes again, tell whoever runs the server that its disk is full or failing, and write results on paper until it is mended.",
+  Unsure: "The server's disk failed while this was written, so it may be there after the server's next start, or not. Nobody was shown it, and nothing else is taken until then. Tell whoever runs the server, and look at what the page shows after that start, before you send it again.",
   Unreadable: "The page can't read what the server answered.",
   BadDeal: "The page can't read the hands that the server sent.",
 };
@@ -109,7 +111,7 @@ export const texts = {
     tryNow: "Try now",
     slow: "All places at the server are taken. Waiting for one …",
     embargo: "The session is under embargo: until it is lifted, nobody but directors sees a board.",
-    restarted: "The server was started again, and everything that was entered before is gone from it: results, rulings, seats. Tell the director.",
+    restarted: "The server was started again without what was entered before: results, rulings, seats. Tell the director.",
     understood: "Understood",
   },
 

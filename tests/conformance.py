@@ -20,7 +20,7 @@ import time
 
 from raw_client import (ACCEPT, BINARY, CLOSE, CONTINUATION, NOT_SIGNED_IN, PING, PONG, STATUS, TEXT, Client, Ended, Server, close,
                         frame, head, is_served)
-from raw_client import SESSION
+from raw_client import NOTHING_IS_KEPT, SESSION
 from write_stored_runs import user
 
 PROGRAM = sys.argv[1] if len(sys.argv) > 1 else "crates/bridge_server/out/bridge_server"
@@ -436,7 +436,7 @@ def main():
                 print(f"FAILED  {name}: {fault!r}")
             word = "ok     " if len(failed) == faults else "FAILED "
             print(f"{word} {name}: {cases - before} cases in {time.monotonic() - begun:.1f} s", flush=True)
-        if (came := server.stopped()) != (-15, b"", b""):
+        if (came := server.stopped()) != (-15, b"", NOTHING_IS_KEPT):
             failed.append("the end")
             print(f"FAILED  the program ran to its end, and wrote nothing: {came}")
     print(f"{len(failed)} of {cases} failed" if failed else f"all {cases} cases are as RFC 6455 has them")

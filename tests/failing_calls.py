@@ -22,7 +22,7 @@ import subprocess
 import sys
 import tempfile
 
-from raw_client import Client, Ended, Server
+from raw_client import NOTHING_IS_KEPT, Client, Ended, Server
 from write_query_runs import hold, release
 
 PROGRAM = sys.argv[1] if len(sys.argv) > 1 else "crates/bridge_server/out/bridge_server"
@@ -156,12 +156,12 @@ def main():
         for kind, error, may_end in KINDS:
             ample, calls, ended = run(room, kind, error, 0)
             versions = [told[-1]["version"] for told, _ in ample]
-            assert (versions, [whole for _, whole in ample], ended) == ([2, 4, 6], [True] * 3, (0, b"", b"")), (ample, ended)
+            assert (versions, [whole for _, whole in ample], ended) == ([2, 4, 6], [True] * 3, (0, b"", NOTHING_IS_KEPT)), (ample, ended)
             assert calls > 0, f"the program makes no call of the kind {kind}: nothing is tried"
             with concurrent.futures.ThreadPoolExecutor(4) as pool:
                 told = list(pool.map(lambda n: run(room, kind, error, n), range(1, calls + 1)))
             for n, (heard, _, ended) in enumerate(told, 1):
-                why = strange(ample, heard, may_end) or (ended != (0, b"", b"") and f"the end: {ended}")
+                why = strange(ample, heard, may_end) or (ended != (0, b"", NOTHING_IS_KEPT) and f"the end: {ended}")
                 if why:
                     raise SystemExit(f"FAILED  {kind}, error {error}, call {n} of {calls}: {why}\n{heard}")
             cut = sum(not all(whole for _, whole in heard) for heard, _, _ in told)

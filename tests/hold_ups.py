@@ -16,7 +16,8 @@ import sys
 import threading
 import time
 
-from raw_client import BINARY, CLOSE, CONTINUATION, NOT_SIGNED_IN, PING, PONG, STATUS, TEXT, Client, Ended, Server, frame, head, is_served, some_deals, waiting
+from raw_client import (BINARY, CLOSE, CONTINUATION, NOTHING_IS_KEPT, NOT_SIGNED_IN, PING, PONG, STATUS, TEXT, Client, Ended, Server, frame, head,
+                        is_served, some_deals, waiting)
 from write_query_runs import hold, release
 from write_stored_runs import USERS
 
@@ -326,7 +327,7 @@ def signalled(number):
         stop.set()
         for scorer in scorers:
             scorer.join(10)
-        check(f"{name}: ends the program at once ({took:.2f} s) and nothing is written", (-number, b"", b"", True), (status, out, err, took < 3))
+        check(f"{name}: ends the program at once ({took:.2f} s) and writes that nothing is kept", (-number, b"", NOTHING_IS_KEPT, True), (status, out, err, took < 3))
         check(f"{name}: who says nothing hears the end", [b"", b""], [until_ended(stream) for stream in silent])
         ends = [receipts.pop() for receipts in told]
         check(f"{name}: who is at work hears the end", [True, True], [end in ("end", "reset") for end in ends])

@@ -19,7 +19,7 @@ import time
 
 import many_clients
 from many_clients import BOARDS, CLIENTS, PER_SET, ROUNDS, TABLES, USERS, Sender, check, compare, deal_text, pbn_text, some_hands, tell, whole_audit
-from raw_client import Client, Ended, Server
+from raw_client import NOTHING_IS_KEPT, Client, Ended, Server
 from write_stored_runs import text_of
 
 PROGRAM = sys.argv[1] if len(sys.argv) > 1 else "crates/bridge_server/out/bridge_server"
@@ -148,7 +148,7 @@ def main():
         last = [Client(server, 10) for _ in range(DISPLAYS)]
         check("each display serves still", [text_of({"hello": "d"})] * DISPLAYS, [client.ask({"hello": "d", "token": "abc"}) for client in last])
         check("and each close is answered", [True] * DISPLAYS, [client.leave() for client in last])
-        check("the program runs on and has written nothing", (-15, b"", b""), server.stopped())
+        check("the program runs on and has written that nothing is kept", (-15, b"", NOTHING_IS_KEPT), server.stopped())
     compare("load", talks, audit, hands)
     print(f"{len(many_clients.failed)} failed" if many_clients.failed else "all is as it should be")
     return 1 if many_clients.failed else 0

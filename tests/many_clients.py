@@ -36,6 +36,7 @@ import time
 import websockets
 
 from judged_session import JudgedSession
+from raw_client import NOTHING_IS_KEPT
 from session_model import DEALERS, Session, roles_of
 from write_query_runs import CLOSE, FINALISE, NEXT, correct, hold, release, rule, void
 from write_stored_runs import DIGEST, RANKS, SUITS, WHOLE_SUITS, confirm, contract, enter, text_of, user
@@ -700,7 +701,7 @@ async def closing(seed):
         left = time.monotonic()
         check("closing: it ends with status 0 within 10 s after the last one", 0, server.status_within(10))
         tell(f"{time.monotonic() - left:.2f} s after; {sum(waiting)} of 64 boards weren't solved then")
-        check("closing: and writes nothing", (b"", b""), (server.process.stdout.read(), server.process.stderr.read()))
+        check("closing: and writes that nothing is kept", (b"", NOTHING_IS_KEPT), (server.process.stdout.read(), server.process.stderr.read()))
 
 
 async def solver(seed):
@@ -764,7 +765,7 @@ async def memory(seed):
             await asyncio.sleep(0.05)
             status = server.process.poll()
             # 127 is the loader's, where there is no room for the program itself.
-            ended = 127 if megabytes < 4 else 4
+            ended = 127 if megabytes < 8 else 4
             check(f"memory: with {megabytes} MiB of addresses it runs on, and tells all the same, or it ended with status {ended}", (True, True),
                   (status is None or (status == ended and not clients), len(told) <= 1))
             seen.append((megabytes, status, len(clients), more))

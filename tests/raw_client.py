@@ -25,6 +25,8 @@ FIELDS = {"Host": "127.0.0.1", "Upgrade": "websocket", "Connection": "Upgrade", 
 MASK = bytes.fromhex("37fa213d")
 # the program's status where another listens at its port
 PORT_IS_TAKEN = 3
+# what a server without a journal writes on standard error, once its session is open, and nothing else (docs/RUNNING.md)
+NOTHING_IS_KEPT = b"bridge_server: without --journal nothing is kept when the server ends\n"
 
 
 GIVEN, GIVING = set(), threading.Lock()

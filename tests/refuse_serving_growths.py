@@ -7,35 +7,43 @@ Starts the program with one display and no worker, for two connections, first wi
 memory refused, for N from 1 until a run asks less often. On the first connection a director signs in, has board 1 held and released in
 turn by one batch of 64 commands, and asks for the board; on the second one a director signs in and asks again. That is done twice: in a
 session where nothing is entered, from the start of the program; and where 254 commands are, from the batch on, so that the journal
-outgrows its first room, which is for 256 entries, in the midst of it. What each must do:
+outgrows its first room, which is for 256 entries, in the midst of it. And once more with the journal in a file (`--journal`): in a new file and in one
+that has entries, from the start of the program, and from the batch on. What each must do:
 
 - Before it listens, and where the display's thread has no room to begin: end with status 4. Nothing is half open.
 - Later: that connection ends, or one message is answered {"error":"OutOfMemory"}, or the command that found no room is answered
-  OutOfMemory, the ones before it `ok` and those after it NotTried, with the numbers of those before. All else is as with ample
+  OutOfMemory, the ones before it `ok` and those after it NotTried, with the numbers of those before. With a file the batch may be answered
+  {"error":"NotKept"} too, and then nothing of it stands. All else is as with ample
   memory: the second connection is served, unless it is the one that ended, and names the version that stands. The program then ends with
   status 0.
+- In the end a file has just the entries that stand, by SQLite's own reading; after a start that was refused, those from before.
 
 It needs a C compiler, as refuse_growths.py does.
 """
 import json
 import os
 import pathlib
+import shutil
 import socket
 import subprocess
 import sys
 import tempfile
 import time
 
+from journal_files import rows_of
+from raw_client import NOTHING_IS_KEPT
 from refuse_growths import REFUSING
 from write_stored_runs import BOARDS, USERS, text_of
 
 SESSION = {"budget": 0, "per_set": 1, "rounds": 3, "tables": 3, "users": USERS}
 COMMANDS = 64
+KEPT, TRIED = "kept.journal", "tried.journal"
 HELLO = {"hello": "d", "token": "abc"}
-# how many commands are entered before the batch: an even number, after which board 1 isn't held
-ENTERED = (0, 254)
+# how many commands a file has before the start, or None where there is no file; and how many are entered before the batch: even
+# numbers, after which board 1 isn't held
+SESSIONS = ((None, 0), (None, 254), (0, 0), (6, 0), (0, 254))
 ASK = {"ask": "analysis", "board": 1}
-NO_MEMORY = {"error": "OutOfMemory"}
+NO_MEMORY, NOT_KEPT = {"error": "OutOfMemory"}, {"error": "NotKept"}
 HANDSHAKE = ("GET / HTTP/1.1\r\nHost: 127.0.0.1\r\nUpgrade: websocket\r\nConnection: Upgrade\r\n"
              "Sec-WebSocket-Key: dGhlIHNhbXBsZSBub25jZQ==\r\nSec-WebSocket-Version: 13\r\n\r\n").encode()
 
@@ -106,18 +114,39 @@ def connection(process, port, messages, before=(), counted=None):
     return told
 
 
-def run(program, room, entered, n):
-    """What the two clients are told, the status, what is written, and how often memory was asked for."""
+def start(program, room, words, env=None):
+    """The program with one display for two connections, and its port."""
     port = free_port()
+    process = subprocess.Popen(
+        [program, "serve", "--session", f"{room}/session.json", "--deals", f"{room}/deals.pbn", "--port", str(port), "--displays", "1",
+         "--workers", "0", "--connections", "2", *words], env=env, stdin=subprocess.DEVNULL, stdout=subprocess.PIPE, stderr=subprocess.PIPE)
+    return process, port
+
+
+def prepare(program, room, kept):
+    """Makes a file that has so many commands, and keeps a copy of it."""
+    for end in ("", "-wal"):
+        pathlib.Path(f"{room}/{KEPT}{end}").unlink(missing_ok=True)
+    if kept:
+        process, port = start(program, room, ["--journal", f"{room}/{KEPT}"])
+        assert connection(process, port, [HELLO, *batches(kept)])[-1]["last"] == kept
+        process.kill()
+        process.communicate()
+
+
+def run(program, room, kept, entered, n):
+    """What the two clients are told, the status, what is written, and how often memory was asked for."""
     env = {**os.environ, "LD_PRELOAD": f"{room}/refusing.so", "ASKED_TO": f"{room}/asked", "REFUSED_AT": str(n)}
     batch, counted, before = batches(COMMANDS)[0], None, []
     if entered:
         counted, before = pathlib.Path(room, "counted"), [HELLO, *batches(entered)]
         counted.unlink(missing_ok=True)
         env["COUNTED_AFTER"] = str(counted)
-    process = subprocess.Popen(
-        [program, "serve", "--session", f"{room}/session.json", "--deals", f"{room}/deals.pbn", "--port", str(port), "--displays", "1",
-         "--workers", "0", "--connections", "2"], env=env, stdin=subprocess.DEVNULL, stdout=subprocess.PIPE, stderr=subprocess.PIPE)
+    for end in ("", "-wal"):
+        pathlib.Path(f"{room}/{TRIED}{end}").unlink(missing_ok=True)
+        if os.path.exists(f"{room}/{KEPT}{end}"):
+            shutil.copyfile(f"{room}/{KEPT}{end}", f"{room}/{TRIED}{end}")
+    process, port = start(program, room, [] if kept is None else ["--journal", f"{room}/{TRIED}"], env)
     told = [connection(process, port, [HELLO, batch, ASK], before, counted), connection(process, port, [HELLO, ASK])]
     out, err = process.communicate(timeout=20)
     return told, process.returncode, out + err, int(pathlib.Path(f"{room}/asked").read_text())
@@ -134,11 +163,11 @@ def standing(receipt, entered):
 
 
 def outcome(ample, told, status, entered):
-    """What a run with one request refused did, in a word."""
+    """What a run with one request refused did, in a word, and how many commands may stand after it."""
     first, second = told
     if status != 0:
         assert status == 4 and not first and not second, (status, told)
-        return "status 4"
+        return "status 4", {entered}
     faults = 0
     # how many commands may stand after the batch: where its receipt was lost, any number
     stands = {entered} if len(first) < 1 or first[0] == NO_MEMORY else set(range(entered, entered + COMMANDS + 1))
@@ -157,7 +186,10 @@ def outcome(ample, told, status, entered):
             stands = {standing(first[1], entered)}
     else:
         assert first[0] == ample[0][0], first
-        if first[1] == NO_MEMORY:
+        if first[1] == NOT_KEPT:
+            faults, word = 1, "a batch wasn't kept"
+            stands = {entered}
+        elif first[1] == NO_MEMORY:
             faults, word = 1, "a batch's answer or room found no memory"
             stands = {entered, entered + COMMANDS}
         else:
@@ -176,8 +208,9 @@ def outcome(ample, told, status, entered):
     else:
         assert second[0] == ample[1][0] and second[1] == {**ample[1][1], "version": second[1]["version"]}, second
         assert second[1]["version"] in stands, (second, stands)
+        stands = {second[1]["version"]}
     assert faults <= 1, (told, faults)
-    return word
+    return word, stands
 
 
 def main():
@@ -188,31 +221,38 @@ def main():
         (path / "session.json").write_text(text_of(SESSION))
         (path / "deals.pbn").write_text(BOARDS)
         subprocess.run(["cc", "-O1", "-shared", "-fPIC", "-o", f"{room}/refusing.so", f"{room}/refusing.c", "-ldl"], check=True)
-        for entered in ENTERED:
-            refuse_each(program, room, entered)
+        for kept, entered in SESSIONS:
+            prepare(program, room, kept)
+            refuse_each(program, room, kept, entered)
 
 
-def refuse_each(program, room, entered):
-    """Each request in turn, where so many commands were entered before."""
-    ample, status, said, asked = run(program, room, entered, 0)
+def refuse_each(program, room, kept, by_client):
+    """Each request in turn, where a file has so many commands, if there is one, and so many more were entered before."""
+    ample, status, said, asked = run(program, room, kept, by_client, 0)
+    entered = by_client + (kept or 0)
     after = entered + COMMANDS
+    wanted = b"" if kept is not None else NOTHING_IS_KEPT
     shown = {"analysis": {"board": 1, "tricks": None}, "version": after}
     receipt = {"answers": ["ok"] * COMMANDS, "first": entered + 1, "last": after, "version": after}
-    assert (ample, status, said) == ([[{"hello": "d"}, receipt, shown], [{"hello": "d"}, shown]], 0, b""), (ample, status, said)
+    assert (ample, status, said) == ([[{"hello": "d"}, receipt, shown], [{"hello": "d"}, shown]], 0, wanted), (ample, status, said)
     assert asked > 0, "the program asked for no memory through this allocator: nothing is tried"
     kinds = {}
     for n in range(1, asked + 1):
-        told, status, said, _ = run(program, room, entered, n)
+        told, status, said, _ = run(program, room, kept, by_client, n)
         try:
-            assert said == b"", (status, said)
-            kind = outcome(ample, told, status, entered)
+            # a start that finds no memory may end before it says that nothing is kept, or find none for saying so
+            assert said in (wanted, b""), (status, said)
+            kind, stands = outcome(ample, told, status, entered)
+            if kept is not None:
+                assert len(rows_of(f"{room}/{TRIED}")) in stands, (len(rows_of(f"{room}/{TRIED}")), "rows of the file, and not", stands)
         except AssertionError as fault:
-            raise SystemExit(f"after {entered} commands, with request {n} of {asked} refused: {fault}")
+            raise SystemExit(f"with {kept} commands in a file and {by_client} more, and request {n} of {asked} refused: {fault}")
         kinds.setdefault(kind, []).append(n)
-    print(f"after {entered} commands {asked} requests for memory, each refused in turn:")
+    where = "without a file" if kept is None else f"with {kept} commands in a file"
+    print(f"{where}, and {by_client} more, {asked} requests for memory, each refused in turn:", flush=True)
     for kind, numbers in kinds.items():
         print(f"    {kind}: {len(numbers)}, from request {numbers[0]} to {numbers[-1]}")
-    if entered:
+    if by_client:
         assert "a command found no room" in kinds, "the journal didn't outgrow its room in the batch"
 
 

@@ -22,6 +22,7 @@ import time
 
 import websockets
 
+from raw_client import NOTHING_IS_KEPT
 from write_stored_runs import BOARDS, FOUR_SPADES, USERS, confirm, enter, text_of
 
 PROGRAM = sys.argv[1] if len(sys.argv) > 1 else "crates/bridge_server/out/bridge_server"
@@ -88,7 +89,7 @@ class Server:
         except subprocess.TimeoutExpired:
             status = "still running"
         check(f"{what}: the program ends with status 0", 0, status)
-        check(f"{what}: and writes nothing", (b"", b""), (self.process.stdout.read(), self.process.stderr.read()))
+        check(f"{what}: and writes that nothing is kept", (b"", NOTHING_IS_KEPT), (self.process.stdout.read(), self.process.stderr.read()))
 
 
 async def connect(server):
@@ -304,8 +305,8 @@ def statuses():
         check("two tables", fault("BadTables"), serve(folder / "two.json", deals))
         check("no deals", fault("MissingBoard(1)"), serve(session, folder / "none.pbn"))
         check("deals of 16,777,217 bytes", (3, b"", b""), serve(session, folder / "long.pbn"))
-        check("a port that is taken", (3, b"", b""), serve(session, deals))
-        check("16,777,216 bytes, and a port that is taken", (3, b"", b""), serve(session, folder / "full.pbn"))
+        check("a port that is taken", (3, b"", NOTHING_IS_KEPT), serve(session, deals))
+        check("16,777,216 bytes, and a port that is taken", (3, b"", NOTHING_IS_KEPT), serve(session, folder / "full.pbn"))
         for words in [("serve",), ("serve", "--session", "s", "--deals", "d", "--port", "0"), (), ("scripts",),
                       ("serve", "--session", "s", "--deals", "d", "--port", "1", "--displays", "33")]:
             status, out, err = run(*words)

@@ -92,6 +92,25 @@ test("what a receipt told isn't asked for in an older version", async () => {
   assert.deepEqual(server.asked[0], { ask: "status", since: 4 });
 });
 
+test("what the server couldn't keep is sent once, and nothing is thought to be newer", async () => {
+  const server = playedServer();
+  server.version = 3;
+  const { store } = storeOf(server, () => []);
+  await store.signIn("k", "token");
+  const answer = server.ask;
+  for (const error of ["NotKept", "Unsure"]) {
+    let sent = 0;
+    server.ask = async (message) => {
+      if (!message.do) return answer(message);
+      sent += 1;
+      return { error };
+    };
+    assert.deepEqual(await store.perform([{ cmd: "Hold", board: 1 }]), { error });
+    assert.deepEqual([sent, store.state.known, store.state.version], [1, 0, 3]);
+    assert.deepEqual(store.state.permissions, { score: false, direct: false, administer: false });
+  }
+});
+
 test("permissions are asked by commands that no session takes", async () => {
   const { do: commands } = permissionProbe();
   assert.deepEqual(

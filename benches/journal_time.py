@@ -1,0 +1,190 @@
+#!/usr/bin/env python3
+"""Measures what a journal's file costs a server: receipts, processor time, queries meanwhile, starts, and the file's size.
+
+    benches/journal_time.py [PROGRAM] [FOLDER] [SECONDS]
+
+The files lie in the folder, else in the system's for temporary files: it decides which disk is measured, and so how long a sync takes.
+Python's standard library is enough. The session is that of benches/book_time.py: 16 tables, 64 boards, 256 accounts; a
+director enters and confirms results, each in a batch of its own, or holds and releases boards. With a journal and without one take turns,
+five rounds of each. Processor time is the system's (Linux's schedstat) of the program's whole.
+"""
+import json
+import os
+import pathlib
+import statistics
+import sys
+import tempfile
+import threading
+import time
+
+ROOT = pathlib.Path(__file__).resolve().parent.parent
+sys.path[:0] = [str(ROOT / "tests"), str(ROOT / "benches")]
+import book_time  # noqa: E402
+from journal_files import change, log_of  # noqa: E402
+from raw_client import Client, Server  # noqa: E402
+from write_stored_runs import text_of  # noqa: E402
+
+PROGRAM = sys.argv[1] if len(sys.argv) > 1 else "crates/bridge_server/out/bridge_server"
+FOLDER = sys.argv[2] if len(sys.argv) > 2 else None
+SECONDS = float(sys.argv[3]) if len(sys.argv) > 3 else 2
+ROUNDS = 5
+OPENED = book_time.session()
+DEALS = OPENED.pop("pbn")
+ENTRIES = (2_000, 60_000)
+
+
+def server(journal, *more):
+    words = [] if journal is None else ["--journal", journal]
+    return Server(PROGRAM, *words, "--displays", 4, "--workers", 0, *more, session=OPENED, deals=DEALS)
+
+
+def signed_in(at):
+    client = Client(at, 60)
+    client.ask({"hello": "d", "token": "abc"})
+    return client
+
+
+def spent(process):
+    """The processor time of all threads of a process so far, in seconds."""
+    tasks = pathlib.Path(f"/proc/{process.pid}/task").iterdir()
+    return sum(int((task / "schedstat").read_text().split()[0]) for task in tasks) / 1e9
+
+
+def new_file(folder):
+    new_file.count = getattr(new_file, "count", 0) + 1
+    return pathlib.Path(folder, f"{new_file.count}.journal")
+
+
+def sync_time(folder):
+    """Microseconds of a write of 4,096 bytes and its sync in this folder: the median, and the 99th of a hundred."""
+    took = []
+    descriptor = os.open(pathlib.Path(folder, "sync"), os.O_CREAT | os.O_WRONLY)
+    for place in range(1000):
+        os.pwrite(descriptor, bytes(4096), 4096 * place)
+        begun = time.perf_counter()
+        os.fdatasync(descriptor)
+        took.append(1e6 * (time.perf_counter() - begun))
+    os.close(descriptor)
+    return statistics.median(took), statistics.quantiles(took, n=100)[98]
+
+
+def holds(size, before=0):
+    """A batch that holds board 1 and releases it in turn, after so many such commands."""
+    return {"do": [{"board": 1, "cmd": "Hold" if k % 2 == 0 else "Release"} for k in range(before, before + size)]}
+
+
+def receipts(folder, kept, size):
+    """How many batches of so many commands a second one client gets receipts of."""
+    with server(new_file(folder) if kept else None) as at:
+        client, messages, count = signed_in(at), [text_of(holds(size, before)) for before in (0, size)], 0
+        begun = time.perf_counter()
+        while time.perf_counter() - begun < SECONDS:
+            assert '"ok"' in client.ask(messages[count % 2])
+            count += 1
+        return count / (time.perf_counter() - begun)
+
+
+def confirms(folder, kept):
+    """Microseconds of processor time of an Enter and of a Confirm, batches of their own, in the first five rounds."""
+    with server(new_file(folder) if kept else None) as at:
+        client, source, took = signed_in(at), book_time.commands(), {"Enter": [], "Confirm": []}
+        for _ in range(5 * 2 * book_time.BOARDS + 4):
+            _, command = next(source)
+            before = spent(at.process)
+            assert '"ok"' in client.ask({"do": [command]})
+            took.setdefault(command["cmd"], []).append(spent(at.process) - before)
+        return [1e6 * statistics.mean(took[word]) for word in ("Enter", "Confirm")]
+
+
+def queries(folder, kept):
+    """Microseconds of a query while another client's batches are entered one after another: the median, and the 99th of a hundred."""
+    with server(new_file(folder) if kept else None) as at:
+        writer, reader, ends, took = signed_in(at), signed_in(at), threading.Event(), []
+
+        def write():
+            while not ends.is_set():
+                writer.ask(holds(2))
+                time.sleep(0.01)
+
+        writing = threading.Thread(target=write)
+        writing.start()
+        until = time.perf_counter() + SECONDS
+        while (begun := time.perf_counter()) < until:
+            reader.ask('{"ask":"board","board":1}')
+            took.append(1e6 * (time.perf_counter() - begun))
+        ends.set()
+        writing.join()
+        return statistics.median(took), statistics.quantiles(took, n=100)[98]
+
+
+def filled(folder, count):
+    """A journal of so many entries: the file is made by the program, and the rows by SQLite."""
+    journal = new_file(folder)
+    with server(journal):
+        pass
+    insert = "INSERT INTO entry (number, publication, actor, command) VALUES (?, ?, ?, ?)"
+    given = zip(range(1, count + 1), book_time.commands())
+    change(journal, *((insert, (number, number, f"user {name}", text_of(command))) for number, (name, command) in given))
+    return journal
+
+
+def starts(folder, count):
+    """Seconds until a server of so many entries listens, and bytes of the file and of its log while it runs."""
+    journal, took = filled(folder, count), []
+    for _ in range(3):
+        begun = time.perf_counter()
+        with server(journal) as at:
+            took.append(time.perf_counter() - begun)
+            version = json.loads(signed_in(at).ask({"ask": "status"}))["version"]
+            assert version == count, version
+    return min(took), os.path.getsize(journal), os.path.getsize(log_of(journal)) if log_of(journal).exists() else 0
+
+
+def solved_starts(folder):
+    """Seconds until a server listens whose journal has the tables of all boards of examples/, with four workers and with one."""
+    session, deals = (ROOT / "examples" / name for name in ("session.json", "club.pbn"))
+    files, journal, took = {"session": json.loads(session.read_text()), "deals": deals.read_text()}, new_file(folder), []
+    boards = files["session"]["tables"] * files["session"]["per_set"]
+    with Server(PROGRAM, "--journal", journal, "--workers", 4, **files) as at:
+        client = Client(at, 60)
+        client.ask({"hello": "dora", "token": "dora-example"})
+        while json.loads(client.ask({"ask": "status"}))["version"] < boards:
+            time.sleep(0.2)
+    for workers in (4, 1):
+        begun = time.perf_counter()
+        with Server(PROGRAM, "--journal", journal, "--workers", workers, **files):
+            took.append(time.perf_counter() - begun)
+    return boards, *took
+
+
+def in_turns(measure, *words):
+    """What is measured without a journal and with one, by turns."""
+    found = {False: [], True: []}
+    for _ in range(ROUNDS):
+        for kept in found:
+            found[kept].append(measure(*words[:1], kept, *words[1:]))
+    return found[False], found[True]
+
+
+def main():
+    with tempfile.TemporaryDirectory(dir=FOLDER) as folder:
+        median, late = sync_time(folder)
+        print(f"a write of 4,096 bytes is synced in {median:.0f} microseconds (the 99th of a hundred: {late:.0f})", flush=True)
+        for size in (1, 8):
+            without, kept = (statistics.median(rates) for rates in in_turns(receipts, folder, size))
+            print(f"receipts a second of batches of {size}: {without:.0f} without a journal, {kept:.0f} with one, "
+                  f"that is {1e3 / kept - 1e3 / without:.2f} ms a batch more", flush=True)
+        without, kept = ([statistics.median(column) for column in zip(*rounds)] for rounds in in_turns(confirms, folder))
+        for word, one, other in zip(("an Enter", "a Confirm"), without, kept):
+            print(f"processor time of {word}: {one:.0f} microseconds without a journal, {other:.0f} with one: {other / one:.2f} times", flush=True)
+        without, kept = ([statistics.median(column) for column in zip(*rounds)] for rounds in in_turns(queries, folder))
+        print(f"a query while batches are entered: {without[0]:.0f} microseconds without a journal, {kept[0]:.0f} with one; "
+              f"the 99th of a hundred {without[1]:.0f}, {kept[1]:.0f}", flush=True)
+        for count in ENTRIES:
+            seconds, size, log = starts(folder, count)
+            print(f"a start with {count} entries: {seconds:.2f} s; the file has {size} bytes, and its log {log}", flush=True)
+        print("a start with the tables of {} boards: {:.1f} s with four workers, {:.1f} s with one".format(*solved_starts(folder)), flush=True)
+
+
+if __name__ == "__main__":
+    main()
