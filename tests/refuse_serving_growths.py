@@ -7,8 +7,8 @@ Starts the program with one display and no worker, for two connections, first wi
 memory refused, for N from 1 until a run asks less often. On the first connection a director signs in, has board 1 held and released in
 turn by one batch of 64 commands, and asks for the board; on the second one a director signs in and asks again. That is done twice: in a
 session where nothing is entered, from the start of the program; and where 254 commands are, from the batch on, so that the journal
-outgrows its first room, which is for 256 entries, in the midst of it. And once more with the journal in a file (`--journal`): in a new file and in one
-that has entries, from the start of the program, and from the batch on. What each must do:
+outgrows its first room, which is for 256 entries, in the midst of it. And once more with the journal in a new file (`--journal`), from
+the start of the program. What each must do:
 
 - Before it listens, and where the display's thread has no room to begin: end with status 4. Nothing is half open.
 - Later: that connection ends, or one message is answered {"error":"OutOfMemory"}, or the command that found no room is answered
@@ -41,7 +41,7 @@ KEPT, TRIED = "kept.journal", "tried.journal"
 HELLO = {"hello": "d", "token": "abc"}
 # how many commands a file has before the start, or None where there is no file; and how many are entered before the batch: even
 # numbers, after which board 1 isn't held
-SESSIONS = ((None, 0), (None, 254), (0, 0), (6, 0), (0, 254))
+SESSIONS = ((None, 0), (None, 254), (0, 0))
 ASK = {"ask": "analysis", "board": 1}
 NO_MEMORY, NOT_KEPT = {"error": "OutOfMemory"}, {"error": "NotKept"}
 HANDSHAKE = ("GET / HTTP/1.1\r\nHost: 127.0.0.1\r\nUpgrade: websocket\r\nConnection: Upgrade\r\n"
@@ -162,7 +162,7 @@ def standing(receipt, entered):
     return entered + place
 
 
-def outcome(ample, told, status, entered):
+def outcome(ample, told, status, entered, is_signed_in):
     """What a run with one request refused did, in a word, and how many commands may stand after it."""
     first, second = told
     if status != 0:
@@ -174,7 +174,7 @@ def outcome(ample, told, status, entered):
     word = "as with ample memory"
     if first[:1] == [NO_MEMORY]:
         faults, word = 1, "a greeting found no memory"
-        if entered:
+        if is_signed_in:
             stands = {standing(first[1], entered)}
             assert first[2]["version"] in stands, first
         else:
@@ -242,7 +242,7 @@ def refuse_each(program, room, kept, by_client):
         try:
             # a start that finds no memory may end before it says that nothing is kept, or find none for saying so
             assert said in (wanted, b""), (status, said)
-            kind, stands = outcome(ample, told, status, entered)
+            kind, stands = outcome(ample, told, status, entered, by_client > 0)
             if kept is not None:
                 assert len(rows_of(f"{room}/{TRIED}")) in stands, (len(rows_of(f"{room}/{TRIED}")), "rows of the file, and not", stands)
         except AssertionError as fault:
