@@ -76,7 +76,7 @@ where
     }
 }
 
-// TellsLine that a session is kept nowhere, and serves clients in it.
+// Tells that a session is kept nowhere, and serves clients in it.
 fn status_of_unkept<R: Net + Clock + Wait + Threads + AllocGlobal + Sync, E: Write>(
     rt: &R,
     serving: &Serving<'_>,
@@ -98,7 +98,7 @@ where
     }
 }
 
-// TellsLine that a session is kept nowhere. Where it can't be written, clients are served all the same.
+// Tells that a session is kept nowhere. Where it can't be written, clients are served all the same.
 fn tell_unkept<E: Write>(errors: &mut E)
     ensures { TellsLine (E.contents errors.old) (E.contents errors.new) unkept_line }
 {

@@ -8,7 +8,7 @@ ghost use Rattle.journal_store.specs.Made.{IsBlank, MakesSession, MakesEntry, Fi
 
 use sqlite::{Alter, Connection, Error, Transaction, params};
 
-/// MakesInside the journal of a session, with no entry. All of it is there once this returns, or nothing.
+/// Makes the journal of a session, with no entry. All of it is there once this returns, or nothing.
 pub fn create<S: Alter>(conn: &mut Connection<S>, object: &str, boards: &[u8]) -> Result<(), Error>
     requires alone { conn.old.in_transaction ≡ false }
     ensures alone { conn.new.in_transaction ≡ false }

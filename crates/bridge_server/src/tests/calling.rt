@@ -36,7 +36,7 @@ const SERVE_HELP: Ending = (
 
 const AUDIT_HELP: Ending = (
     0,
-    "TellsLine the audit of a journal, a line for each entry\n\nUsage: bridge_server audit",
+    "Tells the audit of a journal, a line for each entry\n\nUsage: bridge_server audit",
     "",
 );
 
