@@ -37,6 +37,8 @@ STORED_RUNS = "crates/bridge_server_stored_runs/out/bridge_server_stored_runs"
 # Debian's own Python, which has Debian's packages
 DEBIAN_PYTHON = "/usr/bin/python3"
 BUILT = (
+    (sys.executable, ("examples/say_answers.py", "examples/one_board.script", "--by", SERVER)),
+    (sys.executable, ("examples/say_answers.py", "examples/first_round.script", "--by", SERVER)),
     (sys.executable, ("tests/refuse_growths.py", STORED_RUNS, "solver")),
     (sys.executable, ("tests/refuse_growths.py", "crates/rules_tests/out/rules_tests_tests", "loses_no_more")),
     (sys.executable, ("tests/refuse_connection_growths.py", STORED_RUNS)),
