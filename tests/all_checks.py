@@ -28,6 +28,7 @@ CHECKS = (
     ("tests/model_runs.py",),
     ("tests/links.py",),
     ("tests/document_sizes.py",),
+    ("tests/house_map.py", "--check"),
 )
 NODE = 20
 # named one by one, since versions of Node.js differ in how they read a folder
