@@ -47,6 +47,7 @@ BUILT = (
     (sys.executable, ("tests/refuse_growths.py", BOARDS, "crates/pbn_boards/data/255_boards.pbn", "255")),
     (sys.executable, ("tests/refuse_growths.py", STORED_RUNS, "solver")),
     (sys.executable, ("tests/refuse_growths.py", "crates/rules_tests/out/rules_tests_tests", "loses_no_more")),
+    (sys.executable, ("tests/refuse_growths.py", "crates/rules_tests/out/rules_tests_tests", "under_every_memory")),
     (sys.executable, ("tests/refuse_connection_growths.py", STORED_RUNS)),
     (sys.executable, ("tests/refuse_serving_growths.py", SERVER)),
     (sys.executable, ("tests/hold_ups.py", SERVER)),
