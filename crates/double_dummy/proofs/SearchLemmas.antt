@@ -203,6 +203,11 @@ refused_step p target untried rest known more less decisive run spoken gone card
         tried_before true false e h = h
         tried_before false b e h = refl
 
+-- no card is in no cards
+pub none_in : (cards : Cards) (card : Card) → cards ≡ set.empty → ¬ (set.contains cards card ≡ true)
+none_in cards card none there =
+    true≢false (sym there ∙ ap (λ s. set.contains s card) none ∙ set.contains-empty card_cmp card)
+
 -- where nothing is legal, nothing more is taken
 pub nothing_left : (p : Position) (target : ℕ) (known : Cards) → 0 < target → legal p ≡ set.empty →
     IsFound p target known false

@@ -196,7 +196,7 @@ fn play_card(
         return Err(BudgetSpent);
     };
     let with_card = position.point(card) + tricks;
-    let cost = match position.trick().turn(position.leader()).side() {
+    let cost = match position.to_play().side() {
         Side::NorthSouth => before.saturating_sub(with_card),
         Side::EastWest => with_card.saturating_sub(before),
     };

@@ -123,6 +123,8 @@ fn explore(
     ensures found { IfOk result (λ found. IsFound position.now target found.known found.holds) }
     ensures err { OnErr result (budget.new ≡ 0) }
     ensures spent { budget.new ≤ budget.old }
+    ensures visit { (card : Card) → set.contains (legal position.now) card ≡ true → 0 < budget.old →
+        budget.new < budget.old }
 {
     let trick = position.trick();
     let player = trick.turn(position.leader());

@@ -1,5 +1,6 @@
 pub mod AccountLemmas
 pub mod AuthorizationLemmas
+pub mod CauseLemmas
 pub mod HierarchyLemmas
 pub mod InheritanceLemmas
 pub mod LawLemmas

@@ -1,5 +1,6 @@
 pub mod Account
 pub mod Authorization
+pub mod Causes
 pub mod Hierarchy
 pub mod Inheritance
 pub mod Kept

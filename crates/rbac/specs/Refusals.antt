@@ -1,6 +1,6 @@
 -- Why a change is refused: the causes of each function in their order, of which the first that holds is answered
 -- (`IsFirst`).
-use Rattle.std.specs.Prelude.{◌≡◌, ℕ, ◌+◌, Bool, false, ◌&&◌, List, length, Contains}
+use Rattle.std.specs.Prelude.{◌≡◌, ℕ, ◌+◌, ◌≤◌, Bool, false, ◌&&◌, List, length, Contains}
 use Rattle.session_roles.specs.declared.edition.Edition.{Edition}
 use Rattle.session_roles.specs.declared.role.Role.{Role}
 use Rattle.rbac.specs.declared.add_user_error.AddUserError.{AddUserError}
@@ -29,7 +29,7 @@ add_user_place TooManyUsers = 2
 abbrev pub RefusesUser : RoleData → List ℕ → AddUserError → Type 0
 RefusesUser state name BadName = is_user_name name ≡ false
 RefusesUser state name UserExists = HasAccount state.accounts name
-RefusesUser state name TooManyUsers = length state.accounts ≡ most_users
+RefusesUser state name TooManyUsers = most_users ≤ length state.accounts
 
 -- AssignUser; of the separation sets that would be broken, by whomever, the first in their order
 abbrev pub assign_place : AssignError → ℕ

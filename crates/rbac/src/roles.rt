@@ -1,3 +1,4 @@
+mod causes;
 mod review;
 mod unrefused;
 
@@ -24,8 +25,8 @@ use crate::deassign_error::DeassignError;
 use crate::delete_inheritance_error::DeleteInheritanceError;
 use crate::hierarchy::Hierarchy;
 use crate::inheritance::Inheritance;
-use crate::lookup::{are_roles_of, first_broken, is_user_name, place_of};
-use session_roles::{Edition, Operation, Role, RoleSet, SeparationSet};
+use crate::lookup::place_of;
+use session_roles::{Edition, Operation, Role, RoleSet};
 use std::alloc::{AllocError, Global};
 use std::marker::Model;
 use user_names::Name;
@@ -34,8 +35,8 @@ use user_names::Name;
 /// the inheritance pairs, each in the order of adding, and the edition of the policy, which says what roles there are. After `new` no call but `copy` takes memory, and a refusal changes
 /// nothing.
 ///
-/// A name is looked for among the accounts in turn, and what each role reaches is kept as a table of seven bytes. So
-/// `authorized` costs one scan of the names and at most seven unions of a byte, `add_inheritance` that union for each
+/// A name is looked for among the accounts in turn, and what each role reaches is kept as a table of seven sets, of 16 bytes
+/// each. So `authorized` costs one scan of the names and at most seven unions, `add_inheritance` those unions for each
 /// account and separation set, and a deletion works the table out anew from the pairs.
 #[derive(Drop)]
 pub struct Roles {
@@ -117,14 +118,8 @@ impl Roles {
         ensures cause { IfErr result (IsFirst add_user_place (RefusesUser self.old name.now)) }
         ensures unchanged { OnErr result (self.new ≡ self.old) }
     {
-        if !is_user_name(name) {
-            return Err(AddUserError::BadName);
-        }
-        if place_of(&self.accounts, name).is_some() {
-            return Err(AddUserError::UserExists);
-        }
-        if self.accounts.len() == Roles::MOST_USERS {
-            return Err(AddUserError::TooManyUsers);
+        if let Some(cause) = self.user_cause(name) {
+            return Err(cause);
         }
         let Ok(name) = Name::new(name) else {
             unreachable!();
@@ -140,19 +135,8 @@ impl Roles {
         ensures cause { IfErr result (IsFirst assign_place (RefusesAssignment self.old name.now role)) }
         ensures unchanged { OnErr result (self.new ≡ self.old) }
     {
-        let Some(place) = place_of(&self.accounts, name) else {
-            return Err(AssignError::NoSuchUser);
-        };
-        if !role.is_of(self.edition) {
-            return Err(AssignError::NoSuchRole);
-        }
-        let assigned = self.accounts[place].assigned;
-        if assigned.has(role) {
-            return Err(AssignError::AlreadyAssigned);
-        }
-        let more = assigned.with(role);
-        if let Some(set) = SeparationSet::first_broken_by(self.hierarchy.reached_from(more)) {
-            return Err(AssignError::Separation(set));
+        if let Some(cause) = self.assignment_cause(name, role) {
+            return Err(cause);
         }
         self.assign_unrefused(name, role);
         Ok(())
@@ -165,14 +149,8 @@ impl Roles {
         ensures cause { IfErr result (IsFirst deassign_place (RefusesDeassignment self.old name.now role)) }
         ensures unchanged { OnErr result (self.new ≡ self.old) }
     {
-        let Some(place) = place_of(&self.accounts, name) else {
-            return Err(DeassignError::NoSuchUser);
-        };
-        if !role.is_of(self.edition) {
-            return Err(DeassignError::NoSuchRole);
-        }
-        if !self.accounts[place].assigned.has(role) {
-            return Err(DeassignError::NotAssigned);
+        if let Some(cause) = self.deassignment_cause(name, role) {
+            return Err(cause);
         }
         self.deassign_unrefused(name, role);
         Ok(())
@@ -185,19 +163,8 @@ impl Roles {
         ensures cause { IfErr result (IsFirst inheritance_place (RefusesInheritance self.old senior junior)) }
         ensures unchanged { OnErr result (self.new ≡ self.old) }
     {
-        if !are_roles_of(self.edition, senior, junior) {
-            return Err(AddInheritanceError::NoSuchRole);
-        }
-        let pair = Inheritance { senior, junior };
-        if self.hierarchy.below(junior).has(senior) {
-            return Err(AddInheritanceError::Cycle);
-        }
-        if self.pairs.contains(&pair) {
-            return Err(AddInheritanceError::AlreadyThere);
-        }
-        let hierarchy = self.hierarchy.with(pair);
-        if let Some(set) = first_broken(&self.accounts, &hierarchy) {
-            return Err(AddInheritanceError::Separation(set));
+        if let Some(cause) = self.inheritance_cause(senior, junior) {
+            return Err(cause);
         }
         self.add_inheritance_unrefused(senior, junior);
         Ok(())
@@ -215,12 +182,8 @@ impl Roles {
         ensures cause { IfErr result (IsFirst deletion_place (RefusesDeletion self.old senior junior)) }
         ensures unchanged { OnErr result (self.new ≡ self.old) }
     {
-        if !are_roles_of(self.edition, senior, junior) {
-            return Err(DeleteInheritanceError::NoSuchRole);
-        }
-        let pair = Inheritance { senior, junior };
-        if !self.pairs.contains(&pair) {
-            return Err(DeleteInheritanceError::NotThere);
+        if let Some(cause) = self.deletion_cause(senior, junior) {
+            return Err(cause);
         }
         self.delete_inheritance_unrefused(senior, junior);
         Ok(())

@@ -1,10 +1,10 @@
 -- What holds where nothing hinders a command on users, roles or the role hierarchy: no cause of its own refuses the
 -- change.
-use Rattle.std.proofs.Common.{◌≡◌, ℕ, ◌<◌, true, List, [], ◌∷◌, length, inl, inr, refl, sym, ◌∙◌, arith}
+use Rattle.std.proofs.Common.{◌≡◌, ℕ, ◌<◌, Bool, true, false, List, [], ◌∷◌, length, inl, inr, refl, sym, ◌∙◌, arith}
 use Rattle.std.specs.Prelude.{Option, Some, None, option_map, nat_le, not}
-use Rattle.std.specs.Bool.{Decides, then_some}
+use Rattle.std.specs.Bool.{then_some}
+use Rattle.std.specs.Option.{option_or}
 use Rattle.std.proofs.lemmas.Bool.{both_ways, false≢true, cases_lt, le-leb}
-use Rattle.std.proofs.lemmas.Bool.Decides.{Decides-and}
 use Rattle.session_roles.specs.declared.role.Role.{Role}
 use Rattle.session_roles.specs.declared.separation_set.SeparationSet.{SeparationSet}
 use Rattle.rbac.specs.declared.add_user_error.AddUserError.{AddUserError}
@@ -17,7 +17,8 @@ use Rattle.rbac.specs.declared.add_inheritance_error.AddInheritanceError.{AddInh
 use Rattle.rbac.specs.declared.add_inheritance_error.AddInheritanceError.TheVariants as inheritance_error
 use Rattle.rbac.specs.declared.delete_inheritance_error.DeleteInheritanceError.{DeleteInheritanceError}
 use Rattle.rbac.specs.declared.delete_inheritance_error.DeleteInheritanceError.TheVariants as deletion_error
-use Rattle.rbac.specs.Account.{most_users, is_user_name, HasAccount, IsAssigned, same_name}
+use Rattle.rbac.specs.Account.{most_users, is_user_name}
+use Rattle.rbac.specs.Causes.{deassignment_cause, inheritance_cause}
 use Rattle.rbac.specs.Inheritance.{reaches, pair_of}
 use Rattle.rbac.specs.Refusals.{
   are_roles_of,
@@ -28,11 +29,10 @@ use Rattle.rbac.specs.Refusals.{
   RefusesDeletion,
 }
 use Rattle.rbac.specs.Review.{is_broken}
-use Rattle.session_roles.specs.Role.{has, is_role_of}
+use Rattle.session_roles.specs.Role.{is_role_of}
 use Rattle.rbac.specs.RoleData.{RoleData, assign_user, deassign_user, add_inheritance, delete_inheritance}
-use Rattle.rbac.proofs.AccountLemmas.{same_name_decides}
+use Rattle.rbac.proofs.CauseLemmas.{decides_account, decides_assigned}
 use Rattle.rbac.proofs.InheritanceLemmas.{decides_reaches}
-use Rattle.rbac.proofs.ListLemmas.{decides_any}
 use Rattle.rbac.proofs.RefusalLemmas.{decides_there}
 use Rattle.rbac.proofs.ReviewLemmas.{decides_is_broken, either_way}
 use Rattle.session_roles.proofs.SeparationLemmas.{none_found}
@@ -58,7 +58,8 @@ use Rattle.session_commands.specs.declared.refusal.Refusal.TheVariants.{
   NotThere,
 }
 use Rattle.session_state.specs.Accounts.{has_account, is_assigned, first_broken, has_pair}
-use Rattle.session_state.specs.Refusal.{first_cause, hindrance_of, needed_causes}
+use Rattle.session_state.specs.Accounts.{deassignment_refusal, inheritance_refusal}
+use Rattle.session_state.specs.Refusal.{first_cause, own_causes, hindrance_of, needed_causes}
 use Rattle.session_state.specs.SessionState.{SessionState}
 use Rattle.session_state.proofs.HindranceLemmas.{rest_none, first_unmet, not_met, user_unhindered, own_unhindered}
 use Rattle.session_state.proofs.SeatCauseLemmas.{was_not}
@@ -81,16 +82,44 @@ none_named : (broken : Option SeparationSet) → option_map Separation broken �
 none_named None none = refl
 none_named (Some set) none = absurd cc
 
-decides_account : (roles : RoleData) (name : List ℕ) → Decides (has_account roles name) (HasAccount roles.accounts name)
-decides_account roles name =
-    decides_any (λ account. same_name account.name name) (λ account. account.name ≡ name)
-    (λ account. same_name_decides account.name name) roles.accounts
+-- what refuses a change of roles is what its command is refused as
+deassignment_told : (there known assigned : Bool) (needed : List (Option Refusal)) → there ≡ true →
+    option_or (option_map deassignment_refusal (option_or (then_some (not there) deassign_error.NoSuchUser)
+    (option_or (then_some (not known) deassign_error.NoSuchRole)
+    (then_some (not assigned) deassign_error.NotAssigned)))) (first_cause needed)
+    ≡ first_cause (then_some (not known) NoSuchRole ∷ then_some (not assigned) NotAssigned ∷ needed)
+deassignment_told false known assigned needed there = absurd (false≢true there)
+deassignment_told true false assigned needed there = refl
+deassignment_told true true false needed there = refl
+deassignment_told true true true needed there = refl
 
-decides_assigned : (roles : RoleData) (name : List ℕ) (role : Role) → Decides (is_assigned roles name role)
-    (IsAssigned roles.accounts name role)
-decides_assigned roles name role =
-    decides_any _ (λ account. (account.name ≡ name) × (has account.assigned role ≡ true))
-    (λ account. Decides-and _ _ (same_name_decides account.name name) (λ same. same, λ same. same)) roles.accounts
+pub deassignment_cause_told : (state : SessionState) (name : List ℕ) (role : Role) →
+    has_account state.roles name ≡ true →
+    option_or (option_map deassignment_refusal (deassignment_cause state.roles name role))
+    (first_cause (needed_causes state (deassign_user state.roles name role)))
+    ≡ first_cause (own_causes state (Deassign name role))
+deassignment_cause_told state name role there =
+    deassignment_told (has_account state.roles name) (is_role_of state.roles.edition role)
+    (is_assigned state.roles name role) (needed_causes state (deassign_user state.roles name role)) there
+
+inheritance_told : (known up there : Bool) (broken : Option SeparationSet) →
+    option_map inheritance_refusal (option_or (then_some (not known) inheritance_error.NoSuchRole)
+    (option_or (then_some up inheritance_error.Cycle)
+    (option_or (then_some there inheritance_error.AlreadyThere) (option_map inheritance_error.Separation broken))))
+    ≡ first_cause (then_some (not known) NoSuchRole ∷ then_some up Cycle ∷ then_some there AlreadyThere
+    ∷ option_map Separation broken ∷ [])
+inheritance_told false up there broken = refl
+inheritance_told true true there broken = refl
+inheritance_told true false true broken = refl
+inheritance_told true false false (Some set) = refl
+inheritance_told true false false None = refl
+
+pub inheritance_cause_told : (state : SessionState) (senior junior : Role) →
+    option_map inheritance_refusal (inheritance_cause state.roles senior junior)
+    ≡ first_cause (own_causes state (AddInheritance senior junior))
+inheritance_cause_told state senior junior =
+    inheritance_told (are_roles_of state.roles.edition senior junior) (reaches state.roles.pairs junior senior)
+    (has_pair state.roles senior junior) (first_broken (add_inheritance state.roles senior junior))
 
 -- a user is added
 module _ (state : SessionState) (name : List ℕ) (digest : Digest) (unhindered : hindrance_of state (AddUser name digest)

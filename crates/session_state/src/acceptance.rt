@@ -1,9 +1,9 @@
 //! When a command is refused.
-ghost use Rattle.std.specs.Prelude.{◌≡◌, not, true, IfSome, IfNone};
+ghost use Rattle.std.specs.Prelude.{◌≡◌, not, true, false, IfSome, IfNone};
 ghost use Rattle.std.specs.Option.{option_map_or};
 ghost use Rattle.disclosure_rules.specs.Seating.{some_that};
 ghost use Rattle.session_state.specs.Accounts.{has_account};
-ghost use Rattle.session_commands.specs.Command.{subject_cell, subject_board};
+ghost use Rattle.session_commands.specs.Command.{subject_user, subject_cell, subject_board};
 ghost use Rattle.rbac.specs.Authorization.{has_permission};
 ghost use Rattle.session_state.specs.Refusal.{first_cause, own_causes, is_permitted, hindrance_of, refusal_of};
 ghost use Rattle.session_state.specs.SessionState.{IsPlaced, IsKeptBoard};
@@ -103,6 +103,7 @@ fn misses_user(state: &State, user: Option<Name>) -> bool
 
 // The first of a command's own causes that is met.
 fn own_cause(state: &State, command: &Command) -> Option<Refusal>
+    requires user { some_that (subject_user command.now) (λ name. not (has_account state.now.roles name)) ≡ false }
     requires cell { IfSome (subject_cell command.now) IsPlaced }
     requires board { IfSome (subject_board command.now) IsKeptBoard }
     ensures { result ≡ first_cause (own_causes state.now command.now) }

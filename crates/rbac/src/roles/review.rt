@@ -3,7 +3,7 @@
 ghost use Rattle.std.specs.Prelude.{◌≡◌, length, slice_get, option_and_then};
 ghost use Rattle.rbac.specs.Authorization.{authorized_roles};
 ghost use Rattle.rbac.specs.Inheritance.{reaches};
-ghost use Rattle.rbac.specs.Review.{is_assigned, has_user_for, first_broken, has_pair};
+ghost use Rattle.rbac.specs.Review.{has_account, is_assigned, has_user_for, first_broken, has_pair};
 ghost use Rattle.rbac.specs.RoleData.{assign_user, add_inheritance, after_change};
 
 use crate::change::Change;
@@ -30,8 +30,17 @@ impl Roles {
         Some(self.hierarchy.reached_from(account.assigned))
     }
 
+    /// Whether there is a user of this name.
+    pub fn has_account(&self, name: &str) -> bool
+        ensures { result ≡ has_account self.now name.now }
+    {
+        self.accounts
+            .iter()
+            .any(|account| account.name.as_str() == name)
+    }
+
     /// Whether a role is assigned to a user.
-    pub fn is_assigned(&self, name: &str, role: Role) -> bool
+    pub(crate) fn is_assigned(&self, name: &str, role: Role) -> bool
         ensures { result ≡ is_assigned self.now name.now role }
     {
         self.accounts.iter().any(|account| account.name.as_str() == name
@@ -39,21 +48,21 @@ impl Roles {
     }
 
     /// Whether the senior role is the junior one or inherits it, by whatever pairs.
-    pub fn reaches(&self, senior: Role, junior: Role) -> bool
+    pub(crate) fn reaches(&self, senior: Role, junior: Role) -> bool
         ensures { result ≡ reaches self.now.pairs senior junior }
     {
         self.hierarchy.below(senior).has(junior)
     }
 
     /// Whether this very pair is there.
-    pub fn has_pair(&self, senior: Role, junior: Role) -> bool
+    pub(crate) fn has_pair(&self, senior: Role, junior: Role) -> bool
         ensures { result ≡ has_pair self.now senior junior }
     {
         self.pairs.contains(&Inheritance { senior, junior })
     }
 
     /// The first separation set that would be broken if a role were assigned to a user.
-    pub fn broken_by_assignment(&self, name: &str, role: Role) -> Option<SeparationSet>
+    pub(crate) fn broken_by_assignment(&self, name: &str, role: Role) -> Option<SeparationSet>
         ensures { result ≡ first_broken (assign_user self.now name.now role) }
     {
         let place = place_of(&self.accounts, name)?;
@@ -62,7 +71,7 @@ impl Roles {
     }
 
     /// The first separation set that would be broken if the senior role inherited the junior one.
-    pub fn broken_by_inheritance(&self, senior: Role, junior: Role) -> Option<SeparationSet>
+    pub(crate) fn broken_by_inheritance(&self, senior: Role, junior: Role) -> Option<SeparationSet>
         ensures { result ≡ first_broken (add_inheritance self.now senior junior) }
     {
         let hierarchy = self.hierarchy.with(Inheritance { senior, junior });

@@ -41,7 +41,7 @@ impl Roles {
     }
 
     /// `deassign` where nothing refuses it.
-    pub fn deassign_unrefused(&mut self, name: &str, role: Role)
+    pub(crate) fn deassign_unrefused(&mut self, name: &str, role: Role)
         requires { (cause : DeassignError) → ¬ RefusesDeassignment self.old name.now role cause }
         ensures { self.new ≡ deassign_user self.old name.now role }
     {
@@ -52,7 +52,7 @@ impl Roles {
     }
 
     /// `add_inheritance` where nothing refuses the pair.
-    pub fn add_inheritance_unrefused(&mut self, senior: Role, junior: Role)
+    pub(crate) fn add_inheritance_unrefused(&mut self, senior: Role, junior: Role)
         requires { (cause : AddInheritanceError) → ¬ RefusesInheritance self.old senior junior cause }
         ensures { self.new ≡ add_inheritance self.old senior junior }
     {
@@ -62,7 +62,7 @@ impl Roles {
     }
 
     /// `delete_inheritance` where the pair is there.
-    pub fn delete_inheritance_unrefused(&mut self, senior: Role, junior: Role)
+    pub(crate) fn delete_inheritance_unrefused(&mut self, senior: Role, junior: Role)
         requires { (cause : DeleteInheritanceError) → ¬ RefusesDeletion self.old senior junior cause }
         ensures { self.new ≡ delete_inheritance self.old senior junior }
     {

@@ -24,7 +24,9 @@ impl State {
         requires { hindrance_of self.old (AddUser name digest) ≡ None }
         ensures { self.new ≡ effect self.old (AddUser name digest) }
     {
-        self.roles.add_user_unrefused(name);
+        let Ok(()) = self.roles.add_user(name.as_str()) else {
+            unreachable!();
+        };
         push_within(&mut self.digests, digest);
     }
 
@@ -33,7 +35,9 @@ impl State {
         requires { hindrance_of self.old (Assign name role) ≡ None }
         ensures { self.new ≡ effect self.old (Assign name role) }
     {
-        self.roles.assign_unrefused(name.as_str(), role);
+        let Ok(()) = self.roles.assign(name.as_str(), role) else {
+            unreachable!();
+        };
     }
 
     // Takes an assigned role from a user.
@@ -41,7 +45,9 @@ impl State {
         requires { hindrance_of self.old (Deassign name role) ≡ None }
         ensures { self.new ≡ effect self.old (Deassign name role) }
     {
-        self.roles.deassign_unrefused(name.as_str(), role);
+        let Ok(()) = self.roles.deassign(name.as_str(), role) else {
+            unreachable!();
+        };
     }
 
     // Lets the senior role inherit the junior one.
@@ -49,7 +55,9 @@ impl State {
         requires { hindrance_of self.old (AddInheritance senior junior) ≡ None }
         ensures { self.new ≡ effect self.old (AddInheritance senior junior) }
     {
-        self.roles.add_inheritance_unrefused(senior, junior);
+        let Ok(()) = self.roles.add_inheritance(senior, junior) else {
+            unreachable!();
+        };
     }
 
     // Deletes an inheritance pair.
@@ -57,6 +65,8 @@ impl State {
         requires { hindrance_of self.old (DeleteInheritance senior junior) ≡ None }
         ensures { self.new ≡ effect self.old (DeleteInheritance senior junior) }
     {
-        self.roles.delete_inheritance_unrefused(senior, junior);
+        let Ok(()) = self.roles.delete_inheritance(senior, junior) else {
+            unreachable!();
+        };
     }
 }

@@ -1,6 +1,5 @@
 //! What is read of the parts of a state.
 ghost use Rattle.std.specs.Prelude.{◌≡◌, length, option_map, slice_get};
-ghost use Rattle.small_sets.specs.Numbers.{has_number};
 ghost use Rattle.session_state.specs.Readers.{digest_among, digest_of, seated_of};
 
 use crate::seated::Seated;
@@ -22,13 +21,6 @@ impl State {
         ensures { result ≡ self.now.public.phase }
     {
         self.public.phase
-    }
-
-    /// Whether the director withholds a board.
-    pub fn is_held(&self, board: u8) -> bool
-        ensures { result ≡ has_number self.now.public.held board }
-    {
-        self.public.held.contains(board)
     }
 
     /// The senior and the junior role of the inheritance pair at a place from 0, if there are so many pairs.

@@ -1,4 +1,5 @@
 use Rattle.std.proofs.Common.{subst, sym, arith}
+use Rattle.double_dummy_laws.proofs.CountLemmas.{fewer_after}
 use Rattle.position_patterns.proofs.RemainderLemmas.{left_without}
 use Rattle.double_dummy.proofs.PlayedLemmas.{thirteen_next}
 use Rattle.position_patterns.specs.Remainder.{IsLeftOf}
@@ -19,3 +20,8 @@ overflow_add-with_card c =
     c.requires.legal c.requires.few c.value.ensures.valid in
     let is = c.in-Ok.ensures.tricks in
     omega (arith, c.point.ensures.small)
+
+pub to_play-requires : goal.to_play-requires
+to_play-requires c =
+    let fewer = fewer_after c.args.position.now c.args.card c.requires.legal in
+    omega (arith, fewer)

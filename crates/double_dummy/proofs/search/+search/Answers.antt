@@ -15,6 +15,7 @@ use Rattle.double_dummy.proofs.SearchLemmas.{
   is_legal,
   is_turn,
   known_more,
+  none_in,
   nothing_left,
   of_either,
   other_bool,
@@ -34,6 +35,12 @@ explore-returns-then-is_empty-clause-found t c =
     c.hand-mine.ensures.hand c.legal-playable.ensures in
     nothing_left c.args.position.now c.args.target c.new.result c.requires.target (sym playable
     ∙ c.is_empty.ensures.0 c.if-is_empty.true)
+
+pub explore-returns-then-is_empty-clause-visit : goal.explore-returns-then-is_empty-clause-visit
+explore-returns-then-is_empty-clause-visit t c card there some =
+    let playable = is_legal c.args.position.now c.trick-trick.ensures c.leader.ensures c.turn-player.ensures
+    c.hand-mine.ensures.hand c.legal-playable.ensures in
+    absurd (none_in (legal c.args.position.now) card (sym playable ∙ c.is_empty.ensures.0 c.if-is_empty.true) there)
 
 pub explore-search-requires : goal.explore-search-requires
 explore-search-requires t c =

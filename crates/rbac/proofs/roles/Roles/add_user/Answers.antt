@@ -1,14 +1,18 @@
-use Rattle.std.proofs.Common.{sym, ◌∙◌}
-use Rattle.rbac.specs.Kept.{data_of}
-use Rattle.rbac.specs.RoleData.{RoleData}
-use Rattle.rbac.proofs.RefusalLemmas.{account_there, refused_existing}
+use Rattle.std.proofs.Common.{sym, subst, ◌∙◌}
+use Rattle.rbac.specs.declared.add_user_error.AddUserError.{AddUserError}
+use Rattle.rbac.specs.Refusals.{RefusesUser}
+use Rattle.rbac.proofs.CauseLemmas.{user_refused, user_unrefused}
 use Rattle.rbac.proofs.roles.Roles.add_user.Goals as goal
 
-pub returns-then-is_some-clause-cause : goal.returns-then-is_some-clause-cause
-returns-then-is_some-clause-cause c =
-    let state : RoleData = data_of c.self.inside in
-    let fits = sym c.is_user_name.ensures ∙ c.if-not-is_user_name.false in
-    rw (← c.self.view_is)
-    (refused_existing state c.args.name.now fits (account_there c.deref.result.now state.accounts c.args.name.now
-    c.place_of.result c.deref.ensures.value (sym c.is_some.ensures ∙ c.if-is_some.true) c.place_of.ensures.within
-    c.place_of.ensures.found))
+pub returns-in-Some-clause-cause : goal.returns-in-Some-clause-cause
+returns-in-Some-clause-cause c =
+    user_refused c.args.self.now c.args.name.now c.in-Some.cause (sym c.in-Some.is ∙ c.user_cause.ensures)
+
+pub add_user_unrefused-requires : goal.add_user_unrefused-requires
+add_user_unrefused-requires c =
+    subst (λ name. (cause : AddUserError) → ¬ RefusesUser c.args.self.now name cause) (sym c.in-Ok.ensures.ok)
+    (user_unrefused c.args.self.now c.args.name.now (sym c.in_default.is ∙ c.user_cause.ensures))
+
+pub returns-clause-ok : goal.returns-clause-ok
+returns-clause-ok c =
+    user_unrefused c.args.self.now c.args.name.now (sym c.in_default.is ∙ c.user_cause.ensures)

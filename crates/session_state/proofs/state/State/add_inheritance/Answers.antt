@@ -9,17 +9,18 @@ use Rattle.session_state.proofs.AccountCauseLemmas.{pair_is_added}
 use Rattle.session_state.proofs.SeatLemmas.{still_seated}
 use Rattle.session_state.proofs.state.State.add_inheritance.Goals as goal
 
-pub add_inheritance_unrefused-requires : goal.add_inheritance_unrefused-requires
-add_inheritance_unrefused-requires c =
+pub unreachable-requires : goal.unreachable-requires
+unreachable-requires c =
     let unhindered : hindrance_of (the_view c.self.inside) (AddInheritance c.args.senior c.args.junior) ≡ None =
     ap (λ state. hindrance_of state (AddInheritance c.args.senior c.args.junior)) c.self.view_is ∙ c.requires in
-    pair_is_added (the_view c.self.inside) c.args.senior c.args.junior unhindered
+    pair_is_added (the_view c.self.inside) c.args.senior c.args.junior unhindered c.in_default.field-0
+    c.in_default.ensures.cause.holds
 
 pub invariant_of-self : goal.invariant_of-self
 invariant_of-self c =
     let inside = c.self.inside in
     let kept = c.self.invariant in
-    let changed = c.add_inheritance_unrefused.ensures in
+    let changed = c.in-Ok.ensures.added in
     let as_many = ap (λ (roles : RoleData). length roles.accounts) changed in
     record {
       cells = kept.cells;
@@ -39,6 +40,6 @@ invariant_of-self c =
 
 pub returns : goal.returns
 returns c =
-    let changed = c.add_inheritance_unrefused.ensures in
+    let changed = c.in-Ok.ensures.added in
     (λ i. record (the_view c.self.inside) { roles = changed i })
     ∙ ap (λ state. effect state (AddInheritance c.args.senior c.args.junior)) c.self.view_is

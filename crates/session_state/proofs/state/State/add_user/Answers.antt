@@ -1,7 +1,8 @@
 use Rattle.std.proofs.Common.{◌≡◌, ◌+◌, ◌<◌, None, length, sym, ap, subst, ◌∙◌, arith}
 use Rattle.std.proofs.lemmas.List.{length_push}
 use Rattle.rbac.specs.Account.{new_account}
-use Rattle.rbac.specs.RoleData.{RoleData}
+use Rattle.rbac.specs.Refusals.{RefusesUser}
+use Rattle.rbac.specs.RoleData.{RoleData, add_user}
 use Rattle.session_state.specs.Apply.{effect}
 use Rattle.session_state.specs.Refusal.{hindrance_of}
 use Rattle.session_state.specs.Seats.{AreSeated}
@@ -12,11 +13,13 @@ use Rattle.session_state.proofs.AccountCauseLemmas.{room_for_user, user_is_added
 use Rattle.session_state.proofs.SeatLemmas.{seated_added}
 use Rattle.session_state.proofs.state.State.add_user.Goals as goal
 
-pub add_user_unrefused-requires : goal.add_user_unrefused-requires
-add_user_unrefused-requires c =
+pub unreachable-requires : goal.unreachable-requires
+unreachable-requires c =
     let unhindered : hindrance_of (the_view c.self.inside) (AddUser c.args.name c.args.digest) ≡ None =
     ap (λ state. hindrance_of state (AddUser c.args.name c.args.digest)) c.self.view_is ∙ c.requires in
-    user_is_added (the_view c.self.inside) c.args.name c.args.digest unhindered
+    user_is_added (the_view c.self.inside) c.args.name c.args.digest unhindered c.in_default.field-0
+    (subst (λ name. RefusesUser c.self.inside.roles name c.in_default.field-0) c.as_str.ensures.text
+    c.in_default.ensures.cause.holds)
 
 pub push_within-requires : goal.push_within-requires
 push_within-requires c =
@@ -33,7 +36,7 @@ invariant_of-self c =
     ap (λ state. hindrance_of state (AddUser c.args.name c.args.digest)) c.self.view_is ∙ c.requires in
     let room : length inside.roles.accounts < most_users = room_for_user (the_view inside) c.args.name c.args.digest
     unhindered in
-    let added = c.add_user_unrefused.ensures in
+    let added = c.in-Ok.ensures.added ∙ ap (add_user c.self.inside.roles) c.as_str.ensures.text in
     let more = ap (λ (roles : RoleData). length roles.accounts) added ∙ length_push inside.roles.accounts
     (new_account c.args.name) in
     record {
@@ -54,6 +57,6 @@ invariant_of-self c =
 
 pub returns : goal.returns
 returns c =
-    let added = c.add_user_unrefused.ensures in
+    let added = c.in-Ok.ensures.added ∙ ap (add_user c.self.inside.roles) c.as_str.ensures.text in
     (λ i. record (the_view c.self.inside) { roles = added i; digests = c.push_within.ensures.items i })
     ∙ ap (λ state. effect state (AddUser c.args.name c.args.digest)) c.self.view_is

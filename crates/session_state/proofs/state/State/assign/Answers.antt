@@ -2,7 +2,6 @@ use Rattle.std.proofs.Common.{◌≡◌, None, length, sym, ap, subst, ◌∙◌
 use Rattle.session_roles.specs.Role.{with_role}
 use Rattle.rbac.specs.RoleData.{RoleData, assign_user}
 use Rattle.rbac.specs.Refusals.{RefusesAssignment}
-use Rattle.rbac.specs.declared.assign_error.AssignError.{AssignError}
 use Rattle.session_state.specs.Apply.{effect}
 use Rattle.session_state.specs.Refusal.{hindrance_of}
 use Rattle.session_state.specs.Seats.{AreSeated}
@@ -13,19 +12,19 @@ use Rattle.session_state.proofs.AccountCauseLemmas.{role_is_assigned}
 use Rattle.session_state.proofs.SeatLemmas.{seated_changed}
 use Rattle.session_state.proofs.state.State.assign.Goals as goal
 
-pub assign_unrefused-requires : goal.assign_unrefused-requires
-assign_unrefused-requires c =
+pub unreachable-requires : goal.unreachable-requires
+unreachable-requires c =
     let unhindered : hindrance_of (the_view c.self.inside) (Assign c.args.name c.args.role) ≡ None =
     ap (λ state. hindrance_of state (Assign c.args.name c.args.role)) c.self.view_is ∙ c.requires in
-    subst (λ name. (cause : AssignError) → ¬ RefusesAssignment c.self.inside.roles name c.args.role cause)
-    (sym c.as_str.ensures.text)
-    (role_is_assigned (the_view c.self.inside) c.args.name c.args.role unhindered)
+    role_is_assigned (the_view c.self.inside) c.args.name c.args.role unhindered c.in_default.field-0
+    (subst (λ name. RefusesAssignment c.self.inside.roles name c.args.role c.in_default.field-0) c.as_str.ensures.text
+    c.in_default.ensures.cause.holds)
 
 pub invariant_of-self : goal.invariant_of-self
 invariant_of-self c =
     let inside = c.self.inside in
     let kept = c.self.invariant in
-    let changed = c.assign_unrefused.ensures ∙ ap (λ name. assign_user inside.roles name c.args.role)
+    let changed = c.in-Ok.ensures.assigned ∙ ap (λ name. assign_user inside.roles name c.args.role)
     c.as_str.ensures.text in
     let as_many = ap (λ (roles : RoleData). length roles.accounts) changed ∙ length_changed
     (λ set. with_role set c.args.role) c.args.name inside.roles.accounts in
@@ -47,7 +46,7 @@ invariant_of-self c =
 
 pub returns : goal.returns
 returns c =
-    let changed = c.assign_unrefused.ensures ∙ ap (λ name. assign_user c.self.inside.roles name c.args.role)
+    let changed = c.in-Ok.ensures.assigned ∙ ap (λ name. assign_user c.self.inside.roles name c.args.role)
     c.as_str.ensures.text in
     (λ i. record (the_view c.self.inside) { roles = changed i })
     ∙ ap (λ state. effect state (Assign c.args.name c.args.role)) c.self.view_is

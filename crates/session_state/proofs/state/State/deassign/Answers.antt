@@ -2,7 +2,6 @@ use Rattle.std.proofs.Common.{◌≡◌, None, length, sym, ap, subst, ◌∙◌
 use Rattle.session_roles.specs.Role.{without_role}
 use Rattle.rbac.specs.RoleData.{RoleData, deassign_user}
 use Rattle.rbac.specs.Refusals.{RefusesDeassignment}
-use Rattle.rbac.specs.declared.deassign_error.DeassignError.{DeassignError}
 use Rattle.session_state.specs.Apply.{effect}
 use Rattle.session_state.specs.Refusal.{hindrance_of}
 use Rattle.session_state.specs.Seats.{AreSeated}
@@ -13,19 +12,19 @@ use Rattle.session_state.proofs.AccountCauseLemmas.{role_is_deassigned}
 use Rattle.session_state.proofs.SeatLemmas.{seated_changed}
 use Rattle.session_state.proofs.state.State.deassign.Goals as goal
 
-pub deassign_unrefused-requires : goal.deassign_unrefused-requires
-deassign_unrefused-requires c =
+pub unreachable-requires : goal.unreachable-requires
+unreachable-requires c =
     let unhindered : hindrance_of (the_view c.self.inside) (Deassign c.args.name c.args.role) ≡ None =
     ap (λ state. hindrance_of state (Deassign c.args.name c.args.role)) c.self.view_is ∙ c.requires in
-    subst (λ name. (cause : DeassignError) → ¬ RefusesDeassignment c.self.inside.roles name c.args.role cause)
-    (sym c.as_str.ensures.text)
-    (role_is_deassigned (the_view c.self.inside) c.args.name c.args.role unhindered)
+    role_is_deassigned (the_view c.self.inside) c.args.name c.args.role unhindered c.in_default.field-0
+    (subst (λ name. RefusesDeassignment c.self.inside.roles name c.args.role c.in_default.field-0) c.as_str.ensures.text
+    c.in_default.ensures.cause.holds)
 
 pub invariant_of-self : goal.invariant_of-self
 invariant_of-self c =
     let inside = c.self.inside in
     let kept = c.self.invariant in
-    let changed = c.deassign_unrefused.ensures ∙ ap (λ name. deassign_user inside.roles name c.args.role)
+    let changed = c.in-Ok.ensures.deassigned ∙ ap (λ name. deassign_user inside.roles name c.args.role)
     c.as_str.ensures.text in
     let as_many = ap (λ (roles : RoleData). length roles.accounts) changed ∙ length_changed
     (λ set. without_role set c.args.role) c.args.name inside.roles.accounts in
@@ -48,7 +47,7 @@ invariant_of-self c =
 
 pub returns : goal.returns
 returns c =
-    let changed = c.deassign_unrefused.ensures ∙ ap (λ name. deassign_user c.self.inside.roles name c.args.role)
+    let changed = c.in-Ok.ensures.deassigned ∙ ap (λ name. deassign_user c.self.inside.roles name c.args.role)
     c.as_str.ensures.text in
     (λ i. record (the_view c.self.inside) { roles = changed i })
     ∙ ap (λ state. effect state (Deassign c.args.name c.args.role)) c.self.view_is
