@@ -86,6 +86,7 @@ impl State {
         deals: Vec<Deal>,
     ) -> Result<State, AllocError>
         requires marks { length public.marks ≡ most_boards }
+        requires edition { roles.edition ≡ public.edition }
         requires live { public.live ≡ replicate most_boards [] }
         requires deals { boards_of public.movement ≤ length deals.items }
         requires digests { length digests.items ≡ length roles.accounts }
@@ -159,6 +160,7 @@ impl State {
     /// What every member of the session may see.
     pub fn public(&self) -> &Public
         ensures public { result.now ≡ self.now.public }
+        ensures edition { self.now.roles.edition ≡ self.now.public.edition }
         ensures live { AreLive self.now.public.live self.now.cells }
         ensures dealt { boards_of self.now.public.movement ≤ length self.now.deals }
     {
