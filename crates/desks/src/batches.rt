@@ -1,6 +1,6 @@
 //! What desks do to the book, the publisher and the store that are lent to them under the lock.
 
-ghost use Rattle.std.specs.Prelude.{List, Bool, true, false, vec_capacity, IsTrue, ◌↔◌, ◌≡◌, ◌≢◌, ◌<◌, ◌≤◌, ◌||◌, [], ◌∷◌, length, IfOk, IfErr, OnOk, OnErr, ◌++◌, take};
+ghost use Rattle.std.specs.Prelude.{List, Bool, true, false, vec_capacity, IsTrue, ◌↔◌, ◌≡◌, ◌≢◌, ◌<◌, ◌≤◌, ◌||◌, [], ◌∷◌, length, IfOk, IfErr, OnOk, OnErr, ◌++◌};
 ghost use Rattle.history.specs.Prefixes.{entries_of};
 ghost use Rattle.entry_store.specs.Keeping.{LeavesAsBefore};
 ghost use Rattle.entry_store.specs.declared.keep_fault.KeepFault.TheVariants as keeping;
@@ -71,7 +71,7 @@ pub fn batch<N: Server, K: EntryStore, R: Wait>(
     match show(rt, publisher, store, book.version() > before) {
         Ok(receipt) => Ok((answers, receipt)),
         Err(fault) => {
-            take_back(rt, book, before);
+            book.take_back(before);
             Err(fault_of(fault))
         }
     }
@@ -149,21 +149,6 @@ fn show<N: Server, K: EntryStore, R: Wait>(
         return Err(fault);
     }
     Ok(publisher.publish(rt))
-}
-
-// Goes back to the book as it was at an earlier version. Nothing else may be done with the book before: it waits for the
-// memory in which the entries are replayed.
-fn take_back<R: Wait>(rt: &R, book: &mut Book, version: usize)
-    requires { version ≤ length book.old.journal }
-    ensures opening { book.new.opening ≡ book.old.opening }
-    ensures journal { book.new.journal ≡ take version book.old.journal }
-{
-    for _ in rt.forever() {
-        if book.take_back(version).is_ok() {
-            return;
-        }
-    }
-    unreachable!()
 }
 
 // What is told of a batch that wasn't kept.

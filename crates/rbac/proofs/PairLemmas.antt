@@ -81,6 +81,12 @@ room_for_pair pairs pair once new =
     (pairs ++ pair ∷ []) all_pairs distinct (λ q there. each_pair q.senior q.junior) in
     omega (arith, length_push pairs pair)
 
+-- so there are not too many
+pub few_pairs : (pairs : List Inheritance) → IsDistinct same_inheritance pairs → length pairs ≤ most_pairs
+unfolding all_pairs
+few_pairs pairs once =
+    length-le_from_is_member same_pair_equivalence pairs all_pairs once (λ q there. each_pair q.senior q.junior)
+
 -- each pair of a new session leads from a higher place to a lower one
 height : Role → ℕ
 height Member = 0

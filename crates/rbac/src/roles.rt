@@ -2,7 +2,7 @@ mod causes;
 mod review;
 mod unrefused;
 
-ghost use Rattle.std.specs.Prelude.{◌≡◌, ◌<◌, ◌≢◌, ◌↔◌, length, All, find, option_map, slice_get, Some, IsTrue, IfOk, IfErr, IfSome, IfNone, OnOk, OnErr, OnSome};
+ghost use Rattle.std.specs.Prelude.{◌≡◌, ◌<◌, ◌≤◌, ◌≢◌, vec_capacity, ◌↔◌, length, All, find, option_map, slice_get, Some, IsTrue, IfOk, IfErr, IfSome, IfNone, OnOk, OnErr, OnSome};
 ghost use Rattle.std.specs.List.{list_any, HoldsAt};
 ghost use Rattle.rbac.specs.declared.add_user_error.AddUserError.{AddUserError};
 ghost use Rattle.rbac.specs.declared.assign_error.AssignError.{AssignError};
@@ -94,6 +94,16 @@ impl Roles {
             hierarchy: self.hierarchy,
             edition: self.edition,
         })
+    }
+
+    /// Becomes a copy of other roles, in the room that it has.
+    pub fn copy_from(&mut self, other: &Roles)
+        ensures { self.new ≡ other.now }
+    {
+        refill(&mut self.accounts, &other.accounts);
+        refill(&mut self.pairs, &other.pairs);
+        self.hierarchy = other.hierarchy;
+        self.edition = other.edition;
     }
 
     /// The edition of the policy.
@@ -282,4 +292,16 @@ impl Roles {
         let pair = self.pairs.get(place)?;
         Some((pair.senior, pair.junior))
     }
+}
+
+// Puts copies of other items in place of all items, in the room that is there.
+fn refill<T: Copy + Drop>(items: &mut Vec<T>, others: &[T])
+    requires { length others.now ≤ vec_capacity items.old }
+    ensures items { items.new.items ≡ others.now }
+    ensures room { vec_capacity items.old ≤ vec_capacity items.new }
+{
+    items.clear();
+    let Ok(()) = items.extend_from_slice(others) else {
+        unreachable!();
+    };
 }

@@ -76,6 +76,20 @@ follow_length opening before (entry ∷ entries) follow few =
     subst (λ journal. length journal ≤ most_entries) (append_assoc before (entry ∷ []) entries)
     (follow_length opening (before ++ entry ∷ []) entries follow.1 (omega (arith, length-append before (entry ∷ []))))
 
+follow_first : (opening : SessionState) (before entries : List Entry) (n : ℕ) → Follow opening before entries →
+    Follow opening before (take n entries)
+follow_first opening before entries zero follow = tt
+follow_first opening before [] (suc n) follow = tt
+follow_first opening before (entry ∷ entries) (suc n) follow = (
+  follow.0,
+  follow_first opening (before ++ entry ∷ []) entries n follow.1,
+)
+
+-- the first part of an accepted journal is accepted
+pub accepted_first : (opening : SessionState) (journal : List Entry) (n : ℕ) → IsAccepted opening journal →
+    IsAccepted opening (take n journal)
+accepted_first opening journal n accepted = follow_first opening [] journal n accepted
+
 -- an accepted journal is no longer than the limit
 pub accepted_length : (opening : SessionState) (journal : List Entry) → IsAccepted opening journal →
     length journal ≤ most_entries

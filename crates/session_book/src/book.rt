@@ -8,10 +8,10 @@ ghost use Rattle.session_roles.specs.declared.operation.Operation.TheVariants.{A
 ghost use Rattle.session_book.specs.Audit.{audit_rows};
 ghost use Rattle.session_book.specs.declared.audit.AuditError.TheVariants.{NotPermitted};
 ghost use Rattle.session_book.specs.Exposure.{Exposed, is_exposed, spoiler_of, spoiler_at, spoils, result_cell, users_of};
-ghost use Rattle.session_book.specs.ExposureTable.{user_at};
-ghost use Rattle.session_book.specs.Journal.{IsAccepted, MayFollow, refusal_at, state_of, entry_of};
+ghost use Rattle.session_book.specs.ExposureTable.{user_at, IsNoted};
+ghost use Rattle.session_book.specs.Journal.{replay, IsAccepted, MayFollow, refusal_at, state_of, entry_of};
 ghost use Rattle.session_state.specs.Refusal.{most_entries};
-ghost use Rattle.session_state.specs.SessionState.{viewer_of};
+ghost use Rattle.session_state.specs.SessionState.{SessionState, viewer_of};
 ghost use Rattle.session_book.specs.Run.{Runs, IsTried, stops, answer_of, first_number, last_number, most_commands};
 ghost use Rattle.session_commands.specs.declared.actor.Actor.TheVariants.{Solver};
 ghost use Rattle.session_commands.specs.declared.command.Command.{Command};
@@ -116,33 +116,19 @@ impl Book {
         })
     }
 
-    /// Goes back to the book as it was at an earlier version. Where memory is refused, it stays as it is.
-    pub fn take_back(&mut self, version: usize) -> Result<(), AllocError>
+    /// Goes back to the book as it was at an earlier version. It takes no memory.
+    pub fn take_back(&mut self, version: usize)
         requires { version ≤ length self.old.journal }
         ensures opening { self.new.opening ≡ self.old.opening }
-        ensures ok { OnOk result (self.new.journal ≡ take version self.old.journal) }
-        ensures err { OnErr result (self.new.journal ≡ self.old.journal) }
+        ensures journal { self.new.journal ≡ take version self.old.journal }
     {
-        let again = self.replayed(version)?;
-        *self = again;
-        Ok(())
-    }
-
-    // The book that the first entries of the journal lead to.
-    fn replayed(&self, version: usize) -> Result<Book, AllocError>
-        requires { version ≤ length self.now.journal }
-        ensures opening { IfOk result (λ book. book.opening ≡ self.now.opening) }
-        ensures journal { IfOk result (λ book. book.journal ≡ take version self.now.journal) }
-    {
-        let opening = self.opening.copy(self.alloc)?;
-        let mut book = Book::at_opening(self.alloc, opening)?;
-        'entries: for place in 0..version {
-            if book.journal.reserve(1).is_err() {
-                return Err(AllocError);
-            }
-            book.commit(self.journal[place]);
-        }
-        Ok(book)
+        self.journal.truncate(version);
+        replay(
+            &self.opening,
+            &self.journal,
+            &mut self.state,
+            &mut self.exposure,
+        );
     }
 
     /// The edition of the policy that the session is of.
@@ -318,10 +304,8 @@ impl Book {
         ensures opening { self.new.opening ≡ self.old.opening }
     {
         let boards = self.boards();
-        let touched = touched_by(&entry.command);
-        self.state.absorb(&entry);
+        absorb(&mut self.state, &mut self.exposure, &entry, boards);
         push_copy(&mut self.journal, &entry);
-        self.exposure.ask_touched(&self.state, &touched, boards);
     }
 
     /// Tries the commands of a user, one after another: each that is accepted joins the journal. Where memory is
@@ -400,6 +384,33 @@ impl Book {
             Err(cause) => Some(cause),
         }
     }
+}
+
+// Leads a session's state, and the table of who was shown what, over a journal from the opening again.
+fn replay(opening: &State, journal: &[Entry], state: &mut State, exposure: &mut Exposure)
+    requires { state.old.deals ≡ opening.now.deals }
+    ensures state { state.new ≡ replay opening.now journal.now }
+    ensures noted { IsNoted opening.now journal.now state.new exposure.new }
+{
+    state.copy_from(opening);
+    exposure.set_back(opening);
+    let boards = opening.public().movement.boards();
+    for entry in journal {
+        absorb(state, exposure, entry, boards);
+    }
+}
+
+// Takes an entry into the state that a journal leads to, and notes who is shown more after it, of so many boards.
+fn absorb(state: &mut State, exposure: &mut Exposure, entry: &Entry, boards: u8)
+    requires { boards ≤ most_boards }
+    ensures { (opening : SessionState) (journal : List Entry) → boards ≡ boards_of opening.public.movement →
+        state.old ≡ replay opening journal → IsNoted opening journal state.old exposure.old →
+        (state.new ≡ replay opening (journal ++ entry.now ∷ []))
+        × IsNoted opening (journal ++ entry.now ∷ []) state.new exposure.new }
+{
+    let touched = touched_by(&entry.command);
+    state.absorb(entry);
+    exposure.ask_touched(state, &touched, boards);
 }
 
 // Whether no command is tried any more, after one that was refused or not.

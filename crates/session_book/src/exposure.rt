@@ -42,8 +42,7 @@ impl Exposure {
         ensures boards { IfOk result (λ _. boards_of opening.now.public.movement ≤ most_boards) }
     {
         let mut exposure = Exposure::new(alloc)?;
-        let boards = opening.public().movement.boards();
-        exposure.ask_all(opening, boards);
+        exposure.ask_opening(opening);
         Ok(exposure)
     }
 
@@ -53,6 +52,34 @@ impl Exposure {
     {
         let boards = filled(alloc, Boards::new(), Roles::MOST_USERS)?;
         Ok(Exposure { boards })
+    }
+
+    /// Goes back to what users are shown at the opening of a session. It takes no memory.
+    pub fn set_back(&mut self, opening: &State)
+        ensures { IsNoted opening.now [] opening.now self.new }
+    {
+        self.clear();
+        self.ask_opening(opening);
+    }
+
+    // Nobody was shown anything.
+    fn clear(&mut self)
+        ensures { self.new ≡ replicate most_users [] }
+    {
+        self.boards.clear();
+        let Ok(()) = self.boards.resize(Roles::MOST_USERS, Boards::new()) else {
+            unreachable!();
+        };
+    }
+
+    // Notes what users are shown at the opening, where nothing is noted.
+    fn ask_opening(&mut self, opening: &State)
+        requires { self.old ≡ replicate most_users [] }
+        ensures noted { IsNoted opening.now [] opening.now self.new }
+        ensures boards { boards_of opening.now.public.movement ≤ most_boards }
+    {
+        let boards = opening.public().movement.boards();
+        self.ask_all(opening, boards);
     }
 
     /// Whether the board is noted for the account at a place.

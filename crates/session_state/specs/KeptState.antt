@@ -8,8 +8,8 @@ use Rattle.session_state.specs.declared.state.State.TheInside.{Inside}
 
 -- there is a place for each cell, a marking, a deal and a place for a table for each board, a digest for each user, and
 -- room for a digest and a seat of each user that a session can have; users have at most one seat each, and there are
--- not too many; a seat has at most one user, and is one of the movement's; and what every member may see shows a result
--- just where a cell has one
+-- not too many; a seat has at most one user, and is one of the movement's; the roles are of the edition of the policy by
+-- which facts are denied; and what every member may see shows a result just where a cell has one
 pub record IsKeptState (state : Inside) : Type 0 where
   pub cells : vec_len state.cells ≡ most_cells
   pub marks : length state.public.marks ≡ most_boards
@@ -22,4 +22,5 @@ pub record IsKeptState (state : Inside) : Type 0 where
   pub users : length state.roles.accounts ≤ most_users
   pub seated : AreSeated state.roles state.seats.items
   pub placed : AreSeatsOf state.public.movement state.seats.items
+  pub edition : state.roles.edition ≡ state.public.edition
   pub live : AreLive state.public.live state.cells.items

@@ -1,4 +1,4 @@
-ghost use Rattle.std.specs.Prelude.{◌≡◌, ◌-◌, ◌<◌, ◌≤◌, ◌↔◌, [], length, slice_get, vec_capacity, Some, None, IfOk, IfSome, IsTrue, replicate};
+ghost use Rattle.std.specs.Prelude.{◌≡◌, ◌-◌, ◌<◌, ◌≤◌, ◌↔◌, [], length, slice_get, vec_len, vec_capacity, Some, None, IfOk, IfSome, IsTrue, replicate};
 ghost use Rattle.movement.specs.Movement.{boards_of, most_tables, most_boards};
 ghost use Rattle.rbac.specs.Account.{most_users};
 ghost use Rattle.rbac.specs.Authorization.{HasPermission, IsValid, has_permission};
@@ -86,6 +86,7 @@ impl State {
         deals: Vec<Deal>,
     ) -> Result<State, AllocError>
         requires marks { length public.marks ≡ most_boards }
+        requires edition { roles.edition ≡ public.edition }
         requires live { public.live ≡ replicate most_boards [] }
         requires deals { boards_of public.movement ≤ length deals.items }
         requires digests { length digests.items ≡ length roles.accounts }
@@ -156,9 +157,23 @@ impl State {
         })
     }
 
+    /// Becomes a copy of another state of the same deals, in the room that it has.
+    pub fn copy_from(&mut self, other: &State)
+        requires { self.old.deals ≡ other.now.deals }
+        ensures { self.new ≡ other.now }
+    {
+        self.roles.copy_from(&other.roles);
+        refill(&mut self.digests, &other.digests);
+        refill(&mut self.seats, &other.seats);
+        self.public = other.public.copy();
+        refill(&mut self.cells, &other.cells);
+        refill(&mut self.tables, &other.tables);
+    }
+
     /// What every member of the session may see.
     pub fn public(&self) -> &Public
         ensures public { result.now ≡ self.now.public }
+        ensures edition { self.now.roles.edition ≡ self.now.public.edition }
         ensures live { AreLive self.now.public.live self.now.cells }
         ensures dealt { boards_of self.now.public.movement ≤ length self.now.deals }
     {
@@ -362,4 +377,17 @@ fn cell_index(cell: Cell) -> usize
     ensures below { result < most_cells }
 {
     (cell.board as usize - 1) * Movement::MOST_TABLES as usize + (cell.table as usize - 1)
+}
+
+// Puts copies of other items in place of all items, in the room that is there.
+fn refill<T: Copy + Drop>(items: &mut Vec<T>, others: &[T])
+    requires { length others.now ≤ vec_capacity items.old }
+    ensures items { items.new.items ≡ others.now }
+    ensures len { vec_len items.new ≡ length others.now }
+    ensures room { vec_capacity items.old ≤ vec_capacity items.new }
+{
+    items.clear();
+    let Ok(()) = items.extend_from_slice(others) else {
+        unreachable!();
+    };
 }

@@ -27,9 +27,9 @@ returns-in-Err-clause-published g c =
     let same : c.show.new.publisher ≡ c.args.publisher.now =
     drops_pending c.args.publisher.now c.run.new.publisher c.show.new.publisher c.run.ensures.published.0
     c.requires.published.1 c.in-Err.ensures.none in
-    let back : c.take_back.new.book.journal ≡ c.args.book.now.journal =
+    let back : c.take_back.new.self.journal ≡ c.args.book.now.journal =
     goes_back c.args.publisher.now c.run.new.publisher c.args.book.now.journal c.run.new.book.journal
-    c.take_back.new.book.journal c.version-before.result c.requires.published.0 c.run.ensures.published.0
+    c.take_back.new.self.journal c.version-before.result c.requires.published.0 c.run.ensures.published.0
     c.run.ensures.published.1 c.version-before.ensures.version c.take_back.ensures.journal in (
       ap (λ (l : Outgoing). entries_of l.published) same ∙ (c.requires.published.0 ∙ sym back),
       ap (λ (l : Outgoing). l.pending) same ∙ c.requires.published.1,
@@ -40,9 +40,9 @@ returns-in-Err-clause-once g c =
     let same : c.show.new.publisher ≡ c.args.publisher.now =
     drops_pending c.args.publisher.now c.run.new.publisher c.show.new.publisher c.run.ensures.published.0
     c.requires.published.1 c.in-Err.ensures.none in
-    let back : c.take_back.new.book.journal ≡ c.args.book.now.journal =
+    let back : c.take_back.new.self.journal ≡ c.args.book.now.journal =
     goes_back c.args.publisher.now c.run.new.publisher c.args.book.now.journal c.run.new.book.journal
-    c.take_back.new.book.journal c.version-before.result c.requires.published.0 c.run.ensures.published.0
+    c.take_back.new.self.journal c.version-before.result c.requires.published.0 c.run.ensures.published.0
     c.run.ensures.published.1 c.version-before.ensures.version c.take_back.ensures.journal in (
       [],
       back ∙ sym (append-nil c.args.book.now.journal),
@@ -52,7 +52,7 @@ returns-in-Err-clause-once g c =
 pub returns-in-Err-clause-none : goal.returns-in-Err-clause-none
 returns-in-Err-clause-none g c = (
   goes_back c.args.publisher.now c.run.new.publisher c.args.book.now.journal c.run.new.book.journal
-      c.take_back.new.book.journal c.version-before.result c.requires.published.0 c.run.ensures.published.0
+      c.take_back.new.self.journal c.version-before.result c.requires.published.0 c.run.ensures.published.0
       c.run.ensures.published.1 c.version-before.ensures.version c.take_back.ensures.journal,
   drops_pending c.args.publisher.now c.run.new.publisher c.show.new.publisher c.run.ensures.published.0
       c.requires.published.1 c.in-Err.ensures.none,

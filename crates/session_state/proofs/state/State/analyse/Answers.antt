@@ -44,6 +44,7 @@ invariant_of-self c =
       seated = kept.seated;
       placed = kept.placed;
       boards = kept.boards;
+      edition = kept.edition;
       live =
           subst (λ place. AreLive inside.public.live (slice_set inside.cells.items place c.with_costs.result))
           (sym c.cell_index-place.ensures.place)

@@ -17,6 +17,7 @@ invariant_of-result c = record {
   users = c.requires.users;
   seated = c.requires.seated;
   placed = c.requires.placed;
+  edition = c.requires.edition;
   live = none_live _ _ c.requires.live c.in_ok-cells.ensures.items;
 }
 

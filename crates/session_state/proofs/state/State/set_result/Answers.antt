@@ -40,6 +40,7 @@ invariant_of-self c =
       seated = kept.seated;
       placed = kept.placed;
       boards = ap length c.insert.ensures ∙ length-set inside.public.live (cell.board - 1) _ ∙ kept.boards;
+      edition = kept.edition;
       live =
           subst (λ live. AreLive live (slice_set inside.cells.items c.cell_index-place.result c.args.known))
           (sym c.insert.ensures)

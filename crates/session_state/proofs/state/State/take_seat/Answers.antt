@@ -51,5 +51,6 @@ invariant_of-self c =
       placed =
           subst (AreSeatsOf inside.public.movement) (sym c.push_within.ensures.items)
           (seats_still_placed (the_view inside) c.args.name seat.pair seat.place unhindered kept.placed);
+      edition = kept.edition;
       live = kept.live;
     }

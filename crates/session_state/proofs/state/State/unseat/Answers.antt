@@ -32,6 +32,7 @@ invariant_of-self c =
           kept.seated);
       placed = subst (AreSeatsOf c.self.inside.public.movement) (sym left)
           (one_less_placed c.self.inside.public.movement seats c.args.name kept.placed);
+      edition = kept.edition;
       live = kept.live;
     }
 

@@ -41,6 +41,7 @@ invariant_of-self c =
       seated = kept.seated;
       placed = kept.placed;
       boards = ap length c.remove.ensures ∙ length-set inside.public.live (cell.board - 1) _ ∙ kept.boards;
+      edition = kept.edition;
       live =
           subst (λ live. AreLive live (slice_set inside.cells.items c.cell_index-place.result Empty))
           (sym c.remove.ensures)

@@ -1,0 +1,25 @@
+use Rattle.std.proofs.Common.{sym, ap, ◌∙◌, subst}
+use Rattle.session_state.specs.SessionState.{SessionState}
+use Rattle.session_book.specs.Journal.{replay, IsAccepted}
+use Rattle.session_book.specs.ExposureTable.{IsNoted}
+use Rattle.session_book.proofs.JournalLemmas.{accepted_first}
+use Rattle.session_book.proofs.OwnNumberLemmas.{deals_kept}
+use Rattle.session_book.proofs.book.Book.take_back.Goals as goal
+
+pub replay-requires : goal.replay-requires
+replay-requires c =
+    ap (λ (state : SessionState). state.deals) c.self.invariant.replayed
+    ∙ deals_kept c.self.inside.opening c.self.inside.journal.items
+
+pub invariant_of-self : goal.invariant_of-self
+invariant_of-self c =
+    let opening = c.self.inside.opening in
+    record {
+      replayed = c.replay.ensures.state ∙ ap (replay opening) c.deref.ensures.value;
+      accepted =
+          subst (IsAccepted opening) (sym c.truncate.ensures.items)
+          (accepted_first opening c.self.inside.journal.items c.args.version c.self.invariant.accepted);
+      noted = subst (λ entries. IsNoted opening entries c.replay.new.state c.replay.new.exposure) c.deref.ensures.value
+          c.replay.ensures.noted;
+      boards = c.self.invariant.boards;
+    }
