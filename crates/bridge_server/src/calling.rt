@@ -4,7 +4,7 @@ ghost use Rattle.std.specs.Prelude.{◌≡◌, ◌≢◌, ◌⊎◌, ℕ, List, 
 ghost use Rattle.std.specs.Borrow.{Bor};
 ghost use Rattle.std.specs.Io.KnownBytes.{Consumes, Appends};
 ghost use Rattle.program.specs.declared.fault.Fault.{Fault};
-ghost use Rattle.program.specs.declared.fault.Fault.TheVariants.{Input, Output, OutOfMemory};
+ghost use Rattle.program.specs.declared.fault.Fault.TheVariants.{Input, Output};
 ghost use Rattle.program.specs.Writes.{IsDone, EndsWith};
 ghost use Rattle.server_words.specs.Words.{AsksFor, IsMistaken};
 ghost use Rattle.server_words.specs.declared.words.Words.TheVariants.{Script, Serve, Audit, Copy};
@@ -59,8 +59,11 @@ where
         EndsWith Input input (I.remaining reader.new) (W.contents writer.old) (W.contents writer.new)
         ⊎ EndsWith Output input (I.remaining reader.new) (W.contents writer.old) (W.contents writer.new)) }
     ensures no_memory { AsksFor (map string_bytes words.now) Script → result ≡ 4 →
-        IfSome (I.remaining reader.old) (λ input.
-        EndsWith OutOfMemory input (I.remaining reader.new) (W.contents writer.old) (W.contents writer.new)) }
+        (Consumes (I.remaining reader.old) (I.remaining reader.new) []
+        × Appends (W.contents writer.old) (W.contents writer.new) [])
+        ⊎ IfSome (I.remaining reader.old) (λ input. (fault : Fault)
+        × (status_of fault ≡ 4)
+        × EndsWith fault input (I.remaining reader.new) (W.contents writer.old) (W.contents writer.new)) }
     ensures served { (serving : Serving) → AsksFor (map string_bytes words.now) (Serve serving) →
         Appends (W.contents writer.old) (W.contents writer.new) [] }
     ensures unkept { (serving : Serving) → AsksFor (map string_bytes words.now) (Serve serving) → result ≡ 0 →

@@ -45,7 +45,8 @@ pub(crate) fn status_of_serving_fault<E: Write>(fault: ServingFault, errors: &mu
     ensures failed { result ≢ 0 }
 {
     match fault {
-        ServingFault::Unopened(OpeningFault::OutOfMemory) | ServingFault::NoRoom => 4,
+        ServingFault::NoRoom => 4,
+        ServingFault::Unopened(fault) if fault.is_out_of_memory() => 4,
         ServingFault::Unread | ServingFault::NotListening => 3,
         ServingFault::Unopened(fault) => {
             // Where it can't be written, the status still tells.

@@ -101,6 +101,6 @@ fn answer_part<R: Runtime + Wait + AllocGlobal, O: Write>(
         "both ways" => answer_both_ways(rt.alloc(), text, writer),
         "session objects" => open_all(rt.alloc(), text, writer),
         "full journal" => answer_repeated(rt.alloc(), text, writer),
-        _ => run_script(rt.alloc(), &mut text.as_bytes(), writer).is_ok(),
+        _ => run_script(rt.alloc(), &mut text.as_bytes(), &mut &mut *writer).is_ok(),
     }
 }

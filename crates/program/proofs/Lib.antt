@@ -4,3 +4,4 @@ pub mod ScriptLemmas
 pub mod ResponseLemmas
 pub mod TextLemmas
 pub mod ToldLemmas
+pub mod MemoryLemmas

@@ -46,6 +46,7 @@ use Rattle.program.specs.Writes.{
   WritesPartOfLast,
   WritesPartOfResponses,
   IsCutShort,
+  IsCutForMemory,
   IsTooLong,
   IsUnwritten,
 }
@@ -171,6 +172,10 @@ module _ (input : List ℕ) (left before after : Option (List ℕ)) where
 
   pub part_of_cut : IsCutShort input left before after → IsPart
   part_of_cut cut = part_of_read cut.read [] (subst (Consumes (Some input) left) (sym (append-nil cut.read))
+      cut.consumed) cut.written
+
+  pub part_of_memory : IsCutForMemory input left before after → IsPart
+  part_of_memory cut = part_of_read cut.read [] (subst (Consumes (Some input) left) (sym (append-nil cut.read))
       cut.consumed) cut.written
 
   pub part_of_long : IsTooLong input left before after → IsPart

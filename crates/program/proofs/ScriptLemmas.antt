@@ -1,32 +1,5 @@
 -- How a script's run goes on from line to line.
-use Rattle.std.proofs.Common.{
-  ◌≡◌,
-  ◌≢◌,
-  ◌⊎◌,
-  ℕ,
-  ◌==◌,
-  false,
-  ◌+◌,
-  ◌≤◌,
-  ◌<◌,
-  inl,
-  inr,
-  List,
-  [],
-  ◌∷◌,
-  ◌++◌,
-  take,
-  length,
-  refl,
-  sym,
-  ap,
-  subst,
-  ◌∙◌,
-  append_assoc,
-  append-nil,
-  length-append,
-  arith,
-}
+use Rattle.std.proofs.Common.{◌≡◌, ◌≢◌, ℕ, ◌==◌, false, ◌+◌, ◌≤◌, inl, inr, List, [], ◌∷◌, ◌++◌, take, length, refl, sym, ap, subst, ◌∙◌, append_assoc, append-nil, length-append, arith}
 use Rattle.std.specs.Prelude.{Option, Some, None, IfSome, IfErr, OnOk, Err, Ok, Result, filter}
 use Rattle.std.proofs.lemmas.List.{map-append, length-take}
 use Rattle.std.proofs.lemmas.List.Sums.{fold-append}
@@ -37,10 +10,20 @@ use Rattle.script_lines.specs.declared.line_end.LineEnd.{LineEnd}
 use Rattle.script_lines.specs.declared.line_end.LineEnd.TheVariants.{LineFeed, EndOfInput}
 use Rattle.script_lines.specs.declared.reading.ReadFault.{ReadFault}
 use Rattle.script_lines.specs.declared.reading.ReadFault.TheVariants as read
-use Rattle.script_lines.specs.Lines.{pieces_of, ended_line, ended_lines, last_line, lines_of, first_line_of}
-use Rattle.script_lines.specs.Reading.{IsUnbroken, TakesLine, TakesLonger, FailsAtInput, FailsForMemory, FailsFor}
+use Rattle.script_lines.specs.declared.sink.SinkFault.{SinkFault}
+use Rattle.script_lines.specs.declared.sink.SinkFault.TheVariants as sink
+use Rattle.script_lines.specs.Lines.{CutText, pieces_of, ended_line, ended_lines, last_line, lines_of, first_line_of}
+use Rattle.script_lines.specs.Reading.{
+  IsUnbroken,
+  TakesLine,
+  TakesLonger,
+  FailsAtInput,
+  IsBeyondLimit,
+  FailsForMemory,
+  FailsFor,
+}
 use Rattle.script_lines.specs.Writing.{WritesPart}
-use Rattle.script_lines.proofs.LineLemmas.{piece_more, ended_more, ended_same, all_ended, lines_rest, lines_more}
+use Rattle.script_lines.proofs.LineLemmas.{piece_more, rest_more, ended_more, ended_same, all_ended, lines_rest, lines_more}
 use Rattle.script_lines.proofs.ShortLineLemmas.{at_most_one_less}
 use Rattle.session_commands.specs.declared.entry.Entry.{Entry}
 use Rattle.session_book.specs.Journal.{Ledger}
@@ -49,7 +32,7 @@ use Rattle.session_object.specs.declared.session_fault.SessionFault.TheVariants 
 use Rattle.session_state.specs.SessionState.{SessionState}
 use Rattle.program.specs.declared.fault.Fault.{Fault}
 use Rattle.program.specs.declared.fault.Fault.TheVariants.{Session, Opening, Input, Output, OutOfMemory}
-use Rattle.program.specs.FirstLine.{Opens, OpensNone}
+use Rattle.program.specs.FirstLine.{Opens, BeginsNone}
 use Rattle.request_answers.specs.Response.{Response}
 use Rattle.program.specs.Script.{Received, respond, responses_to, response_to_line, is_not_empty, messages_among}
 use Rattle.program.specs.Writes.{
@@ -61,12 +44,13 @@ use Rattle.program.specs.Writes.{
   WritesPartOfLast,
   IsDone,
   IsUnopened,
-  IsWithoutMemory,
   IsCutShort,
+  IsCutForMemory,
+  IsTooLong,
   IsUnwritten,
-  EndsWith,
+  EndsOver,
 }
-use Rattle.program.specs.Standing.{StandsAtLine, StandsAtEnd, StandsAfter, line_feeds, fault_of_read}
+use Rattle.program.specs.Standing.{StandsAtLine, StandsAtEnd, StandsAfter, line_feeds, fault_of_read, fault_of_write}
 
 -- ---- responses
 
@@ -278,36 +262,40 @@ module _ (input : List ℕ) (before reader reader' writer : Option (List ℕ)) (
           appended = appended;
         }))
 
-    -- reading ends early in the line after, or finds a byte too many
-    at_input : FailsAtInput reader reader' most line left left' → EndsWith Input input reader' before writer
-    at_input fails = by fails.beyond fails.consumed fails.few fails.full
-      where
-        piece : List ℕ
-        piece = fails.piece
+    -- reading ends early in the line after
+    at_input : (reading : Type 0) → FailsAtInput reading reader reader' most line left left' →
+        reading × IsCutShort input reader' before writer
+    at_input reading fails = (
+      fails.failed,
+      record {
+        read = taken ++ fails.piece;
+        consumed = Consumes-trans (Some input) reader reader' taken fails.piece taken_first fails.consumed;
+        within = omega (arith, counted, fails.counted, length-append taken fails.piece);
+        written = written_so_far fails.piece fails.unbroken;
+      },
+    )
 
-        by : (beyond : List ℕ) → Consumes reader reader' (piece ++ beyond) → length beyond ≤ 1 →
-            (0 < length beyond → left' ≡ 0) → EndsWith Input input reader' before writer
-        by [] consumed few full = inl (record {
-          read = taken ++ piece;
-          consumed = Consumes-trans (Some input) reader reader' taken piece taken_first
-              (subst (Consumes reader reader') (append-nil piece) consumed);
-          within = omega (arith, counted, fails.counted, length-append taken piece);
-          written = written_so_far piece fails.unbroken;
-        })
-        by (byte ∷ []) consumed few full = inr (record {
-          read = taken ++ piece;
-          beyond = byte;
-          consumed = subst (Consumes (Some input) reader') (sym (append_assoc taken piece (byte ∷ [])))
-              (Consumes-trans (Some input) reader reader' taken (piece ++ byte ∷ []) taken_first consumed);
-          full = omega (arith, counted, fails.counted, full (omega arith), length-append taken piece);
-          written = written_so_far piece fails.unbroken;
-        })
-        by (byte ∷ other ∷ bytes) consumed few full = absurd (omega arith)
+    -- there is a byte too many
+    beyond_limit : IsBeyondLimit reader reader' most line left left' → IsTooLong input reader' before writer
+    beyond_limit more = record {
+      read = taken ++ more.piece;
+      beyond = more.beyond;
+      consumed = subst (Consumes (Some input) reader') (sym (append_assoc taken more.piece (more.beyond ∷ [])))
+          (Consumes-trans (Some input) reader reader' taken (more.piece ++ more.beyond ∷ []) taken_first more.consumed);
+      full = omega (arith, counted, more.counted, more.full, length-append taken more.piece);
+      written = written_so_far more.piece more.unbroken;
+    }
 
     -- there is no memory for a byte of the line after
-    for_memory : FailsForMemory reader reader' most line left left' → IsCutShort input reader' before writer
-    for_memory fails =
+    for_memory : most ≤ most_bytes → FailsForMemory reader reader' most line left left' → IsCutForMemory input reader'
+        before writer
+    for_memory room fails =
         let piece : List ℕ = line ++ fails.lost ∷ [] in
+        let unbroken : IsUnbroken piece = with_lost line fails.lost fails.unbroken fails.ends_no_line in
+        let same : length (pieces_of (taken ++ piece)).rest ≡ length piece =
+        ap (λ (p : CutText). length p.rest) (rest_more taken piece whole unbroken) in
+        let rest : length (pieces_of (taken ++ piece)).rest ≡ length line + 1 =
+        omega (arith, same, length-append line (fails.lost ∷ [])) in
         record {
           read = taken ++ piece;
           consumed = Consumes-trans (Some input) reader reader' taken piece taken_first fails.consumed;
@@ -319,23 +307,29 @@ module _ (input : List ℕ) (before reader reader' writer : Option (List ℕ)) (
             length-append line
                 (fails.lost ∷ []),
           );
-          written = written_so_far piece (with_lost line fails.lost fails.unbroken fails.ends_no_line);
+          midst = omega (arith, rest);
+          few = omega (arith, rest, fails.few, room);
+          written = written_so_far piece unbroken;
         }
 
-    ends_of_read : (fault : ReadFault) → FailsFor fault reader reader' most line left left' →
-        EndsWith (fault_of_read fault) input reader' before writer
-    ends_of_read read.Input fails = at_input fails
-    ends_of_read read.OutOfMemory fails = inr (for_memory fails)
+    ends_of_read : (reading : Type 0) (writing : SinkFault → Type 0) → most ≤ most_bytes → (fault : ReadFault) →
+        FailsFor reading fault reader reader' most line left left' →
+        EndsOver reading writing (fault_of_read fault) input reader' before writer
+    ends_of_read reading writing room read.Input (inl fails) = inl (at_input reading fails)
+    ends_of_read reading writing room read.Input (inr more) = inr (beyond_limit more)
+    ends_of_read reading writing room read.OutOfMemory fails = inr (inl (for_memory room fails))
 
 -- a line after the first isn't read
-pub cut_short : (fault : ReadFault) (input : List ℕ) (before reader reader' writer : Option (List ℕ)) (ledger : Ledger)
-    (left left' most : ℕ) (line : List ℕ) →
-    StandsAtLine (Some input) before reader writer ledger left → FailsFor fault reader reader' most line left left' →
-    EndsWith (fault_of_read fault) input reader' before writer
-cut_short fault input before reader reader' writer ledger left left' most line at fails =
+pub cut_short : (reading : Type 0) (writing : SinkFault → Type 0) (fault : ReadFault) (input : List ℕ)
+    (before reader reader' writer : Option (List ℕ)) (ledger : Ledger) (left left' most : ℕ) (line : List ℕ) →
+    most ≤ most_bytes →
+    StandsAtLine (Some input) before reader writer ledger left →
+    FailsFor reading fault reader reader' most line left left' →
+    EndsOver reading writing (fault_of_read fault) input reader' before writer
+cut_short reading writing fault input before reader reader' writer ledger left left' most line room at fails =
     ends_of_read input before reader reader' writer ledger left left' most at.taken at.stands.text line at.whole
-    at.begun at.stands.consumed at.stands.counted at.stands.opened at.stands.responses at.stands.appended fault
-    fails
+    at.begun at.stands.consumed at.stands.counted at.stands.opened at.stands.responses at.stands.appended reading writing
+    room fault fails
 
 -- no LF ends a line of these bytes
 none_ended : (piece : List ℕ) → IsUnbroken piece → ended_lines piece ≡ []
@@ -348,37 +342,41 @@ nothing_written piece writer unbroken = subst (λ lines. WritesSoFar lines write
     (sym (none_ended piece unbroken)) (Appends-nil writer)
 
 -- the first line isn't read
-first_cut_short : (fault : ReadFault) (input : List ℕ) (reader' writer : Option (List ℕ)) (room : ℕ) (line : List ℕ)
-    (left' : ℕ) →
-    FailsFor fault (Some input) reader' room line script_limit left' → EndsWith (fault_of_read fault) input reader'
-    writer writer
-first_cut_short read.Input input reader' writer room line left' fails = by fails.beyond fails.consumed fails.few
-    fails.full
-  where
-    by : (beyond : List ℕ) → Consumes (Some input) reader' (fails.piece ++ beyond) → length beyond ≤ 1 →
-        (0 < length beyond → left' ≡ 0) →
-        EndsWith Input input reader' writer writer
-    by [] consumed few full = inl (record {
-      read = fails.piece;
-      consumed = subst (Consumes (Some input) reader') (append-nil fails.piece) consumed;
-      within = omega (arith, fails.counted);
-      written = nothing_written fails.piece writer fails.unbroken;
-    })
-    by (byte ∷ []) consumed few full = inr (record {
-      read = fails.piece;
-      beyond = byte;
-      consumed = consumed;
-      full = omega (arith, fails.counted, full (omega arith));
-      written = nothing_written fails.piece writer fails.unbroken;
-    })
-    by (byte ∷ other ∷ bytes) consumed few full = absurd (omega arith)
-first_cut_short read.OutOfMemory input reader' writer room line left' fails = inr (record {
-  read = line ++ fails.lost ∷ [];
-  consumed = fails.consumed;
-  within = omega (arith, fails.counted, length-append line (fails.lost ∷ []));
-  written = nothing_written (line ++ fails.lost ∷ []) writer
-      (with_lost line fails.lost fails.unbroken fails.ends_no_line);
+first_cut_short : (reading : Type 0) (fault : ReadFault) (input : List ℕ) (reader' writer : Option (List ℕ)) (room : ℕ)
+    (line : List ℕ) (left' : ℕ) → room ≤ most_bytes →
+    FailsFor reading fault (Some input) reader' room line script_limit left' →
+    EndsOver reading (λ _. ⊥) (fault_of_read fault) input reader' writer writer
+first_cut_short reading read.Input input reader' writer room line left' small (inl fails) = inl (
+  fails.failed,
+  record {
+    read = fails.piece;
+    consumed = fails.consumed;
+    within = omega (arith, fails.counted);
+    written = nothing_written fails.piece writer fails.unbroken;
+  },
+)
+first_cut_short reading read.Input input reader' writer room line left' small (inr more) = inr (record {
+  read = more.piece;
+  beyond = more.beyond;
+  consumed = more.consumed;
+  full = omega (arith, more.counted, more.full);
+  written = nothing_written more.piece writer more.unbroken;
 })
+first_cut_short reading read.OutOfMemory input reader' writer room line left' small fails =
+    let piece : List ℕ = line ++ fails.lost ∷ [] in
+    let unbroken : IsUnbroken piece = with_lost line fails.lost fails.unbroken fails.ends_no_line in
+    let same : length (pieces_of piece).rest ≡ length piece =
+    ap (λ (p : CutText). length p.rest) (rest_more [] piece refl unbroken) in
+    let rest : length (pieces_of piece).rest ≡ length line + 1 = omega (arith, same, length-append line (fails.lost ∷ []))
+    in
+    inr (inl (record {
+      read = piece;
+      consumed = fails.consumed;
+      within = omega (arith, fails.counted, length-append line (fails.lost ∷ []));
+      midst = omega (arith, rest);
+      few = omega (arith, rest, fails.few, small);
+      written = nothing_written piece writer unbroken;
+    }))
 
 -- a response was written in part alone
 pub broken : (input : List ℕ) (before reader reader' writer writer' : Option (List ℕ)) (ledger : Ledger)
@@ -457,6 +455,14 @@ broken input before reader reader' writer writer' ledger left left' line end at 
           message = one_more read are;
           written = written;
         }
+
+-- so the sink fails
+pub ends_unwritten : (reading : Type 0) (writing : SinkFault → Type 0) (fault : SinkFault) (input : List ℕ)
+    (left before after : Option (List ℕ)) → writing fault → IsUnwritten input left before after →
+    EndsOver reading writing (fault_of_write fault) input left before after
+ends_unwritten reading writing sink.Output input left before after failed unwritten = (failed, unwritten)
+ends_unwritten reading writing sink.OutOfMemory input left before after failed unwritten =
+    inr (inr (failed, unwritten))
 
 -- ---- the first line and the end
 
@@ -556,73 +562,70 @@ reads_first EndOfInput input reader' line all left' takes short =
     }
 
 module _ (input : List ℕ) (reader' writer : Option (List ℕ)) (line : List ℕ) (reads : ReadsFirst input reader' line)
-  where
-    isnt_opened : (fault : Fault) → OpensNone fault line → IsUnopened fault input reader' writer writer
-    isnt_opened fault none = record {
-      read = reads.read;
-      consumed = reads.consumed;
-      few = reads.few;
-      first = reads.one;
-      opens_none = subst (OpensNone fault) (sym reads.first) none;
-      unwritten = Appends-nil writer;
-    }
+    (reading : Type 0) where
+  isnt_opened : (fault : Fault) → BeginsNone fault line → IsUnopened fault input reader' writer writer
+  isnt_opened fault none = record {
+    read = reads.read;
+    consumed = reads.consumed;
+    few = reads.few;
+    first = reads.one;
+    begins_none = subst (BeginsNone fault) (sym reads.first) none;
+    unwritten = Appends-nil writer;
+  }
 
-    without_memory : IsWithoutMemory input reader' writer writer
-    without_memory = record {
-      read = reads.read;
-      consumed = reads.consumed;
-      few = reads.few;
-      first = reads.one;
-      unwritten = Appends-nil writer;
-    }
+  ends_there : (fault : Fault) → BeginsNone fault line → EndsOver reading (λ _. ⊥) fault input reader' writer writer
+  ends_there (Session fault) none = isnt_opened (Session fault) none
+  ends_there (Opening cause) none = isnt_opened (Opening cause) none
+  ends_there Input none = absurd none
+  ends_there Output none = absurd none
+  ends_there OutOfMemory none = inl (isnt_opened OutOfMemory none)
 
-    ends_there : (fault : Fault) → OpensNone fault line ⊎ (fault ≡ OutOfMemory) → EndsWith fault input reader' writer
-        writer
-    ends_there (Session fault) (inl none) = isnt_opened (Session fault) none
-    ends_there (Session fault) (inr same) = absurd (cc)
-    ends_there (Opening cause) (inl none) = isnt_opened (Opening cause) none
-    ends_there (Opening cause) (inr same) = absurd (cc)
-    ends_there Input (inl none) = absurd none
-    ends_there Input (inr same) = absurd (cc)
-    ends_there Output (inl none) = absurd none
-    ends_there Output (inr same) = absurd (cc)
-    ends_there OutOfMemory (inl none) = absurd none
-    ends_there OutOfMemory (inr same) = inl without_memory
-
--- a line that is no longer than a session object opens none
-pub first_refused : (known reader' writer : Option (List ℕ)) (end : LineEnd) (line : List ℕ) (left' : ℕ)
-    (fault : Fault) →
-    TakesLine end known reader' line script_limit left' → length line ≤ most_bytes → OpensNone fault line ⊎
-    (fault ≡ OutOfMemory) →
-    IfSome known (λ input. EndsWith fault input reader' writer writer)
-first_refused None reader' writer end line left' fault takes short none = tt
-first_refused (Some input) reader' writer end line left' fault takes short none =
-    ends_there input reader' writer line (reads_first end input reader' line script_limit left' takes short) fault none
+-- no run begins with a line that is no longer than a session object
+pub first_refused : (reading : Type 0) (known reader' writer : Option (List ℕ)) (end : LineEnd) (line : List ℕ)
+    (left' : ℕ) (fault : Fault) →
+    TakesLine end known reader' line script_limit left' → length line ≤ most_bytes → BeginsNone fault line →
+    IfSome known (λ input. EndsOver reading (λ _. ⊥) fault input reader' writer writer)
+first_refused reading None reader' writer end line left' fault takes short none = tt
+first_refused reading (Some input) reader' writer end line left' fault takes short none =
+    ends_there input reader' writer line (reads_first end input reader' line script_limit left' takes short) reading
+    fault none
 
 -- a longer line
-pub first_too_long : (known reader' writer : Option (List ℕ)) (left' : ℕ) → TakesLonger known reader' most_bytes
-    script_limit left' →
-    IfSome known (λ input. EndsWith (Session session.TooLong) input reader' writer writer)
+pub first_too_long : (reading : Type 0) (known reader' writer : Option (List ℕ)) (left' : ℕ) →
+    TakesLonger known reader' most_bytes script_limit left' →
+    IfSome known (λ input. EndsOver reading (λ _. ⊥) (Session session.TooLong) input reader' writer writer)
 unfolding ended_lines
-first_too_long None reader' writer left' takes = tt
-first_too_long (Some input) reader' writer left' takes = record {
+first_too_long reading None reader' writer left' takes = tt
+first_too_long reading (Some input) reader' writer left' takes = record {
   read = takes.piece;
   consumed = takes.consumed;
   few = takes.few;
   first = subst (λ ls. length ls ≤ 1) (sym (lines_rest [] takes.piece refl takes.unbroken)) (at_most_one takes.piece);
-  opens_none = (λ same. absurd (cc), takes.longer);
+  begins_none = record { refused = takes.longer; memory = λ same. absurd (cc) };
   unwritten = Appends-nil writer;
 }
 
 -- reading the first line fails
-pub first_unread : (known reader' writer : Option (List ℕ)) (room : ℕ) (line : List ℕ) (left' : ℕ) (fault : ReadFault)
-    (ended : Fault) → ended ≡ fault_of_read fault →
-    FailsFor fault known reader' room line script_limit left' → IfSome known
-    (λ input. EndsWith ended input reader' writer writer)
-first_unread None reader' writer room line left' fault ended same fails = tt
-first_unread (Some input) reader' writer room line left' fault ended same fails =
-    subst (λ f. EndsWith f input reader' writer writer) (sym same) (first_cut_short fault input reader' writer room line
-    left' fails)
+pub first_unread : (reading : Type 0) (known reader' writer : Option (List ℕ)) (room : ℕ) (line : List ℕ) (left' : ℕ)
+    (fault : ReadFault) (ended : Fault) → ended ≡ fault_of_read fault → room ≤ most_bytes →
+    FailsFor reading fault known reader' room line script_limit left' → IfSome known
+    (λ input. EndsOver reading (λ _. ⊥) ended input reader' writer writer)
+first_unread reading None reader' writer room line left' fault ended same small fails = tt
+first_unread reading (Some input) reader' writer room line left' fault ended same small fails =
+    subst (λ f. EndsOver reading (λ _. ⊥) f input reader' writer writer) (sym same)
+    (first_cut_short reading fault input reader' writer room line left' small fails)
+
+-- what ends a run whose sink never fails may end any
+pub ends_anywhere : (reading : Type 0) (writing : SinkFault → Type 0) (fault : Fault) (input : List ℕ)
+    (left before after : Option (List ℕ)) → EndsOver reading (λ _. ⊥) fault input left before after →
+    EndsOver reading writing fault input left before after
+ends_anywhere reading writing (Session fault) input left before after ends = ends
+ends_anywhere reading writing (Opening cause) input left before after ends = ends
+ends_anywhere reading writing Input input left before after ends = ends
+ends_anywhere reading writing Output input left before after ends = absurd ends.0
+ends_anywhere reading writing OutOfMemory input left before after (inl none) = inl none
+ends_anywhere reading writing OutOfMemory input left before after (inr (inl cut)) = inr (inl cut)
+ends_anywhere reading writing OutOfMemory input left before after (inr (inr unwritten)) = absurd unwritten.0
 
 -- the whole input is read
 pub finished : (input : List ℕ) (before reader writer : Option (List ℕ)) (ledger : Ledger) (left : ℕ) →
@@ -660,9 +663,18 @@ done_from None before reader writer ledger left (Ok x) at = tt
 done_from (Some input) before reader writer ledger left (Ok x) at = finished input before reader writer ledger left at
 done_from known before reader writer ledger left (Err fault) at = tt
 
-pub ended_from : {T : Type 0} (known before reader writer : Option (List ℕ)) (result : Result T Fault) →
-    ((input : List ℕ) → known ≡ Some input → IfErr result (λ fault. EndsWith fault input reader before writer)) →
-    IfErr result (λ fault. IfSome known (λ input. EndsWith fault input reader before writer))
-ended_from known before reader writer (Ok x) ends = tt
-ended_from None before reader writer (Err fault) ends = tt
-ended_from (Some input) before reader writer (Err fault) ends = ends input refl
+pub ended_from : {T : Type 0} (reading : Type 0) (writing : SinkFault → Type 0) (known before reader writer :
+    Option (List ℕ)) (result : Result T Fault) →
+    ((input : List ℕ) → known ≡ Some input →
+    IfErr result (λ fault. EndsOver reading writing fault input reader before writer)) →
+    IfErr result (λ fault. IfSome known (λ input. EndsOver reading writing fault input reader before writer))
+ended_from reading writing known before reader writer (Ok x) ends = tt
+ended_from reading writing None before reader writer (Err fault) ends = tt
+ended_from reading writing (Some input) before reader writer (Err fault) ends = ends input refl
+
+pub ended_at_first : (reading : Type 0) (writing : SinkFault → Type 0) (known reader writer : Option (List ℕ))
+    (fault : Fault) → IfSome known (λ input. EndsOver reading (λ _. ⊥) fault input reader writer writer) →
+    IfSome known (λ input. EndsOver reading writing fault input reader writer writer)
+ended_at_first reading writing None reader writer fault ends = tt
+ended_at_first reading writing (Some input) reader writer fault ends =
+    ends_anywhere reading writing fault input reader writer writer ends

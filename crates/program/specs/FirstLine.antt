@@ -11,12 +11,17 @@ use Rattle.program.specs.declared.fault.Fault.TheVariants.{Session, Opening, Inp
 abbrev pub Opens : List ℕ → SessionState → Type 0
 Opens line opening = OpensWith None line opening
 
-abbrev pub OpensNone : Fault → List ℕ → Type 0
-OpensNone (Session fault) line = OpensNoneWith None (unopened.Session fault) line
-OpensNone (Opening cause) line = OpensNoneWith None (unopened.Opening cause) line
-OpensNone Input line = ⊥
-OpensNone Output line = ⊥
-OpensNone OutOfMemory line = ⊥
+-- the first line opens some session
+abbrev pub OpensOne : List ℕ → Type 0
+OpensOne line = (opening : SessionState) × Opens line opening
+
+-- why no run begins with a first line: it opens no session; or it opens one, which there is no memory to keep
+abbrev pub BeginsNone : Fault → List ℕ → Type 0
+BeginsNone (Session fault) line = OpensNoneWith None (unopened.Session fault) line
+BeginsNone (Opening cause) line = OpensNoneWith None (unopened.Opening cause) line
+BeginsNone Input line = ⊥
+BeginsNone Output line = ⊥
+BeginsNone OutOfMemory line = OpensOne line
 
 -- ---- for private clauses
 
@@ -24,4 +29,3 @@ OpensNone OutOfMemory line = ⊥
 abbrev pub fault_of_unopened : OpeningFault → Fault
 fault_of_unopened (unopened.Session fault) = Session fault
 fault_of_unopened (unopened.Opening cause) = Opening cause
-fault_of_unopened unopened.OutOfMemory = OutOfMemory

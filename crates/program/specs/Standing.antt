@@ -5,12 +5,14 @@ use Rattle.script_lines.specs.declared.line_end.LineEnd.{LineEnd}
 use Rattle.script_lines.specs.declared.line_end.LineEnd.TheVariants.{LineFeed, EndOfInput}
 use Rattle.script_lines.specs.declared.reading.ReadFault.{ReadFault}
 use Rattle.script_lines.specs.declared.reading.ReadFault.TheVariants as read
+use Rattle.script_lines.specs.declared.sink.SinkFault.{SinkFault}
+use Rattle.script_lines.specs.declared.sink.SinkFault.TheVariants as sink
 use Rattle.script_lines.specs.Lines.{pieces_of, ended_lines, lines_of, first_line_of}
 use Rattle.session_book.specs.Journal.{Ledger}
 use Rattle.json_fields.specs.declared.request_fault.RequestFault.{RequestFault}
 use Rattle.wire.specs.ReceiptText.{fault_text}
 use Rattle.program.specs.declared.fault.Fault.{Fault}
-use Rattle.program.specs.declared.fault.Fault.TheVariants.{Input, OutOfMemory}
+use Rattle.program.specs.declared.fault.Fault.TheVariants.{Input, Output, OutOfMemory}
 use Rattle.program.specs.FirstLine.{Opens}
 use Rattle.program.specs.Script.{messages_among}
 use Rattle.program.specs.Writes.{script_limit, RespondsToEach}
@@ -59,3 +61,8 @@ line_feeds EndOfInput = 0
 abbrev pub fault_of_read : ReadFault → Fault
 fault_of_read read.Input = Input
 fault_of_read read.OutOfMemory = OutOfMemory
+
+-- the fault of a script whose response wasn't written whole
+abbrev pub fault_of_write : SinkFault → Fault
+fault_of_write sink.Output = Output
+fault_of_write sink.OutOfMemory = OutOfMemory

@@ -1,14 +1,16 @@
 -- What a script's run reads and writes, against the text of the script.
-use Rattle.std.specs.Prelude.{◌≡◌, ℕ, ◌+◌, ◌≤◌, ◌⊎◌, Option, Some, List, [], ◌∷◌, ◌++◌, map, length}
+use Rattle.std.specs.Prelude.{◌≡◌, ℕ, ◌+◌, ◌≤◌, ◌⊎◌, ⊤, Option, Some, List, [], ◌∷◌, ◌++◌, map, length}
 use Rattle.std.specs.Io.KnownBytes.{Consumes, Appends, IsAtEnd}
 use Rattle.script_lines.specs.Lines.{pieces_of, ended_lines, lines_of, first_line_of}
+use Rattle.script_lines.specs.declared.sink.SinkFault.{SinkFault}
+use Rattle.script_lines.specs.declared.sink.SinkFault.TheVariants as sink
 use Rattle.session_object.specs.Reading.{most_bytes}
 use Rattle.session_commands.specs.declared.entry.Entry.{Entry}
 use Rattle.session_state.specs.SessionState.{SessionState}
 use Rattle.program.specs.declared.fault.Fault.{Fault}
 use Rattle.program.specs.declared.fault.Fault.TheVariants.{Session, Opening, Input, Output, OutOfMemory}
 use Rattle.program.specs.declared.script.TheConstants.{SCRIPT_LIMIT}
-use Rattle.program.specs.FirstLine.{Opens, OpensNone}
+use Rattle.program.specs.FirstLine.{Opens, BeginsNone}
 use Rattle.program.specs.Script.{MemoryRefusals, Received, response_to_line, responses_to, messages_among}
 
 -- how many bytes a script has at most
@@ -42,6 +44,14 @@ pub record WritesResponses (lines : List (List ℕ)) (before after : Option (Lis
   pub text : List ℕ
   pub responses : RespondsToEach opening (messages_among lines) journal text
   pub appended : Appends before after text
+
+-- after these bytes come just the responses to the messages of a script, of which the first line opens the session
+pub record AnswersScript (input before after : List ℕ) : Type 0 where
+  pub opening : SessionState
+  pub opened : Opens (first_line_of (lines_of input)) opening
+  pub received : List Received
+  pub each : map (λ (r : Received). r.line) received ≡ messages_among (lines_of input)
+  pub written : after ≡ before ++ (responses_to opening received).text
 
 -- nothing before the first line is read, and then the responses
 abbrev pub WritesSoFar : List (List ℕ) → Option (List ℕ) → Option (List ℕ) → Type 0
@@ -84,22 +94,14 @@ pub record IsDone (input : List ℕ) (left : Option (List ℕ)) (before after : 
   pub consumed : Consumes (Some input) left input
   pub written : WritesResponses (lines_of input) before after
 
--- the first line opens no session: nothing is written, and no more is read than shows this, nor a second line
+-- no run begins with the first line: nothing is written, and no more is read than shows this, nor a second line
 pub record IsUnopened (fault : Fault) (input : List ℕ) (left : Option (List ℕ))
     (before after : Option (List ℕ)) : Type 0 where
   pub read : List ℕ
   pub consumed : Consumes (Some input) left read
   pub few : length read ≤ most_bytes + 2
   pub first : length (lines_of read) ≤ 1
-  pub opens_none : OpensNone fault (first_line_of (lines_of input))
-  pub unwritten : Appends before after []
-
--- there was no memory for the session of the first line: nothing is written, and no second line is read
-pub record IsWithoutMemory (input : List ℕ) (left : Option (List ℕ)) (before after : Option (List ℕ)) : Type 0 where
-  pub read : List ℕ
-  pub consumed : Consumes (Some input) left read
-  pub few : length read ≤ most_bytes + 2
-  pub first : length (lines_of read) ≤ 1
+  pub begins_none : BeginsNone fault (first_line_of (lines_of input))
   pub unwritten : Appends before after []
 
 -- reading ended early: just the messages whose lines had ended are answered
@@ -107,6 +109,16 @@ pub record IsCutShort (input : List ℕ) (left : Option (List ℕ)) (before afte
   pub read : List ℕ
   pub consumed : Consumes (Some input) left read
   pub within : length read ≤ script_limit
+  pub written : WritesSoFar (ended_lines read) before after
+
+-- there was no memory for a byte of a line of which there was room for more, and so in the midst of that line: just the
+-- messages whose lines had ended are answered
+pub record IsCutForMemory (input : List ℕ) (left : Option (List ℕ)) (before after : Option (List ℕ)) : Type 0 where
+  pub read : List ℕ
+  pub consumed : Consumes (Some input) left read
+  pub within : length read ≤ script_limit
+  pub midst : 1 ≤ length (pieces_of read).rest
+  pub few : length (pieces_of read).rest ≤ most_bytes
   pub written : WritesSoFar (ended_lines read) before after
 
 -- the script is too long: one byte beyond the limit was read, and just the messages whose lines had ended are answered
@@ -130,11 +142,24 @@ pub record IsUnwritten (input : List ℕ) (left : Option (List ℕ)) (before aft
   pub message : messages_among (lines_of read) ≡ messages_among lines ++ last ∷ []
   pub written : WritesPartOfLast lines last before after
 
--- what stands after each fault
+-- what stands after each fault. A fault of the input or of the output needs what it takes for the source to fail, or for
+-- the sink to fail so; a script that is too long needs neither
+abbrev pub EndsOver : Type 0 → (SinkFault → Type 0) → Fault → List ℕ → Option (List ℕ) → Option (List ℕ) →
+    Option (List ℕ) → Type 0
+EndsOver reading writing (Session fault) input left before after = IsUnopened (Session fault) input left before after
+EndsOver reading writing (Opening cause) input left before after = IsUnopened (Opening cause) input left before after
+EndsOver reading writing Input input left before after =
+    (reading × IsCutShort input left before after) ⊎ IsTooLong input left before after
+EndsOver reading writing Output input left before after = writing sink.Output × IsUnwritten input left before after
+EndsOver reading writing OutOfMemory input left before after =
+    IsUnopened OutOfMemory input left before after
+    ⊎ (IsCutForMemory input left before after
+    ⊎ (writing sink.OutOfMemory × IsUnwritten input left before after))
+
+-- over a reader and a writer of the system, each of which may fail at any time
 abbrev pub EndsWith : Fault → List ℕ → Option (List ℕ) → Option (List ℕ) → Option (List ℕ) → Type 0
-EndsWith (Session fault) input left before after = IsUnopened (Session fault) input left before after
-EndsWith (Opening cause) input left before after = IsUnopened (Opening cause) input left before after
-EndsWith Input input left before after = IsCutShort input left before after ⊎ IsTooLong input left before after
-EndsWith Output input left before after = IsUnwritten input left before after
-EndsWith OutOfMemory input left before after =
-    IsWithoutMemory input left before after ⊎ IsCutShort input left before after
+EndsWith fault input left before after = EndsOver ⊤ (λ why. why ≡ sink.Output) fault input left before after
+
+-- over bytes in memory, where a reading never fails and a writing only for want of memory
+abbrev pub EndsInMemory : Fault → List ℕ → Option (List ℕ) → Option (List ℕ) → Option (List ℕ) → Type 0
+EndsInMemory fault input left before after = EndsOver ⊥ (λ why. why ≡ sink.OutOfMemory) fault input left before after

@@ -6,7 +6,7 @@ use thiserror::Error;
 /// Why a script's run ended before the script did.
 #[derive(Clone, Copy, Debug, Error)]
 pub enum Fault {
-    /// The first line is no session object.
+    /// The first line isn't read as a session object.
     Session(SessionFault),
     /// The session of the first line isn't opened.
     Opening(OpeningRefusal),
@@ -14,7 +14,7 @@ pub enum Fault {
     Input,
     /// The output can't be written.
     Output,
-    /// There is no memory for the session, or for a line.
+    /// There is no memory to keep the session that was opened, or for a line.
     OutOfMemory,
 }
 

@@ -10,42 +10,28 @@ ghost use Rattle.program.specs.Writes.{Responds};
 
 use json_fields::RequestFault;
 use request_answers::{AnswerFault, answer_request};
-use script_lines::{WriteFault, write_text};
+use script_lines::{SinkFault, TextSink};
 use session_keeper::{Keeper, PlainKeeper};
 use std::alloc::Global;
-use std::io::Write;
 use wire::{ScriptRequest, fault_line, read_script_request};
 
 /// Responds to a message: its effect joins the session, and the line that responds is written.
-pub(crate) fn respond<W: Write>(
+pub(crate) fn respond<W: TextSink>(
     alloc: Global,
     keeper: &mut PlainKeeper,
     line: &[u8],
     writer: &mut W,
-) -> Result<(), WriteFault>
+) -> Result<(), SinkFault>
     ensures response { (text : List ℕ) × Responds keeper.old.opening keeper.old.journal line.now keeper.new.journal text
         × OnOk result (Appends (W.contents writer.old) (W.contents writer.new) text)
         × OnErr result (WritesPart (W.contents writer.old) (W.contents writer.new) text) }
+    ensures fault { IfErr result W.fails }
+    ensures same { W.place writer.new ≡ W.place writer.old }
     ensures opening { keeper.new.opening ≡ keeper.old.opening }
 {
     match response_to(alloc, keeper, line) {
-        Ok(text) => send(writer, text.as_bytes()),
-        Err(fault) => send(writer, fault_line(fault).as_bytes()),
-    }
-}
-
-// Writes a line, and has the writer pass it on: one that held lines back would keep its reader waiting, and its fault
-// hidden.
-fn send<W: Write>(writer: &mut W, line: &[u8]) -> Result<(), WriteFault>
-    ensures whole { OnOk result (Appends (W.contents writer.old) (W.contents writer.new) line.now) }
-    ensures part { OnErr result (WritesPart (W.contents writer.old) (W.contents writer.new) line.now) }
-{
-    match write_text(writer, line) {
-        Ok(()) => match writer.flush() {
-            Ok(()) => Ok(()),
-            Err(_) => Err(WriteFault),
-        },
-        Err(fault) => Err(fault),
+        Ok(text) => writer.put_text(text.as_bytes()),
+        Err(fault) => writer.put_text(fault_line(fault).as_bytes()),
     }
 }
 

@@ -1,27 +1,27 @@
 //! A script, from its first line to its last.
 
-ghost use Rattle.std.specs.Prelude.{◌≡◌, ◌+◌, ◌≤◌, ◌⊎◌, [], List, ℕ, Option, Some, IfSome, IfOk, IfErr, OnOk};
-ghost use Rattle.program.specs.FirstLine.{Opens, OpensNone, fault_of_unopened};
-ghost use Rattle.program.specs.declared.fault.Fault.TheVariants.{OutOfMemory};
-ghost use Rattle.program.specs.Writes.{IsDone, EndsWith};
-ghost use Rattle.program.specs.Standing.{StandsAtLine, StandsAtEnd, StandsAfter, line_feeds, fault_of_read};
+ghost use Rattle.std.specs.Prelude.{◌≡◌, ◌+◌, ◌≤◌, [], List, ℕ, Option, Some, IfSome, IfOk, IfErr, OnOk};
+ghost use Rattle.program.specs.FirstLine.{Opens, BeginsNone, fault_of_unopened};
+ghost use Rattle.program.specs.Writes.{IsDone, EndsOver};
+ghost use Rattle.program.specs.Standing.{StandsAtLine, StandsAtEnd, StandsAfter, line_feeds, fault_of_read, fault_of_write};
 
 use crate::fault::Fault;
 use crate::response::respond;
 use opened_session::{OpenedSession, OpeningFault, open_session};
-use script_lines::{LineEnd, ReadFault, read_line, read_short_line};
+use script_lines::{
+    ByteSource, LineEnd, ReadFault, SinkFault, TextSink, read_line, read_short_line,
+};
 use session_keeper::PlainKeeper;
 use session_object::{MOST_BYTES, SessionFault};
 use std::alloc::Global;
-use std::io::{Read, Write};
 use wire::MOST_MESSAGE_BYTES;
 
 // How many bytes a script has at most.
 const SCRIPT_LIMIT: usize = 1_073_741_824;
 
 /// Reads a script and responds to each message with a line, which is written before the next line is read. The first
-/// line opens the session.
-pub fn run_script<R: Read, W: Write>(
+/// line opens the session. Over bytes in memory no reading and no writing fails (`laws::answered_whole_over_memory`).
+pub fn run_script<R: ByteSource, W: TextSink>(
     alloc: Global,
     reader: &mut R,
     writer: &mut W,
@@ -29,7 +29,9 @@ pub fn run_script<R: Read, W: Write>(
     ensures done { OnOk result (IfSome (R.remaining reader.old) (λ input.
         IsDone input (R.remaining reader.new) (W.contents writer.old) (W.contents writer.new))) }
     ensures ended { IfErr result (λ fault. IfSome (R.remaining reader.old) (λ input.
-        EndsWith fault input (R.remaining reader.new) (W.contents writer.old) (W.contents writer.new))) }
+        EndsOver R.fails W.fails fault input (R.remaining reader.new) (W.contents writer.old) (W.contents writer.new))) }
+    ensures source { R.place reader.new ≡ R.place reader.old }
+    ensures sink { W.place writer.new ≡ W.place writer.old }
 {
     match ScriptRun::open(alloc, reader) {
         Ok(mut run) => run.respond_to_rest(reader, writer),
@@ -51,11 +53,13 @@ struct ScriptRun {
 
 impl ScriptRun {
     // Opens the session of the first line.
-    fn open<R: Read>(alloc: Global, reader: &mut R) -> Result<ScriptRun, Fault>
+    fn open<R: ByteSource>(alloc: Global, reader: &mut R) -> Result<ScriptRun, Fault>
         ensures opened { (writer : Option (List ℕ)) → IfOk result (λ run.
             StandsAfter run.first (R.remaining reader.old) writer (R.remaining reader.new) writer run.keeper run.left) }
         ensures ended { (writer : Option (List ℕ)) → IfErr result (λ fault.
-            IfSome (R.remaining reader.old) (λ input. EndsWith fault input (R.remaining reader.new) writer writer)) }
+            IfSome (R.remaining reader.old) (λ input.
+            EndsOver R.fails (λ _. ⊥) fault input (R.remaining reader.new) writer writer)) }
+        ensures source { R.place reader.new ≡ R.place reader.old }
     {
         let mut line = Vec::new(alloc);
         let mut left = SCRIPT_LIMIT;
@@ -76,7 +80,7 @@ impl ScriptRun {
     }
 
     // Responds to the lines that come after the first.
-    fn respond_to_rest<R: Read, W: Write>(
+    fn respond_to_rest<R: ByteSource, W: TextSink>(
         &mut self,
         reader: &mut R,
         writer: &mut W,
@@ -89,7 +93,9 @@ impl ScriptRun {
         ensures ends { (input : List ℕ) (before : Option (List ℕ)) →
             StandsAfter self.old.first (Some input) before
             (R.remaining reader.old) (W.contents writer.old) self.old.keeper self.old.left →
-            IfErr result (λ fault. EndsWith fault input (R.remaining reader.new) before (W.contents writer.new)) }
+            IfErr result (λ fault. EndsOver R.fails W.fails fault input (R.remaining reader.new) before (W.contents writer.new)) }
+        ensures source { R.place reader.new ≡ R.place reader.old }
+        ensures sink { W.place writer.new ≡ W.place writer.old }
     {
         let mut last = self.first;
         loop {
@@ -105,7 +111,7 @@ impl ScriptRun {
 
     // Reads the next line, and responds to it unless it is empty. Of one that is too long for a message no more is kept
     // than shows this.
-    fn respond_next<R: Read, W: Write>(
+    fn respond_next<R: ByteSource, W: TextSink>(
         &mut self,
         reader: &mut R,
         writer: &mut W,
@@ -117,8 +123,10 @@ impl ScriptRun {
         ensures ends { (input : List ℕ) (before : Option (List ℕ)) →
             StandsAtLine (Some input) before
             (R.remaining reader.old) (W.contents writer.old) self.old.keeper self.old.left →
-            IfErr result (λ fault. EndsWith fault input (R.remaining reader.new) before (W.contents writer.new)) }
+            IfErr result (λ fault. EndsOver R.fails W.fails fault input (R.remaining reader.new) before (W.contents writer.new)) }
         ensures fewer { IfOk result (λ end. self.new.left + line_feeds end ≤ self.old.left) }
+        ensures source { R.place reader.new ≡ R.place reader.old }
+        ensures sink { W.place writer.new ≡ W.place writer.old }
     {
         match read_line(reader, &mut self.line, MOST_MESSAGE_BYTES, &mut self.left) {
             Ok(end) => {
@@ -127,7 +135,7 @@ impl ScriptRun {
                 }
                 match respond(self.alloc, &mut self.keeper, self.line.as_slice(), writer) {
                     Ok(()) => Ok(end),
-                    Err(_) => Err(Fault::Output),
+                    Err(fault) => Err(fault_of_write(fault)),
                 }
             }
             Err(fault) => Err(fault_of_read(fault)),
@@ -137,11 +145,11 @@ impl ScriptRun {
 
 // The keeper of the session that a script's first line opens. In a script nothing is solved, so the object's budget has
 // no use.
-#[tactic(auto, using(crate::proofs::FirstLineLemmas::opens_none))]
+#[tactic(auto, using(crate::proofs::FirstLineLemmas::begins_none))]
 fn keeper_of(alloc: Global, line: &[u8]) -> Result<PlainKeeper, Fault>
     ensures opens { IfOk result (λ keeper. Opens line.now keeper.opening) }
     ensures journal { IfOk result (λ keeper. keeper.journal ≡ []) }
-    ensures none { IfErr result (λ fault. OpensNone fault line.now ⊎ (fault ≡ OutOfMemory)) }
+    ensures none { IfErr result (λ fault. BeginsNone fault line.now) }
 {
     match open_session(alloc, line, None) {
         Ok(OpenedSession { book, .. }) => match PlainKeeper::new(alloc, book) {
@@ -162,6 +170,16 @@ fn fault_of_read(fault: ReadFault) -> Fault
     }
 }
 
+// The fault of a script whose response wasn't written whole.
+fn fault_of_write(fault: SinkFault) -> Fault
+    ensures { result ≡ fault_of_write fault }
+{
+    match fault {
+        SinkFault::Output => Fault::Output,
+        SinkFault::OutOfMemory => Fault::OutOfMemory,
+    }
+}
+
 // The fault of a script whose first line opens no session.
 fn fault_of_unopened(fault: OpeningFault) -> Fault
     ensures { result ≡ fault_of_unopened fault }
@@ -169,6 +187,5 @@ fn fault_of_unopened(fault: OpeningFault) -> Fault
     match fault {
         OpeningFault::Session(fault) => Fault::Session(fault),
         OpeningFault::Opening(cause) => Fault::Opening(cause),
-        OpeningFault::OutOfMemory => Fault::OutOfMemory,
     }
 }

@@ -2,13 +2,15 @@
 
 ghost use Rattle.std.specs.Prelude.{◌≡◌, ◌≢◌, ◌⊎◌, [], IfSome};
 ghost use Rattle.std.specs.Io.KnownBytes.{Appends};
-ghost use Rattle.program.specs.declared.fault.Fault.TheVariants.{Input, Output, OutOfMemory};
+ghost use Rattle.program.specs.declared.fault.Fault.TheVariants.{Input, Output};
 ghost use Rattle.program.specs.declared.fault.Fault.{Fault};
 ghost use Rattle.program.specs.Status.{IsStatus, status_of};
 ghost use Rattle.program.specs.Writes.{IsDone, EndsWith};
 
 use crate::fault::Fault;
 use crate::script::run_script;
+use session_object::SessionFault;
+use session_opening::OpeningRefusal;
 use std::alloc::Global;
 use std::io::{Read, Write};
 
@@ -36,10 +38,17 @@ pub fn status_of_script<I: Read, W: Write, E: Write>(
         EndsWith Input input (I.remaining reader.new) (W.contents writer.old) (W.contents writer.new)
         ⊎ EndsWith Output input (I.remaining reader.new) (W.contents writer.old) (W.contents writer.new)) }
     ensures no_memory { result ≡ 4 →
-        IfSome (I.remaining reader.old) (λ input.
-        EndsWith OutOfMemory input (I.remaining reader.new) (W.contents writer.old) (W.contents writer.new)) }
+        IfSome (I.remaining reader.old) (λ input. (fault : Fault)
+        × (status_of fault ≡ 4)
+        × EndsWith fault input (I.remaining reader.new) (W.contents writer.old) (W.contents writer.new)) }
 {
-    match run_script(alloc, reader, writer) {
+    let mut source = reader;
+    let mut sink = writer;
+    let ended = run_script(alloc, &mut source, &mut sink);
+    // No effect when it runs: here the proof learns what the reader and the writer hold.
+    let _ = &*source;
+    let _ = &*sink;
+    match ended {
         Ok(()) => 0,
         Err(fault) => status_of_fault(fault, errors),
     }
@@ -51,12 +60,14 @@ pub fn status_of_fault<E: Write>(fault: Fault, errors: &mut E) -> u8
     ensures silent { result ≢ 1 → Appends (E.contents errors.old) (E.contents errors.new) [] }
 {
     match fault {
+        Fault::OutOfMemory
+        | Fault::Session(SessionFault::OutOfMemory)
+        | Fault::Opening(OpeningRefusal::OutOfMemory) => 4,
         Fault::Session(_) | Fault::Opening(_) => {
             // Where it can't be written, the status still tells.
             let _unwritten = writeln!(errors, "bridge_server: {fault}");
             1
         }
         Fault::Input | Fault::Output => 3,
-        Fault::OutOfMemory => 4,
     }
 }

@@ -10,6 +10,8 @@ use Rattle.std.proofs.Common.{
   [],
   ◌++◌,
   ◌∙◌,
+  inl,
+  inr,
   ℕ,
   List,
   Bool,
@@ -37,7 +39,7 @@ use Rattle.std.proofs.lemmas.List.{take_all}
 use Rattle.script_lines.specs.declared.reading.ReadFault.{ReadFault}
 use Rattle.script_lines.specs.declared.reading.ReadFault.TheVariants.{Input, OutOfMemory}
 use Rattle.script_lines.specs.Lines.{ended_line}
-use Rattle.script_lines.specs.NextByte.{TakesByte, FailsAtByte}
+use Rattle.script_lines.specs.NextByte.{TakesByte, GivesNoByte}
 use Rattle.script_lines.specs.Reading.{IsUnbroken, TakesEnded, TakesRest, FailsFor, FailsForMemory}
 use Rattle.script_lines.proofs.ShortLineLemmas.{unbroken_with}
 
@@ -102,21 +104,29 @@ module _ (before reader after : Option (List ℕ)) (piece : List ℕ) (all left 
         counted = omega (arith, counted, ended.2);
       }
 
-  -- the reader fails
-  pub fails_for : (fault : ReadFault) → fault ≡ Input → FailsAtByte reader after left left' →
+  -- the source fails, or has a byte too many
+  pub fails_for : (fails : Type 0) (fault : ReadFault) → fault ≡ Input → GivesNoByte fails reader after left left' →
       (room : ℕ) (line : List ℕ) → line ≡ take room piece
-      → FailsFor fault before after room line all left'
-  fails_for OutOfMemory is fails room line kept = absurd (cc)
-  fails_for Input is fails room line kept = record {
+      → FailsFor fails fault before after room line all left'
+  fails_for fails OutOfMemory is why room line kept = absurd (cc)
+  fails_for fails Input is (inl failing) room line kept = inl (record {
+    failed = failing.failed;
     piece = piece;
     unbroken = unbroken;
     kept = kept;
-    beyond = fails.beyond;
-    consumed = Consumes-trans before reader after piece fails.beyond consumed fails.consumed;
-    few = fails.few;
-    counted = omega (arith, counted, fails.uncounted);
-    full = fails.full;
-  }
+    consumed = subst (Consumes before after) (append-nil piece) (Consumes-trans before reader after piece [] consumed
+        failing.consumed);
+    counted = omega (arith, counted, failing.uncounted);
+  })
+  fails_for fails Input is (inr more) room line kept = inr (record {
+    piece = piece;
+    unbroken = unbroken;
+    kept = kept;
+    beyond = more.beyond;
+    consumed = Consumes-trans before reader after piece (more.beyond ∷ []) consumed more.consumed;
+    counted = omega (arith, counted, more.uncounted);
+    full = more.full;
+  })
 
   -- the line goes on with another byte
   pub goes_on : (found : Option ℕ) (byte : ℕ) → found ≡ Some byte → byte ≢ 10 → TakesByte found reader after left left'
@@ -144,13 +154,13 @@ module _ (before reader after : Option (List ℕ)) (piece : List ℕ) (all left 
     counted = omega (arith, ap length same, more.counted, length-append piece (byte ∷ []));
   }
 
--- the reader fails after a CR that follows a line of which as much is kept as may be
-pub fails_after : (before reader after : Option (List ℕ)) (line : List ℕ) (room all left left' : ℕ) → IsUnbroken line →
-    length line ≡ room
+-- the source fails after a CR that follows a line of which as much is kept as may be
+pub fails_after : (fails : Type 0) (before reader after : Option (List ℕ)) (line : List ℕ) (room all left left' : ℕ) →
+    IsUnbroken line → length line ≡ room
     → Consumes before reader (line ++ 13 ∷ []) → left + (length line + 1) ≡ all → (fault : ReadFault) → fault ≡ Input
-    → FailsAtByte reader after left left' → FailsFor fault before after room line all left'
-fails_after before reader after line room all left left' unbroken full consumed counted fault is fails =
+    → GivesNoByte fails reader after left left' → FailsFor fails fault before after room line all left'
+fails_after fails before reader after line room all left left' unbroken full consumed counted fault is why =
     fails_for before reader after (line ++ 13 ∷ []) all left left'
     (unbroken_with line 13 unbroken (λ same. absurd (omega (arith, same)))) consumed
-    (omega (arith, counted, length-append line (13 ∷ []))) fault is fails room line
+    (omega (arith, counted, length-append line (13 ∷ []))) fails fault is why room line
     (sym (ap (λ n. take n (line ++ 13 ∷ [])) (sym full) ∙ take-append_seam line (13 ∷ [])))

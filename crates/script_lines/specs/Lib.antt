@@ -1,4 +1,5 @@
 pub mod Lines
 pub mod NextByte
 pub mod Reading
+pub mod Source
 pub mod Writing

@@ -1,7 +1,8 @@
--- What reading a line takes from a reader.
+-- What reading a line takes from a source of bytes.
 use Rattle.std.specs.Prelude.{
   ◌≡◌,
   ◌≢◌,
+  ◌⊎◌,
   ℕ,
   ◌+◌,
   ◌<◌,
@@ -29,7 +30,7 @@ use Rattle.script_lines.specs.Lines.{ended_line, first_line_of, lines_of}
 abbrev pub IsUnbroken : List ℕ → Type 0
 IsUnbroken bytes = All (λ byte. byte ≢ 10) bytes
 
--- a line that an LF ends: the reader has lost it with its LF, and as many bytes fewer may still be read
+-- a line that an LF ends: the source has lost it with its LF, and as many bytes fewer may still be read
 pub record TakesEnded (old new : Option (List ℕ)) (line : List ℕ) (left_old left_new : ℕ) : Type 0 where
   pub piece : List ℕ
   pub unbroken : IsUnbroken piece
@@ -37,7 +38,7 @@ pub record TakesEnded (old new : Option (List ℕ)) (line : List ℕ) (left_old 
   pub shortened : line ≡ ended_line piece
   pub counted : left_new + (length piece + 1) ≡ left_old
 
--- what stands after the last LF: the reader has nothing left
+-- what stands after the last LF: the source has nothing left
 pub record TakesRest (old new : Option (List ℕ)) (rest : List ℕ) (left_old left_new : ℕ) : Type 0 where
   pub unbroken : IsUnbroken rest
   pub consumed : Consumes old new rest
@@ -55,17 +56,27 @@ pub record TakesKept (end : LineEnd) (old new : Option (List ℕ)) (most : ℕ) 
   pub takes : TakesLine end old new whole left_old left_new
   pub kept : line ≡ take (most + 1) whole
 
--- the reader failed, or had a byte more than may be read: what came before of the line is taken, as many of its bytes
--- are kept as there is room for, and nothing else is lost
-pub record FailsAtInput (old new : Option (List ℕ)) (room : ℕ) (line : List ℕ) (left_old left_new : ℕ) : Type 0 where
+-- the source failed: what came before of the line is taken, as many of its bytes are kept as there is room for, and
+-- nothing is lost
+pub record FailsAtInput (fails : Type 0) (old new : Option (List ℕ)) (room : ℕ) (line : List ℕ)
+    (left_old left_new : ℕ) : Type 0 where
+  pub failed : fails
   pub piece : List ℕ
   pub unbroken : IsUnbroken piece
   pub kept : line ≡ take room piece
-  pub beyond : List ℕ
-  pub consumed : Consumes old new (piece ++ beyond)
-  pub few : length beyond ≤ 1
+  pub consumed : Consumes old new piece
   pub counted : left_new + length piece ≡ left_old
-  pub full : 0 < length beyond → left_new ≡ 0
+
+-- the source had a byte more than may be read, which is lost: what came before of the line is taken, and as many of its
+-- bytes are kept as there is room for
+pub record IsBeyondLimit (old new : Option (List ℕ)) (room : ℕ) (line : List ℕ) (left_old left_new : ℕ) : Type 0 where
+  pub piece : List ℕ
+  pub unbroken : IsUnbroken piece
+  pub kept : line ≡ take room piece
+  pub beyond : ℕ
+  pub consumed : Consumes old new (piece ++ beyond ∷ [])
+  pub counted : left_new + length piece ≡ left_old
+  pub full : left_new ≡ 0
 
 -- memory was refused for a byte of the line that was to be kept, which may be read and is lost: the line keeps what
 -- came before
@@ -77,14 +88,16 @@ pub record FailsForMemory (old new : Option (List ℕ)) (room : ℕ) (line : Lis
   pub few : length line < room
   pub counted : left_new + (length line + 1) ≡ left_old
 
--- what each fault says of what was read, and kept of a line of which so many bytes are kept at most
-abbrev pub FailsFor : ReadFault → Option (List ℕ) → Option (List ℕ) → ℕ → List ℕ → ℕ → ℕ → Type 0
-FailsFor Input old new room line left_old left_new = FailsAtInput old new room line left_old left_new
-FailsFor OutOfMemory old new room line left_old left_new = FailsForMemory old new room line left_old left_new
+-- what each fault says of what was read, and kept of a line of which so many bytes are kept at most; and that a source
+-- failed, unless it has more bytes than may be read
+abbrev pub FailsFor : Type 0 → ReadFault → Option (List ℕ) → Option (List ℕ) → ℕ → List ℕ → ℕ → ℕ → Type 0
+FailsFor fails Input old new room line left_old left_new =
+    FailsAtInput fails old new room line left_old left_new ⊎ IsBeyondLimit old new room line left_old left_new
+FailsFor fails OutOfMemory old new room line left_old left_new = FailsForMemory old new room line left_old left_new
 
 -- ---- a line that is to have so many bytes at most
 
--- the first line of what the reader has is longer: no more is taken of it than shows this
+-- the first line of what the source has is longer: no more is taken of it than shows this
 pub record TakesLonger (old new : Option (List ℕ)) (most left_old left_new : ℕ) : Type 0 where
   pub piece : List ℕ
   pub unbroken : IsUnbroken piece

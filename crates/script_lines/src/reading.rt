@@ -1,19 +1,19 @@
 ghost use Rattle.std.specs.Prelude.{◌≡◌, ◌+◌, ◌≤◌, ◌∷◌, ◌++◌, [], ◌↔◌, ℕ, List, true, take, length, IfOk, IfErr, OnOk, OnErr};
 ghost use Rattle.script_lines.specs.Reading.{TakesKept, FailsFor};
 ghost use Rattle.script_lines.specs.Lines.{ended_line};
-ghost use Rattle.script_lines.specs.NextByte.{TakesByte, FailsAtByte};
+ghost use Rattle.script_lines.specs.NextByte.{TakesByte, GivesNoByte};
 ghost use Rattle.script_lines.specs.declared.reading.ReadFault.TheVariants.{Input};
 
 use crate::line_end::LineEnd;
+use crate::source::ByteSource;
 use std::alloc::AllocFailed;
 use std::fmt;
-use std::io::Read;
 use thiserror::Error;
 
 /// Why a line wasn't read.
 #[derive(Clone, Copy, Debug, PartialEq, Eq, Error)]
 pub enum ReadFault {
-    /// The reader failed, or has more bytes than may be read.
+    /// The source failed, or has more bytes than may be read.
     Input,
     /// Memory was refused.
     OutOfMemory,
@@ -31,7 +31,7 @@ impl fmt::Display for ReadFault {
 /// Reads the next line to its end, and keeps its first `most + 1` bytes in place of what was there: so many show
 /// whether it has more than `most`. `left` is how many bytes may still be read of the whole input. A read that fails is
 /// not tried again.
-pub fn read_line<R: Read>(
+pub fn read_line<R: ByteSource>(
     reader: &mut R,
     line: &mut Vec<u8>,
     most: usize,
@@ -39,13 +39,14 @@ pub fn read_line<R: Read>(
 ) -> Result<LineEnd, ReadFault>
     ensures line { IfOk result (λ end. TakesKept end
         (R.remaining reader.old) (R.remaining reader.new) most line.new.items left.old left.new) }
-    ensures fault { IfErr result (λ fault. FailsFor fault
+    ensures fault { IfErr result (λ fault. FailsFor R.fails fault
         (R.remaining reader.old) (R.remaining reader.new) (most + 2) line.new.items left.old left.new) }
     ensures few { length line.new.items ≤ most + 2 }
+    ensures same { R.place reader.new ≡ R.place reader.old }
 {
     line.clear();
     loop {
-        match next_byte(reader, left) {
+        match take_byte(reader, left) {
             Ok(Some(b'\n')) => {
                 end_piece(line, most);
                 return Ok(LineEnd::LineFeed);
@@ -121,21 +122,24 @@ pub(crate) fn drop_return(line: &mut Vec<u8>)
 }
 
 // The next byte, if there is one. It counts against what may still be read.
-pub(crate) fn next_byte<R: Read>(reader: &mut R, left: &mut usize) -> Result<Option<u8>, ReadFault>
+pub(crate) fn take_byte<R: ByteSource>(
+    reader: &mut R,
+    left: &mut usize,
+) -> Result<Option<u8>, ReadFault>
     ensures byte { IfOk result (λ found.
         TakesByte found (R.remaining reader.old) (R.remaining reader.new) left.old left.new) }
     ensures input { IfErr result (λ fault. fault ≡ Input) }
-    ensures fault { OnErr result (FailsAtByte (R.remaining reader.old) (R.remaining reader.new) left.old left.new) }
+    ensures fault { OnErr result (GivesNoByte R.fails (R.remaining reader.old) (R.remaining reader.new) left.old left.new) }
+    ensures same { R.place reader.new ≡ R.place reader.old }
 {
-    let mut one = [0u8; 1];
-    match reader.read(&mut one) {
-        Ok(0) => Ok(None),
-        Ok(_) => {
+    match reader.next_byte() {
+        Ok(None) => Ok(None),
+        Ok(Some(byte)) => {
             if *left == 0 {
                 return Err(ReadFault::Input);
             }
             *left -= 1;
-            Ok(Some(one[0]))
+            Ok(Some(byte))
         }
         Err(_) => Err(ReadFault::Input),
     }

@@ -5,12 +5,12 @@ ghost use Rattle.std.specs.Io.KnownBytes.{Consumes};
 ghost use Rattle.script_lines.specs.Reading.{IsUnbroken, TakesUpTo, FailsFor};
 
 use crate::line_end::LineEnd;
-use crate::reading::{ReadFault, drop_return, next_byte};
-use std::io::Read;
+use crate::reading::{ReadFault, drop_return, take_byte};
+use crate::source::ByteSource;
 
 /// Reads the next line as `read_line` does, if it has no more than `most` bytes; else there is none, and not more than
 /// so many bytes of it are kept.
-pub fn read_short_line<R: Read>(
+pub fn read_short_line<R: ByteSource>(
     reader: &mut R,
     line: &mut Vec<u8>,
     most: usize,
@@ -18,13 +18,14 @@ pub fn read_short_line<R: Read>(
 ) -> Result<Option<LineEnd>, ReadFault>
     ensures line { IfOk result (λ found. TakesUpTo found
         (R.remaining reader.old) (R.remaining reader.new) line.new.items most left.old left.new) }
-    ensures fault { IfErr result (λ fault. FailsFor fault
+    ensures fault { IfErr result (λ fault. FailsFor R.fails fault
         (R.remaining reader.old) (R.remaining reader.new) most line.new.items left.old left.new) }
     ensures kept { length line.new.items ≤ most }
+    ensures same { R.place reader.new ≡ R.place reader.old }
 {
     line.clear();
     loop {
-        match next_byte(reader, left) {
+        match take_byte(reader, left) {
             Ok(Some(b'\n')) => {
                 drop_return(line);
                 return Ok(Some(LineEnd::LineFeed));
@@ -45,7 +46,7 @@ pub fn read_short_line<R: Read>(
 
 // Whether a line that has as many bytes as it may have ends with this byte, which follows them: it does where the byte
 // is a CR before an LF.
-fn end_of_full_line<R: Read>(
+fn end_of_full_line<R: ByteSource>(
     byte: u8,
     reader: &mut R,
     left: &mut usize,
@@ -56,12 +57,13 @@ fn end_of_full_line<R: Read>(
         IfOk result (λ found. TakesUpTo found before (R.remaining reader.new) line most all left.new) }
     ensures fault { (before : Option (List ℕ)) (line : List ℕ) (most all : ℕ) → IsUnbroken line → length line ≡ most →
         Consumes before (R.remaining reader.old) (line ++ byte ∷ []) → left.old + (length line + 1) ≡ all →
-        IfErr result (λ fault. FailsFor fault before (R.remaining reader.new) most line all left.new) }
+        IfErr result (λ fault. FailsFor R.fails fault before (R.remaining reader.new) most line all left.new) }
+    ensures same { R.place reader.new ≡ R.place reader.old }
 {
     if byte != b'\r' {
         return Ok(None);
     }
-    match next_byte(reader, left) {
+    match take_byte(reader, left) {
         Ok(Some(next)) => {
             if next == b'\n' {
                 Ok(Some(LineEnd::LineFeed))

@@ -1,13 +1,13 @@
 //! Lines read from a reader that fails once, and texts written to a writer that stops once.
 
-use script_lines::{LineEnd, ReadFault, read_line, write_text};
+use script_lines::{ByteSource, LineEnd, ReadFault, read_line, write_text};
 use std::alloc::Global;
 use std::io;
-use std::io::{ErrorKind, Read, Write};
+use std::io::{ErrorKind, Write};
 use test_devices::FailingReader;
 
 /// Whether the next line that is read, of which so many bytes are wanted, ends so and has this text.
-fn reads<R: Read>(
+fn reads<R: ByteSource>(
     reader: &mut R,
     line: &mut Vec<u8>,
     most: usize,
@@ -71,9 +71,9 @@ fn goes_on(alloc: Global, fault: ErrorKind, before: &[u8], after: &[u8]) -> bool
         good: before.len(),
         fault,
     };
-    reads(&mut reader, &mut line, 3, &mut left, FAULT, before)
+    reads(&mut &mut reader, &mut line, 3, &mut left, FAULT, before)
         && reads(
-            &mut reader,
+            &mut &mut reader,
             &mut line,
             3,
             &mut left,

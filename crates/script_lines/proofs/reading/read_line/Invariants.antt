@@ -8,8 +8,9 @@ invariant-loop-line g l = record {
   piece : List ℕ;
   unbroken : IsUnbroken piece;
   kept : l.line.items ≡ take (l.most + 2) piece;
-  consumed : Consumes (g.R.Read.remaining l.fn.reader) (g.R.Read.remaining l.reader) piece;
+  consumed : Consumes (g.R.ByteSource.remaining l.fn.reader) (g.R.ByteSource.remaining l.reader) piece;
   counted : l.left + length piece ≡ l.fn.left;
+  same : g.R.ByteSource.place l.reader ≡ g.R.ByteSource.place l.fn.reader;
 }
 
 abbrev pub decreases-loop-line : goal.decreases-loop-line

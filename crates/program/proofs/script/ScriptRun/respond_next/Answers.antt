@@ -1,7 +1,7 @@
-use Rattle.std.proofs.Common.{◌≡◌, ◌≤◌, vec_len, rules, refl, sym, ap, subst, ◌∙◌}
+use Rattle.std.proofs.Common.{◌≡◌, ◌+◌, ◌≤◌, vec_len, rules, refl, sym, ap, subst, ◌∙◌, arith}
 use Rattle.wire.specs.Request.{most_message_bytes, is_message_text, script_meaning}
 use Rattle.wire.proofs.LineLemmas.{first_bytes_are_text}
-use Rattle.program.specs.Writes.{Responds, EndsWith}
+use Rattle.program.specs.Writes.{Responds, EndsOver}
 use Rattle.program.proofs.ResponseLemmas.{first_bytes_meant, responds_whole}
 use Rattle.program.proofs.ScriptLemmas.{
   isnt_empty,
@@ -11,6 +11,7 @@ use Rattle.program.proofs.ScriptLemmas.{
   responded_next,
   cut_short,
   broken,
+  ends_unwritten,
   fewer,
 }
 use Rattle.program.proofs.script.ScriptRun.respond_next.Goals as goal
@@ -37,8 +38,8 @@ returns-in-Ok-respond-clause-goes_on g c input before at =
     let opening = c.args.self.now.keeper.opening in
     let same = ap (script_meaning opening.public.edition) line.kept ∙ first_bytes_meant opening line.whole in
     let texts = ap is_message_text line.kept ∙ first_bytes_are_text line.whole in
-    responded_next input before (g.R.Read.remaining c.args.reader.now) (g.R.Read.remaining c.read_line.new.reader)
-    (g.W.Write.contents c.args.writer.now) (g.W.Write.contents c.respond.new.writer)
+    responded_next input before (g.R.ByteSource.remaining c.args.reader.now) (g.R.ByteSource.remaining c.read_line.new.reader)
+    (g.W.TextSink.contents c.args.writer.now) (g.W.TextSink.contents c.respond.new.writer)
     c.args.self.now.keeper c.respond.new.keeper c.args.self.now.left c.read_line.new.left line.whole c.in-Ok.end at
     line.takes
     (kept_some most_message_bytes c.read_line.new.line.items line.whole line.kept
@@ -55,19 +56,27 @@ returns-in-Err-respond-clause-ends g c input before at =
     let opening = c.args.self.now.keeper.opening in
     let same = ap (script_meaning opening.public.edition) line.kept ∙ first_bytes_meant opening line.whole in
     let texts = ap is_message_text line.kept ∙ first_bytes_are_text line.whole in
-    broken input before (g.R.Read.remaining c.args.reader.now) (g.R.Read.remaining c.read_line.new.reader)
-    (g.W.Write.contents c.args.writer.now) (g.W.Write.contents c.respond.new.writer)
+    subst (λ fault. EndsOver g.R.ByteSource.fails g.W.TextSink.fails fault input
+    (g.R.ByteSource.remaining c.read_line.new.reader) before (g.W.TextSink.contents c.respond.new.writer))
+    (sym c.fault_of_write.ensures)
+    (ends_unwritten g.R.ByteSource.fails g.W.TextSink.fails c.in-Err-respond.fault input
+    (g.R.ByteSource.remaining c.read_line.new.reader) before (g.W.TextSink.contents c.respond.new.writer)
+    c.in-Err-respond.ensures.fault
+    (broken input before (g.R.ByteSource.remaining c.args.reader.now) (g.R.ByteSource.remaining c.read_line.new.reader)
+    (g.W.TextSink.contents c.args.writer.now) (g.W.TextSink.contents c.respond.new.writer)
     c.args.self.now.keeper c.args.self.now.left c.read_line.new.left line.whole c.in-Ok.end at line.takes
     (kept_some most_message_bytes c.read_line.new.line.items line.whole line.kept
     (subst (λ n. 1 ≤ n) c.read_line.new.line.ok.0 some)) c.respond.new.keeper.journal text
     (responds_whole _ _ c.read_line.new.line.items line.whole _ text same texts
     (subst (λ l. Responds c.args.self.now.keeper.opening c.args.self.now.keeper.journal l c.respond.new.keeper.journal
-    text) c.as_slice.ensures.value tells)) part
+    text) c.as_slice.ensures.value tells)) part))
 
 pub returns-in-Err-clause-ends : goal.returns-in-Err-clause-ends
 returns-in-Err-clause-ends g c input before at =
-    let reader = g.R.Read.remaining c.read_line.new.reader in
-    let writer = g.W.Write.contents c.args.writer.now in
-    subst (λ fault. EndsWith fault input reader before writer) (sym c.fault_of_read.ensures)
-    (cut_short c.in-Err.fault input before (g.R.Read.remaining c.args.reader.now) reader writer c.args.self.now.keeper
-    c.args.self.now.left c.read_line.new.left _ c.read_line.new.line.items at c.in-Err.ensures.fault)
+    let reader = g.R.ByteSource.remaining c.read_line.new.reader in
+    let writer = g.W.TextSink.contents c.args.writer.now in
+    subst (λ fault. EndsOver g.R.ByteSource.fails g.W.TextSink.fails fault input reader before writer)
+    (sym c.fault_of_read.ensures)
+    (cut_short g.R.ByteSource.fails g.W.TextSink.fails c.in-Err.fault input before
+    (g.R.ByteSource.remaining c.args.reader.now) reader writer c.args.self.now.keeper
+    c.args.self.now.left c.read_line.new.left (most_message_bytes + 2) c.read_line.new.line.items (omega arith) at c.in-Err.ensures.fault)
