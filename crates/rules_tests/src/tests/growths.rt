@@ -23,7 +23,7 @@ fn numbers_on(alloc: Global, work: &Work) -> bool {
         }
     }
     // One request is refused, so that all jobs but one find room.
-    given + 1 >= JOBS
+    given >= JOBS - 1
 }
 
 /// A hundred scores, of which every two are the same: more than a section has tables.
@@ -40,6 +40,9 @@ fn earn(alloc: Global) -> bool {
     let Some(scores) = scores(alloc) else {
         return true;
     };
+    if scores.len() > 100 {
+        return false;
+    }
     let Ok(earned) = matchpoints(alloc, &scores) else {
         return true;
     };
