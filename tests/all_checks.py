@@ -22,6 +22,7 @@ CHECKS = (
     ("tests/protocol_examples.py", "--check"),
     ("tests/protocol_types.py",),
     ("tests/public_names.py",),
+    ("tests/unreached_functions.py",),
     ("tests/headline_definitions.py", "--check"),
     ("tests/definitions_index.py", "--check"),
     ("tests/session_doctor.py", "--check"),
