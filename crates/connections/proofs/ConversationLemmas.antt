@@ -192,6 +192,26 @@ module _ (Others : List Entry → List Entry → Type 0) (no_entry not_kept : Ty
   turn_for None (stays, leaves) =
       left stays.later.same (connection_meaning before.opening.public.edition message) leaves
 
+module _ (Others : List Entry → List Entry → Type 0) (no_entry not_kept : Type 0) (before after : Linked) where
+  stays_for : (request : UserRequest) (text : List ℕ) (user : Option (List ℕ)) →
+      ForUser Others no_entry not_kept before after request text user → after.opening ≡ before.opening
+  stays_for request text None (told, same) = ap (λ (l : Linked). l.opening) same
+  stays_for request text (Some user) (told, stays, accepted) = stays.later.same
+
+  stays_read : (text : List ℕ) (read : Result RequestBody RequestFault) →
+      ServesRead Others no_entry not_kept before after text read → after.opening ≡ before.opening
+  stays_read text (Ok (OfUser request)) serves = stays_for request text before.user serves
+  stays_read text (Ok (Hello name token)) greets = greets.later.same
+  stays_read text (Err fault) (is_text, same) = ap (λ (l : Linked). l.opening) same
+
+  -- an exchange leaves the session the same
+  pub opening_stays : (message : List ℕ) (answer : Option (List ℕ)) →
+      IsExchanged Others no_entry not_kept before message answer after → after.opening ≡ before.opening
+  unfolding Serves HasNoAnswer
+  opening_stays message (Some text) serves =
+      stays_read text (connection_meaning before.opening.public.edition message) serves
+  opening_stays message None (stays, leaves) = stays.later.same
+
 -- the stops of a conversation on connections
 record Conversed (Others : List Entry → List Entry → Type 0) (no_entry not_kept : Type 0) (opening : SessionState)
     (exchanges : List Exchange) : Type 0 where

@@ -4,13 +4,11 @@ ghost use Rattle.std.specs.Prelude.{◌≡◌, ◌≤◌, ◌⊎◌, ◌↔◌, 
 ghost use Rattle.session_book.specs.Journal.{IsAccepted};
 ghost use Rattle.wire.specs.Request.{HasFew};
 ghost use Rattle.wire.specs.declared.connection_fault.ConnectionFault.TheVariants.{NotKnown, NoEntry, OutOfMemory};
-ghost use Rattle.wire.specs.declared.request.UserRequest.TheVariants as wanting;
 ghost use Rattle.connections.specs.Linked.{HasGoneOn};
 ghost use Rattle.connections.specs.Serving.{IsOwnToken, IsServed, is_fault_of};
 
-use request_answers::{AnswerFault, answer_query, answer_request};
+use request_answers::{AnswerFault, answer_request};
 use session_keeper::{CommandKeeper, Keeper};
-use session_queries::Query;
 use session_roles::Edition;
 use sha2::{Digest, Sha256};
 use std::alloc::Global;
@@ -89,22 +87,6 @@ impl<K: Keeper> Connection<K> {
             }
             Ok(_) => Err(ConnectionFault::NotKnown),
             Err(_) => Err(ConnectionFault::NoEntry),
-        }
-    }
-
-    /// The text of the reply to a query of the user who is signed in. It waits for nobody.
-    pub fn serve_query(
-        &mut self,
-        alloc: Global,
-        query: &Query,
-        since: u64,
-    ) -> Result<String, ConnectionFault>
-        ensures { IsServed K.others K.no_entry K.not_kept string_bytes self.old self.new
-            (wanting.Query query.now since) result self.old.user }
-    {
-        match self.user {
-            Some(user) => or_fault(answer_query(alloc, &mut self.keeper, user, query, since)),
-            None => Err(ConnectionFault::NotSignedIn),
         }
     }
 

@@ -1,5 +1,7 @@
 //! A keeper that has analysed what it is told.
 
+ghost use Rattle.std.specs.Prelude.{◌≡◌};
+
 use crate::job_queue::JobQueue;
 use desks::DeskKeeper;
 use displays::Server;
@@ -28,7 +30,9 @@ impl<'a, N: Server, K: EntryStore> AnalysingKeeper<'a, N, K> {
     pub(crate) fn new(
         keeper: DeskKeeper<'a, N, K>,
         queue: Option<JobQueue<'a>>,
-    ) -> AnalysingKeeper<'a, N, K> {
+    ) -> AnalysingKeeper<'a, N, K>
+        ensures { result.keeper.display ≡ keeper.entry.display }
+    {
         AnalysingKeeper { keeper, queue }
     }
 

@@ -5,7 +5,7 @@ use desks::work_of;
 use movement::Cell;
 use session_book::Book;
 use session_state::State;
-use solver_pool::{Done, Job, Pool, Work};
+use solver_pool::{Job, Pool, Work};
 use std::alloc::AllocError;
 use std::sync::{Mutex, Wait};
 
@@ -81,10 +81,4 @@ impl<'a> JobQueue<'a> {
 fn number<R: Wait>(rt: &R, pool: &Mutex<Pool>, work: Work) -> Option<Job> {
     let mut pool = pool.lock(rt);
     pool.add(work).ok()
-}
-
-/// Whether what was found is of a job that was given, and comes for the first time.
-pub(crate) fn is_collected<R: Wait>(rt: &R, pool: &Mutex<Pool>, done: &Done) -> bool {
-    let mut pool = pool.lock(rt);
-    pool.collect(done).is_ok()
 }

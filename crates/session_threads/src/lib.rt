@@ -5,7 +5,6 @@
 mod analysing_keeper;
 mod job_queue;
 mod serving;
-mod session_server;
 mod tasks;
 
 pub use serving::{ServingError, ServingPlan, serve_book};

@@ -1,6 +1,6 @@
 //! Serving a session in threads, from its book to the end of the last of them.
 
-ghost use Rattle.std.specs.Prelude.{◌≡◌, List, [], map, IfOk};
+ghost use Rattle.std.specs.Prelude.{◌≡◌, List, [], All, map, IfOk};
 ghost use Rattle.session_commands.specs.declared.entry.Entry.{Entry};
 ghost use Rattle.displays.specs.Copies.{IsPublished};
 ghost use Rattle.displays.specs.Publishing.{nothing_outgoing};
@@ -165,7 +165,8 @@ fn open_views<N: Server, R: Wait>(
     requires journal { book.now.journal ≡ [] }
     requires opening { book.now.opening ≡ N.opening }
     requires history { history ≡ N.history }
-    ensures { IfOk result (λ t. t.0 ≡ nothing_outgoing) }
+    ensures publisher { IfOk result (λ t. t.0 ≡ nothing_outgoing) }
+    ensures displays { IfOk result (λ t. All (λ display. display ≡ []) t.1.items) }
 {
     let (Ok(first), Ok(second)) = (View::open(alloc, book), View::open(alloc, book)) else {
         return Err(ServingError::OutOfMemory);
@@ -236,6 +237,7 @@ fn serve_shared<
 where
     R::Listener: Sync,
     R::Stream: Send,
+    requires { All (λ display. display ≡ []) displays.items }
 {
     let Ok(listener) = listen(rt, plan.port) else {
         return Err(ServingError::NotListening);
@@ -264,7 +266,9 @@ fn solvers<'a>(
     jobs: &'a Receiver<Job>,
     from_workers: Sender<Done>,
     plan: ServingPlan<'_>,
-) -> Result<Vec<Solve<'a>>, AllocError> {
+) -> Result<Vec<Solve<'a>>, AllocError>
+    ensures { IfOk result (λ solvers. All (λ solver. solver.budget ≡ plan.entry.budget) solvers.items) }
+{
     let mut solvers = Vec::with_capacity(alloc, plan.workers as usize)?;
     for _ in 0..plan.workers {
         let results = from_workers.clone()?;
@@ -286,7 +290,9 @@ fn servers<'a, N: Server, K: EntryStore, L: OpenListener>(
     displays: Vec<Display<N>>,
     queue: &JobQueue<'a>,
     plan: ServingPlan<'a>,
-) -> Result<Vec<ServeClients<'a, N, K, L>>, AllocError> {
+) -> Result<Vec<ServeClients<'a, N, K, L>>, AllocError>
+    requires { All (λ display. display ≡ []) displays.items }
+{
     let mut servers = Vec::with_capacity(alloc, displays.len())?;
     for display in displays {
         let queue = if plan.workers > 0 {

@@ -1,21 +1,23 @@
 //! What each thread of a session does.
 
+ghost use Rattle.std.specs.Prelude.{◌≡◌, []};
+
 use crate::analysing_keeper::AnalysingKeeper;
-use crate::job_queue::{JobQueue, is_collected};
-use crate::session_server::SessionServer;
+use crate::job_queue::JobQueue;
+use collector::collect;
 use crossbeam_channel::{Receiver, Sender};
 use desks::{Desk, DeskKeeper};
 use displays::{Display, Server};
 use entry_store::EntryStore;
 use service_threads::Task;
-use solver_pool::{Done, Found, Job, OpenGate, Pool, Work, run_worker};
-use solver_results::{DdTable, PlayCosts};
+use session_clients::{serve_session_clients, serve_session_forever};
+use solver_pool::{Done, Job, OpenGate, Pool, run_worker};
 use std::alloc::Global;
 use std::io::{Read, Write};
 use std::net::{OpenListener, OpenStream};
 use std::sync::{Mutex, Wait};
 use std::time::Clock;
-use websocket_server::{ClientTerms, serve_clients, serve_forever};
+use websocket_server::ClientTerms;
 
 /// Serves the clients of a listener, one after another, by one display: so many, or with 0 all that come.
 #[derive(Drop)]
@@ -27,6 +29,8 @@ pub(crate) struct ServeClients<'a, N: Server, K: EntryStore, L: OpenListener> {
     pub(crate) queue: Option<JobQueue<'a>>,
     pub(crate) connections: u32,
     pub(crate) terms: ClientTerms<'a>,
+    // The display has seen nothing yet.
+    ghost unseen: { display ≡ [] },
 }
 
 impl<'a, N: Server, K: EntryStore, L: OpenListener> Task for ServeClients<'a, N, K, L>
@@ -44,11 +48,10 @@ where
             terms,
         } = self;
         let keeper = AnalysingKeeper::new(DeskKeeper::new(desk, display), queue);
-        let server = SessionServer::new(keeper);
         match connections {
-            0 => serve_forever(rt, alloc, listener, terms, server),
+            0 => serve_session_forever(rt, alloc, listener, terms, keeper),
             _ => {
-                serve_clients(rt, alloc, listener, connections, terms, server);
+                serve_session_clients(rt, alloc, listener, connections, terms, keeper);
             }
         }
     }
@@ -87,7 +90,7 @@ pub(crate) struct Collect<'a, N: Server, K: EntryStore> {
 impl<'a, N: Server, K: EntryStore> Task for Collect<'a, N, K> {
     fn run<R: Wait + Clock>(self, rt: &R) {
         let Collect {
-            desk,
+            mut desk,
             pool,
             results,
         } = self;
@@ -95,41 +98,9 @@ impl<'a, N: Server, K: EntryStore> Task for Collect<'a, N, K> {
             let Ok(done) = results.recv(rt) else {
                 break;
             };
-            if is_collected(rt, pool, &done) {
-                enter(rt, &desk, &done);
-            }
+            let mut pool = pool.lock(rt);
+            let _told = collect(rt, &mut pool, &mut desk, &done);
         }
-    }
-}
-
-// Enters what was found of a job, if anything was.
-fn enter<N: Server, K: EntryStore, R: Wait>(rt: &R, desk: &Desk<'_, N, K>, done: &Done) {
-    match done.found() {
-        Found::Table(table) => enter_table(rt, desk, done.job().work, *table),
-        Found::Costs(costs) => enter_costs(rt, desk, done.job().work, *costs),
-        Found::OutOfBudget | Found::OutOfMemory => {}
-    }
-}
-
-fn enter_table<N: Server, K: EntryStore, R: Wait>(
-    rt: &R,
-    desk: &Desk<'_, N, K>,
-    work: Work,
-    table: DdTable,
-) {
-    if let Work::Table { board, .. } = work {
-        let _told = desk.submit_solved(rt, board, table);
-    }
-}
-
-fn enter_costs<N: Server, K: EntryStore, R: Wait>(
-    rt: &R,
-    desk: &Desk<'_, N, K>,
-    work: Work,
-    costs: PlayCosts,
-) {
-    if let Work::Costs { cell, .. } = work {
-        let _told = desk.submit_analysed(rt, cell, costs);
     }
 }
 

@@ -35,8 +35,9 @@ pub fn serve_stream<
     R: Wait,
     C: Clock + Drop,
     S: Read + Write + OpenStream + Drop,
-    A: MessageServer,
+    A: MessageServer<R>,
 >(rt: &R, clock: C, alloc: Global, stream: S, terms: ClientTerms<'_>, server: &mut A)
+    requires { A.ready server.old }
     ensures { ServesStream S.remaining S.contents A.answers A.binary_text A.memory_text server.old server.new }
 {
     let Ok(timed) = TimedStream::new(clock, stream, HANDSHAKE_SECONDS) else {
@@ -64,7 +65,7 @@ fn limits() -> WebSocketConfig
 }
 
 // Answers one message after another, until one isn't read or sent.
-fn converse<R: Wait, C: Clock + Drop, S: Read + Write + OpenStream + Drop, A: MessageServer>(
+fn converse<R: Wait, C: Clock + Drop, S: Read + Write + OpenStream + Drop, A: MessageServer<R>>(
     rt: &R,
     alloc: Global,
     socket: &mut WebSocket<TimedStream<C, S>, NoMask>,
@@ -82,7 +83,7 @@ fn converse<R: Wait, C: Clock + Drop, S: Read + Write + OpenStream + Drop, A: Me
 }
 
 // Reads a message, and sends the one that it gets.
-fn serve_next<R: Wait, C: Clock + Drop, S: Read + Write + OpenStream + Drop, A: MessageServer>(
+fn serve_next<R: Wait, C: Clock + Drop, S: Read + Write + OpenStream + Drop, A: MessageServer<R>>(
     rt: &R,
     alloc: Global,
     socket: &mut WebSocket<TimedStream<C, S>, NoMask>,
@@ -102,7 +103,12 @@ fn serve_next<R: Wait, C: Clock + Drop, S: Read + Write + OpenStream + Drop, A: 
 }
 
 // Sends the message that one gets which was read.
-fn serve_message<R: Wait, C: Clock + Drop, S: Read + Write + OpenStream + Drop, A: MessageServer>(
+fn serve_message<
+    R: Wait,
+    C: Clock + Drop,
+    S: Read + Write + OpenStream + Drop,
+    A: MessageServer<R>,
+>(
     rt: &R,
     alloc: Global,
     socket: &mut WebSocket<TimedStream<C, S>, NoMask>,
@@ -139,7 +145,7 @@ fn send_in_time<C: Clock + Drop, S: Read + Write + OpenStream + Drop>(
 }
 
 // The message that answers a text.
-fn answer_to<R: Wait, A: MessageServer>(
+fn answer_to<R: Wait, A: MessageServer<R>>(
     rt: &R,
     alloc: Global,
     question: &[u8],

@@ -30,7 +30,7 @@ pub fn listen<R: Net>(rt: &R, port: u16) -> io::Result<R::Listener> {
 }
 
 /// Serves so many clients, one after another. One counts once accept has returned, be it with a fault.
-pub fn serve_clients<R: Wait + Clock, L: OpenListener, A: MessageServer + Drop>(
+pub fn serve_clients<R: Wait + Clock, L: OpenListener, A: MessageServer<R> + Drop>(
     rt: &R,
     alloc: Global,
     listener: &L,
@@ -50,7 +50,7 @@ where
 }
 
 /// Serves one client after another, and never ends.
-pub fn serve_forever<R: Wait + Clock, L: OpenListener, A: MessageServer + Drop>(
+pub fn serve_forever<R: Wait + Clock, L: OpenListener, A: MessageServer<R> + Drop>(
     rt: &R,
     alloc: Global,
     listener: &L,
@@ -67,7 +67,7 @@ where
 }
 
 // Waits for a client, and serves it.
-fn serve_client<R: Wait + Clock, L: OpenListener, A: MessageServer + Drop>(
+fn serve_client<R: Wait + Clock, L: OpenListener, A: MessageServer<R> + Drop>(
     rt: &R,
     alloc: Global,
     listener: &L,

@@ -3,15 +3,17 @@ ghost use Rattle.std.specs.Cow.{cow_str_bytes};
 
 use std::alloc::{AllocError, Global};
 use std::borrow::CowStr;
-use std::sync::Wait;
 
-/// What answers the messages of one client after another.
-pub trait MessageServer {
+/// What answers the messages of one client after another. `H` is what it waits by: a handle of the runtime, where it may
+/// wait for others, and anything, where it waits for nobody.
+pub trait MessageServer<H> {
     // From what a server was, with a message and the text that answers it (none where there was no memory for one), to
     // what it is.
     ghost answers: { Self → List ℕ → Option (List ℕ) → Self → Type 0 };
     // From what a server was to what it is for the next client.
     ghost leaves: { Self → Self → Type 0 };
+    // Nobody is signed in. A client is served by such a server alone.
+    ghost ready: { Self → Type 0 };
     // What each binary message is answered.
     ghost binary_text: { List ℕ };
     // What is answered where there is no memory for an answer.
@@ -19,9 +21,9 @@ pub trait MessageServer {
 
     /// The text that answers a text: one that was written for it, or one that was there before, which is sent without
     /// memory.
-    fn serve_message<R: Wait>(
+    fn serve_message(
         &mut self,
-        rt: &R,
+        rt: &H,
         alloc: Global,
         message: &[u8],
     ) -> Result<CowStr<'static>, AllocError>
@@ -38,5 +40,6 @@ pub trait MessageServer {
 
     /// As it stands for the next client: nobody is signed in.
     fn signed_out(self) -> Self
-        ensures { leaves self result };
+        ensures leaves { leaves self result }
+        ensures ready { ready result };
 }

@@ -1,0 +1,6 @@
+//! What workers found, taken in: the result of a job that was given is entered when it comes for the first time.
+#![tactic(auto)]
+
+mod collecting;
+
+pub use collecting::collect;

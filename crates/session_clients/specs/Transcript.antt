@@ -1,0 +1,48 @@
+-- The clients of a session, one after another over one who keeps it: what was exchanged with them.
+use Rattle.std.specs.Prelude.{◌≡◌, ℕ, true, Option, None, List, [], ◌∷◌}
+use Rattle.json_fields.specs.declared.request_fault.RequestFault.TheVariants.{Malformed, OutOfMemory}
+use Rattle.session_state.specs.SessionState.{SessionState}
+use Rattle.session_commands.specs.declared.entry.Entry.{Entry}
+use Rattle.wire.specs.ReceiptText.{fault_text}
+use Rattle.wire.specs.Request.{is_message_text}
+use Rattle.connections.specs.Conversation.{Exchange, AreExchanged, journal_then}
+use Rattle.connections.specs.Linked.{Linked}
+use Rattle.websocket_server.specs.Clients.{ServesMany}
+
+-- what was exchanged so far, of which the newest comes first, and the connection as it stands now
+pub record Transcript : Type 0 where
+  pub exchanges : List Exchange
+  pub now : Linked
+
+-- at a session's opening nothing was exchanged yet, nothing is entered, and nobody is signed in
+abbrev pub opening_transcript : SessionState → Transcript
+opening_transcript opening =
+    record { exchanges = []; now = record { opening = opening; journal = []; user = None } }
+
+-- the same connection, on which nobody is signed in
+abbrev pub signed_out : Linked → Linked
+signed_out at = record { opening = at.opening; journal = at.journal; user = None }
+
+-- one exchange more: of a message, with the text that answers it, or none where memory was refused for one
+abbrev pub Transcribes : Transcript → List ℕ → Option (List ℕ) → Transcript → Type 0
+Transcribes before message answer after =
+    (after.exchanges
+    ≡ record { before = before.now; message = message; answer = answer; after = after.now } ∷ before.exchanges)
+    × (answer ≡ None → is_message_text message ≡ true)
+
+-- the next client comes, and nobody is signed in
+abbrev pub ComesNext : Transcript → Transcript → Type 0
+ComesNext before after = after ≡ record { exchanges = before.exchanges; now = signed_out before.now }
+
+-- so many clients were served from the opening on, over streams whose bytes are known so, and the keeper stands for a
+-- journal then: what was exchanged are exchanges on connections over the keeper, one after another; each text that was
+-- read of a client is the message of the next of them, and its answer, or that memory is wanting, was the text sent for it
+pub record AreServed {S : Type 0} (remaining contents : S → Option (List ℕ))
+    (Others : List Entry → List Entry → Type 0) (no_entry not_kept : Type 0) (opening : SessionState) (clients : ℕ)
+    (journal : List Entry) : Type 0 where
+  pub transcript : Transcript
+  pub exchanged : AreExchanged Others no_entry not_kept opening transcript.exchanges
+  pub reached : journal_then transcript.exchanges ≡ journal
+  pub served :
+      ServesMany remaining contents Transcribes (fault_text Malformed) (fault_text OutOfMemory) ComesNext clients
+      (opening_transcript opening) transcript
