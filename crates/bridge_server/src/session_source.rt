@@ -73,8 +73,10 @@ fn kept_session_of_files<R: Files + JournalFiles + Threads + AllocGlobal + Sync>
     let Ok(object) = str::from_utf8(object.as_slice()) else {
         return Err(ServingFault::Unopened(OpeningFault::Session(SessionFault::Malformed)));
     };
-    let found = open_row_journal(rt, path, Wary, object, boards.as_slice())?;
-    with_journal(rt, session, found, workers)
+    match open_row_journal(rt, path, Wary, object, boards.as_slice()) {
+        Ok(found) => with_journal(rt, session, found, workers),
+        Err((fault, _)) => Err(ServingFault::Journal(fault)),
+    }
 }
 
 /// The session of the journal at a path, which has to be there.
@@ -89,7 +91,10 @@ pub(crate) fn kept_session<R: Files + JournalFiles + Threads + AllocGlobal + Syn
     if !may_hold_database(rt, path)? {
         return Err(ServingFault::Journal(JournalFault::NotAJournal));
     }
-    let (texts, found) = open_kept_journal(rt, path, Wary)?;
+    let (texts, found) = match open_kept_journal(rt, path, Wary) {
+        Ok(kept) => kept,
+        Err((fault, _)) => return Err(ServingFault::Journal(fault)),
+    };
     let session = session_of(rt.alloc(), texts.object.as_bytes(), texts.boards.as_slice())?;
     with_journal(rt, session, found, workers)
 }

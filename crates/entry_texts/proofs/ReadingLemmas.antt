@@ -1,5 +1,5 @@
 -- What the texts of an entry tell, by what is read of them.
-use Rattle.std.proofs.Common.{◌≡◌, ◌<◌, ℕ, List, false, Option, Some, None, Result, Ok, Err, refl, sym, ap, subst, ◌∙◌}
+use Rattle.std.proofs.Common.{◌≡◌, ◌<◌, ℕ, List, codes, false, Option, Some, None, option_and_then, Result, Ok, Err, refl, sym, ap, subst, ◌∙◌}
 use Rattle.std.proofs.lemmas.Option.{same_Some}
 use Rattle.serde_json.specs.Data.{Data}
 use Rattle.serde_json.specs.Find.{get}
@@ -17,11 +17,12 @@ use Rattle.session_commands.specs.declared.command.Command.{Command}
 use Rattle.session_commands.specs.declared.command.Command.TheVariants as command
 use Rattle.session_commands.specs.declared.entry.Entry.{Entry}
 use Rattle.session_commands.specs.Command.{is_solvers}
+use Rattle.json_fields.specs.Field.{text_at}
 use Rattle.json_fields.specs.Reading.{wanted, Fails}
 use Rattle.json_fields.specs.declared.request_fault.RequestFault.{RequestFault}
 use Rattle.json_fields.specs.declared.request_fault.RequestFault.TheVariants as request
 use Rattle.session_roles.specs.declared.edition.Edition.TheVariants.{Second}
-use Rattle.command_object.specs.Command.{command_of}
+use Rattle.command_object.specs.Command.{command_called, command_of}
 use Rattle.command_object.specs.Play.{play}
 use Rattle.command_object.proofs.MemberLemmas.{play_agrees}
 use Rattle.command_writing.specs.ResultData.{written_play}
@@ -33,7 +34,7 @@ use Rattle.entry_texts.specs.declared.kept_entry.KeptEntry.TheVariants.{Given, S
 use Rattle.entry_texts.specs.declared.text_fault.TextFault.{TextFault}
 use Rattle.entry_texts.specs.declared.text_fault.TextFault.TheVariants.{OutOfMemory}
 use Rattle.entry_texts.specs.EntryTexts.{IsKeepable}
-use Rattle.entry_texts.specs.Kept.{IsReadable, TellsEntry, kept_command, kept_of, fault_of}
+use Rattle.entry_texts.specs.Kept.{IsSentBy, IsReadable, TellsEntry, kept_command, kept_of, fault_of}
 use Rattle.entry_texts.proofs.UserLemmas.{is_users}
 
 -- a command that isn't the solver's is told whole
@@ -66,59 +67,99 @@ with_actor : (entry : Entry) (actor : Actor) (read : Result KeptEntry TextFault)
 with_actor entry actor read is tells =
     subst (λ a. TellsEntry (record { actor = a; command = entry.command }) read) (sym is) tells
 
--- a user's entry, by its command
-pub user_told : (entry : Entry) (name : List ℕ) (d : Data) (read : Result KeptEntry TextFault) → entry.actor ≡ User name
-    → IsKeepable entry → IsReadable entry.actor entry.command → command_data entry.command ≡ d
-    → ((c : Command) → command_of Second d ≡ Some c → TellsEntry (record { actor = User name; command = c }) read)
-    → TellsEntry entry read
-user_told entry name d read is keepable readable same each =
-    let sent = subst (λ actor. IsReadable actor entry.command) is readable in
-    let told = read_back entry.command keepable.command sent in
-    with_actor entry (User name) read is (each entry.command (ap (command_of Second) (sym same) ∙ told))
+-- what is read of an object as a command
+module _ (actor : Actor) (d : Data) (read : Result KeptEntry TextFault) where
+  abbrev Solves : Type 0
+  Solves =
+      (board : ℕ) (deal : Hands) → board < 256 → IsDeal deal → d ≡ solved_data board deal
+      → read ≡ Ok (Solved actor board deal)
 
--- what the solver told
-found_told : (c : Command) (d : Data) (read : Result KeptEntry TextFault) → IsWritable c → IsReadable Solver c
-    → command_data c ≡ d
-    → ((board : ℕ) (deal : Hands) → board < 256 → IsDeal deal → d ≡ solved_data board deal
-    → read ≡ Ok (Solved board deal))
-    → ((cell : Cell) (played : PlayedDeal) → IsWritable (command.Analysed cell played) → d ≡ analysed_data cell played
-    → TellsEntry (record { actor = Solver; command = command.Analysed cell played }) read)
-    → TellsEntry (record { actor = Solver; command = c }) read
-found_told (command.Solved board deal) d read is readable same solved analysed =
-    subst (TellsEntry (record { actor = Solver; command = command.Solved board deal }))
-    (sym (solved board deal is.0 is.1 (sym same))) refl
-found_told (command.Analysed cell played) d read is readable same solved analysed = analysed cell played is (sym same)
-found_told (command.Enter cell outcome play) d read is readable same solved analysed = absurd readable
-found_told (command.Confirm cell outcome) d read is readable same solved analysed = absurd readable
-found_told (command.Correct cell outcome play) d read is readable same solved analysed = absurd readable
-found_told (command.Rule cell north_south east_west reason) d read is readable same solved analysed = absurd readable
-found_told (command.Void cell) d read is readable same solved analysed = absurd readable
-found_told (command.Hold board) d read is readable same solved analysed = absurd readable
-found_told (command.Release board) d read is readable same solved analysed = absurd readable
-found_told (command.Seat name pair place) d read is readable same solved analysed = absurd readable
-found_told (command.Unseat name) d read is readable same solved analysed = absurd readable
-found_told command.NextRound d read is readable same solved analysed = absurd readable
-found_told command.Close d read is readable same solved analysed = absurd readable
-found_told command.Finalise d read is readable same solved analysed = absurd readable
-found_told (command.AddUser name digest) d read is readable same solved analysed = absurd readable
-found_told (command.Assign name role) d read is readable same solved analysed = absurd readable
-found_told (command.Deassign name role) d read is readable same solved analysed = absurd readable
-found_told (command.AddInheritance senior junior) d read is readable same solved analysed = absurd readable
-found_told (command.DeleteInheritance senior junior) d read is readable same solved analysed = absurd readable
-found_told command.Embargo d read is readable same solved analysed = absurd readable
-found_told command.Lift d read is readable same solved analysed = absurd readable
+  abbrev Analyses : Type 0
+  Analyses =
+      (cell : Cell) (played : PlayedDeal) → IsWritable (command.Analysed cell played) → d ≡ analysed_data cell played
+      → TellsEntry (record { actor = actor; command = command.Analysed cell played }) read
 
-pub solver_told : (entry : Entry) (d : Data) (read : Result KeptEntry TextFault) → entry.actor ≡ Solver
+  abbrev Gives : Type 0
+  Gives =
+      (name : List ℕ) (c : Command) → actor ≡ User name → command_of Second d ≡ Some c
+      → TellsEntry (record { actor = User name; command = c }) read
+
+-- a command that a client can send, by who gave it
+sent_told : (actor : Actor) (c : Command) (d : Data) (read : Result KeptEntry TextFault) → IsWritable c
+    → IsSentBy actor c → command_data c ≡ d → Gives actor d read
+    → TellsEntry (record { actor = actor; command = c }) read
+sent_told (User name) c d read is sent same gives =
+    gives name c refl (ap (command_of Second) (sym same) ∙ read_back c is sent)
+sent_told Solver c d read is sent same gives = absurd sent
+
+-- each command, by who gave it
+command_told : (actor : Actor) (c : Command) (d : Data) (read : Result KeptEntry TextFault) → IsWritable c
+    → IsReadable actor c → command_data c ≡ d → Solves actor d read → Analyses actor d read → Gives actor d read
+    → TellsEntry (record { actor = actor; command = c }) read
+command_told actor (command.Solved board deal) d read is readable same solves analyses gives =
+    subst (TellsEntry (record { actor = actor; command = command.Solved board deal }))
+    (sym (solves board deal is.0 is.1 (sym same))) refl
+command_told actor (command.Analysed cell played) d read is readable same solves analyses gives =
+    analyses cell played is (sym same)
+command_told actor (command.Enter cell outcome play) d read is readable same solves analyses gives =
+    sent_told actor (command.Enter cell outcome play) d read is readable same gives
+command_told actor (command.Confirm cell outcome) d read is readable same solves analyses gives =
+    sent_told actor (command.Confirm cell outcome) d read is readable same gives
+command_told actor (command.Correct cell outcome play) d read is readable same solves analyses gives =
+    sent_told actor (command.Correct cell outcome play) d read is readable same gives
+command_told actor (command.Rule cell north_south east_west reason) d read is readable same solves analyses gives =
+    sent_told actor (command.Rule cell north_south east_west reason) d read is readable same gives
+command_told actor (command.Void cell) d read is readable same solves analyses gives =
+    sent_told actor (command.Void cell) d read is readable same gives
+command_told actor (command.Hold board) d read is readable same solves analyses gives =
+    sent_told actor (command.Hold board) d read is readable same gives
+command_told actor (command.Release board) d read is readable same solves analyses gives =
+    sent_told actor (command.Release board) d read is readable same gives
+command_told actor (command.Seat name pair place) d read is readable same solves analyses gives =
+    sent_told actor (command.Seat name pair place) d read is readable same gives
+command_told actor (command.Unseat name) d read is readable same solves analyses gives =
+    sent_told actor (command.Unseat name) d read is readable same gives
+command_told actor command.NextRound d read is readable same solves analyses gives =
+    sent_told actor command.NextRound d read is readable same gives
+command_told actor command.Close d read is readable same solves analyses gives =
+    sent_told actor command.Close d read is readable same gives
+command_told actor command.Finalise d read is readable same solves analyses gives =
+    sent_told actor command.Finalise d read is readable same gives
+command_told actor (command.AddUser name digest) d read is readable same solves analyses gives =
+    sent_told actor (command.AddUser name digest) d read is readable same gives
+command_told actor (command.Assign name role) d read is readable same solves analyses gives =
+    sent_told actor (command.Assign name role) d read is readable same gives
+command_told actor (command.Deassign name role) d read is readable same solves analyses gives =
+    sent_told actor (command.Deassign name role) d read is readable same gives
+command_told actor (command.AddInheritance senior junior) d read is readable same solves analyses gives =
+    sent_told actor (command.AddInheritance senior junior) d read is readable same gives
+command_told actor (command.DeleteInheritance senior junior) d read is readable same solves analyses gives =
+    sent_told actor (command.DeleteInheritance senior junior) d read is readable same gives
+command_told actor command.Embargo d read is readable same solves analyses gives =
+    sent_told actor command.Embargo d read is readable same gives
+command_told actor command.Lift d read is readable same solves analyses gives =
+    sent_told actor command.Lift d read is readable same gives
+
+pub entry_told : (entry : Entry) (actor : Actor) (d : Data) (read : Result KeptEntry TextFault) → entry.actor ≡ actor
     → IsKeepable entry → IsReadable entry.actor entry.command → command_data entry.command ≡ d
-    → ((board : ℕ) (deal : Hands) → board < 256 → IsDeal deal → d ≡ solved_data board deal
-    → read ≡ Ok (Solved board deal))
-    → ((cell : Cell) (played : PlayedDeal) → IsWritable (command.Analysed cell played) → d ≡ analysed_data cell played
-    → TellsEntry (record { actor = Solver; command = command.Analysed cell played }) read)
-    → TellsEntry entry read
-solver_told entry d read is keepable readable same solved analysed =
-    with_actor entry Solver read is
-    (found_told entry.command d read keepable.command (subst (λ actor. IsReadable actor entry.command) is readable) same
-    solved analysed)
+    → Solves actor d read → Analyses actor d read → Gives actor d read → TellsEntry entry read
+entry_told entry actor d read is keepable readable same solves analyses gives =
+    with_actor entry actor read is
+    (command_told actor entry.command d read keepable.command
+    (subst (λ giver. IsReadable giver entry.command) is readable) same solves analyses gives)
+
+-- no client sends what the solver tells
+pub no_client_solves : (d : Data) (c : Command) → text_at (codes "cmd") d ≡ Some (codes "Solved")
+    → command_of Second d ≡ Some c → ⊥
+unfolding command_of
+no_client_solves d c word was =
+    let none : None ≡ Some c = ap (option_and_then (λ w. command_called Second w d)) (sym word) ∙ was in absurd (cc)
+
+pub no_client_analyses : (d : Data) (c : Command) → text_at (codes "cmd") d ≡ Some (codes "Analysed")
+    → command_of Second d ≡ Some c → ⊥
+unfolding command_of
+no_client_analyses d c word was =
+    let none : None ≡ Some c = ap (option_and_then (λ w. command_called Second w d)) (sym word) ∙ was in absurd (cc)
 
 -- ---- what was read
 
@@ -156,15 +197,15 @@ play_there cell played d few same =
     ap (λ x. play.value (get play.name x)) same
     ∙ play_agrees.reads (Some (written_play played.play)) played.play (play_is played.play few)
 
-pub analysed_told : (cell : Cell) (played : PlayedDeal) (d : Data) (cards : List Card)
+pub analysed_told : (actor : Actor) (cell : Cell) (played : PlayedDeal) (d : Data) (cards : List Card)
     (read : Result KeptEntry TextFault) → IsWritablePlay played.play → d ≡ analysed_data cell played
-    → wanted (play.value (get play.name d)) ≡ Ok cards → read ≡ Ok (Analysed cell played.deal played.contract cards)
-    → TellsEntry (record { actor = Solver; command = command.Analysed cell played }) read
-analysed_told cell played d cards read few same found was =
+    → wanted (play.value (get play.name d)) ≡ Ok cards → read ≡ Ok (Analysed actor cell played.deal played.contract cards)
+    → TellsEntry (record { actor = actor; command = command.Analysed cell played }) read
+analysed_told actor cell played d cards read few same found was =
     let one = same_Some cards played.play
     (sym (there (play.value (get play.name d)) cards found) ∙ play_there cell played d few same) in
-    subst (TellsEntry (record { actor = Solver; command = command.Analysed cell played })) (sym was)
-    (ap (λ (x : List Card). Analysed cell played.deal played.contract x) one)
+    subst (TellsEntry (record { actor = actor; command = command.Analysed cell played })) (sym was)
+    (ap (λ (x : List Card). Analysed actor cell played.deal played.contract x) one)
 
 -- where there is something to be read, only memory is refused
 refused : {A : Type 0} (fault : RequestFault) (x : A) → Fails fault (Ok x) → fault_of fault ≡ OutOfMemory

@@ -14,17 +14,22 @@ use Rattle.entry_texts.specs.declared.kept_entry.KeptEntry.TheVariants.{Given, S
 use Rattle.entry_texts.specs.declared.text_fault.TextFault.{TextFault}
 use Rattle.entry_texts.specs.declared.text_fault.TextFault.TheVariants.{Unreadable, OutOfMemory}
 
--- an entry that can be accepted: a user gives what a client can send, and the solver what it found
-abbrev pub IsReadable : Actor → Command → Type 0
-IsReadable (User name) given = IsSendable given
-IsReadable Solver (command.Solved board table) = Unit {0}
-IsReadable Solver (command.Analysed cell costs) = Unit {0}
-IsReadable Solver _ = ⊥
+-- who gives a command that a client can send is a user
+abbrev pub IsSentBy : Actor → Command → Type 0
+IsSentBy (User name) given = IsSendable given
+IsSentBy Solver given = ⊥
 
--- of what the solver found the texts tell what it is of, and of every other entry all that it is
+-- an entry that can be accepted: a user gives what a client can send; and what the solver tells may be given by whoever
+-- it is, since its numbers aren't taken from a text
+abbrev pub IsReadable : Actor → Command → Type 0
+IsReadable actor (command.Solved board table) = Unit {0}
+IsReadable actor (command.Analysed cell costs) = Unit {0}
+IsReadable actor given = IsSentBy actor given
+
+-- of what the solver tells the texts tell who gave it and what it is of, and of every other entry all that it is
 abbrev pub kept_command : Entry → Command → KeptEntry
-kept_command entry (command.Solved board table) = Solved board table
-kept_command entry (command.Analysed cell costs) = Analysed cell costs.deal costs.contract costs.play
+kept_command entry (command.Solved board table) = Solved entry.actor board table
+kept_command entry (command.Analysed cell costs) = Analysed entry.actor cell costs.deal costs.contract costs.play
 kept_command entry _ = Given entry
 
 abbrev pub kept_of : Entry → KeptEntry
@@ -43,8 +48,8 @@ IsOfUser Solver given = ⊥
 -- what was read as a whole is a user's
 abbrev pub IsOwn : KeptEntry → Type 0
 IsOwn (Given entry) = IsOfUser entry.actor entry.command
-IsOwn (Solved board deal) = Unit {0}
-IsOwn (Analysed cell deal contract play) = Unit {0}
+IsOwn (Solved actor board deal) = Unit {0}
+IsOwn (Analysed actor cell deal contract play) = Unit {0}
 
 -- ---- for private clauses: what a fault of reading a command is of the texts
 

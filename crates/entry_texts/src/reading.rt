@@ -1,6 +1,6 @@
 //! The texts of an entry, read.
 
-ghost use Rattle.std.specs.Prelude.{◌≡◌, ◌<◌, ◌≤◌, ℕ, length, Some, Ok, IfSome, IfOk, codes};
+ghost use Rattle.std.specs.Prelude.{◌≡◌, ◌<◌, ◌≤◌, ℕ, List, length, Some, Ok, IfSome, IfOk, codes};
 ghost use Rattle.serde_json.specs.Find.{get};
 ghost use Rattle.serde_json.specs.View.{view};
 ghost use Rattle.user_names.specs.declared.name.TheConstants.Name.{MOST};
@@ -11,7 +11,7 @@ ghost use Rattle.movement.specs.declared.cell.Cell.{Cell as ACell};
 ghost use Rattle.scoring.specs.declared.contract.Contract.{Contract as AContract};
 ghost use Rattle.solver_results.specs.PlayAnswer.{PlayedDeal};
 ghost use Rattle.session_commands.specs.declared.actor.Actor.{Actor as AnActor};
-ghost use Rattle.session_commands.specs.declared.actor.Actor.TheVariants.{User, Solver};
+ghost use Rattle.session_commands.specs.declared.actor.Actor.TheVariants.{User};
 ghost use Rattle.session_commands.specs.declared.command.Command.{Command};
 ghost use Rattle.session_commands.specs.declared.command.Command.TheVariants as command;
 ghost use Rattle.session_commands.specs.declared.entry.Entry.{Entry};
@@ -68,9 +68,38 @@ fn told_by(alloc: Global, actor: &Actor, value: &Value) -> Result<KeptEntry, Tex
         entry.actor ≡ actor.now → command_data entry.command ≡ view value.now → TellsEntry entry result }
     ensures own { IfOk result IsOwn }
 {
+    told_as(alloc, actor, value)
+}
+
+// By the command's word: what the solver tells, by what it is of, and each other command whole.
+fn told_as(alloc: Global, actor: &Actor, value: &Value) -> Result<KeptEntry, TextFault>
+    ensures solved { (board : ℕ) (deal : Hands) → board < 256 → IsDeal deal →
+        view value.now ≡ solved_data board deal → result ≡ Ok (Solved actor.now board deal) }
+    ensures analysed { (cell : ACell) (played : PlayedDeal) → IsWritable (command.Analysed cell played) →
+        view value.now ≡ analysed_data cell played →
+        TellsEntry (record { actor = actor.now; command = command.Analysed cell played }) result }
+    ensures given { (name : List ℕ) (command : Command) → actor.now ≡ User name →
+        command_of Second (view value.now) ≡ Some command →
+        TellsEntry (record { actor = User name; command = command }) result }
+    ensures own { IfOk result IsOwn }
+{
+    match text_at(value, "cmd") {
+        Some("Solved") => solved_of(*actor, value),
+        Some("Analysed") => analysed_of(alloc, *actor, value),
+        _ => given_by(alloc, actor, value),
+    }
+}
+
+// What isn't the solver's to tell a user gives.
+fn given_by(alloc: Global, actor: &Actor, value: &Value) -> Result<KeptEntry, TextFault>
+    ensures given { (name : List ℕ) (command : Command) → actor.now ≡ User name →
+        command_of Second (view value.now) ≡ Some command →
+        TellsEntry (record { actor = User name; command = command }) result }
+    ensures own { IfOk result IsOwn }
+{
     match actor {
         Actor::User(name) => given(alloc, name, value),
-        Actor::Solver => found(alloc, value),
+        Actor::Solver => Err(TextFault::Unreadable),
     }
 }
 
@@ -111,50 +140,34 @@ fn given(alloc: Global, name: &Name, value: &Value) -> Result<KeptEntry, TextFau
     }
 }
 
-// What the solver told, by what it is of.
-fn found(alloc: Global, value: &Value) -> Result<KeptEntry, TextFault>
+fn solved_of(actor: Actor, value: &Value) -> Result<KeptEntry, TextFault>
     ensures solved { (board : ℕ) (deal : Hands) → board < 256 → IsDeal deal →
-        view value.now ≡ solved_data board deal → result ≡ Ok (Solved board deal) }
-    ensures analysed { (cell : ACell) (played : PlayedDeal) → IsWritable (command.Analysed cell played) →
-        view value.now ≡ analysed_data cell played →
-        TellsEntry (record { actor = Solver; command = command.Analysed cell played }) result }
-    ensures own { IfOk result IsOwn }
-{
-    match text_at(value, "cmd") {
-        Some("Solved") => solved_of(value),
-        Some("Analysed") => analysed_of(alloc, value),
-        _ => Err(TextFault::Unreadable),
-    }
-}
-
-fn solved_of(value: &Value) -> Result<KeptEntry, TextFault>
-    ensures solved { (board : ℕ) (deal : Hands) → board < 256 → IsDeal deal →
-        view value.now ≡ solved_data board deal → result ≡ Ok (Solved board deal) }
+        view value.now ≡ solved_data board deal → result ≡ Ok (Solved actor board deal) }
     ensures own { IfOk result IsOwn }
 {
     match (read_board(value), deal_of(value)) {
-        (Some(board), Some(deal)) => Ok(KeptEntry::Solved { board, deal }),
+        (Some(board), Some(deal)) => Ok(KeptEntry::Solved { actor, board, deal }),
         _ => Err(TextFault::Unreadable),
     }
 }
 
-fn analysed_of(alloc: Global, value: &Value) -> Result<KeptEntry, TextFault>
+fn analysed_of(alloc: Global, actor: Actor, value: &Value) -> Result<KeptEntry, TextFault>
     ensures analysed { (cell : ACell) (played : PlayedDeal) → IsWritable (command.Analysed cell played) →
         view value.now ≡ analysed_data cell played →
-        TellsEntry (record { actor = Solver; command = command.Analysed cell played }) result }
+        TellsEntry (record { actor = actor; command = command.Analysed cell played }) result }
     ensures own { IfOk result IsOwn }
 {
     match read_play(alloc, value) {
-        Ok(play) => played_of(value, play),
+        Ok(play) => played_of(actor, value, play),
         Err(fault) => Err(text_fault(fault)),
     }
 }
 
 // With this play, what stands beside it.
-fn played_of(value: &Value, play: Play) -> Result<KeptEntry, TextFault>
+fn played_of(actor: Actor, value: &Value, play: Play) -> Result<KeptEntry, TextFault>
     ensures analysed { (cell : ACell) (played : PlayedDeal) → IsWritable (command.Analysed cell played) →
         view value.now ≡ analysed_data cell played →
-        result ≡ Ok (Analysed cell played.deal played.contract play) }
+        result ≡ Ok (Analysed actor cell played.deal played.contract play) }
     ensures own { IfOk result IsOwn }
 {
     let cell = match cell_of(value) {
@@ -163,6 +176,7 @@ fn played_of(value: &Value, play: Play) -> Result<KeptEntry, TextFault>
     };
     match (deal_of(value), contract_at(value)) {
         (Some(deal), Some(contract)) => Ok(KeptEntry::Analysed {
+            actor,
             cell,
             deal,
             contract,

@@ -2,7 +2,7 @@
 
 use crate::{KeptEntry, TextFault, entry_text, read_entry};
 use cards::Deal;
-use session_commands::Entry;
+use session_commands::{Actor, Entry};
 use std::alloc::Global;
 
 /// Commands as docs/PROTOCOL.md shows them, without spaces and with their members in the order of their names.
@@ -32,9 +32,8 @@ static SENT: [&str; 22] = [
 ];
 
 /// Who gave it and what, where the texts are no entry's.
-static OTHERS: [(&str, &str); 8] = [
+static OTHERS: [(&str, &str); 7] = [
     ("solver", r#"{"cmd":"Close"}"#),
-    ("user d", SOLVED),
     ("user d", r#"{"cmd":"Close""#),
     ("user d", r#"{"cmd":"close"}"#),
     ("d", r#"{"cmd":"Close"}"#),
@@ -89,21 +88,38 @@ fn is_unreadable(alloc: Global, actor: &str, command: &str) -> bool {
     }
 }
 
-/// Whether what the solver told is read, by what it is of.
-fn tells_of(alloc: Global, command: &str) -> bool {
-    match read_entry(alloc, "solver", command) {
-        Ok(kept) => is_of_suits(alloc, &kept),
+/// Whether what the solver tells is read, by who gave it and what it is of.
+fn tells_of(alloc: Global, actor: &str, command: &str) -> bool {
+    match read_entry(alloc, actor, command) {
+        Ok(kept) => is_of_suits(alloc, &kept, actor == "solver"),
         Err(_) => false,
     }
 }
 
-fn is_of_suits(alloc: Global, kept: &KeptEntry) -> bool {
+fn is_of_suits(alloc: Global, kept: &KeptEntry, by_solver: bool) -> bool {
     match kept {
-        KeptEntry::Solved { board, deal } => *board == 1 && are_suits(alloc, deal),
-        KeptEntry::Analysed { cell, deal, .. } => {
-            cell.table == 1 && cell.board == 2 && are_suits(alloc, deal)
+        KeptEntry::Solved { actor, board, deal } => {
+            *board == 1 && are_suits(alloc, deal) && is_solver(actor) == by_solver
+        }
+        KeptEntry::Analysed {
+            actor,
+            cell,
+            deal,
+            ..
+        } => {
+            cell.table == 1
+                && cell.board == 2
+                && are_suits(alloc, deal)
+                && is_solver(actor) == by_solver
         }
         KeptEntry::Given(_) => false,
+    }
+}
+
+fn is_solver(actor: &Actor) -> bool {
+    match actor {
+        Actor::User(_) => false,
+        Actor::Solver => true,
     }
 }
 
@@ -124,7 +140,9 @@ fn commands_are_written_as_clients_send_them(rt: HostRuntime) {
 #[test]
 fn what_the_solver_told_is_read_by_what_it_is_of(rt: HostRuntime) {
     for command in [SOLVED, ANALYSED] {
-        assert!(rt; tells_of(rt.alloc(), command), "{command}");
+        for actor in ["solver", "user d"] {
+            assert!(rt; tells_of(rt.alloc(), actor, command), "{actor} {command}");
+        }
     }
 }
 

@@ -3,12 +3,12 @@ use Rattle.std.proofs.Common.{◌≡◌, ◌⊎◌, inl, inr, ◌<◌, ◌≤◌
 use Rattle.std.specs.List.{AllByRecursion}
 use Rattle.std.proofs.Math.Seq.{take-suc}
 use Rattle.std.proofs.lemmas.List.{map-append, take_all}
-use Rattle.std.proofs.lemmas.List.Elements.{All-nil, All-push}
+use Rattle.std.proofs.lemmas.List.Elements.{All-nil, All-push, recursion_from_All}
 use Rattle.session_commands.specs.declared.entry.Entry.{Entry}
 use Rattle.entry_texts.specs.EntryTexts.{IsKeepable}
 use Rattle.journal_store.specs.Tables.{RowBytes}
 use Rattle.kept_entries.specs.Grouping.{BeginsNext}
-use Rattle.kept_entries.specs.KeptRows.{row_in, rows_from, rows_of, IsKeptPublication, AreKeepable}
+use Rattle.kept_entries.specs.KeptRows.{row_in, rows_from, rows_of, AreCounted, IsKeptPublication, AreKeepable}
 use Rattle.kept_entries.proofs.RowLemmas.{rows_of-push}
 
 -- the rows up to a place are those of whole publications, and of the last one so far
@@ -73,12 +73,6 @@ grouped_all texts place published last g all none = (
 
 -- ---- rows of publications are counted from 1
 
--- each row has the number of the row before it, or one more
-abbrev AreCounted : ℕ → List RowBytes → Type 0
-AreCounted last [] = Unit {0}
-AreCounted last (it ∷ more) = (1 ≤ it.publication) × (last ≤ it.publication) × (it.publication ≤ last + 1)
-    × AreCounted it.publication more
-
 counted_entries : (number : ℕ) (entries : List Entry) (rest : List RowBytes) → AreCounted (suc number) rest
     → AreCounted (suc number) (map (row_in (suc number)) entries ++ rest)
 counted_entries number [] rest counted = counted
@@ -96,8 +90,8 @@ counted number ((entry ∷ entries) ∷ later) kept = (
   counted_entries number entries (rows_from (suc (suc number)) later) (counted (suc number) later kept.1),
 )
 
-pub rows_counted : (published : List (List Entry)) → AllByRecursion IsKeptPublication published → AreCounted 0 (rows_of published)
-rows_counted published kept = counted 0 published kept
+pub rows_counted : (published : List (List Entry)) → AreKeepable published → AreCounted 0 (rows_of published)
+rows_counted published kept = counted 0 published (recursion_from_All IsKeptPublication published kept)
 
 -- the rows from a place on are counted on from the last publication
 pub record InTurn (texts : List RowBytes) (place : ℕ) (published : List (List Entry)) (last : List Entry) : Type 0 where
@@ -105,13 +99,8 @@ pub record InTurn (texts : List RowBytes) (place : ℕ) (published : List (List 
   pub order : AreCounted number (drop place texts)
   pub stands : ((number ≡ 0) × (published ≡ []) × (last ≡ [])) ⊎ ((0 < length last) × (number ≡ length published + 1))
 
-pub in_turn_none : (texts : List RowBytes) (published : List (List Entry)) → AllByRecursion IsKeptPublication published
-    → texts ≡ rows_of published → InTurn texts 0 [] []
-in_turn_none texts published kept same = record {
-  number = 0;
-  order = subst (AreCounted 0) (sym same) (rows_counted published kept);
-  stands = inl (refl, refl, refl);
-}
+pub in_turn_none : (texts : List RowBytes) → AreCounted 0 texts → InTurn texts 0 [] []
+in_turn_none texts counted = record { number = 0; order = counted; stands = inl (refl, refl, refl) }
 
 -- the row at a place, and those behind it
 row_at : (texts : List RowBytes) (place number : ℕ) → AreCounted number (drop place texts) → place < length texts

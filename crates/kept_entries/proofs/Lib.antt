@@ -1,3 +1,4 @@
+pub mod AcceptedLemmas
 pub mod RowLemmas
 pub mod ReadLemmas
 pub mod GroupLemmas

@@ -9,10 +9,10 @@ use Rattle.journal_store.specs.Tables.{RowBytes}
 use Rattle.kept_entries.specs.KeptRows.{row_in, rows_from, rows_of, IsKeptPublication, AreKeepable}
 
 -- what two lists with a first element have in common
-cons-same : {A : Type 0} (x y : A) (xs ys : List A) → x ∷ xs ≡ y ∷ ys → (x ≡ y) × (xs ≡ ys)
+pub cons-same : {A : Type 0} (x y : A) (xs ys : List A) → x ∷ xs ≡ y ∷ ys → (x ≡ y) × (xs ≡ ys)
 cons-same x y xs ys same = (cc, cc)
 
-nil-cons : {A : Type 0} (x : A) (xs : List A) → [] ≡ x ∷ xs → ⊥
+pub nil-cons : {A : Type 0} (x : A) (xs : List A) → [] ≡ x ∷ xs → ⊥
 nil-cons x xs same = cc
 
 cons-both : {A : Type 0} (x y : A) (xs ys : List A) → x ≡ y → xs ≡ ys → x ∷ xs ≡ y ∷ ys

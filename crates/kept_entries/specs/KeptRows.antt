@@ -1,6 +1,6 @@
 -- own: publications of entries as the rows of a journal. Each entry has a row, with the number of its publication, from
 -- 1.
-use Rattle.std.specs.Prelude.{◌<◌, ℕ, suc, List, [], ◌∷◌, ◌++◌, map, length, All}
+use Rattle.std.specs.Prelude.{◌<◌, ◌≤◌, ℕ, ◌+◌, suc, List, [], ◌∷◌, ◌++◌, map, length, All}
 use Rattle.std.specs.Global.{Vec}
 use Rattle.session_commands.specs.declared.entry.Entry.{Entry}
 use Rattle.entry_texts.specs.EntryTexts.{texts_of_entry, IsKeepable}
@@ -23,10 +23,11 @@ rows_from number (entries ∷ later) = map (row_in number) entries ++ rows_from 
 abbrev pub rows_of : List (List Entry) → List RowBytes
 rows_of published = rows_from 1 published
 
--- the entries of publications, one after another
-abbrev pub entries_in : List (List Entry) → List Entry
-entries_in [] = []
-entries_in (entries ∷ later) = entries ++ entries_in later
+-- the publications of rows are counted: behind one of a number a row is of the same, or of the next
+abbrev pub AreCounted : ℕ → List RowBytes → Type 0
+AreCounted last [] = Unit {0}
+AreCounted last (it ∷ more) =
+    (1 ≤ it.publication) × (last ≤ it.publication) × (it.publication ≤ last + 1) × AreCounted it.publication more
 
 -- it has an entry, and each of its entries can be kept
 pub record IsKeptPublication (entries : List Entry) : Type 0 where

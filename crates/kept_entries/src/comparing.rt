@@ -1,9 +1,10 @@
 //! What was read is written again, and compared with the rows.
 
-ghost use Rattle.std.specs.Prelude.{◌≡◌, ◌≤◌, length, map, IfOk, IfErr};
+ghost use Rattle.std.specs.Prelude.{◌≡◌, ◌≤◌, true, length, IfOk, IfErr, IfSome, IfNone};
+ghost use Rattle.session_commands.specs.Command.{is_solvers};
 ghost use Rattle.entry_texts.specs.EntryTexts.{IsKeepable, texts_of_entry};
 ghost use Rattle.journal_store.specs.Kept.{most_entry_rows};
-ghost use Rattle.kept_entries.specs.RowTexts.{AreOf, IsReadingWant, entry_told, told_by};
+ghost use Rattle.kept_entries.specs.RowTexts.{AreOf, AreTold, IsTold, WhyNotRead, WhyRowNotRead, entry_told, told_by};
 
 use crate::read_fault::RowFault;
 use entry_texts::{KeptEntry, entry_text};
@@ -20,7 +21,7 @@ pub(crate) fn compare_rows(
     requires few { length rows.now ≤ most_entry_rows }
     requires each { length read.now ≡ length rows.now }
     ensures same { IfOk result (λ entries. AreOf rows.now entries.items) }
-    ensures fault { AreOf rows.now (map entry_told read.now) → IfErr result IsReadingWant }
+    ensures fault { AreTold rows.now read.now → IfErr result (WhyNotRead rows.now) }
 {
     let mut entries = Vec::new(alloc);
     'rows: for place in 0..rows.len() {
@@ -44,9 +45,9 @@ fn compare_row(
 ) -> Result<Entry, RowFault>
     ensures same { IfOk result (λ entry. told_by row.now ≡ texts_of_entry entry) }
     ensures keepable { IfOk result IsKeepable }
-    ensures fault { told_by row.now ≡ texts_of_entry (entry_told read.now) → IfErr result IsReadingWant }
+    ensures fault { IsTold row.now read.now → IfErr result (WhyRowNotRead row.now number) }
 {
-    let KeptEntry::Given(entry) = *read else {
+    let Some(entry) = given_entry(read) else {
         return Err(RowFault::Unsolved(number));
     };
     let Ok(text) = entry_text(alloc, &entry) else {
@@ -56,4 +57,16 @@ fn compare_row(
         return Err(RowFault::Unreadable(number));
     }
     Ok(entry)
+}
+
+// The entry that was read as a whole, or whose numbers were found.
+fn given_entry(read: &KeptEntry) -> Option<Entry>
+    ensures some { IfSome result (λ entry. entry_told read.now ≡ entry) }
+    ensures none { IfNone result (is_solvers (entry_told read.now).command ≡ true) }
+{
+    match *read {
+        KeptEntry::Given(entry) => Some(entry),
+        KeptEntry::Solved { .. } => None,
+        KeptEntry::Analysed { .. } => None,
+    }
 }

@@ -1,11 +1,10 @@
 //! Entries are put together again as they were published.
 
-ghost use Rattle.std.specs.Prelude.{◌≡◌, List, map, IfOk, IfErr, OnOk};
-ghost use Rattle.session_commands.specs.declared.entry.Entry.{Entry};
+ghost use Rattle.std.specs.Prelude.{◌≡◌, ◌⊎◌, map, IfOk, IfErr, OnOk};
 ghost use Rattle.journal_store.specs.Kept.{texts_of};
-ghost use Rattle.kept_entries.specs.declared.read_fault.RowFault.TheVariants.{OutOfMemory};
+ghost use Rattle.kept_entries.specs.declared.read_fault.RowFault.TheVariants.{OutOfMemory, Misnumbered};
 ghost use Rattle.kept_entries.specs.Grouping.{BeginsNext};
-ghost use Rattle.kept_entries.specs.KeptRows.{AreKeepable, lists_in, rows_of};
+ghost use Rattle.kept_entries.specs.KeptRows.{AreCounted, AreKeepable, lists_in, rows_of};
 ghost use Rattle.kept_entries.specs.RowTexts.{AreOf};
 
 use crate::read_fault::RowFault;
@@ -23,8 +22,8 @@ pub(crate) fn group_entries(
     requires { AreOf rows.now entries.now }
     ensures rows { IfOk result (λ published. map texts_of rows.now ≡ rows_of (lists_in published.items)) }
     ensures keepable { IfOk result (λ published. AreKeepable (lists_in published.items)) }
-    ensures fault { (published : List (List Entry)) → AreKeepable published → map texts_of rows.now ≡ rows_of published
-        → IfErr result (λ fault. fault ≡ OutOfMemory) }
+    ensures fault { IfErr result (λ fault. (fault ≡ OutOfMemory)
+        ⊎ ((fault ≡ Misnumbered) × ¬ AreCounted 0 (map texts_of rows.now))) }
 {
     let mut published = Vec::new(alloc);
     let mut last = Vec::new(alloc);

@@ -3,6 +3,7 @@
 
 mod comparing;
 mod grouping;
+pub mod laws;
 mod publications;
 mod read_fault;
 mod reading;

@@ -2,9 +2,12 @@
 
 ghost use Rattle.std.specs.Prelude.{◌≡◌, ◌≤◌, List, length, map, IfOk, IfErr, OnOk};
 ghost use Rattle.session_commands.specs.declared.entry.Entry.{Entry};
+ghost use Rattle.session_state.specs.SessionState.{SessionState};
+ghost use Rattle.session_book.specs.Journal.{IsAccepted};
+ghost use Rattle.history.specs.Prefixes.{entries_of};
 ghost use Rattle.journal_store.specs.Kept.{texts_of, most_entry_rows};
-ghost use Rattle.kept_entries.specs.KeptRows.{AreKeepable, entries_in, lists_in, rows_of};
-ghost use Rattle.kept_entries.specs.RowTexts.{AreOf, AreReadable, IsReadingWant};
+ghost use Rattle.kept_entries.specs.KeptRows.{AreKeepable, lists_in, rows_of};
+ghost use Rattle.kept_entries.specs.RowTexts.{AreOf, IsReadingWant, WhyNotRead};
 
 use crate::comparing::compare_rows;
 use crate::grouping::group_entries;
@@ -17,7 +20,8 @@ use std::alloc::Global;
 use std::thread::Threads;
 
 /// The publications whose rows these are. What the solver found is found again, by so many workers beside one another,
-/// each time with so many visits. Rows of publications are refused for want of memory or visits alone.
+/// each time with so many visits. Rows of publications whose entries are an accepted journal are refused for want of
+/// memory or visits alone.
 pub fn read_publications<R: Threads + Sync>(
     rt: &R,
     alloc: Global,
@@ -30,8 +34,10 @@ pub fn read_publications<R: Threads + Sync>(
     ensures keepable { IfOk result (λ published. AreKeepable (lists_in published.items)) }
     ensures found { (published : List (List Entry)) → AreKeepable published → map texts_of rows.now ≡ rows_of published
         → IfOk result (λ found. lists_in found.items ≡ published) }
-    ensures fault { (published : List (List Entry)) → AreKeepable published → AreReadable (entries_in published)
-        → map texts_of rows.now ≡ rows_of published → length rows.now ≤ most_entry_rows → IfErr result IsReadingWant }
+    ensures fault { IfErr result (WhyNotRead rows.now) }
+    ensures accepted { (opening : SessionState) (published : List (List Entry)) → AreKeepable published
+        → IsAccepted opening (entries_of published) → map texts_of rows.now ≡ rows_of published
+        → IfErr result IsReadingWant }
 {
     if rows.len() > MOST_ROWS {
         return Err(RowFault::Misnumbered);
@@ -53,7 +59,7 @@ fn entries_of_rows<R: Threads + Sync>(
 ) -> Result<Vec<Entry>, RowFault>
     requires { length rows.now ≤ most_entry_rows }
     ensures same { IfOk result (λ entries. AreOf rows.now entries.items) }
-    ensures fault { (entries : List Entry) → AreOf rows.now entries → AreReadable entries → IfErr result IsReadingWant }
+    ensures fault { IfErr result (WhyNotRead rows.now) }
 {
     let mut read = match read_rows(alloc, rows) {
         Ok(read) => read,

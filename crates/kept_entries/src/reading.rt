@@ -1,12 +1,8 @@
 //! What the texts of rows tell.
 
-ghost use Rattle.std.specs.Prelude.{◌≡◌, ◌≤◌, ◌∷◌, ◌++◌, [], List, length, map, IfOk, IfErr, OnOk};
-ghost use Rattle.session_commands.specs.declared.entry.Entry.{Entry};
-ghost use Rattle.entry_texts.specs.EntryTexts.{IsKeepable, texts_of_entry};
-ghost use Rattle.entry_texts.specs.Kept.{IsReadable};
+ghost use Rattle.std.specs.Prelude.{◌≡◌, ◌≤◌, ◌∷◌, ◌++◌, [], length, IfOk, IfErr, OnOk};
 ghost use Rattle.journal_store.specs.Kept.{most_entry_rows};
-ghost use Rattle.kept_entries.specs.declared.read_fault.RowFault.TheVariants.{OutOfMemory};
-ghost use Rattle.kept_entries.specs.RowTexts.{AreOf, AreReadable, entry_told, told_by};
+ghost use Rattle.kept_entries.specs.RowTexts.{AreTold, IsTold, WhyNotRead, WhyRowNotRead};
 
 use crate::read_fault::RowFault;
 use entry_texts::{KeptEntry, TextFault, read_entry};
@@ -17,10 +13,8 @@ use std::alloc::{AllocError, Global};
 pub(crate) fn read_rows(alloc: Global, rows: &[RowText]) -> Result<Vec<KeptEntry>, RowFault>
     requires { length rows.now ≤ most_entry_rows }
     ensures each { IfOk result (λ read. length read.items ≡ length rows.now) }
-    ensures reads { (entries : List Entry) → AreOf rows.now entries → AreReadable entries →
-        IfOk result (λ read. map entry_told read.items ≡ entries) }
-    ensures fault { (entries : List Entry) → AreOf rows.now entries → AreReadable entries →
-        IfErr result (λ fault. fault ≡ OutOfMemory) }
+    ensures told { IfOk result (λ read. AreTold rows.now read.items) }
+    ensures fault { IfErr result (WhyNotRead rows.now) }
 {
     let mut read = Vec::new(alloc);
     'rows: for place in 0..rows.len() {
@@ -37,10 +31,8 @@ pub(crate) fn read_rows(alloc: Global, rows: &[RowText]) -> Result<Vec<KeptEntry
 
 // What the texts of the row of a number tell.
 fn read_row(alloc: Global, row: &RowText, number: u32) -> Result<KeptEntry, RowFault>
-    ensures reads { (entry : Entry) → IsKeepable entry → IsReadable entry.actor entry.command →
-        told_by row.now ≡ texts_of_entry entry → IfOk result (λ read. entry_told read ≡ entry) }
-    ensures fault { (entry : Entry) → IsKeepable entry → IsReadable entry.actor entry.command →
-        told_by row.now ≡ texts_of_entry entry → IfErr result (λ fault. fault ≡ OutOfMemory) }
+    ensures told { IfOk result (IsTold row.now) }
+    ensures fault { IfErr result (WhyRowNotRead row.now number) }
 {
     match read_entry(alloc, row.actor.as_str(), row.command.as_str()) {
         Ok(read) => Ok(read),

@@ -1,7 +1,6 @@
-//! What the solver found is found again: a row tells a deal, or a play, and never its numbers.
+//! The solver's numbers are found again: a row tells a deal, or a play, and never its numbers.
 
 ghost use Rattle.std.specs.Prelude.{◌≡◌, ◌<◌, length, map, All, IfOk, IfSome};
-ghost use Rattle.session_commands.specs.declared.actor.Actor.TheVariants.{Solver};
 ghost use Rattle.session_commands.specs.declared.command.Command.TheVariants as command;
 ghost use Rattle.kept_entries.specs.RowTexts.{IsToldAt, entry_told};
 
@@ -15,14 +14,14 @@ use std::alloc::{AllocError, Global};
 use std::sync::atomic::{AtomicU64, Ordering};
 use std::thread::{self, Threads};
 
-/// An entry of the solver's, and the place of its row.
+/// An entry with the solver's numbers, and the place of its row.
 #[derive(Clone, Copy)]
 pub(crate) struct SolvedAt {
     pub(crate) place: usize,
     pub(crate) entry: Entry,
 }
 
-/// Puts the solver's entries in the place of what tells them, where they are found: so many workers beside one another
+/// Puts entries with the solver's numbers in the place of what tells them, where they are found: so many workers beside one another
 /// take one after another, each with so many visits.
 pub(crate) fn solve_all<R: Threads + Sync>(
     rt: &R,
@@ -103,7 +102,7 @@ fn put(read: &mut [KeptEntry], one: &SolvedAt)
     read[one.place] = KeptEntry::Given(one.entry);
 }
 
-// The solver's entry of a place, if it is one of the solver's and is found within the budget.
+// The entry of a place, if it has numbers of the solver's and these are found within the budget.
 fn solve_at(alloc: Global, read: &[KeptEntry], place: usize, budget: u64) -> Option<SolvedAt>
     requires { place < length read.now }
     ensures { IfSome result (IsToldAt read.now) }
@@ -112,36 +111,38 @@ fn solve_at(alloc: Global, read: &[KeptEntry], place: usize, budget: u64) -> Opt
     Some(SolvedAt { place, entry })
 }
 
-// The solver's entry, if it is one of the solver's and is found within the budget.
+// The entry, if it has numbers of the solver's and these are found within the budget.
 fn solve(alloc: Global, read: &KeptEntry, budget: u64) -> Option<Entry>
     ensures { IfSome result (λ entry. entry_told read.now ≡ entry) }
 {
     match *read {
         KeptEntry::Given(_) => None,
-        KeptEntry::Solved { board, deal } => solve_table(alloc, board, deal, budget),
+        KeptEntry::Solved { actor, board, deal } => solve_table(alloc, actor, board, deal, budget),
         KeptEntry::Analysed {
+            actor,
             cell,
             deal,
             contract,
             play,
-        } => solve_costs(alloc, cell, deal, contract, &play, budget),
+        } => solve_costs(alloc, actor, cell, deal, contract, &play, budget),
     }
 }
 
-fn solve_table(alloc: Global, board: u8, deal: Deal, budget: u64) -> Option<Entry>
-    ensures { IfSome result (λ entry. record { actor = Solver; command = command.Solved board deal } ≡ entry) }
+fn solve_table(alloc: Global, actor: Actor, board: u8, deal: Deal, budget: u64) -> Option<Entry>
+    ensures { IfSome result (λ entry. record { actor = actor; command = command.Solved board deal } ≡ entry) }
 {
     let Ok(table) = table(alloc, deal, &mut Budget::new(budget)) else {
         return None;
     };
     Some(Entry {
-        actor: Actor::Solver,
+        actor,
         command: Command::Solved { board, table },
     })
 }
 
 fn solve_costs(
     alloc: Global,
+    actor: Actor,
     cell: Cell,
     deal: Deal,
     contract: Contract,
@@ -149,7 +150,7 @@ fn solve_costs(
     budget: u64,
 ) -> Option<Entry>
     ensures { IfSome result (λ entry. record {
-      actor = Solver;
+      actor = actor;
       command = command.Analysed cell (record { deal = deal; contract = contract; play = play.now });
     } ≡ entry) }
 {
@@ -157,7 +158,7 @@ fn solve_costs(
         return None;
     };
     Some(Entry {
-        actor: Actor::Solver,
+        actor,
         command: Command::Analysed { cell, costs },
     })
 }

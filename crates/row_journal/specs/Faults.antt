@@ -1,8 +1,16 @@
--- own: why a journal isn't opened.
+-- own: why a journal isn't opened: for each fault what it says of the file, or of its rows. Want of memory, a disk that
+-- fails and another program at the file say nothing of either.
+use Rattle.std.specs.Prelude.{Bool, true, false, ⊤, List}
+use Rattle.sqlite.specs.Order.{Row}
+use Rattle.sqlite.specs.Recovery.{Image}
+use Rattle.journal_store.specs.declared.row_text.RowText.{RowText}
+use Rattle.journal_store.specs.Restart.{IsRefusedAt}
+use Rattle.journal_store.specs.Taken.{RefusesJournal, RefusesToRead}
 use Rattle.journal_store.specs.declared.take_fault.TakeFault.{TakeFault}
 use Rattle.journal_store.specs.declared.take_fault.TakeFault.TheVariants as file
 use Rattle.kept_entries.specs.declared.read_fault.RowFault.{RowFault}
 use Rattle.kept_entries.specs.declared.read_fault.RowFault.TheVariants as rows
+use Rattle.kept_entries.specs.RowTexts.{WhyNotRead}
 use Rattle.row_journal.specs.declared.journal_fault.JournalFault.{JournalFault}
 use Rattle.row_journal.specs.declared.journal_fault.JournalFault.TheVariants.{OutOfMemory, Busy, Damaged, Unread, NotAJournal, OtherSession, Misnumbered, Unreadable, Unsolved}
 
@@ -34,3 +42,51 @@ IsOpeningWant OtherSession = ⊥
 IsOpeningWant Misnumbered = ⊥
 IsOpeningWant (Unreadable number) = ⊥
 IsOpeningWant (Unsolved number) = Unit {0}
+
+-- whether it may come of want of memory, of the disk or of another program at the file
+abbrev pub is_file_failure : JournalFault → Bool
+is_file_failure OutOfMemory = true
+is_file_failure Busy = true
+is_file_failure Damaged = true
+is_file_failure Unread = true
+is_file_failure NotAJournal = false
+is_file_failure OtherSession = false
+is_file_failure Misnumbered = false
+is_file_failure (Unreadable number) = false
+is_file_failure (Unsolved number) = false
+
+-- why the files are not opened as the journal of a session, by the database that they held
+abbrev pub WhyNotTaken : Image → List Row → JournalFault → Type 0
+WhyNotTaken image session OutOfMemory = ⊤
+WhyNotTaken image session Busy = ⊤
+WhyNotTaken image session Damaged = ⊤
+WhyNotTaken image session Unread = ⊤
+WhyNotTaken image session NotAJournal = IsRefusedAt image (λ db. RefusesJournal session db file.NotAJournal)
+WhyNotTaken image session OtherSession = IsRefusedAt image (λ db. RefusesJournal session db file.OtherSession)
+WhyNotTaken image session Misnumbered = IsRefusedAt image (λ db. RefusesJournal session db file.Misnumbered)
+WhyNotTaken image session (Unreadable number) = ⊥
+WhyNotTaken image session (Unsolved number) = ⊥
+
+-- the same, where the journal of any session is opened
+abbrev pub WhyNotKept : Image → JournalFault → Type 0
+WhyNotKept image OutOfMemory = ⊤
+WhyNotKept image Busy = ⊤
+WhyNotKept image Damaged = ⊤
+WhyNotKept image Unread = ⊤
+WhyNotKept image NotAJournal = IsRefusedAt image (λ db. RefusesToRead db file.NotAJournal)
+WhyNotKept image OtherSession = ⊥
+WhyNotKept image Misnumbered = IsRefusedAt image (λ db. RefusesToRead db file.Misnumbered)
+WhyNotKept image (Unreadable number) = ⊥
+WhyNotKept image (Unsolved number) = ⊥
+
+-- why the rows of a journal that is open are not read
+abbrev pub WhyRowsNotRead : List RowText → JournalFault → Type 0
+WhyRowsNotRead found OutOfMemory = ⊤
+WhyRowsNotRead found Busy = ⊥
+WhyRowsNotRead found Damaged = ⊥
+WhyRowsNotRead found Unread = ⊥
+WhyRowsNotRead found NotAJournal = ⊥
+WhyRowsNotRead found OtherSession = ⊥
+WhyRowsNotRead found Misnumbered = WhyNotRead found rows.Misnumbered
+WhyRowsNotRead found (Unreadable number) = WhyNotRead found (rows.Unreadable number)
+WhyRowsNotRead found (Unsolved number) = WhyNotRead found (rows.Unsolved number)

@@ -8,9 +8,13 @@ use Rattle.sqlite.specs.State.{State}
 use Rattle.sqlite.specs.Held.{Held, held_code}
 use Rattle.sqlite.specs.Files.{HoldsDatabase}
 use Rattle.session_commands.specs.declared.entry.Entry.{Entry}
+use Rattle.session_state.specs.SessionState.{SessionState}
+use Rattle.session_book.specs.Journal.{IsAccepted}
+use Rattle.history.specs.Prefixes.{entries_of}
 use Rattle.journal_store.specs.declared.row_text.RowText.{RowText}
 use Rattle.journal_store.specs.contracts.row_text.RowText as the_row_text
 use Rattle.journal_store.specs.Kept.{AreKept, Rests}
+use Rattle.journal_store.specs.Restart.{HoldsRows}
 use Rattle.kept_entries.specs.KeptRows.{AreKeepable, rows_of}
 
 -- a journal: its database, the number of its next row, how many publications it has, and whether it takes no more
@@ -54,6 +58,21 @@ abbrev pub HoldsPublications : Image → (List (List Entry) → Type 0) → Type
 HoldsPublications left Found =
     ∥ ((db : Trees) × (session : List Row) × (published : List (List Entry))
     × HoldsDatabase left db × KeepsPublications session published db × Found published) ∥₁
+
+-- whatever publications a crash leaves, the session accepts their entries
+abbrev pub LeavesAccepted : SessionState → State → Type 0
+LeavesAccepted opening s =
+    (found : List (List Entry)) → LeavesPublications s found → IsAccepted opening (entries_of found)
+
+-- what a start finds in an image: the rows of publications whose entries the session accepts, and that the store said a
+-- crash leaves
+pub record IsFoundNext (opening : SessionState) (left : Image) (Found : List (List Entry) → Type 0) : Type 0 where
+  pub session : List Row
+  pub published : List (List Entry)
+  pub holds : HoldsRows left session (rows_of published)
+  pub keepable : AreKeepable published
+  pub accepted : IsAccepted opening (entries_of published)
+  pub found : Found published
 
 -- ---- how these are stored
 

@@ -1,15 +1,18 @@
 //! A journal whose file is open, and whose rows are to be read.
 
-ghost use Rattle.std.specs.Prelude.{◌≡◌, ◌≤◌, List, length, map, false, IfOk, IfErr};
+ghost use Rattle.std.specs.Prelude.{◌≡◌, ◌≢◌, List, map, false, IfOk, IfErr};
 ghost use Rattle.sqlite.specs.Order.{Row};
 ghost use Rattle.sqlite.specs.State.{HasCleanDisk};
 ghost use Rattle.sqlite.specs.Held.{state};
 ghost use Rattle.session_commands.specs.declared.entry.Entry.{Entry};
-ghost use Rattle.journal_store.specs.Kept.{texts_of, most_entry_rows, Rests};
-ghost use Rattle.kept_entries.specs.KeptRows.{AreKeepable, entries_in, lists_in, rows_of};
-ghost use Rattle.kept_entries.specs.RowTexts.{AreReadable};
+ghost use Rattle.session_state.specs.SessionState.{SessionState};
+ghost use Rattle.session_book.specs.Journal.{IsAccepted};
+ghost use Rattle.history.specs.Prefixes.{entries_of};
+ghost use Rattle.journal_store.specs.Kept.{texts_of, Rests};
+ghost use Rattle.kept_entries.specs.KeptRows.{AreKeepable, lists_in, rows_of};
 ghost use Rattle.row_journal.specs.Leaving.{LeavesPublications};
-ghost use Rattle.row_journal.specs.Faults.{IsOpeningWant};
+ghost use Rattle.row_journal.specs.declared.journal_fault.JournalFault.TheVariants.{Misnumbered};
+ghost use Rattle.row_journal.specs.Faults.{IsOpeningWant, WhyRowsNotRead};
 
 use crate::journal_fault::{JournalFault, fault_of_rows};
 use crate::row_journal::RowJournal;
@@ -68,7 +71,8 @@ impl<S: Alter> FoundJournal<S> {
 
 impl<S: Alter + Drop> FoundJournal<S> {
     /// Reads the publications. What the solver found is found again, by so many workers beside one another, each time
-    /// with so many visits. No row is changed. Rows of publications are refused for want of memory or visits alone.
+    /// with so many visits. No row is changed. Rows of publications whose entries are an accepted journal are refused for
+    /// want of memory or visits alone.
     pub fn read<R: Threads + Sync>(
         self,
         rt: &R,
@@ -81,8 +85,11 @@ impl<S: Alter + Drop> FoundJournal<S> {
         ensures keepable { IfOk result (λ o. AreKeepable (lists_in o.publications.items)) }
         ensures leaves { IfOk result (λ o. HasCleanDisk (state S.Store self.conn) → (found : List (List Entry))
             → LeavesPublications (state S.Store self.conn) found → found ≡ lists_in o.publications.items) }
-        ensures fault { (published : List (List Entry)) → AreKeepable published → AreReadable (entries_in published)
-            → map texts_of self.rows ≡ rows_of published → length self.rows ≤ most_entry_rows → IfErr result IsOpeningWant }
+        ensures fault { IfErr result (WhyRowsNotRead self.rows) }
+        ensures numbered { IfErr result (λ fault. HasCleanDisk (state S.Store self.conn) → fault ≢ Misnumbered) }
+        ensures accepted { (opening : SessionState) (published : List (List Entry)) → AreKeepable published
+            → IsAccepted opening (entries_of published) → map texts_of self.rows ≡ rows_of published
+            → IfErr result IsOpeningWant }
     {
         let FoundJournal { conn, rows } = self;
         let publications = match read_publications(rt, alloc, rows.as_slice(), budget, workers) {

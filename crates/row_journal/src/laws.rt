@@ -1,6 +1,6 @@
 //! What holds over a crash and the start after it.
 
-ghost use Rattle.std.specs.Prelude.{List};
+ghost use Rattle.std.specs.Prelude.{◌≡◌, true, List, map};
 ghost use Rattle.sqlite.specs.Order.{Row};
 ghost use Rattle.sqlite.specs.View.{IsClean};
 ghost use Rattle.sqlite.specs.Recovery.{Image};
@@ -8,9 +8,17 @@ ghost use Rattle.sqlite.specs.Files.{file_state};
 ghost use Rattle.sqlite.specs.Held.{state};
 ghost use Rattle.sqlite.specs.FileStore.{state as files_state, view};
 ghost use Rattle.session_commands.specs.declared.entry.Entry.{Entry};
-ghost use Rattle.journal_store.specs.Restart.{AreFound};
+ghost use Rattle.session_state.specs.SessionState.{SessionState};
+ghost use Rattle.session_book.specs.Journal.{IsAccepted};
+ghost use Rattle.history.specs.Prefixes.{entries_of};
+ghost use Rattle.journal_store.specs.declared.row_text.RowText.{RowText};
+ghost use Rattle.journal_store.specs.Tables.{RowBytes};
+ghost use Rattle.journal_store.specs.Kept.{texts_of};
+ghost use Rattle.journal_store.specs.Restart.{AreFound, HoldsRows};
 ghost use Rattle.kept_entries.specs.KeptRows.{AreKeepable, rows_of};
-ghost use Rattle.row_journal.specs.Leaving.{HoldsPublications, LeavesPublications};
+ghost use Rattle.row_journal.specs.declared.journal_fault.JournalFault.{JournalFault as Fault};
+ghost use Rattle.row_journal.specs.Faults.{IsOpeningWant, WhyNotTaken, WhyRowsNotRead, is_file_failure};
+ghost use Rattle.row_journal.specs.Leaving.{HoldsPublications, IsFoundNext, LeavesAccepted, LeavesPublications};
 
 use crate::row_journal::RowJournal;
 use sqlite::{Alter, FileStore};
@@ -35,3 +43,23 @@ pub fn the_next_start_finds_what_a_crash_leaves<S: Alter>(journal: &RowJournal<S
 {
     let _journal = journal;
 }
+
+/// Where the session accepts whatever publications a crash leaves, an image that it leaves has the rows of such
+/// publications: what the next start opens, reads and enters again.
+pub fn what_a_crash_leaves_is_accepted<S: Alter>(journal: &RowJournal<S>)
+    ensures { (opening : SessionState) (left : Image) → LeavesAccepted opening (state S.Store journal.now.conn)
+        → HoldsPublications left (LeavesPublications (state S.Store journal.now.conn))
+        → ∥ IsFoundNext opening left (LeavesPublications (state S.Store journal.now.conn)) ∥₁ }
+{
+    let _journal = journal;
+}
+
+/// No start refuses such an image, but for memory, the disk or another program at the file; and none refuses the rows that
+/// it found there, but for memory or visits.
+pub fn no_start_refuses_what_a_crash_leaves()
+    ensures opened { (left : Image) (session : List Row) (rows : List RowBytes) (fault : Fault)
+        → HoldsRows left session rows → WhyNotTaken left session fault → is_file_failure fault ≡ true }
+    ensures read { (opening : SessionState) (found : List RowText) (published : List (List Entry)) (fault : Fault)
+        → AreKeepable published → IsAccepted opening (entries_of published) → map texts_of found ≡ rows_of published
+        → WhyRowsNotRead found fault → IsOpeningWant fault }
+{}

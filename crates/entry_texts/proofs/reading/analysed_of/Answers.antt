@@ -5,7 +5,7 @@ use Rattle.entry_texts.proofs.reading.analysed_of.Goals as goal
 
 pub returns-in-Ok-clause-analysed : goal.returns-in-Ok-clause-analysed
 returns-in-Ok-clause-analysed c cell played is same =
-    analysed_told cell played (view c.args.value.now) c.in-Ok.play c.played_of.result is.3 same c.in-Ok.ensures
+    analysed_told c.args.actor cell played (view c.args.value.now) c.in-Ok.play c.played_of.result is.3 same c.in-Ok.ensures
     (c.played_of.ensures.analysed cell played is same)
 
 pub returns-in-Err-clause-analysed : goal.returns-in-Err-clause-analysed

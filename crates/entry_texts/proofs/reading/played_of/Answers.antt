@@ -12,4 +12,4 @@ returns-in-Some-Some-clause-analysed c cell played is same =
     (sym c.in-Some-Some.is-0 ∙ c.deal_of.ensures played.deal is.1 (ap (text_at (codes "deal")) same)) in
     let contracts = same_Some _ _
     (sym c.in-Some-Some.is-1 ∙ c.contract_at.ensures played.contract is.2 (ap (get (codes "contract")) same)) in
-    λ i. Ok (Analysed (cells i) (deals i) (contracts i) c.args.play)
+    λ i. Ok (Analysed c.args.actor (cells i) (deals i) (contracts i) c.args.play)

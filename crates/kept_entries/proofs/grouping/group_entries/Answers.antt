@@ -1,10 +1,9 @@
-use Rattle.std.proofs.Common.{◌≡◌, ◌<◌, ◌+◌, [], ◌∷◌, ◌++◌, length, map, rules, sym, ap, subst, ◌∙◌, arith}
+use Rattle.std.proofs.Common.{inr, refl, ◌≡◌, ◌<◌, ◌+◌, [], ◌∷◌, ◌++◌, length, map, rules, sym, ap, subst, ◌∙◌, arith}
 use Rattle.std.proofs.lemmas.List.{length-map, map-append}
 use Rattle.std.proofs.lemmas.Bool.Decides.{nat_tests}
-use Rattle.std.proofs.lemmas.List.Elements.{recursion_from_All}
 use Rattle.journal_store.specs.Kept.{texts_of}
 use Rattle.kept_entries.specs.Grouping.{BeginsNext}
-use Rattle.kept_entries.specs.KeptRows.{IsKeptPublication, lists_in, AreKeepable}
+use Rattle.kept_entries.specs.KeptRows.{lists_in, AreKeepable}
 use Rattle.kept_entries.proofs.ReadLemmas.{RowAt, row_at, row_here}
 use Rattle.kept_entries.proofs.GroupLemmas.{grouped_none, grouped_begun, grouped_entered, grouped_last, in_turn_none, in_turn_begun, in_turn_entered}
 use Rattle.kept_entries.proofs.grouping.group_entries.Goals as goal
@@ -13,26 +12,29 @@ pub rows-init : goal.rows-init
 rows-init c =
     rw (c.new-published.ensures.items, c.new-last.ensures.items) (
       grouped_none (map texts_of c.args.rows.now),
-      λ published kept same. in_turn_none (map texts_of c.args.rows.now) published kept same,
+      λ counted. in_turn_none (map texts_of c.args.rows.now) counted,
     )
 
 pub returns-then-number-len-clause-fault : goal.returns-then-number-len-clause-fault
-returns-then-number-len-clause-fault c = λ published kept same.
-    let texts = map texts_of c.args.rows.now in
-    let before = lists_in c.rows.published.items in
-    let new = lists_in c.begin_publication.new.published.items in
-    let row = c.index-rows-place.result in
-    let begins : BeginsNext row.publication before c.rows.last.items new c.begin_publication.new.last.items = rw
-    (← c.index-rows-place.is) at c.in-Ok.ensures in
-    let low : c.rows.place < length texts = rw (length-map c.args.rows.now texts_of) c.rows-test.true in
-    let at = row_here c.args.rows.now c.rows.place row c.rows-test.true c.index-rows-place.is in
-    let turn = c.rows.invariant.1 published (recursion_from_All IsKeptPublication published kept) same in
-    let count : length new ≡ length c.begin_publication.new.published.items = length-map
-    c.begin_publication.new.published.items _ in
-    let number : row.publication ≡ length new + 1 = in_turn_begun texts c.rows.place before c.rows.last.items new
-    c.begin_publication.new.last.items (texts_of row) turn low at begins in
-    let other : row.publication ≡ c.len.result + 1 → ⊥ = rw (← c.index-rows-place.is) at c.if-number-len.true in
-    absurd (other (omega (arith, number, count)))
+returns-then-number-len-clause-fault c = inr (
+  refl,
+  λ counted.
+      let texts = map texts_of c.args.rows.now in
+      let before = lists_in c.rows.published.items in
+      let new = lists_in c.begin_publication.new.published.items in
+      let row = c.index-rows-place.result in
+      let begins : BeginsNext row.publication before c.rows.last.items new c.begin_publication.new.last.items = rw
+      (← c.index-rows-place.is) at c.in-Ok.ensures in
+      let low : c.rows.place < length texts = rw (length-map c.args.rows.now texts_of) c.rows-test.true in
+      let at = row_here c.args.rows.now c.rows.place row c.rows-test.true c.index-rows-place.is in
+      let turn = c.rows.invariant.1 counted in
+      let count : length new ≡ length c.begin_publication.new.published.items = length-map
+      c.begin_publication.new.published.items _ in
+      let number : row.publication ≡ length new + 1 = in_turn_begun texts c.rows.place before c.rows.last.items new
+      c.begin_publication.new.last.items (texts_of row) turn low at begins in
+      let other : row.publication ≡ c.len.result + 1 → ⊥ = rw (← c.index-rows-place.is) at c.if-number-len.true in
+      other (omega (arith, number, count)),
+)
 
 pub rows-preserved : goal.rows-preserved
 rows-preserved c =
@@ -54,8 +56,8 @@ rows-preserved c =
     begins in
     rw c.in-Ok-push.ensures.items (
       grouped_entered texts c.rows.place new rest (texts_of row) entry begun it.within it.at number it.keepable it.is,
-      λ published kept same. in_turn_entered texts c.rows.place before c.rows.last.items new rest (texts_of row) entry
-          (c.rows.invariant.1 published kept same) it.within it.at number,
+      λ counted. in_turn_entered texts c.rows.place before c.rows.last.items new rest (texts_of row) entry
+          (c.rows.invariant.1 counted) it.within it.at number,
     )
 
 pub returns-clause-rows : goal.returns-clause-rows

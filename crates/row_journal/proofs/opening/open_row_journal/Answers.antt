@@ -1,4 +1,4 @@
-use Rattle.std.proofs.Common.{[], ◌∷◌, map, sym, subst}
+use Rattle.std.proofs.Common.{◌≡◌, [], ◌∷◌, map, sym, subst}
 use Rattle.sqlite.specs.State.{HasCleanDisk}
 use Rattle.sqlite.specs.Files.{file_state}
 use Rattle.sqlite.specs.WalFiles.{image_at}
@@ -6,6 +6,7 @@ use Rattle.journal_store.specs.Tables.{session_row}
 use Rattle.journal_store.specs.Kept.{texts_of}
 use Rattle.journal_store.specs.Restart.{IsTakenUp}
 use Rattle.row_journal.specs.Leaving.{FoundRows}
+use Rattle.row_journal.proofs.FaultLemmas.{either_way, failure_same, taken_why}
 use Rattle.row_journal.proofs.opening.open_row_journal.Goals as goal
 
 pub new-requires-clause-rests : goal.new-requires-clause-rests
@@ -14,9 +15,24 @@ new-requires-clause-rests g c = λ clean. (
   (c.in-Ok.ensures.opens clean).rests,
 )
 
-pub returns-in-Ok : goal.returns-in-Ok
-returns-in-Ok g c =
+pub returns-in-Ok-clause-opens : goal.returns-in-Ok-clause-opens
+returns-in-Ok-clause-opens g c =
     subst (λ (f : FoundRows _). HasCleanDisk (file_state f.conn)
     → IsTakenUp (image_at g.S.Start) (session_row c.args.object.now c.args.boards.now ∷ []) (map texts_of f.rows)
     (file_state f.conn))
     (sym c.new.ensures) c.in-Ok.ensures.opens
+
+pub returns-in-Ok-clause-again : goal.returns-in-Ok-clause-again
+returns-in-Ok-clause-again g c = λ rows holds.
+    subst (λ (f : FoundRows _). HasCleanDisk (file_state f.conn) → map texts_of f.rows ≡ rows) (sym c.new.ensures)
+    (c.in-Ok.ensures.again rows holds)
+
+pub returns-in-Err-clause-refuses : goal.returns-in-Err-clause-refuses
+returns-in-Err-clause-refuses g c =
+    rw c.fault_of_file.ensures (either_way c.in-Err.left (failure_same c.in-Err.fault)
+    (λ left why clean. taken_why _ _ c.in-Err.fault (why clean)) c.in-Err.ensures.refuses)
+
+pub returns-in-Err-clause-again : goal.returns-in-Err-clause-again
+returns-in-Err-clause-again g c = λ rows holds.
+    rw c.fault_of_file.ensures (either_way c.in-Err.left (failure_same c.in-Err.fault)
+    (λ left is clean. failure_same c.in-Err.fault (is clean)) (c.in-Err.ensures.again rows holds))

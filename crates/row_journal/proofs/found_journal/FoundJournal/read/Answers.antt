@@ -1,4 +1,4 @@
-use Rattle.std.proofs.Common.{◌≡◌, List, length, map, sym, ap, subst, ◌∙◌, arith}
+use Rattle.std.proofs.Common.{◌≡◌, ◌≢◌, List, length, map, sym, ap, subst, ◌∙◌, arith}
 use Rattle.std.proofs.lemmas.List.{length-map}
 use Rattle.sqlite.specs.State.{HasCleanDisk}
 use Rattle.sqlite.specs.Held.{state}
@@ -6,6 +6,10 @@ use Rattle.session_commands.specs.declared.entry.Entry.{Entry}
 use Rattle.journal_store.specs.Kept.{texts_of, Rests}
 use Rattle.kept_entries.specs.KeptRows.{lists_in, rows_of}
 use Rattle.row_journal.specs.Leaving.{FoundRows, LeavesPublications}
+use Rattle.kept_entries.specs.RowTexts.{WhyNotRead}
+use Rattle.row_journal.specs.declared.journal_fault.JournalFault.TheVariants.{Misnumbered}
+use Rattle.row_journal.specs.Faults.{IsOpeningWant, WhyRowsNotRead}
+use Rattle.row_journal.proofs.FaultLemmas.{rows_why, rows_want, entries_numbered}
 use Rattle.row_journal.proofs.KeepLemmas.{few_of, leaves_rest}
 use Rattle.row_journal.proofs.found_journal.FoundJournal.read.Goals as goal
 
@@ -55,3 +59,27 @@ returns-clause-leaves g c =
     let it = c.self.invariant.1 clean in
     leaves_rest it.0 published (state g.S.Store c.self.inside.conn) c.in-Ok.ensures.keepable
     (subst (λ l. Rests it.0 l (state g.S.Store c.self.inside.conn)) rows it.1) found left)
+
+pub returns-in-Err-clause-fault : goal.returns-in-Err-clause-fault
+returns-in-Err-clause-fault g c =
+    let why : WhyNotRead c.self.inside.rows.items c.in-Err.fault = subst (λ l. WhyNotRead l c.in-Err.fault)
+    c.as_slice.ensures.value c.in-Err.ensures.fault in
+    subst (λ (j : FoundRows _). WhyRowsNotRead j.rows c.fault_of_rows.result) c.self.view_is
+    (subst (WhyRowsNotRead c.self.inside.rows.items) (sym c.fault_of_rows.ensures)
+    (rows_why c.self.inside.rows.items c.in-Err.fault why))
+
+pub returns-in-Err-clause-numbered : goal.returns-in-Err-clause-numbered
+returns-in-Err-clause-numbered g c =
+    let why : WhyNotRead c.self.inside.rows.items c.in-Err.fault = subst (λ l. WhyNotRead l c.in-Err.fault)
+    c.as_slice.ensures.value c.in-Err.ensures.fault in
+    subst (λ (j : FoundRows _). HasCleanDisk (state g.S.Store j.conn) → c.fault_of_rows.result ≢ Misnumbered)
+    c.self.view_is
+    (λ clean. subst (λ f. f ≢ Misnumbered) (sym c.fault_of_rows.ensures)
+    (entries_numbered c.self.inside.rows.items c.in-Err.fault (c.self.invariant.1 clean).1.now.kept.are_entries why))
+
+pub returns-in-Err-clause-accepted : goal.returns-in-Err-clause-accepted
+returns-in-Err-clause-accepted g c = λ opening published keepable accepted same.
+    let inside : map texts_of c.self.inside.rows.items ≡ rows_of published = subst
+    (λ (j : FoundRows _). map texts_of j.rows ≡ rows_of published) (sym c.self.view_is) same in
+    subst IsOpeningWant (sym c.fault_of_rows.ensures) (rows_want c.in-Err.fault
+    (c.in-Err.ensures.accepted opening published keepable accepted (ap (map texts_of) c.as_slice.ensures.value ∙ inside)))
