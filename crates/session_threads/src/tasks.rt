@@ -87,7 +87,7 @@ pub(crate) struct Collect<'a, N: Server, K: EntryStore> {
 impl<'a, N: Server, K: EntryStore> Task for Collect<'a, N, K> {
     fn run<R: Wait + Clock>(self, rt: &R) {
         let Collect {
-            desk,
+            mut desk,
             pool,
             results,
         } = self;
@@ -96,14 +96,14 @@ impl<'a, N: Server, K: EntryStore> Task for Collect<'a, N, K> {
                 break;
             };
             if is_collected(rt, pool, &done) {
-                enter(rt, &desk, &done);
+                enter(rt, &mut desk, &done);
             }
         }
     }
 }
 
 // Enters what was found of a job, if anything was.
-fn enter<N: Server, K: EntryStore, R: Wait>(rt: &R, desk: &Desk<'_, N, K>, done: &Done) {
+fn enter<N: Server, K: EntryStore, R: Wait>(rt: &R, desk: &mut Desk<'_, N, K>, done: &Done) {
     match done.found() {
         Found::Table(table) => enter_table(rt, desk, done.job().work, *table),
         Found::Costs(costs) => enter_costs(rt, desk, done.job().work, *costs),
@@ -113,7 +113,7 @@ fn enter<N: Server, K: EntryStore, R: Wait>(rt: &R, desk: &Desk<'_, N, K>, done:
 
 fn enter_table<N: Server, K: EntryStore, R: Wait>(
     rt: &R,
-    desk: &Desk<'_, N, K>,
+    desk: &mut Desk<'_, N, K>,
     work: Work,
     table: DdTable,
 ) {
@@ -124,7 +124,7 @@ fn enter_table<N: Server, K: EntryStore, R: Wait>(
 
 fn enter_costs<N: Server, K: EntryStore, R: Wait>(
     rt: &R,
-    desk: &Desk<'_, N, K>,
+    desk: &mut Desk<'_, N, K>,
     work: Work,
     costs: PlayCosts,
 ) {
