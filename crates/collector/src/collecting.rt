@@ -5,6 +5,8 @@ ghost use Rattle.session_commands.specs.declared.command.Command.{Command};
 ghost use Rattle.session_commands.specs.declared.entry.Entry.{Entry};
 ghost use Rattle.solver_pool.specs.declared.found.Found.TheVariants as found;
 ghost use Rattle.desks.specs.Batch.{IsEntered};
+ghost use Rattle.session_keeper.specs.Keeping.{EntersJust};
+ghost use Rattle.history.specs.Prefixes.{entries_of};
 ghost use Rattle.collector.specs.Collecting.{after_result, entered_of, telling_command};
 
 use desks::Desk;
@@ -27,7 +29,8 @@ pub fn collect<N: Server, K: EntryStore, R: Wait>(
     ensures none { IfNone result (entered_of pool.old done.now ≡ None) }
     ensures same { IfNone result (desk.new ≡ desk.old) }
     ensures entered { IfSome result (λ t. (command : Command) × (entered_of pool.old done.now ≡ Some command)
-        × (before : List Entry) × IsEntered N.opening before command t.0 t.1) }
+        × (before : List Entry) × IsEntered N.opening before command t.0 t.1
+            × EntersJust desk.old before desk.new (entries_of t.1.published)) }
 {
     match pool.collect(done) {
         Ok(()) => enter(rt, desk, done),
@@ -46,7 +49,8 @@ fn enter<N: Server, K: EntryStore, R: Wait>(
     ensures same { IfNone result (desk.new ≡ desk.old) }
     ensures entered { IfSome result (λ t. (command : Command)
         × (telling_command done.now.job.work done.now.found ≡ Some command)
-        × (before : List Entry) × IsEntered N.opening before command t.0 t.1) }
+        × (before : List Entry) × IsEntered N.opening before command t.0 t.1
+            × EntersJust desk.old before desk.new (entries_of t.1.published)) }
 {
     match done.found() {
         Found::Table(table) => enter_table(rt, desk, done.job().work, *table),
@@ -66,7 +70,8 @@ fn enter_table<N: Server, K: EntryStore, R: Wait>(
     ensures same { IfNone result (desk.new ≡ desk.old) }
     ensures entered { IfSome result (λ t. (command : Command)
         × (telling_command work (found.Table table) ≡ Some command)
-        × (before : List Entry) × IsEntered N.opening before command t.0 t.1) }
+        × (before : List Entry) × IsEntered N.opening before command t.0 t.1
+            × EntersJust desk.old before desk.new (entries_of t.1.published)) }
 {
     match work {
         Work::Table { board, .. } => Some(desk.submit_solved(rt, board, table)),
@@ -85,7 +90,8 @@ fn enter_costs<N: Server, K: EntryStore, R: Wait>(
     ensures same { IfNone result (desk.new ≡ desk.old) }
     ensures entered { IfSome result (λ t. (command : Command)
         × (telling_command work (found.Costs costs) ≡ Some command)
-        × (before : List Entry) × IsEntered N.opening before command t.0 t.1) }
+        × (before : List Entry) × IsEntered N.opening before command t.0 t.1
+            × EntersJust desk.old before desk.new (entries_of t.1.published)) }
 {
     match work {
         Work::Costs { cell, .. } => Some(desk.submit_analysed(rt, cell, costs)),

@@ -25,13 +25,22 @@ receipt_after before published =
     receipted (first_number (length before) (length (entries_of published)))
     (last_number (length before) (length (entries_of published))) published
 
+-- behind publications with the entries of a journal these entries, where there are any, are one publication
+pub record ArePublishedOnce (before more : List Entry) (published : List (List Entry)) : Type 0 where
+  pub earlier : List (List Entry)
+  pub behind : entries_of earlier ≡ before
+  pub once : published ≡ with_publication earlier more
+
 -- a user's batch was run after a journal, whole or up to a command for which memory was refused, with these answers;
--- its accepted entries stand behind that journal in what was published then, and the receipt tells their numbers
+-- its accepted entries stand behind that journal in what was published then, as one publication, and the receipt tells
+-- their numbers
 pub record IsSubmitted (opening : SessionState) (before : List Entry) (actor : List ℕ) (batch : List Command)
     (answers : List Answer) (receipt : Receipted) : Type 0 where
   pub stopped : Bool
   pub ran :
       Runs stopped opening before actor batch (record { journal = entries_of receipt.published; answers = answers })
+  pub more : List Entry
+  pub once : ArePublishedOnce before more receipt.published
   pub published : IsPublished opening receipt.published
   pub told : receipt ≡ receipt_after before receipt.published
 
@@ -40,6 +49,8 @@ pub record IsEntered (opening : SessionState) (before : List Entry) (command : C
     (receipt : Receipted) : Type 0 where
   pub tried :
       IsTried (book_with opening before) Solver command answer (book_with opening (entries_of receipt.published))
+  pub more : List Entry
+  pub once : ArePublishedOnce before more receipt.published
   pub published : IsPublished opening receipt.published
   pub told : receipt ≡ receipt_after before receipt.published
 

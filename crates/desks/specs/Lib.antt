@@ -1,3 +1,4 @@
 pub mod Batch
 pub mod Kept
+pub mod Places
 pub mod Reentry

@@ -1,6 +1,7 @@
 //! A desk, from which batches come.
 
-ghost use Rattle.std.specs.Prelude.{◌≡◌, ◌≢◌, ◌≤◌, ◌↔◌, List, length, IfOk, IfErr, OnOk};
+ghost use Rattle.std.specs.Prelude.{◌≡◌, ◌≢◌, ◌≤◌, ◌↔◌, List, length, IfOk, IfErr, OnOk, OnErr};
+ghost use Rattle.std.specs.Sync.Mutex.{mutex_guard_value};
 ghost use mathlib.Core.List.{IsPrefix};
 ghost use Rattle.rbac.specs.Authorization.{HasPermission, IsValid};
 ghost use Rattle.session_roles.specs.declared.operation.Operation.TheVariants.{Audit};
@@ -13,10 +14,12 @@ ghost use Rattle.session_book.specs.Run.{most_commands};
 ghost use Rattle.history.specs.Prefixes.{entries_of};
 ghost use Rattle.displays.specs.Copies.{IsPublished};
 ghost use Rattle.displays.specs.Publishing.{receipted};
+ghost use Rattle.session_keeper.specs.Keeping.{EntersJust};
 ghost use Rattle.session_keeper.specs.declared.submit_fault.SubmitFault.TheVariants.{OutOfMemory};
 ghost use Rattle.desks.specs.Batch.{IsSubmitted, IsEntered};
 ghost use Rattle.desks.specs.Kept.{IsKeptBy, LeavesJust};
 
+use crate::desk_places::DeskPlace;
 use crate::locked_book::LockedBook;
 use crate::work::work_of;
 use displays::{Display, Receipt, Server};
@@ -27,44 +30,48 @@ use session_commands::Command;
 use session_keeper::SubmitFault;
 use solver_pool::Work;
 use solver_results::{DdTable, PlayCosts};
-use std::sync::{Mutex, Wait};
+use std::marker::Model;
+use std::sync::ledger::Share;
+use std::sync::{Mutex, MutexGuard, Wait};
 use user_names::Name;
 
 /// Puts commands into the book that it shares with other desks. Each call waits for the lock; one that publishes waits
 /// for displays that still read the older copy, and one that is to be kept for its store. What is told is kept: of the
-/// store under the lock, whatever a crash leaves then is what the receipt tells.
+/// store under the lock, whatever a crash leaves then is what the receipt tells. Contracts see how many entries this desk
+/// has entered in all: each call enters what it is given, once, and nothing else.
 #[derive(Drop)]
 pub struct Desk<'a, N: Server, K: EntryStore> {
     lock: &'a Mutex<LockedBook<N, K>>,
+    share: Share<N>,
+}
+
+impl<'a, N: Server, K: EntryStore> Model for Desk<'a, N, K> {
+    ghost use Rattle.std.specs.Prelude.{◌≡◌, ℕ};
+    ghost use Rattle.std.specs.Coded.{coded_ℕ};
+
+    ghost Value = { ℕ };
+
+    ghost coded = { coded_ℕ };
+
+    ghost view = { λ d. d.share.amount };
+
+    // One part, which it can't lend to another who would enter something.
+    ghost invariant = { λ d. d.share.parts ≡ 1 };
 }
 
 impl<'a, N: Server, K: EntryStore> Desk<'a, N, K> {
-    pub(crate) fn over(lock: &'a Mutex<LockedBook<N, K>>) -> Desk<'a, N, K> {
-        Desk { lock }
-    }
-
-    /// Tries the commands of a user, one after another, behind all that was entered before. Where memory is refused for
-    /// the answers, or the store is shut, none is tried; where what was accepted isn't kept, nothing of it is entered.
-    pub fn submit<R: Wait>(
-        &self,
-        rt: &R,
-        actor: Name,
-        batch: &[Command],
-    ) -> Result<(Vec<Answer>, Receipt<N>), SubmitFault>
-        requires { length batch.now ≤ most_commands }
-        ensures receipt { IfOk result (λ t. (before : List Entry) ×
-            IsSubmitted N.opening before actor batch.now t.0.items t.1) }
-        ensures kept { IfOk result (λ t. (store : K) ×
-            LeavesJust t.1.published (K.doubt store) (K.leaves store)) }
-        ensures fault { IfErr result (λ fault. fault ≢ OutOfMemory → K.fails) }
+    pub(crate) fn over(lock: &'a Mutex<LockedBook<N, K>>, place: DeskPlace<N>) -> Desk<'a, N, K>
+        ensures { result ≡ 0 }
     {
-        let mut locked = self.lock.lock(rt);
-        locked.submit(rt, actor, batch)
+        let DeskPlace { share } = place;
+        Desk { lock, share }
     }
 
-    /// The same, behind all that a display of this server has seen.
-    pub fn submit_from<R: Wait>(
-        &self,
+    /// Tries the commands of a user, one after another, behind all that was entered before and that a display of this
+    /// server has seen. Where memory is refused for the answers, or the store is shut, none is tried; where what was
+    /// accepted isn't kept, nothing of it is entered.
+    pub fn submit<R: Wait>(
+        &mut self,
         rt: &R,
         display: &Display<N>,
         actor: Name,
@@ -73,96 +80,71 @@ impl<'a, N: Server, K: EntryStore> Desk<'a, N, K> {
         requires { length batch.now ≤ most_commands }
         ensures published { IsPublished N.opening display.now }
         ensures receipt { IfOk result (λ t. (before : List Entry) × IsPrefix (entries_of display.now) before
-            × IsSubmitted N.opening before actor batch.now t.0.items t.1) }
+            × IsSubmitted N.opening before actor batch.now t.0.items t.1
+            × EntersJust self.old before self.new (entries_of t.1.published)) }
+        ensures none { OnErr result (self.new ≡ self.old) }
         ensures kept { IfOk result (λ t. (store : K) ×
             LeavesJust t.1.published (K.doubt store) (K.leaves store)) }
         ensures fault { IfErr result (λ fault. fault ≢ OutOfMemory → K.fails) }
     {
-        // A display sees nothing that isn't published, so the first turn does.
-        for _ in rt.forever() {
-            let mut locked = self.lock.lock(rt);
-            if locked.has_seen(display) {
-                return locked.submit(rt, actor, batch);
-            }
-        }
-        unreachable!()
+        let mut locked = lock_behind(rt, self.lock, display);
+        locked.submit(rt, &mut self.share, actor, batch)
     }
 
     /// Tries a command of the solver's, behind all that a display of this server has seen.
     pub fn submit_found_from<R: Wait>(
-        &self,
+        &mut self,
         rt: &R,
         display: &Display<N>,
         command: &Command,
     ) -> (Answer, Receipt<N>)
         ensures entered { (before : List Entry) × IsPrefix (entries_of display.now) before
-            × IsEntered N.opening before command.now result.0 result.1 }
+            × IsEntered N.opening before command.now result.0 result.1
+            × EntersJust self.old before self.new (entries_of result.1.published) }
         ensures kept { (store : K) × IsKeptBy N.opening result.1.published
             (K.doubt store) (K.is_open store) (K.leaves store) }
     {
-        // A display sees nothing that isn't published, so the first turn does.
-        for _ in rt.forever() {
-            let mut locked = self.lock.lock(rt);
-            if locked.has_seen(display) {
-                return locked.submit_found(rt, command);
-            }
-        }
-        unreachable!()
+        let mut locked = lock_behind(rt, self.lock, display);
+        locked.submit_found(rt, &mut self.share, command)
     }
 
     /// Tries what the solver found of a board.
-    pub fn submit_solved<R: Wait>(&self, rt: &R, board: u8, table: DdTable) -> (Answer, Receipt<N>)
+    pub fn submit_solved<R: Wait>(
+        &mut self,
+        rt: &R,
+        board: u8,
+        table: DdTable,
+    ) -> (Answer, Receipt<N>)
         ensures entered { (before : List Entry) ×
-            IsEntered N.opening before (Solved board table) result.0 result.1 }
+            IsEntered N.opening before (Solved board table) result.0 result.1
+            × EntersJust self.old before self.new (entries_of result.1.published) }
         ensures kept { (store : K) × IsKeptBy N.opening result.1.published
             (K.doubt store) (K.is_open store) (K.leaves store) }
     {
         let mut locked = self.lock.lock(rt);
-        locked.submit_found(rt, &Command::Solved { board, table })
+        locked.submit_found(rt, &mut self.share, &Command::Solved { board, table })
     }
 
     /// Tries what the solver found of the cards that were played at a cell.
     pub fn submit_analysed<R: Wait>(
-        &self,
+        &mut self,
         rt: &R,
         cell: Cell,
         costs: PlayCosts,
     ) -> (Answer, Receipt<N>)
         ensures entered { (before : List Entry) ×
-            IsEntered N.opening before (Analysed cell costs) result.0 result.1 }
+            IsEntered N.opening before (Analysed cell costs) result.0 result.1
+            × EntersJust self.old before self.new (entries_of result.1.published) }
         ensures kept { (store : K) × IsKeptBy N.opening result.1.published
             (K.doubt store) (K.is_open store) (K.leaves store) }
     {
         let mut locked = self.lock.lock(rt);
-        locked.submit_found(rt, &Command::Analysed { cell, costs })
+        locked.submit_found(rt, &mut self.share, &Command::Analysed { cell, costs })
     }
 
     /// The entries of the journal from a number on, at most so many, for a user who has the permission for the audit; and
-    /// a receipt for just this journal.
+    /// a receipt for just this journal, which begins with all that a display of this server has seen. It enters nothing.
     pub fn audit<R: Wait>(
-        &self,
-        rt: &R,
-        actor: Name,
-        from: usize,
-        limit: usize,
-    ) -> (Result<AuditRows, AuditError>, Receipt<N>)
-        ensures rows { IfOk result.0 (λ rows. rows ≡ audit_rows (entries_of result.1.published) from limit) }
-        ensures permitted { OnOk result.0
-            (HasPermission (replay N.opening (entries_of result.1.published)).roles actor Audit) }
-        ensures refused { IfErr result.0 (λ error. (error ≡ NotPermitted)
-            ↔ (¬ HasPermission (replay N.opening (entries_of result.1.published)).roles actor Audit)) }
-        ensures valid { IsValid (replay N.opening (entries_of result.1.published)).roles }
-        ensures published { IsPublished N.opening result.1.published }
-        ensures receipt { result.1 ≡ receipted 0 0 result.1.published }
-        ensures kept { (store : K) × IsKeptBy N.opening result.1.published
-            (K.doubt store) (K.is_open store) (K.leaves store) }
-    {
-        let locked = self.lock.lock(rt);
-        locked.audit(actor, from, limit)
-    }
-
-    /// The same, of a journal that begins with all that a display of this server has seen.
-    pub fn audit_from<R: Wait>(
         &self,
         rt: &R,
         display: &Display<N>,
@@ -182,14 +164,8 @@ impl<'a, N: Server, K: EntryStore> Desk<'a, N, K> {
         ensures kept { (store : K) × IsKeptBy N.opening result.1.published
             (K.doubt store) (K.is_open store) (K.leaves store) }
     {
-        // A display sees nothing that isn't published, so the first turn does.
-        for _ in rt.forever() {
-            let locked = self.lock.lock(rt);
-            if locked.has_seen(display) {
-                return locked.audit(actor, from, limit);
-            }
-        }
-        unreachable!()
+        let locked = lock_behind(rt, self.lock, display);
+        locked.audit(actor, from, limit)
     }
 
     /// The work that is left at a cell: the costs of a confirmed result with a contract and a play, which aren't there
@@ -198,4 +174,22 @@ impl<'a, N: Server, K: EntryStore> Desk<'a, N, K> {
         let locked = self.lock.lock(rt);
         work_of(locked.state(), cell)
     }
+}
+
+// The lock, once all is published that a display has seen. A display sees nothing else, so the first turn has it.
+fn lock_behind<'a, N: Server, K: EntryStore, R: Wait>(
+    rt: &R,
+    lock: &'a Mutex<LockedBook<N, K>>,
+    display: &Display<N>,
+) -> MutexGuard<'a, LockedBook<N, K>>
+    ensures begins { IsPrefix (entries_of display.now) (entries_of (mutex_guard_value result).published) }
+    ensures published { IsPublished N.opening display.now }
+{
+    for _ in rt.forever() {
+        let locked = lock.lock(rt);
+        if locked.has_seen(display) {
+            return locked;
+        }
+    }
+    unreachable!()
 }

@@ -19,7 +19,7 @@ use std::sync::Wait;
 use user_names::{Digest, Name};
 
 /// Keeps a session for a connection beside others: a desk, to which its commands go, and a display, which answers its
-/// queries and learns of each receipt. It stands for what the display has seen.
+/// queries and learns of each receipt. It stands for what the display has seen, and has entered what the desk has.
 #[derive(Drop)]
 pub struct DeskKeeper<'a, N: Server, K: EntryStore> {
     desk: Desk<'a, N, K>,
@@ -29,7 +29,8 @@ pub struct DeskKeeper<'a, N: Server, K: EntryStore> {
 impl<'a, N: Server, K: EntryStore> DeskKeeper<'a, N, K> {
     /// A keeper of what the display has seen.
     pub fn new(desk: Desk<'a, N, K>, display: Display<N>) -> DeskKeeper<'a, N, K>
-        ensures { result.display ≡ display }
+        ensures display { result.display ≡ display }
+        ensures desk { result.desk ≡ desk.entry }
     {
         DeskKeeper { desk, display }
     }
@@ -47,6 +48,8 @@ impl<'a, N: Server, K: EntryStore> Keeper for DeskKeeper<'a, N, K> {
     ghost opening = { λ _. N.opening };
 
     ghost journal = { λ r. entries_of r.display };
+
+    ghost own_entries = { λ r. r.desk };
 
     ghost others = { λ before after. IsPrefix before after };
 
@@ -80,7 +83,7 @@ impl<'a, N: Server, K: EntryStore, R: Wait> CommandKeeper<R> for DeskKeeper<'a, 
         actor: Name,
         batch: &[Command],
     ) -> Result<BatchReceipt, SubmitFault> {
-        let (answers, receipt) = self.desk.submit_from(rt, &self.display, actor, batch)?;
+        let (answers, receipt) = self.desk.submit(rt, &self.display, actor, batch)?;
         self.display.learn(&receipt);
         let submission = Submission {
             answers,
@@ -108,7 +111,7 @@ impl<'a, N: Server, K: EntryStore, R: Wait> CommandKeeper<R> for DeskKeeper<'a, 
     }
 
     fn audit(&mut self, rt: &R, actor: Name, from: usize, limit: usize) -> AuditReceipt {
-        let (rows, receipt) = self.desk.audit_from(rt, &self.display, actor, from, limit);
+        let (rows, receipt) = self.desk.audit(rt, &self.display, actor, from, limit);
         self.display.learn(&receipt);
         AuditReceipt {
             rows,

@@ -6,6 +6,7 @@
 pub mod batches;
 mod desk;
 mod desk_keeper;
+mod desk_places;
 mod locked_book;
 mod reentry;
 mod shared;
@@ -13,6 +14,7 @@ mod work;
 
 pub use desk::Desk;
 pub use desk_keeper::DeskKeeper;
+pub use desk_places::{DeskPlace, DeskPlaces, MOST_DESKS, new_tally};
 pub use locked_book::LockedBook;
 pub use reentry::{ReentryFault, reenter, reenter_all};
 pub use shared::Shared;

@@ -1,6 +1,6 @@
 //! What lies under the lock.
 
-ghost use Rattle.std.specs.Prelude.{◌≡◌, ◌≢◌, ◌≤◌, ◌↔◌, List, true, [], length, IfOk, IfErr, OnOk};
+ghost use Rattle.std.specs.Prelude.{◌≡◌, ◌≢◌, ◌≤◌, ◌<◌, ◌+◌, ◌↔◌, List, true, false, [], length, IfOk, IfErr, OnOk, OnErr};
 ghost use mathlib.Core.List.{IsPrefix};
 ghost use Rattle.rbac.specs.Authorization.{HasPermission, IsValid};
 ghost use Rattle.session_roles.specs.declared.operation.Operation.TheVariants.{Audit};
@@ -9,7 +9,9 @@ ghost use Rattle.session_book.specs.declared.audit.AuditError.TheVariants.{NotPe
 ghost use Rattle.session_book.specs.Journal.{replay};
 ghost use Rattle.session_book.specs.Run.{most_commands};
 ghost use Rattle.session_commands.specs.declared.entry.Entry.{Entry};
-ghost use Rattle.session_keeper.specs.declared.submit_fault.SubmitFault.TheVariants.{OutOfMemory};
+ghost use Rattle.session_keeper.specs.Keeping.{EntersJust};
+ghost use Rattle.session_keeper.specs.declared.submit_fault.SubmitFault.TheVariants.{OutOfMemory, Unsure};
+ghost use Rattle.entry_store.specs.Keeping.{LeavesAsBefore};
 ghost use Rattle.history.specs.Prefixes.{entries_of};
 ghost use Rattle.displays.specs.Copies.{IsPublished};
 ghost use Rattle.displays.specs.Publishing.{receipted};
@@ -26,22 +28,25 @@ use session_state::State;
 use std::alloc::Global;
 use std::marker::Model;
 use std::mem::ManuallyDrop;
-use std::sync::Wait;
+use std::sync::ledger::Share;
+use std::sync::{Wait, ledger};
 use user_names::Name;
 
 /// A book, its publisher and its store: the journal is what was published, nothing is pending, and whatever a crash leaves
-/// is what was published, or, where the store has shut, maybe one publication more. Contracts see the publications and the
-/// store.
+/// is what was published, or, where the store has shut, maybe one publication more. What all who share it have entered
+/// adds up to the journal. Contracts see the publications and the store.
 pub struct LockedBook<N: Server, K: EntryStore> {
     book: Book,
     // A guard drops nothing, so that what it lends may be what can't be dropped.
     publisher: ManuallyDrop<Publisher<N>>,
     store: K,
+    // Counts what joined the journal: nobody enters anything but by a share of it.
+    tally: ledger::Book<N>,
     alloc: Global,
 }
 
 impl<N: Server, K: EntryStore> Model for LockedBook<N, K> {
-    ghost use Rattle.std.specs.Prelude.{◌≡◌, []};
+    ghost use Rattle.std.specs.Prelude.{◌≡◌, [], length};
     ghost use Rattle.std.specs.Mem.{manually_drop_value};
     ghost use Rattle.history.specs.Prefixes.{entries_of};
     ghost use Rattle.desks.specs.Batch.{KeptPublications, kept_publications_code};
@@ -60,7 +65,8 @@ impl<N: Server, K: EntryStore> Model for LockedBook<N, K> {
         × (entries_of (manually_drop_value l.publisher).published ≡ l.book.journal)
         × ((manually_drop_value l.publisher).pending ≡ [])
         × IsKeptBy N.opening (manually_drop_value l.publisher).published (K.doubt l.store)
-        (K.is_open l.store) (K.leaves l.store) };
+        (K.is_open l.store) (K.leaves l.store)
+        × (l.tally.total ≡ length l.book.journal) };
 }
 
 impl<N: Server, K: EntryStore> LockedBook<N, K> {
@@ -69,16 +75,19 @@ impl<N: Server, K: EntryStore> LockedBook<N, K> {
         book: Book,
         publisher: Publisher<N>,
         store: K,
+        tally: ledger::Book<N>,
     ) -> LockedBook<N, K>
         requires opening { book.opening ≡ N.opening }
         requires published { (entries_of publisher.published ≡ book.journal) × (publisher.pending ≡ []) }
         requires kept { LeavesJust publisher.published (K.doubt store) (K.leaves store) }
+        requires tally { tally.total ≡ length book.journal }
         ensures { result ≡ record { published = publisher.published; store = store } }
     {
         LockedBook {
             book,
             publisher: unsafe { ManuallyDrop::new_unchecked(publisher) },
             store,
+            tally,
             alloc,
         }
     }
@@ -88,21 +97,33 @@ impl<N: Server, K: EntryStore> LockedBook<N, K> {
         self.book.state()
     }
 
-    /// Tries a user's batch.
+    /// Tries a user's batch, for one who has a share of the count.
     pub(crate) fn submit<R: Wait>(
         &mut self,
         rt: &R,
+        share: &mut Share<N>,
         actor: Name,
         commands: &[Command],
     ) -> Result<(Vec<Answer>, Receipt<N>), SubmitFault>
-        requires { length commands.now ≤ most_commands }
+        requires few { length commands.now ≤ most_commands }
+        requires part { 0 < share.old.parts }
         ensures submitted { IfOk result (λ t.
             IsSubmitted N.opening (entries_of self.old.published) actor commands.now t.0.items t.1) }
+        ensures left { IfOk result (λ t. self.new.published ≡ t.1.published) }
+        ensures none { OnErr result (self.new.published ≡ self.old.published) }
+        ensures entered { EntersJust share.old.amount (entries_of self.old.published)
+            share.new.amount (entries_of self.new.published) }
+        ensures parts { share.new.parts ≡ share.old.parts }
         ensures kept { IfOk result (λ t.
             LeavesJust t.1.published (K.doubt self.new.store) (K.leaves self.new.store)) }
         ensures fault { IfErr result (λ fault. fault ≢ OutOfMemory → K.fails) }
+        ensures unsure { IfErr result (λ fault.
+            fault ≡ Unsure → K.doubt self.new.store ≡ 0 → K.is_open self.new.store ≡ false) }
+        ensures unkept { IfErr result (λ fault. fault ≢ Unsure → K.doubt self.new.store ≡ 0 →
+            LeavesAsBefore (K.leaves self.old.store) (K.leaves self.new.store)) }
     {
-        batch(
+        let before = self.book.version();
+        let told = batch(
             rt,
             self.alloc,
             &mut self.book,
@@ -110,30 +131,44 @@ impl<N: Server, K: EntryStore> LockedBook<N, K> {
             &mut self.store,
             actor,
             commands,
-        )
+        );
+        let entered = self.book.version() - before;
+        self.tally.add(share, entered as u64);
+        told
     }
 
-    /// Tries a command of the solver's.
+    /// Tries a command of the solver's, for one who has a share of the count.
     pub(crate) fn submit_found<R: Wait>(
         &mut self,
         rt: &R,
+        share: &mut Share<N>,
         command: &Command,
     ) -> (Answer, Receipt<N>)
-        ensures entered { IsEntered N.opening (entries_of self.old.published) command.now result.0 result.1 }
+        requires part { 0 < share.old.parts }
+        ensures submitted { IsEntered N.opening (entries_of self.old.published) command.now result.0 result.1 }
+        ensures left { self.new.published ≡ result.1.published }
+        ensures entered { EntersJust share.old.amount (entries_of self.old.published)
+            share.new.amount (entries_of self.new.published) }
+        ensures parts { share.new.parts ≡ share.old.parts }
         ensures kept { IsKeptBy N.opening result.1.published
             (K.doubt self.new.store) (K.is_open self.new.store) (K.leaves self.new.store) }
     {
-        found(
+        let before = self.book.version();
+        let told = found(
             rt,
             &mut self.book,
             &mut self.publisher,
             &mut self.store,
             command,
-        )
+        );
+        let entered = self.book.version() - before;
+        self.tally.add(share, entered as u64);
+        told
     }
 
     /// Whether all that a display has seen is published here. Then whatever a crash leaves now begins with all of it.
     pub fn has_seen(&self, display: &Display<N>) -> bool
+        ensures seen { (result ≡ true) ↔ IsPrefix display.now self.now.published }
         ensures begins { result ≡ true → IsPrefix (entries_of display.now) (entries_of self.now.published) }
         ensures published { IsPublished N.opening display.now }
         ensures kept { result ≡ true →
@@ -175,9 +210,11 @@ impl<N: Server, K: EntryStore> LockedBook<N, K> {
             book,
             publisher,
             store,
+            tally,
             alloc: _,
         } = self;
         drop(book);
+        drop(tally);
         let publisher = ManuallyDrop::into_inner(publisher);
         let _published = publisher.tell();
         publisher.close(rt);

@@ -1,9 +1,10 @@
 //! A session that is opened, asked in threads, and closed.
 
 ghost use Rattle.std.specs.Prelude.{◌≡◌, []};
+ghost use Rattle.desks.specs.Places.{IsTallyOf};
 
 use crate::tasks::{Counts, End, Read, Rest, Write};
-use desks::Shared;
+use desks::{DeskPlaces, Shared, new_tally};
 use displays::{Display, Server, open_displays};
 use entry_store::NoStore;
 use history::History;
@@ -16,6 +17,7 @@ use std::alloc::{AllocError, Global};
 use std::marker::Brand;
 use std::sync::Wait;
 use std::sync::atomic::{AtomicBool, AtomicU64, Ordering};
+use std::sync::ledger::Blank;
 use std::thread::Threads;
 use std::time::Clock;
 
@@ -81,7 +83,8 @@ fn measure<R: Threads + Wait + Clock + Sync>(
     requires { book.journal ≡ [] }
 {
     let history = History::new();
-    measure_named::<Brand, R>(rt, alloc, book, history, messages, plan)
+    let tally = new_tally();
+    measure_named::<Brand, R>(rt, alloc, book, history, tally, messages, plan)
 }
 
 // The same, under a server's name.
@@ -90,20 +93,24 @@ fn measure_named<N: Server + Send + Sync, R: Threads + Wait + Clock + Sync>(
     alloc: Global,
     book: Book,
     history: History,
+    tally: Blank,
     messages: Messages<'_>,
     plan: Plan,
 ) -> Option<Figures>
     requires journal { book.journal ≡ [] }
     requires opening { book.opening ≡ N.opening }
     requires history { history ≡ N.history }
+    requires tally { IsTallyOf N.name N.parts tally.name tally.parts }
 {
     let (Ok(first), Ok(second)) = (View::open(alloc, &book), View::open(alloc, &book)) else {
         return None;
     };
-    match open_displays::<N, R>(rt, alloc, history, first, second, plan.readers) {
+    // One more for the desk, which submits beside it.
+    let count = plan.readers.saturating_add(1);
+    match open_displays::<N, R>(rt, alloc, history, first, second, count) {
         Ok((publisher, displays)) => {
-            let shared = Shared::new(alloc, book, publisher, NoStore);
-            let figures = measure_shared(rt, alloc, &shared, displays, messages, plan);
+            let (shared, places) = Shared::new(alloc, book, publisher, NoStore, tally);
+            let figures = measure_shared(rt, alloc, &shared, places, displays, messages, plan);
             let _store = shared.close(rt);
             figures
         }
@@ -116,6 +123,7 @@ fn measure_shared<N: Server + Send + Sync, R: Threads + Wait + Clock + Sync>(
     rt: &R,
     alloc: Global,
     shared: &Shared<N, NoStore>,
+    places: DeskPlaces<N>,
     displays: Vec<Display<N>>,
     messages: Messages<'_>,
     plan: Plan,
@@ -126,11 +134,16 @@ fn measure_shared<N: Server + Send + Sync, R: Threads + Wait + Clock + Sync>(
         batches: AtomicU64::new(0),
         is_over: AtomicBool::new(false),
     };
+    let (mut places, mut displays) = (places, displays);
+    let (Some(place), Some(display)) = (places.take(), displays.pop()) else {
+        return None;
+    };
     let readers = readers(alloc, displays, messages.query, plan, &counts);
     let mut writers = Vec::new(alloc);
     let pushed = writers.push(Write {
         alloc,
-        desk: shared.desk(),
+        desk: shared.desk(place),
+        display,
         edition: messages.edition,
         message: messages.batch,
         pause: plan.pause,

@@ -86,6 +86,7 @@ fn is_over<R: Clock>(rt: &R, start: Instant, milliseconds: u64) -> bool {
 pub(crate) struct Write<'a, N: Server> {
     pub(crate) alloc: Global,
     pub(crate) desk: Desk<'a, N, NoStore>,
+    pub(crate) display: Display<N>,
     pub(crate) edition: Edition,
     pub(crate) message: &'a str,
     pub(crate) pause: Option<u64>,
@@ -96,14 +97,15 @@ impl<'a, N: Server> Task for Write<'a, N> {
     fn run<R: Wait + Clock>(self, rt: &R) {
         let Write {
             alloc,
-            desk,
+            mut desk,
+            display,
             edition,
             message,
             pause,
             counts,
         } = self;
         for _ in 0..u64::MAX {
-            if is_told(rt, alloc, &desk, edition, message) {
+            if is_told(rt, alloc, &mut desk, &display, edition, message) {
                 counts.batches.fetch_add(1, Ordering::SeqCst);
             }
             let Some(pause) = pause else {
@@ -121,22 +123,29 @@ impl<'a, N: Server> Task for Write<'a, N> {
 fn is_told<N: Server, R: Wait>(
     rt: &R,
     alloc: Global,
-    desk: &Desk<'_, N, NoStore>,
+    desk: &mut Desk<'_, N, NoStore>,
+    display: &Display<N>,
     edition: Edition,
     message: &str,
 ) -> bool {
     match read_script_request(alloc, message.as_bytes(), edition) {
-        Ok(said) => is_tried(rt, desk, &said),
+        Ok(said) => is_tried(rt, desk, display, &said),
         Err(_) => false,
     }
 }
 
-fn is_tried<N: Server, R: Wait>(rt: &R, desk: &Desk<'_, N, NoStore>, said: &ScriptRequest) -> bool
+fn is_tried<N: Server, R: Wait>(
+    rt: &R,
+    desk: &mut Desk<'_, N, NoStore>,
+    display: &Display<N>,
+    said: &ScriptRequest,
+) -> bool
     requires { HasFew said.now.request }
 {
     match &said.request {
         UserRequest::Batch { commands } => {
-            desk.submit(rt, said.user, commands.as_slice()).is_ok()
+            desk.submit(rt, display, said.user, commands.as_slice())
+                .is_ok()
         }
         _ => false,
     }

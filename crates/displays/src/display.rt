@@ -1,6 +1,6 @@
 //! A reader of the copy that is shown.
 
-ghost use Rattle.std.specs.Prelude.{◌≡◌, List, [], length, IfOk, IfErr, OnErr, Err, IfSome, MatchBool};
+ghost use Rattle.std.specs.Prelude.{◌≡◌, ◌<◌, ◌↔◌, List, [], length, true, false, IfOk, IfErr, OnErr, Err, IfSome, IfNone, IsNone};
 ghost use mathlib.Core.List.{IsPrefix};
 ghost use Rattle.session_commands.specs.declared.entry.Entry.{Entry};
 ghost use Rattle.history.specs.Prefixes.{Prefix, prefix_in, entries_of};
@@ -85,19 +85,13 @@ impl<N: Server> Display<N> {
         ensures memory { result ≡ Err fault.OutOfMemory →
             GetsAnAnswer N.opening (entries_of self.new) user query.now since }
     {
-        let Some((answer, prefix)) = replace_with(
-            &mut self.reader,
-            (),
-            |reader, ()| ask(reader, alloc, user, query, since),
-        ) else {
-            return Err(QueryFault::NoEntry);
-        };
-        if !self.goes_to(prefix) {
-            return Err(QueryFault::NoEntry);
-        }
-        match answer {
-            Ok(answer) => Ok(answer),
-            Err(_) => Err(QueryFault::OutOfMemory),
+        let asked = replace_with(&mut self.reader, (), |reader, ()| {
+            ask(reader, alloc, user, query, since)
+        });
+        match self.heard(asked) {
+            Some(Ok(answer)) => Ok(answer),
+            Some(Err(_)) => Err(QueryFault::OutOfMemory),
+            None => Err(QueryFault::NoEntry),
         }
     }
 
@@ -109,13 +103,10 @@ impl<N: Server> Display<N> {
         ensures digest { IfOk result (λ digest. digest ≡ digest_after N.opening (entries_of self.new) name) }
         ensures none { OnErr result (self.new ≡ self.old) }
     {
-        let Some((digest, prefix)) = replace_with(&mut self.reader, name, ask_digest) else {
-            return Err(NoEntry);
-        };
-        if self.goes_to(prefix) {
-            Ok(digest)
-        } else {
-            Err(NoEntry)
+        let asked = replace_with(&mut self.reader, name, ask_digest);
+        match self.heard(asked) {
+            Some(digest) => Ok(digest),
+            None => Err(NoEntry),
         }
     }
 
@@ -135,13 +126,13 @@ impl<N: Server> Display<N> {
 
     /// Whether what it has seen is among what is published. Of the two one begins the other.
     pub fn is_behind(&self, publisher: &Publisher<N>) -> bool
-        ensures begins { MatchBool result (IsPrefix self.now publisher.now.published)
-            (IsPrefix publisher.now.published self.now) }
+        ensures begins { (result ≡ true) ↔ IsPrefix self.now publisher.now.published }
+        ensures ahead { result ≡ false → IsPrefix publisher.now.published self.now }
         ensures published { IsPublished N.opening self.now }
     {
         let told = publisher.tell();
         let published = told.prefix();
-        if self.prefix.count() <= published.count() {
+        if self.prefix.count() <= publisher.publications() {
             self.prefix.begins(published);
             return true;
         }
@@ -149,20 +140,26 @@ impl<N: Server> Display<N> {
         false
     }
 
-    // Has seen what a copy shows. A copy is shown before a receipt tells of it, so it is never behind what was learned.
-    fn goes_to(&mut self, prefix: HistoryPrefix) -> bool
-        requires history { prefix.history ≡ N.history }
-        requires published { IsPublished N.opening prefix.publications }
+    // What a copy told, if one was entered that isn't older than what was learned; then it has seen what that copy shows.
+    // A copy is shown before a receipt tells of it, so it is never behind what was learned.
+    fn heard<T: Drop>(&mut self, asked: Option<(T, HistoryPrefix)>) -> Option<T>
+        requires history { IfSome asked (λ t. t.1.history ≡ N.history) }
+        requires published { IfSome asked (λ t. IsPublished N.opening t.1.publications) }
         ensures published { IsPublished N.opening self.new }
         ensures later { IsPrefix self.old self.new }
-        ensures stands { MatchBool result (self.new ≡ prefix.publications) (self.new ≡ self.old) }
+        ensures told { IfSome result (λ told. IfSome asked (λ t. (told ≡ t.0) × (self.new ≡ t.1.publications))) }
+        ensures only { IfNone asked (IsNone result) }
+        ensures none { IfNone result (self.new ≡ self.old) }
+        ensures older { IfNone result (IfSome asked (λ t. length t.1.publications < length self.old)) }
     {
-        if prefix.count() < self.prefix.count() {
-            return false;
+        let seen = self.prefix.count();
+        let (told, prefix) = asked?;
+        if prefix.count() < seen {
+            return None;
         }
         self.prefix.begins(&prefix);
         self.prefix = prefix;
-        true
+        Some(told)
     }
 
     // Has seen the longer of its own publications and those that were told.

@@ -5,10 +5,12 @@ use crossbeam_utils::rule::{Outcome, Protocol};
 use left_right::reader::{Factory, Reader};
 use left_right::writer::Writer;
 use std::marker::{Brand, PhantomData};
+use std::sync::ledger::Ledger;
 
-/// Names a server: the state with which its session opens, and the history of its publications. The caller that opens the
-/// copies picks both, and what is of one server has one such name.
-pub trait Server {
+/// Names a server: the state with which its session opens, the history of its publications, and the ledger in which those
+/// who enter something are counted. The caller that opens the copies picks them, and what is of one server has one such
+/// name.
+pub trait Server: Ledger {
     ghost use Rattle.session_state.specs.SessionState.{SessionState};
     ghost use Rattle.logbook.specs.Pages.{Book};
 

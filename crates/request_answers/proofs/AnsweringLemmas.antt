@@ -1,6 +1,7 @@
 -- What a keeper told of a request is what its response is.
 use Rattle.std.proofs.Common.{
   ◌≡◌,
+  ◌+◌,
   ◌↔◌,
   inr,
   ℕ,
@@ -40,7 +41,7 @@ use Rattle.session_book.specs.Run.{Progress, run, Runs}
 use Rattle.session_queries.specs.declared.query.Query.{Query}
 use Rattle.session_queries.specs.declared.reply.Reply.{Reply}
 use Rattle.published_view.specs.View.{version_of, reply_after}
-use Rattle.session_keeper.specs.Keeping.{RanOnce, IsAuditOf}
+use Rattle.session_keeper.specs.Keeping.{RanOnce, IsAuditOf, EntersJust}
 use Rattle.session_keeper.specs.declared.receipt.AuditReceipt.{AuditReceipt}
 use Rattle.session_keeper.specs.declared.receipt.BatchReceipt.{BatchReceipt}
 use Rattle.session_keeper.proofs.KeepingLemmas.{prefix_self}
@@ -49,7 +50,7 @@ use Rattle.wire.specs.AuditText.{audit_text, audit_refusal_text}
 use Rattle.wire.specs.ReceiptText.{receipt_text}
 use Rattle.wire.specs.declared.audit_range.AuditRange.{AuditRange}
 use Rattle.wire.specs.declared.request.UserRequest.TheVariants as wanting
-use Rattle.request_answers.specs.Answering.{IsAnsweredOnce, IsRowsText, IsTakenIn}
+use Rattle.request_answers.specs.Answering.{IsAnsweredOnce, IsRowsText, IsTakenIn, EntersItOnce}
 use Rattle.request_answers.specs.Response.{audit_reply, receipt_of, run_with, stopped_at}
 
 -- what holds in any case, holds where there is an error
@@ -69,6 +70,21 @@ query_answered Others opening before user query since reply text now came is wri
   says = sym (written ∙ ap reply_text is);
   went = refl;
   begins = prefix_self now;
+}
+
+-- a keeper that has entered nothing since
+pub enters_none : (own own_now : ℕ) (journal : List Entry) → own_now ≡ own → EntersJust own journal own_now journal
+enters_none own own_now journal same = ap (λ n. n + length journal) same
+
+-- and its keeper has entered nothing
+pub query_entered : (Others : List Entry → List Entry → Type 0) (opening : SessionState) (before : List Entry)
+    (user : List ℕ) (query : Query) (since : ℕ) (reply : Reply) (text : List ℕ) (own own_now : ℕ) (now : List Entry) →
+    Others before now → reply ≡ reply_after opening now user query since → text ≡ reply_text reply → own_now ≡ own →
+    EntersItOnce Others opening own before user (wanting.Query query since) text own_now now
+unfolding query_answered
+query_entered Others opening before user query since reply text own own_now now came is written same = record {
+  once = query_answered Others opening before user query since reply text now came is written;
+  entered = enters_none own own_now now same;
 }
 
 -- ---- batches
@@ -111,12 +127,13 @@ module _ (opening : SessionState) (journal : List Entry) where
 
 -- a batch's receipt
 pub batch_answered : (Others : List Entry → List Entry → Type 0) (opening : SessionState) (before : List Entry)
-    (user : List ℕ) (commands : List Command) (receipt : BatchReceipt) (text : List ℕ) (now : List Entry) →
-    RanOnce Others opening before user commands receipt now →
+    (user : List ℕ) (commands : List Command) (receipt : BatchReceipt) (text : List ℕ) (own own_now : ℕ)
+    (now : List Entry) →
+    RanOnce Others opening own before user commands receipt own_now now →
     text ≡ receipt_text receipt.submission.answers.items receipt.submission.first receipt.submission.last
     receipt.version →
     IsAnsweredOnce Others opening before user (wanting.Batch commands) text now
-batch_answered Others opening before user commands receipt text now once written =
+batch_answered Others opening before user commands receipt text own own_now now once written =
     let after : Progress = record { journal = once.left; answers = receipt.submission.answers.items } in
     let at = place opening once.met once.stopped user commands after once.ran in
     let ran : run_with at opening once.met user commands ≡ after = runs_with opening once.met once.stopped user commands
@@ -134,13 +151,31 @@ batch_answered Others opening before user commands receipt text now once written
       begins = subst (λ left. IsPrefix left now) (ap (λ (p : Progress). p.journal) (sym ran)) once.begins;
     }
 
+-- and its keeper has entered just what joined
+pub batch_entered : (Others : List Entry → List Entry → Type 0) (opening : SessionState) (before : List Entry)
+    (user : List ℕ) (commands : List Command) (receipt : BatchReceipt) (text : List ℕ) (own own_now : ℕ)
+    (now : List Entry) →
+    RanOnce Others opening own before user commands receipt own_now now →
+    text ≡ receipt_text receipt.submission.answers.items receipt.submission.first receipt.submission.last
+    receipt.version →
+    EntersItOnce Others opening own before user (wanting.Batch commands) text own_now now
+unfolding batch_answered
+batch_entered Others opening before user commands receipt text own own_now now once written =
+    let after : Progress = record { journal = once.left; answers = receipt.submission.answers.items } in
+    record {
+      once = batch_answered Others opening before user commands receipt text own own_now now once written;
+      entered =
+          subst (λ (p : Progress). EntersJust own once.met own_now p.journal)
+          (sym (runs_with opening once.met once.stopped user commands after once.ran)) once.entered;
+    }
+
 -- where there is no memory for its text
 pub batch_taken_in : (Others : List Entry → List Entry → Type 0) (opening : SessionState) (before : List Entry)
-    (user : List ℕ) (commands : List Command) (receipt : BatchReceipt) (now : List Entry) →
-    RanOnce Others opening before user commands receipt now →
+    (user : List ℕ) (commands : List Command) (receipt : BatchReceipt) (own own_now : ℕ) (now : List Entry) →
+    RanOnce Others opening own before user commands receipt own_now now →
     IsTakenIn Others opening before user (wanting.Batch commands) now
-batch_taken_in Others opening before user commands receipt now once =
-    inr (_, batch_answered Others opening before user commands receipt _ now once refl)
+batch_taken_in Others opening before user commands receipt own own_now now once =
+    inr (_, batch_answered Others opening before user commands receipt _ own own_now now once refl)
 
 -- ---- audits
 
@@ -186,6 +221,19 @@ audit_answered Others opening before user range receipt text now audit written =
         (refused.0 refl)) ∙ sym written
     by (Err error.OutOfMemory) same permitted refused written = absurd written
 
+-- and its keeper has entered nothing
+pub audit_entered : (Others : List Entry → List Entry → Type 0) (opening : SessionState) (before : List Entry)
+    (user : List ℕ) (range : AuditRange) (receipt : AuditReceipt) (text : List ℕ) (own own_now : ℕ)
+    (now : List Entry) →
+    IsAuditOf Others opening before user range.from range.limit receipt now → own_now ≡ own →
+    IsRowsText receipt.rows receipt.version text →
+    EntersItOnce Others opening own before user (wanting.Audit range) text own_now now
+unfolding audit_answered
+audit_entered Others opening before user range receipt text own own_now now audit same written = record {
+  once = audit_answered Others opening before user range receipt text now audit written;
+  entered = enters_none own own_now audit.journal same;
+}
+
 -- where there is no memory for its text
 pub audit_taken_in : (Others : List Entry → List Entry → Type 0) (opening : SessionState) (before : List Entry)
     (user : List ℕ) (range : AuditRange) (receipt : AuditReceipt) (now : List Entry) →
@@ -207,7 +255,8 @@ audit_taken_in Others opening before user range receipt now audit =
 
 -- a batch of commands under another name
 pub same_batch : (Others : List Entry → List Entry → Type 0) (opening : SessionState) (before : List Entry)
-    (user : List ℕ) (given commands : List Command) (receipt : BatchReceipt) (now : List Entry) → given ≡ commands →
-    RanOnce Others opening before user given receipt now → RanOnce Others opening before user commands receipt now
-same_batch Others opening before user given commands receipt now same ran =
-    subst (λ batch. RanOnce Others opening before user batch receipt now) same ran
+    (user : List ℕ) (given commands : List Command) (receipt : BatchReceipt) (own own_now : ℕ) (now : List Entry) →
+    given ≡ commands → RanOnce Others opening own before user given receipt own_now now →
+    RanOnce Others opening own before user commands receipt own_now now
+same_batch Others opening before user given commands receipt own own_now now same ran =
+    subst (λ batch. RanOnce Others opening own before user batch receipt own_now now) same ran

@@ -4,6 +4,7 @@ use Rattle.std.specs.Prelude.{◌≡◌, ◌⊎◌, ℕ, Option, List, Result, O
 use mathlib.Core.List.{IsPrefix}
 use Rattle.session_state.specs.SessionState.{SessionState}
 use Rattle.session_commands.specs.declared.entry.Entry.{Entry}
+use Rattle.session_keeper.specs.Keeping.{EntersJust}
 use Rattle.session_book.specs.declared.audit.AuditError.{AuditError}
 use Rattle.session_book.specs.declared.audit.AuditError.TheVariants as error
 use Rattle.session_book.specs.declared.audit.AuditRow.{AuditRow}
@@ -37,6 +38,21 @@ pub record IsAnsweredOnce (Others : List Entry → List Entry → Type 0) (openi
   pub says : (response_at opening met refused_at user request).text ≡ text
   pub went : LeadsOn Others request (response_at opening met refused_at user request).journal now
   pub begins : IsPrefix (response_at opening met refused_at user request).journal now
+
+-- it was answered, once, by a keeper that had entered so many entries of the session, and has entered since just what
+-- its response has that the journal which it met hasn't: no entry twice, and none beside
+pub record EntersItOnce (Others : List Entry → List Entry → Type 0) (opening : SessionState) (own : ℕ)
+    (before : List Entry) (user : List ℕ) (request : UserRequest) (text : List ℕ) (own_now : ℕ) (now : List Entry)
+    : Type 0 where
+  pub once : IsAnsweredOnce Others opening before user request text now
+  pub entered : EntersJust own once.met own_now (response_at opening once.met once.refused_at user request).journal
+
+-- where there is no text: it has entered nothing, or, where memory was refused for the text, just that
+abbrev pub EntersNoneOrIt : (List Entry → List Entry → Type 0) → SessionState → ℕ → List Entry → List ℕ → UserRequest →
+    AnswerFault → ℕ → List Entry → Type 0
+EntersNoneOrIt Others opening own before user request fault own_now now =
+    (own_now ≡ own)
+    ⊎ ((fault ≡ OutOfMemory) × (text : List ℕ) × EntersItOnce Others opening own before user request text own_now now)
 
 -- where memory was refused: nothing came of the request, or all but its text
 abbrev pub IsTakenIn : (List Entry → List Entry → Type 0) → SessionState → List Entry → List ℕ → UserRequest →

@@ -6,7 +6,7 @@ ghost use Rattle.session_book.specs.Run.{most_commands};
 ghost use Rattle.session_keeper.specs.Keeping.{GoesOn};
 ghost use Rattle.wire.specs.Request.{HasFew};
 ghost use Rattle.wire.specs.declared.request.UserRequest.TheVariants as wanting;
-ghost use Rattle.request_answers.specs.Answering.{IsAnsweredOnce, IsUnanswered, IsTakenIn, IsRowsText};
+ghost use Rattle.request_answers.specs.Answering.{IsAnsweredOnce, IsUnanswered, IsTakenIn, IsRowsText, EntersItOnce, EntersNoneOrIt};
 ghost use Rattle.request_answers.specs.declared.answer_fault.AnswerFault.TheVariants.{OutOfMemory};
 
 use crate::answer_fault::AnswerFault;
@@ -36,6 +36,12 @@ pub fn answer_request<H, K: CommandKeeper<H>>(
         user request.now (string_bytes text) (K.journal keeper.new)) }
     ensures unanswered { IfErr result (λ fault. IsUnanswered K.others K.no_entry K.not_kept (K.opening keeper.new)
         (K.journal keeper.old) user request.now fault (K.journal keeper.new)) }
+    ensures entered { IfOk result (λ text. EntersItOnce K.others (K.opening keeper.new) (K.own_entries keeper.old)
+        (K.journal keeper.old) user request.now (string_bytes text)
+        (K.own_entries keeper.new) (K.journal keeper.new)) }
+    ensures none { IfErr result (λ fault. EntersNoneOrIt K.others (K.opening keeper.new) (K.own_entries keeper.old)
+        (K.journal keeper.old) user request.now fault
+        (K.own_entries keeper.new) (K.journal keeper.new)) }
 {
     match request {
         UserRequest::Query { query, since } => answer_query(alloc, keeper, user, query, *since),
@@ -60,6 +66,12 @@ pub fn answer_query<K: Keeper>(
         user (wanting.Query query.now since) (string_bytes text) (K.journal keeper.new)) }
     ensures unanswered { IfErr result (λ fault. IsUnanswered K.others K.no_entry K.not_kept (K.opening keeper.new)
         (K.journal keeper.old) user (wanting.Query query.now since) fault (K.journal keeper.new)) }
+    ensures entered { IfOk result (λ text. EntersItOnce K.others (K.opening keeper.new) (K.own_entries keeper.old)
+        (K.journal keeper.old) user (wanting.Query query.now since) (string_bytes text)
+        (K.own_entries keeper.new) (K.journal keeper.new)) }
+    ensures none { IfErr result (λ fault. EntersNoneOrIt K.others (K.opening keeper.new) (K.own_entries keeper.old)
+        (K.journal keeper.old) user (wanting.Query query.now since) fault
+        (K.own_entries keeper.new) (K.journal keeper.new)) }
 {
     match keeper.query(alloc, user, query, since) {
         Ok(reply) => or_out_of_memory(reply_text(alloc, &reply)),
@@ -84,6 +96,12 @@ pub fn answer_batch<H, K: CommandKeeper<H>>(
         user (wanting.Batch commands.now) (string_bytes text) (K.journal keeper.new)) }
     ensures unanswered { IfErr result (λ fault. IsUnanswered K.others K.no_entry K.not_kept (K.opening keeper.new)
         (K.journal keeper.old) user (wanting.Batch commands.now) fault (K.journal keeper.new)) }
+    ensures entered { IfOk result (λ text. EntersItOnce K.others (K.opening keeper.new) (K.own_entries keeper.old)
+        (K.journal keeper.old) user (wanting.Batch commands.now) (string_bytes text)
+        (K.own_entries keeper.new) (K.journal keeper.new)) }
+    ensures none { IfErr result (λ fault. EntersNoneOrIt K.others (K.opening keeper.new) (K.own_entries keeper.old)
+        (K.journal keeper.old) user (wanting.Batch commands.now) fault
+        (K.own_entries keeper.new) (K.journal keeper.new)) }
 {
     match keeper.submit(rt, user, commands.as_slice()) {
         Ok(receipt) => or_out_of_memory(receipt_text(alloc, &receipt.submission, receipt.version)),
@@ -107,6 +125,10 @@ pub fn answer_audit<H, K: CommandKeeper<H>>(
         user (wanting.Audit range) (string_bytes text) (K.journal keeper.new)) }
     ensures unanswered { OnErr result (IsTakenIn K.others (K.opening keeper.new) (K.journal keeper.old)
         user (wanting.Audit range) (K.journal keeper.new)) }
+    ensures entered { IfOk result (λ text. EntersItOnce K.others (K.opening keeper.new) (K.own_entries keeper.old)
+        (K.journal keeper.old) user (wanting.Audit range) (string_bytes text)
+        (K.own_entries keeper.new) (K.journal keeper.new)) }
+    ensures own { K.own_entries keeper.new ≡ K.own_entries keeper.old }
 {
     let receipt = keeper.audit(rt, user, range.from as usize, range.limit as usize);
     text_of_audit(alloc, &receipt)

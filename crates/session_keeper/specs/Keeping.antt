@@ -1,6 +1,6 @@
 -- What one who keeps a session tells, and how the journal that it stands for grows. While it is asked, others may lead
 -- the journal on; by how much is the keeper's own: not at all, where it keeps the session alone.
-use Rattle.std.specs.Prelude.{◌≡◌, ◌↔◌, ℕ, Bool, List, length, IfOk, IfErr, OnOk}
+use Rattle.std.specs.Prelude.{◌≡◌, ◌↔◌, ℕ, ◌+◌, Bool, List, length, IfOk, IfErr, OnOk}
 use mathlib.Core.List.{IsPrefix}
 use Rattle.rbac.specs.Authorization.{HasPermission, IsValid}
 use Rattle.session_roles.specs.declared.operation.Operation.TheVariants.{Audit}
@@ -24,11 +24,16 @@ pub record GoesOn (opening : SessionState) (before : List Entry) (later_opening 
   pub same : later_opening ≡ opening
   pub begins : IsPrefix before later
 
+-- one who had entered so many entries of the session has entered, since, just as many as lead from one journal to another
+abbrev pub EntersJust : ℕ → List Entry → ℕ → List Entry → Type 0
+EntersJust own met own_now left = own_now + length met ≡ own + length left
+
 -- a user's batch ran once. It met a journal to which others had led from the one before the call, and left another: it
 -- ran whole, or up to a command for which memory was refused. The receipt has its answers, the numbers of what joined
--- the journal, and the version that it left; and others have led on from there to the journal after the call
-pub record RanOnce (Others : List Entry → List Entry → Type 0) (opening : SessionState) (before : List Entry)
-    (actor : List ℕ) (batch : List Command) (receipt : BatchReceipt) (now : List Entry) : Type 0 where
+-- the journal, and the version that it left; and others have led on from there to the journal after the call. The keeper
+-- has entered that, and nothing else
+pub record RanOnce (Others : List Entry → List Entry → Type 0) (opening : SessionState) (own : ℕ) (before : List Entry)
+    (actor : List ℕ) (batch : List Command) (receipt : BatchReceipt) (own_now : ℕ) (now : List Entry) : Type 0 where
   pub met : List Entry
   pub left : List Entry
   pub stopped : Bool
@@ -38,16 +43,18 @@ pub record RanOnce (Others : List Entry → List Entry → Type 0) (opening : Se
   pub first : receipt.submission.first ≡ first_number (length met) (length left)
   pub last : receipt.submission.last ≡ last_number (length met) (length left)
   pub version : receipt.version ≡ version_of left
+  pub entered : EntersJust own met own_now left
   pub went : Others left now
   pub begins : IsPrefix left now
 
 -- a command of the solver's was tried once, with this answer, between such journals
-pub record TriedOnce (Others : List Entry → List Entry → Type 0) (opening : SessionState) (before : List Entry)
-    (command : Command) (answer : Answer) (now : List Entry) : Type 0 where
+pub record TriedOnce (Others : List Entry → List Entry → Type 0) (opening : SessionState) (own : ℕ)
+    (before : List Entry) (command : Command) (answer : Answer) (own_now : ℕ) (now : List Entry) : Type 0 where
   pub met : List Entry
   pub left : List Entry
   pub came : Others before met
   pub tried : IsTried (book_with opening met) Solver command answer (book_with opening left)
+  pub entered : EntersJust own met own_now left
   pub went : Others left now
   pub begins : IsPrefix left now
 

@@ -1,6 +1,6 @@
 //! Who keeps a session, as commands see it.
 
-ghost use Rattle.std.specs.Prelude.{◌≢◌, ◌≤◌, length, IfOk, IfErr, OnErr};
+ghost use Rattle.std.specs.Prelude.{◌≡◌, ◌≢◌, ◌≤◌, length, IfOk, IfErr, OnErr};
 ghost use Rattle.session_commands.specs.declared.command.Command.TheVariants.{Solved, Analysed};
 ghost use Rattle.session_book.specs.Journal.{IsAccepted};
 ghost use Rattle.session_book.specs.Run.{most_commands};
@@ -17,7 +17,7 @@ use solver_results::{DdTable, PlayCosts};
 use user_names::Name;
 
 /// A keeper that takes commands. `H` is what it waits by: a handle of the runtime, where it may wait for others who
-/// submit, and anything, where it waits for nobody.
+/// submit, and anything, where it waits for nobody. It enters what it is given, once, and nothing else.
 pub trait CommandKeeper<H>: Keeper {
     /// Tries the commands of a user, one after another. Where memory is refused for the answers, or the batch isn't kept,
     /// nothing of it joins the journal.
@@ -31,9 +31,11 @@ pub trait CommandKeeper<H>: Keeper {
         ensures later { GoesOn (Self.opening self.old) (Self.journal self.old)
             (Self.opening self.new) (Self.journal self.new) }
         ensures accepted { IsAccepted (Self.opening self.new) (Self.journal self.new) }
-        ensures receipt { IfOk result (λ receipt. RanOnce Self.others (Self.opening self.new) (Self.journal self.old)
-            actor batch.now receipt (Self.journal self.new)) }
+        ensures receipt { IfOk result (λ receipt. RanOnce Self.others (Self.opening self.new)
+            (Self.own_entries self.old) (Self.journal self.old) actor batch.now receipt
+            (Self.own_entries self.new) (Self.journal self.new)) }
         ensures untried { OnErr result (Self.others (Self.journal self.old) (Self.journal self.new)) }
+        ensures none { OnErr result (Self.own_entries self.new ≡ Self.own_entries self.old) }
         ensures not_kept { IfErr result (λ why. why ≢ OutOfMemory → Self.not_kept) };
 
     /// Tries what the solver found of a board.
@@ -41,16 +43,16 @@ pub trait CommandKeeper<H>: Keeper {
         ensures later { GoesOn (Self.opening self.old) (Self.journal self.old)
             (Self.opening self.new) (Self.journal self.new) }
         ensures accepted { IsAccepted (Self.opening self.new) (Self.journal self.new) }
-        ensures tried { TriedOnce Self.others (Self.opening self.new) (Self.journal self.old)
-            (Solved board table) result (Self.journal self.new) };
+        ensures tried { TriedOnce Self.others (Self.opening self.new) (Self.own_entries self.old)
+            (Self.journal self.old) (Solved board table) result (Self.own_entries self.new) (Self.journal self.new) };
 
     /// Tries what the solver found of the cards that were played at a cell.
     fn submit_analysed(&mut self, rt: &H, cell: Cell, costs: PlayCosts) -> Answer
         ensures later { GoesOn (Self.opening self.old) (Self.journal self.old)
             (Self.opening self.new) (Self.journal self.new) }
         ensures accepted { IsAccepted (Self.opening self.new) (Self.journal self.new) }
-        ensures tried { TriedOnce Self.others (Self.opening self.new) (Self.journal self.old)
-            (Analysed cell costs) result (Self.journal self.new) };
+        ensures tried { TriedOnce Self.others (Self.opening self.new) (Self.own_entries self.old)
+            (Self.journal self.old) (Analysed cell costs) result (Self.own_entries self.new) (Self.journal self.new) };
 
     /// The entries from a number on, at most so many, for a user who has the permission for the audit.
     fn audit(&mut self, rt: &H, actor: Name, from: usize, limit: usize) -> AuditReceipt
@@ -58,5 +60,6 @@ pub trait CommandKeeper<H>: Keeper {
             (Self.opening self.new) (Self.journal self.new) }
         ensures accepted { IsAccepted (Self.opening self.new) (Self.journal self.new) }
         ensures receipt { IsAuditOf Self.others (Self.opening self.new) (Self.journal self.old)
-            actor from limit result (Self.journal self.new) };
+            actor from limit result (Self.journal self.new) }
+        ensures own { Self.own_entries self.new ≡ Self.own_entries self.old };
 }

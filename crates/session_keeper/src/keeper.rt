@@ -1,9 +1,12 @@
 //! Who keeps a session, as queries see it.
 
-ghost use Rattle.std.specs.Prelude.{◌≡◌, IfOk, IfErr, OnErr};
-ghost use Rattle.published_view.specs.View.{reply_after, digest_after};
+ghost use Rattle.std.specs.Prelude.{◌≡◌, None, IfOk, IfErr, OnErr};
+ghost use Rattle.published_view.specs.Reply.{before_answer};
+ghost use Rattle.published_view.specs.View.{reply_after, digest_after, version_of};
 ghost use Rattle.published_view.specs.declared.query_fault.QueryFault.TheVariants as fault;
-ghost use Rattle.session_book.specs.Journal.{IsAccepted};
+ghost use Rattle.session_book.specs.Journal.{IsAccepted, replay};
+ghost use Rattle.session_queries.specs.Query.{fact_of};
+ghost use Rattle.session_state.specs.SessionState.{viewer_of};
 ghost use Rattle.session_keeper.specs.Keeping.{GoesOn};
 
 use published_view::{NoEntry, QueryFault};
@@ -15,13 +18,16 @@ use user_names::{Digest, Name};
 /// One who keeps a session. It stands for an accepted journal, which each call replaces by one that begins with it. None
 /// of these calls waits.
 pub trait Keeper: Drop {
-    ghost use Rattle.std.specs.Prelude.{List};
+    ghost use Rattle.std.specs.Prelude.{ℕ, List};
     ghost use Rattle.session_state.specs.SessionState.{SessionState};
     ghost use Rattle.session_commands.specs.declared.entry.Entry.{Entry};
 
     ghost opening: { Self → SessionState };
 
     ghost journal: { Self → List Entry };
+
+    // How many entries of the session's journal this one has entered itself, in all.
+    ghost own_entries: { Self → ℕ };
 
     // What others may add to the journal while this one is asked: from this journal to that one.
     ghost others: { List Entry → List Entry → Type 0 };
@@ -36,7 +42,8 @@ pub trait Keeper: Drop {
     fn edition(&self) -> Edition
         ensures { result ≡ (opening self.now).public.edition };
 
-    /// The reply to a user's query; the user wants no version older than `since`.
+    /// The reply to a user's query; the user wants no version older than `since`. Memory is refused only for an answer
+    /// that nothing comes before: no denial is withheld for want of it.
     fn query(
         &mut self,
         alloc: Global,
@@ -49,8 +56,12 @@ pub trait Keeper: Drop {
         ensures reply { IfOk result (λ reply.
             reply ≡ reply_after (opening self.new) (journal self.new) user query.now since) }
         ensures unchanged { others (journal self.old) (journal self.new) }
+        ensures own { own_entries self.new ≡ own_entries self.old }
         ensures none { IfErr result (λ why.
-            why ≡ fault.NoEntry → no_entry × (journal self.new ≡ journal self.old)) };
+            why ≡ fault.NoEntry → no_entry × (journal self.new ≡ journal self.old)) }
+        ensures memory { IfErr result (λ why. why ≡ fault.OutOfMemory →
+            before_answer (replay (opening self.new) (journal self.new)).public (version_of (journal self.new))
+            (viewer_of (replay (opening self.new) (journal self.new)) user) (fact_of query.now) since ≡ None) };
 
     /// The digest of the token with which a user signs in, if there is such a user. It takes no memory.
     fn digest(&mut self, name: Name) -> Result<Option<Digest>, NoEntry>
@@ -59,5 +70,6 @@ pub trait Keeper: Drop {
         ensures digest { IfOk result (λ digest.
             digest ≡ digest_after (opening self.new) (journal self.new) name) }
         ensures unchanged { others (journal self.old) (journal self.new) }
+        ensures own { own_entries self.new ≡ own_entries self.old }
         ensures none { OnErr result (no_entry × (journal self.new ≡ journal self.old)) };
 }

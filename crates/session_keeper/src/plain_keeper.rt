@@ -64,11 +64,14 @@ impl PlainKeeper {
 }
 
 impl Keeper for PlainKeeper {
-    ghost use Rattle.std.specs.Prelude.{◌≡◌};
+    ghost use Rattle.std.specs.Prelude.{◌≡◌, length};
 
     ghost opening = { λ k. k.opening };
 
     ghost journal = { λ k. k.journal };
+
+    // Nobody else enters anything.
+    ghost own_entries = { λ k. length k.journal };
 
     ghost others = { λ before after. after ≡ before };
 

@@ -72,6 +72,8 @@ impl<'a, N: Server, K: EntryStore> Keeper for AnalysingKeeper<'a, N, K> {
 
     ghost journal = { λ k. entries_of k.keeper.display };
 
+    ghost own_entries = { λ k. k.keeper.desk };
+
     ghost others = { λ before after. IsPrefix before after };
 
     ghost no_entry = { Unit {0} };

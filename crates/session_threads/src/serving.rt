@@ -5,11 +5,12 @@ ghost use Rattle.session_commands.specs.declared.entry.Entry.{Entry};
 ghost use Rattle.displays.specs.Copies.{IsPublished};
 ghost use Rattle.displays.specs.Publishing.{nothing_outgoing};
 ghost use Rattle.desks.specs.Kept.{IsKeptBy, LeavesJust};
+ghost use Rattle.desks.specs.Places.{IsTallyOf};
 
 use crate::job_queue::JobQueue;
 use crate::tasks::{CloseQueue, Collect, ServeClients, Solve};
 use crossbeam_channel::{Receiver, Sender, unbounded};
-use desks::{ReentryFault, Shared, reenter_all};
+use desks::{DeskPlaces, ReentryFault, Shared, new_tally, reenter_all};
 use displays::{Display, OpenError, Publisher, Server, open_displays};
 use entry_store::EntryStore;
 use history::History;
@@ -22,6 +23,7 @@ use std::alloc::{AllocError, Global};
 use std::fmt;
 use std::marker::Brand;
 use std::net::{Net, OpenListener};
+use std::sync::ledger::Blank;
 use std::sync::{Mutex, Wait};
 use std::thread::Threads;
 use std::time::Clock;
@@ -89,7 +91,8 @@ where
         × IsKeptBy book.opening published (K.doubt after) (K.is_open after) (K.leaves after)) }
 {
     let history = History::new();
-    serve_named::<Brand, R, K>(rt, alloc, book, history, plan, store, publications)
+    let tally = new_tally();
+    serve_named::<Brand, R, K>(rt, alloc, book, history, tally, plan, store, publications)
 }
 
 // Serves a session under a server's name.
@@ -102,6 +105,7 @@ fn serve_named<
     alloc: Global,
     book: Book,
     history: History,
+    tally: Blank,
     plan: ServingPlan<'_>,
     store: K,
     publications: Vec<Vec<Entry>>,
@@ -112,6 +116,7 @@ where
     requires journal { book.journal ≡ [] }
     requires opening { book.opening ≡ N.opening }
     requires history { history ≡ N.history }
+    requires tally { IsTallyOf N.name N.parts tally.name tally.parts }
     requires kept { LeavesJust (map (λ publication. publication.items) publications.items) (K.doubt store) (K.leaves store) }
     ensures kept { IfOk result (λ after. (published : List (List Entry)) × IsPublished N.opening published
         × IsKeptBy N.opening published (K.doubt after) (K.is_open after) (K.leaves after)) }
@@ -126,12 +131,13 @@ where
     let (publisher, displays) = open_views::<N, R>(rt, alloc, &book, history, plan.displays)?;
     let pool = Mutex::new(pool);
     let queue = JobQueue::new(&pool, to_workers);
-    let shared = share::<N, R, K>(
+    let (shared, places) = share::<N, R, K>(
         rt,
         alloc,
         book,
         publisher,
         store,
+        tally,
         publications,
         &queue,
         plan.workers,
@@ -140,6 +146,7 @@ where
         rt,
         alloc,
         &shared,
+        places,
         displays,
         queue,
         &jobs,
@@ -185,13 +192,15 @@ fn share<N: Server, R: Wait, K: EntryStore>(
     mut book: Book,
     mut publisher: Publisher<N>,
     store: K,
+    tally: Blank,
     publications: Vec<Vec<Entry>>,
     queue: &JobQueue<'_>,
     workers: u8,
-) -> Result<Shared<N, K>, ServingError>
+) -> Result<(Shared<N, K>, DeskPlaces<N>), ServingError>
     requires journal { book.journal ≡ [] }
     requires opening { book.opening ≡ N.opening }
     requires publisher { publisher ≡ nothing_outgoing }
+    requires tally { IsTallyOf N.name N.parts tally.name tally.parts }
     requires kept { LeavesJust (map (λ publication. publication.items) publications.items) (K.doubt store) (K.leaves store) }
 {
     match reenter_all(rt, &mut book, &mut publisher, publications.as_slice()) {
@@ -199,7 +208,7 @@ fn share<N: Server, R: Wait, K: EntryStore>(
             if workers > 0 {
                 queue.add_left(rt, &book);
             }
-            Ok(Shared::new(alloc, book, publisher, store))
+            Ok(Shared::new(alloc, book, publisher, store, tally))
         }
         Err((number, fault)) => {
             publisher.close(rt);
@@ -227,6 +236,7 @@ fn serve_shared<
     rt: &R,
     alloc: Global,
     shared: &Shared<N, K>,
+    places: DeskPlaces<N>,
     displays: Vec<Display<N>>,
     queue: JobQueue<'_>,
     jobs: &Receiver<Job>,
@@ -245,11 +255,13 @@ where
     let Ok(workers) = solvers(alloc, jobs, from_workers, plan) else {
         return Err(ServingError::OutOfMemory);
     };
-    let Ok(serving) = servers(alloc, &listener, shared, displays, &queue, plan) else {
-        return Err(ServingError::OutOfMemory);
+    let mut places = places;
+    let Some(collecting) = places.take() else {
+        return Err(ServingError::NoPlace);
     };
+    let serving = servers(alloc, &listener, shared, places, displays, &queue, plan)?;
     let collector = Collect {
-        desk: shared.desk(),
+        desk: shared.desk(collecting),
         pool: queue.pool(),
         results,
     };
@@ -287,28 +299,45 @@ fn servers<'a, N: Server, K: EntryStore, L: OpenListener>(
     alloc: Global,
     listener: &'a L,
     shared: &'a Shared<N, K>,
+    places: DeskPlaces<N>,
     displays: Vec<Display<N>>,
     queue: &JobQueue<'a>,
     plan: ServingPlan<'a>,
-) -> Result<Vec<ServeClients<'a, N, K, L>>, AllocError>
+) -> Result<Vec<ServeClients<'a, N, K, L>>, ServingError>
     requires { All (λ display. display ≡ []) displays.items }
 {
-    let mut servers = Vec::with_capacity(alloc, displays.len())?;
+    let Ok(mut servers) = Vec::with_capacity(alloc, displays.len()) else {
+        return Err(ServingError::OutOfMemory);
+    };
+    let mut places = places;
     for display in displays {
-        let queue = if plan.workers > 0 {
-            Some(queue.another()?)
-        } else {
-            None
+        let Ok(queue) = queue_of(queue, plan.workers) else {
+            return Err(ServingError::OutOfMemory);
         };
-        servers.push(ServeClients {
+        let Some(place) = places.take() else {
+            return Err(ServingError::NoPlace);
+        };
+        let server = ServeClients {
             alloc,
             listener,
-            desk: shared.desk(),
+            desk: shared.desk(place),
             display,
             queue,
             connections: plan.connections,
             terms: plan.terms,
-        })?;
+        };
+        if servers.push(server).is_err() {
+            return Err(ServingError::OutOfMemory);
+        }
     }
     Ok(servers)
+}
+
+// One more way to the workers, if there are any.
+fn queue_of<'a>(queue: &JobQueue<'a>, workers: u8) -> Result<Option<JobQueue<'a>>, AllocError> {
+    if workers == 0 {
+        return Ok(None);
+    }
+    let another = queue.another()?;
+    Ok(Some(another))
 }

@@ -1,13 +1,13 @@
 //! What batches, audits and the solver's results are answered by a desk, and on a connection whose keeper is a desk and a
 //! display: as by a book alone.
 
-use super::serving::{Part, is_served};
+use super::serving::{Part, beside, is_served};
 use super::session::{FIRST_DEAL, SECOND_DEAL};
-use super::texts::{shows, tells};
+use super::texts::{Beside, shows, tells};
 use super::works::costs_of;
 use cards::Deal;
 use connections::Connection;
-use desks::{Desk, DeskKeeper, Shared};
+use desks::{DeskKeeper, DeskPlaces, Shared};
 use displays::{Display, Server};
 use double_dummy::{Budget, table};
 use entry_store::NoStore;
@@ -75,22 +75,22 @@ impl Part for Desks {
         rt: &R,
         alloc: Global,
         shared: &Shared<N, NoStore>,
+        places: DeskPlaces<N>,
         displays: Vec<Display<N>>,
     ) -> bool {
-        let desk = shared.desk();
-        let mut displays = displays;
-        let Some(display) = displays.pop() else {
+        let (mut places, mut displays) = (places, displays);
+        let Some(mut one) = beside(shared, &mut places, &mut displays) else {
             return false;
         };
-        tells_all(rt, alloc, &desk, &BATCHES)
-            && tells_all(rt, alloc, &desk, &AUDITS)
-            && shows_all(alloc, display)
-            && takes_tables(rt, alloc, &desk)
-            && takes_costs(rt, alloc, &desk)
+        tells_all(rt, alloc, &mut one, &BATCHES)
+            && tells_all(rt, alloc, &mut one, &AUDITS)
+            && shows_all(alloc, &mut one.display)
+            && takes_tables(rt, alloc, &mut one)
+            && takes_costs(rt, alloc, &mut one)
             && tells(
                 rt,
                 alloc,
-                &desk,
+                &mut one,
                 r#"{"as":"a","audit":{"from":3,"limit":10}}"#,
                 r#"{"audit":[[3,"a","AddUser","v"],[4,null,"Solved","1"]],"version":4}"#,
             )
@@ -100,21 +100,20 @@ impl Part for Desks {
 fn tells_all<N: Server, R: Wait>(
     rt: &R,
     alloc: Global,
-    desk: &Desk<'_, N, NoStore>,
+    beside: &mut Beside<'_, N, NoStore>,
     rows: &[(&str, &str)],
 ) -> bool {
     for &(message, answer) in rows {
-        if !tells(rt, alloc, desk, message, answer) {
+        if !tells(rt, alloc, beside, message, answer) {
             return false;
         }
     }
     true
 }
 
-fn shows_all<N: Server>(alloc: Global, display: Display<N>) -> bool {
-    let mut display = display;
+fn shows_all<N: Server>(alloc: Global, display: &mut Display<N>) -> bool {
     for &(message, answer) in &QUERIES {
-        if !shows(alloc, &mut display, message, answer) {
+        if !shows(alloc, display, message, answer) {
             return false;
         }
     }
@@ -122,15 +121,19 @@ fn shows_all<N: Server>(alloc: Global, display: Display<N>) -> bool {
 }
 
 /// Another board's table is refused, the board's own is entered, and once.
-fn takes_tables<N: Server, R: Wait>(rt: &R, alloc: Global, desk: &Desk<'_, N, NoStore>) -> bool {
+fn takes_tables<N: Server, R: Wait>(
+    rt: &R,
+    alloc: Global,
+    beside: &mut Beside<'_, N, NoStore>,
+) -> bool {
     matches!(
-        solved(rt, alloc, desk, SECOND_DEAL),
+        solved(rt, alloc, beside, SECOND_DEAL),
         Some((Answer::Refused(Refusal::StrangeDeal), 0, 0, 3))
     ) && matches!(
-        solved(rt, alloc, desk, FIRST_DEAL),
+        solved(rt, alloc, beside, FIRST_DEAL),
         Some((Answer::Accepted, 4, 4, 4))
     ) && matches!(
-        solved(rt, alloc, desk, FIRST_DEAL),
+        solved(rt, alloc, beside, FIRST_DEAL),
         Some((Answer::Refused(Refusal::AlreadySolved), 0, 0, 4))
     )
 }
@@ -142,24 +145,28 @@ type Entered = Option<(Answer, usize, usize, usize)>;
 fn solved<N: Server, R: Wait>(
     rt: &R,
     alloc: Global,
-    desk: &Desk<'_, N, NoStore>,
+    beside: &mut Beside<'_, N, NoStore>,
     deal: &str,
 ) -> Entered {
     let deal = deal.parse::<Deal>().ok()?;
     let Ok(found) = table(alloc, deal, &mut Budget::new(1_000_000)) else {
         return None;
     };
-    let (answer, receipt) = desk.submit_solved(rt, 1, found);
+    let (answer, receipt) = beside.desk.submit_solved(rt, 1, found);
     Some((answer, receipt.first(), receipt.last(), receipt.version()))
 }
 
 /// At table 2 there is no result of board 1; that of table 1 has no play.
-fn takes_costs<N: Server, R: Wait>(rt: &R, alloc: Global, desk: &Desk<'_, N, NoStore>) -> bool {
+fn takes_costs<N: Server, R: Wait>(
+    rt: &R,
+    alloc: Global,
+    beside: &mut Beside<'_, N, NoStore>,
+) -> bool {
     matches!(
-        analysed(rt, alloc, desk, 2),
+        analysed(rt, alloc, beside, 2),
         Some((Answer::Refused(Refusal::NotLive), 0, 0, 4))
     ) && matches!(
-        analysed(rt, alloc, desk, 1),
+        analysed(rt, alloc, beside, 1),
         Some((Answer::Refused(Refusal::StrangePlay), 0, 0, 4))
     )
 }
@@ -168,11 +175,13 @@ fn takes_costs<N: Server, R: Wait>(rt: &R, alloc: Global, desk: &Desk<'_, N, NoS
 fn analysed<N: Server, R: Wait>(
     rt: &R,
     alloc: Global,
-    desk: &Desk<'_, N, NoStore>,
+    beside: &mut Beside<'_, N, NoStore>,
     table: u8,
 ) -> Entered {
     let costs = costs_of(alloc)?;
-    let (answer, receipt) = desk.submit_analysed(rt, Cell { table, board: 1 }, costs);
+    let (answer, receipt) = beside
+        .desk
+        .submit_analysed(rt, Cell { table, board: 1 }, costs);
     Some((answer, receipt.first(), receipt.last(), receipt.version()))
 }
 
@@ -181,8 +190,9 @@ fn a_desk_answers_as_a_book_does(rt: HostRuntime) {
     assert!(rt; is_served(&rt, rt.alloc(), 1, &Desks));
 }
 
-/// The scorer's messages on a connection, and those of a player on the next one.
-static MESSAGES: [(&str, &str); 8] = [
+/// The scorer's messages on a connection, those of a player and a director on the next ones, and an audit. What a board
+/// that is held and released was told once would be accepted once more, were it entered again.
+static MESSAGES: [(&str, &str); 12] = [
     (r#"{"do":[]}"#, r#"{"error":"NotSignedIn"}"#),
     (r#"{"hello":"k","token":"abd"}"#, r#"{"error":"NotKnown"}"#),
     (r#"{"hello":"k","token":"abc"}"#, r#"{"hello":"k"}"#),
@@ -203,6 +213,16 @@ static MESSAGES: [(&str, &str); 8] = [
         r#"{"do":[{"board":1,"cmd":"Enter","result":"pass","table":1}]}"#,
         r#"{"answers":["NotPermitted"],"first":0,"last":0,"version":2}"#,
     ),
+    (r#"{"hello":"d","token":"abc"}"#, r#"{"hello":"d"}"#),
+    (
+        r#"{"do":[{"board":1,"cmd":"Hold"},{"board":1,"cmd":"Release"}]}"#,
+        r#"{"answers":["ok","ok"],"first":3,"last":4,"version":4}"#,
+    ),
+    (r#"{"hello":"a","token":"abc"}"#, r#"{"hello":"a"}"#),
+    (
+        r#"{"audit":{"from":1,"limit":10}}"#,
+        r#"{"audit":[[1,"k","Enter","1/1"],[2,"k","Confirm","1/1"],[3,"d","Hold","1"],[4,"d","Release","1"]],"version":4}"#,
+    ),
 ];
 
 /// Each is answered so on a connection.
@@ -215,13 +235,14 @@ impl Part for Connected {
         rt: &R,
         alloc: Global,
         shared: &Shared<N, NoStore>,
+        places: DeskPlaces<N>,
         displays: Vec<Display<N>>,
     ) -> bool {
-        let mut displays = displays;
-        let Some(display) = displays.pop() else {
+        let (mut places, mut displays) = (places, displays);
+        let Some(Beside { desk, display }) = beside(shared, &mut places, &mut displays) else {
             return false;
         };
-        let mut connection = Connection::new(DeskKeeper::new(shared.desk(), display));
+        let mut connection = Connection::new(DeskKeeper::new(desk, display));
         for &(message, answer) in &MESSAGES {
             if !is_answered(rt, alloc, &mut connection, message, answer) {
                 return false;

@@ -1,10 +1,11 @@
 //! Desks beside one another.
 
 ghost use Rattle.std.specs.Prelude.{◌≡◌, []};
+ghost use Rattle.desks.specs.Places.{IsTallyOf};
 
-use super::serving::{opened_book, shared_by};
-use super::texts::{shown, told};
-use desks::{Desk, Shared};
+use super::serving::{beside, opened_book, shared_by};
+use super::texts::{Beside, told};
+use desks::{DeskPlaces, Shared, new_tally};
 use displays::{Display, Server};
 use entry_store::NoStore;
 use history::History;
@@ -13,6 +14,7 @@ use session_queries::Query;
 use std::alloc::Global;
 use std::marker::Brand;
 use std::sync::Wait;
+use std::sync::ledger::Blank;
 use std::thread::{self, Threads};
 use user_names::Name;
 
@@ -30,7 +32,8 @@ fn learn_receipts<R: Threads + Wait + Sync>(rt: &R, alloc: Global) -> bool {
     match opened_book(alloc) {
         Some(book) => {
             let history = History::new();
-            learn_receipts_by::<Brand, R>(rt, alloc, book, history)
+            let tally = new_tally();
+            learn_receipts_by::<Brand, R>(rt, alloc, book, history, tally)
         }
         None => false,
     }
@@ -42,14 +45,16 @@ fn learn_receipts_by<N: Server + Send + Sync, R: Threads + Wait + Sync>(
     alloc: Global,
     book: Book,
     history: History,
+    tally: Blank,
 ) -> bool
     requires journal { book.journal ≡ [] }
     requires opening { book.opening ≡ N.opening }
     requires history { history ≡ N.history }
+    requires tally { IsTallyOf N.name N.parts tally.name tally.parts }
 {
-    match shared_by::<N, NoStore, R>(rt, alloc, book, history, 3, NoStore) {
-        Some((shared, displays)) => {
-            let goes = learn_receipts_in(rt, alloc, &shared, displays);
+    match shared_by::<N, NoStore, R>(rt, alloc, book, history, tally, 3, NoStore) {
+        Some((shared, places, displays)) => {
+            let goes = learn_receipts_in(rt, alloc, &shared, places, displays);
             let _store = shared.close(rt);
             goes
         }
@@ -61,18 +66,21 @@ fn learn_receipts_in<N: Server + Send + Sync, R: Threads + Wait + Sync>(
     rt: &R,
     alloc: Global,
     shared: &Shared<N, NoStore>,
+    places: DeskPlaces<N>,
     displays: Vec<Display<N>>,
 ) -> bool {
-    let mut displays = displays;
-    let (Some(one), Some(other), Some(last)) = (displays.pop(), displays.pop(), displays.pop())
-    else {
+    let (mut places, mut displays) = (places, displays);
+    let (Some(one), Some(other), Some(last)) = (
+        beside(shared, &mut places, &mut displays),
+        beside(shared, &mut places, &mut displays),
+        displays.pop(),
+    ) else {
         return false;
     };
-    let (desk, next) = (shared.desk(), shared.desk());
     let (mine, theirs) = thread::join(
         rt,
-        move || learns(rt, alloc, &desk, one, HOLDS[0]),
-        move || learns(rt, alloc, &next, other, HOLDS[1]),
+        move || learns(rt, alloc, one, HOLDS[0]),
+        move || learns(rt, alloc, other, HOLDS[1]),
     );
     mine && theirs && is_at(alloc, last, 4 * BATCHES)
 }
@@ -81,20 +89,19 @@ fn learn_receipts_in<N: Server + Send + Sync, R: Threads + Wait + Sync>(
 fn learns<N: Server, R: Wait>(
     rt: &R,
     alloc: Global,
-    desk: &Desk<'_, N, NoStore>,
-    display: Display<N>,
+    one: Beside<'_, N, NoStore>,
     message: &str,
 ) -> bool {
-    let mut display = display;
+    let mut one = one;
     for _ in 0..BATCHES {
-        let Some((_, receipt)) = told(rt, alloc, desk, message) else {
+        let Some((_, receipt)) = told(rt, alloc, &mut one, message) else {
             return false;
         };
-        display.learn(&receipt);
+        one.display.learn(&receipt);
         let told = receipt.version();
         if receipt.last() != told
             || receipt.first().wrapping_add(1) != told
-            || !shows_since(alloc, &mut display, told)
+            || !shows_since(alloc, &mut one.display, told)
         {
             return false;
         }
@@ -154,7 +161,8 @@ fn share_a_journal<R: Threads + Wait + Sync>(rt: &R, alloc: Global) -> bool {
     match opened_book(alloc) {
         Some(book) => {
             let history = History::new();
-            share_a_journal_by::<Brand, R>(rt, alloc, book, history)
+            let tally = new_tally();
+            share_a_journal_by::<Brand, R>(rt, alloc, book, history, tally)
         }
         None => false,
     }
@@ -166,14 +174,16 @@ fn share_a_journal_by<N: Server + Send + Sync, R: Threads + Wait + Sync>(
     alloc: Global,
     book: Book,
     history: History,
+    tally: Blank,
 ) -> bool
     requires journal { book.journal ≡ [] }
     requires opening { book.opening ≡ N.opening }
     requires history { history ≡ N.history }
+    requires tally { IsTallyOf N.name N.parts tally.name tally.parts }
 {
-    match shared_by::<N, NoStore, R>(rt, alloc, book, history, 1, NoStore) {
-        Some((shared, displays)) => {
-            let goes = share_a_journal_in(rt, alloc, &shared, displays);
+    match shared_by::<N, NoStore, R>(rt, alloc, book, history, tally, 5, NoStore) {
+        Some((shared, places, displays)) => {
+            let goes = share_a_journal_in(rt, alloc, &shared, places, displays);
             let _store = shared.close(rt);
             goes
         }
@@ -185,28 +195,25 @@ fn share_a_journal_in<N: Server + Send + Sync, R: Threads + Wait + Sync>(
     rt: &R,
     alloc: Global,
     shared: &Shared<N, NoStore>,
+    places: DeskPlaces<N>,
     displays: Vec<Display<N>>,
 ) -> bool {
-    let mut displays = displays;
+    let (mut places, mut displays) = (places, displays);
     let Some(last) = displays.pop() else {
+        return false;
+    };
+    let (Some(one), Some(two), Some(three), Some(four)) = (
+        beside(shared, &mut places, &mut displays),
+        beside(shared, &mut places, &mut displays),
+        beside(shared, &mut places, &mut displays),
+        beside(shared, &mut places, &mut displays),
+    ) else {
         return false;
     };
     let ((one, two), (three, four)) = thread::join(
         rt,
-        || {
-            thread::join(
-                rt,
-                || numbers_told(rt, alloc, &shared.desk(), FOUR[0]),
-                || numbers_told(rt, alloc, &shared.desk(), FOUR[1]),
-            )
-        },
-        || {
-            thread::join(
-                rt,
-                || numbers_told(rt, alloc, &shared.desk(), FOUR[2]),
-                || numbers_told(rt, alloc, &shared.desk(), FOUR[3]),
-            )
-        },
+        move || two_told(rt, alloc, one, FOUR[0], two, FOUR[1]),
+        move || two_told(rt, alloc, three, FOUR[2], four, FOUR[3]),
     );
     let (Some(one), Some(two), Some(three), Some(four)) = (one, two, three, four) else {
         return false;
@@ -217,19 +224,36 @@ fn share_a_journal_in<N: Server + Send + Sync, R: Threads + Wait + Sync>(
     }
 }
 
+// The numbers that two desks tell, each in a thread.
+fn two_told<N: Server + Send + Sync, R: Threads + Wait + Sync>(
+    rt: &R,
+    alloc: Global,
+    one: Beside<'_, N, NoStore>,
+    message: &str,
+    other: Beside<'_, N, NoStore>,
+    others: &str,
+) -> (Option<Numbers>, Option<Numbers>) {
+    thread::join(
+        rt,
+        move || numbers_told(rt, alloc, one, message),
+        move || numbers_told(rt, alloc, other, others),
+    )
+}
+
 // The numbers that a desk tells of so many batches.
 fn numbers_told<N: Server, R: Wait>(
     rt: &R,
     alloc: Global,
-    desk: &Desk<'_, N, NoStore>,
+    one: Beside<'_, N, NoStore>,
     message: &str,
 ) -> Option<Numbers> {
+    let mut one = one;
     let mut numbers = Numbers {
         spans: Vec::new(alloc),
         accepted: 0,
     };
     for _ in 0..BATCHES {
-        let (text, receipt) = told(rt, alloc, desk, message)?;
+        let (text, receipt) = told(rt, alloc, &mut one, message)?;
         let accepted = text.as_str().matches(r#""ok""#).count();
         numbers.accepted = numbers.accepted.wrapping_add(accepted);
         if accepted > 0 {

@@ -1,12 +1,13 @@
 //! What desks and displays answer beside a store that fails once: of the batch that isn't kept nothing is seen.
 
 ghost use Rattle.std.specs.Prelude.{◌≡◌, []};
+ghost use Rattle.desks.specs.Places.{IsTallyOf};
 
-use super::serving::{opened_book, shared_by};
+use super::serving::{beside, opened_book, shared_by};
 use super::session::FIRST_DEAL;
-use super::texts::{fault, shows, tells};
+use super::texts::{Beside, fault, shows, tells};
 use cards::Deal;
-use desks::Desk;
+use desks::{DeskPlaces, Shared, new_tally};
 use displays::{Display, Server};
 use double_dummy::{Budget, table};
 use entry_store::{EntryStore, KeepFault};
@@ -17,6 +18,7 @@ use session_keeper::SubmitFault;
 use std::alloc::Global;
 use std::marker::Brand;
 use std::sync::Wait;
+use std::sync::ledger::Blank;
 
 /// A store that counts what it keeps, and fails at one of its tries. It promises nothing of what a crash leaves.
 #[derive(Clone, Copy)]
@@ -104,7 +106,8 @@ fn goes<R: Wait>(rt: &R, alloc: Global, fault: KeepFault) -> bool {
     match opened_book(alloc) {
         Some(book) => {
             let history = History::new();
-            goes_named::<Brand, R>(rt, alloc, book, history, fault)
+            let tally = new_tally();
+            goes_named::<Brand, R>(rt, alloc, book, history, tally, fault)
         }
         None => false,
     }
@@ -116,19 +119,36 @@ fn goes_named<N: Server, R: Wait>(
     alloc: Global,
     book: Book,
     history: History,
+    tally: Blank,
     fault: KeepFault,
 ) -> bool
     requires journal { book.journal ≡ [] }
     requires opening { book.opening ≡ N.opening }
     requires history { history ≡ N.history }
+    requires tally { IsTallyOf N.name N.parts tally.name tally.parts }
 {
     let store = FailingStore::new(2, fault);
-    match shared_by::<N, FailingStore, R>(rt, alloc, book, history, 1, store) {
-        Some((shared, displays)) => {
-            let is_right = is_right(rt, alloc, &shared.desk(), displays, fault);
+    match shared_by::<N, FailingStore, R>(rt, alloc, book, history, tally, 1, store) {
+        Some((shared, places, displays)) => {
+            let is_right = goes_in(rt, alloc, &shared, places, displays, fault);
             let store = shared.close(rt);
             is_right && has_kept(&store, fault)
         }
+        None => false,
+    }
+}
+
+fn goes_in<N: Server, R: Wait>(
+    rt: &R,
+    alloc: Global,
+    shared: &Shared<N, FailingStore>,
+    places: DeskPlaces<N>,
+    displays: Vec<Display<N>>,
+    fault: KeepFault,
+) -> bool {
+    let (mut places, mut displays) = (places, displays);
+    match beside(shared, &mut places, &mut displays) {
+        Some(mut one) => is_right(rt, alloc, &mut one, fault),
         None => false,
     }
 }
@@ -137,41 +157,36 @@ fn goes_named<N: Server, R: Wait>(
 fn is_right<N: Server, R: Wait>(
     rt: &R,
     alloc: Global,
-    desk: &Desk<'_, N, FailingStore>,
-    displays: Vec<Display<N>>,
+    beside: &mut Beside<'_, N, FailingStore>,
     fault: KeepFault,
 ) -> bool {
-    let mut displays = displays;
-    let Some(mut display) = displays.pop() else {
-        return false;
-    };
-    is_told(rt, alloc, desk, &FIRST_BATCH)
-        && fails_so(rt, alloc, desk, fault)
-        && shows(alloc, &mut display, QUERY.0, QUERY.1)
-        && is_told(rt, alloc, desk, &AUDIT)
+    is_told(rt, alloc, beside, &FIRST_BATCH)
+        && fails_so(rt, alloc, beside, fault)
+        && shows(alloc, &mut beside.display, QUERY.0, QUERY.1)
+        && is_told(rt, alloc, beside, &AUDIT)
         && match fault {
-            KeepFault::NotKept => goes_on(rt, alloc, desk),
-            KeepFault::Unsure => is_shut(rt, alloc, desk),
+            KeepFault::NotKept => goes_on(rt, alloc, beside),
+            KeepFault::Unsure => is_shut(rt, alloc, beside),
         }
 }
 
 fn is_told<N: Server, R: Wait>(
     rt: &R,
     alloc: Global,
-    desk: &Desk<'_, N, FailingStore>,
+    beside: &mut Beside<'_, N, FailingStore>,
     row: &(&str, &str),
 ) -> bool {
-    tells(rt, alloc, desk, row.0, row.1)
+    tells(rt, alloc, beside, row.0, row.1)
 }
 
 // Whether the second batch fails with this fault.
 fn fails_so<N: Server, R: Wait>(
     rt: &R,
     alloc: Global,
-    desk: &Desk<'_, N, FailingStore>,
+    beside: &mut Beside<'_, N, FailingStore>,
     expected: KeepFault,
 ) -> bool {
-    match (fault(rt, alloc, desk, SECOND_BATCH.0), expected) {
+    match (fault(rt, alloc, beside, SECOND_BATCH.0), expected) {
         (Some(SubmitFault::NotKept), KeepFault::NotKept) => true,
         (Some(SubmitFault::Unsure), KeepFault::Unsure) => true,
         _ => false,
@@ -179,32 +194,44 @@ fn fails_so<N: Server, R: Wait>(
 }
 
 // A store that is open again keeps the same batch, which has the numbers that it would have had.
-fn goes_on<N: Server, R: Wait>(rt: &R, alloc: Global, desk: &Desk<'_, N, FailingStore>) -> bool {
-    is_told(rt, alloc, desk, &EMPTY_BATCH)
-        && is_told(rt, alloc, desk, &SECOND_BATCH)
-        && is_told(rt, alloc, desk, &LATER_AUDIT)
+fn goes_on<N: Server, R: Wait>(
+    rt: &R,
+    alloc: Global,
+    beside: &mut Beside<'_, N, FailingStore>,
+) -> bool {
+    is_told(rt, alloc, beside, &EMPTY_BATCH)
+        && is_told(rt, alloc, beside, &SECOND_BATCH)
+        && is_told(rt, alloc, beside, &LATER_AUDIT)
 }
 
 // A store that is shut isn't asked: not for a batch in which nothing would be accepted, and not for the solver's.
-fn is_shut<N: Server, R: Wait>(rt: &R, alloc: Global, desk: &Desk<'_, N, FailingStore>) -> bool {
-    fails_so(rt, alloc, desk, KeepFault::NotKept)
+fn is_shut<N: Server, R: Wait>(
+    rt: &R,
+    alloc: Global,
+    beside: &mut Beside<'_, N, FailingStore>,
+) -> bool {
+    fails_so(rt, alloc, beside, KeepFault::NotKept)
         && matches!(
-            fault(rt, alloc, desk, EMPTY_BATCH.0),
+            fault(rt, alloc, beside, EMPTY_BATCH.0),
             Some(SubmitFault::NotKept)
         )
-        && is_dropped(rt, alloc, desk)
-        && is_told(rt, alloc, desk, &AUDIT)
+        && is_dropped(rt, alloc, beside)
+        && is_told(rt, alloc, beside, &AUDIT)
 }
 
 // Whether a board's table is dropped.
-fn is_dropped<N: Server, R: Wait>(rt: &R, alloc: Global, desk: &Desk<'_, N, FailingStore>) -> bool {
+fn is_dropped<N: Server, R: Wait>(
+    rt: &R,
+    alloc: Global,
+    beside: &mut Beside<'_, N, FailingStore>,
+) -> bool {
     let Ok(deal) = FIRST_DEAL.parse::<Deal>() else {
         return false;
     };
     let Ok(found) = table(alloc, deal, &mut Budget::new(1_000_000)) else {
         return false;
     };
-    let (answer, receipt) = desk.submit_solved(rt, 1, found);
+    let (answer, receipt) = beside.desk.submit_solved(rt, 1, found);
     matches!(answer, Answer::Refused(Refusal::OutOfMemory)) && receipt.version() == 2
 }
 

@@ -2,7 +2,7 @@
 
 use super::serving::{Part, is_served};
 use super::texts::shows;
-use desks::Shared;
+use desks::{DeskPlaces, Shared};
 use displays::{Display, Server};
 use entry_store::NoStore;
 use std::alloc::Global;
@@ -24,6 +24,7 @@ impl Part for Answers {
         _rt: &R,
         alloc: Global,
         _shared: &Shared<N, NoStore>,
+        _places: DeskPlaces<N>,
         displays: Vec<Display<N>>,
     ) -> bool {
         if displays.len() != self.displays {

@@ -2,9 +2,11 @@
 
 ghost use Rattle.std.specs.Prelude.{◌≡◌, [], IfSome};
 ghost use Rattle.desks.specs.Kept.{LeavesJust};
+ghost use Rattle.desks.specs.Places.{IsTallyOf};
 
 use super::session::session;
-use desks::Shared;
+use super::texts::Beside;
+use desks::{DeskPlaces, Shared, new_tally};
 use displays::{Display, Server, open_displays};
 use entry_store::{EntryStore, NoStore};
 use history::History;
@@ -14,6 +16,7 @@ use session_book::Book;
 use std::alloc::Global;
 use std::marker::Brand;
 use std::sync::Wait;
+use std::sync::ledger::Blank;
 
 /// What is done in a session that desks and displays share.
 pub(super) trait Part {
@@ -23,6 +26,7 @@ pub(super) trait Part {
         rt: &R,
         alloc: Global,
         shared: &Shared<N, NoStore>,
+        places: DeskPlaces<N>,
         displays: Vec<Display<N>>,
     ) -> bool;
 }
@@ -37,7 +41,8 @@ pub(super) fn is_served<R: Wait, P: Part>(
     match opened_book(alloc) {
         Some(book) => {
             let history = History::new();
-            is_served_by::<Brand, R, P>(rt, alloc, book, history, displays, part)
+            let tally = new_tally();
+            is_served_by::<Brand, R, P>(rt, alloc, book, history, tally, displays, part)
         }
         None => false,
     }
@@ -49,16 +54,18 @@ fn is_served_by<N: Server, R: Wait, P: Part>(
     alloc: Global,
     book: Book,
     history: History,
+    tally: Blank,
     displays: usize,
     part: &P,
 ) -> bool
     requires journal { book.journal ≡ [] }
     requires opening { book.opening ≡ N.opening }
     requires history { history ≡ N.history }
+    requires tally { IsTallyOf N.name N.parts tally.name tally.parts }
 {
-    match shared_by::<N, NoStore, R>(rt, alloc, book, history, displays, NoStore) {
-        Some((shared, displays)) => {
-            let goes = part.goes(rt, alloc, &shared, displays);
+    match shared_by::<N, NoStore, R>(rt, alloc, book, history, tally, displays, NoStore) {
+        Some((shared, places, displays)) => {
+            let goes = part.goes(rt, alloc, &shared, places, displays);
             let _store = shared.close(rt);
             goes
         }
@@ -82,12 +89,14 @@ pub(super) fn shared_by<N: Server, K: EntryStore, R: Wait>(
     alloc: Global,
     book: Book,
     history: History,
+    tally: Blank,
     displays: usize,
     store: K,
-) -> Option<(Shared<N, K>, Vec<Display<N>>)>
+) -> Option<(Shared<N, K>, DeskPlaces<N>, Vec<Display<N>>)>
     requires journal { book.journal ≡ [] }
     requires opening { book.opening ≡ N.opening }
     requires history { history ≡ N.history }
+    requires tally { IsTallyOf N.name N.parts tally.name tally.parts }
     requires store { LeavesJust [] (K.doubt store) (K.leaves store) }
 {
     let (Ok(first), Ok(second)) = (View::open(alloc, &book), View::open(alloc, &book)) else {
@@ -95,8 +104,23 @@ pub(super) fn shared_by<N: Server, K: EntryStore, R: Wait>(
     };
     match open_displays::<N, R>(rt, alloc, history, first, second, displays) {
         Ok((publisher, displays)) => {
-            Some((Shared::new(alloc, book, publisher, store), displays))
+            let (shared, places) = Shared::new(alloc, book, publisher, store, tally);
+            Some((shared, places, displays))
         }
         Err(_) => None,
     }
+}
+
+/// One more desk, beside a display that nobody else asks; if there are both.
+pub(super) fn beside<'a, N: Server, K: EntryStore>(
+    shared: &'a Shared<N, K>,
+    places: &mut DeskPlaces<N>,
+    displays: &mut Vec<Display<N>>,
+) -> Option<Beside<'a, N, K>> {
+    let place = places.take()?;
+    let display = displays.pop()?;
+    Some(Beside {
+        desk: shared.desk(place),
+        display,
+    })
 }

@@ -1,10 +1,11 @@
 //! A desk in one thread, displays in others.
 
 ghost use Rattle.std.specs.Prelude.{◌≡◌, []};
+ghost use Rattle.desks.specs.Places.{IsTallyOf};
 
-use super::serving::{opened_book, shared_by};
-use super::texts::{shown, shows, told};
-use desks::{Desk, Shared};
+use super::serving::{beside, opened_book, shared_by};
+use super::texts::{Beside, shown, shows, told};
+use desks::{DeskPlaces, Shared, new_tally};
 use displays::{Display, Receipt, Server};
 use entry_store::NoStore;
 use history::History;
@@ -12,6 +13,7 @@ use session_book::Book;
 use std::alloc::Global;
 use std::marker::Brand;
 use std::sync::Wait;
+use std::sync::ledger::Blank;
 use std::thread::{self, Threads};
 
 /// A scorer enters and confirms a result.
@@ -39,7 +41,8 @@ fn shows_result<R: Threads + Wait + Sync>(rt: &R, alloc: Global) -> bool {
     match opened_book(alloc) {
         Some(book) => {
             let history = History::new();
-            shows_result_by::<Brand, R>(rt, alloc, book, history)
+            let tally = new_tally();
+            shows_result_by::<Brand, R>(rt, alloc, book, history, tally)
         }
         None => false,
     }
@@ -51,14 +54,16 @@ fn shows_result_by<N: Server + Send + Sync, R: Threads + Wait + Sync>(
     alloc: Global,
     book: Book,
     history: History,
+    tally: Blank,
 ) -> bool
     requires journal { book.journal ≡ [] }
     requires opening { book.opening ≡ N.opening }
     requires history { history ≡ N.history }
+    requires tally { IsTallyOf N.name N.parts tally.name tally.parts }
 {
-    match shared_by::<N, NoStore, R>(rt, alloc, book, history, 2, NoStore) {
-        Some((shared, displays)) => {
-            let goes = shows_result_in(rt, alloc, &shared, displays);
+    match shared_by::<N, NoStore, R>(rt, alloc, book, history, tally, 3, NoStore) {
+        Some((shared, places, displays)) => {
+            let goes = shows_result_in(rt, alloc, &shared, places, displays);
             let _store = shared.close(rt);
             goes
         }
@@ -70,16 +75,19 @@ fn shows_result_in<N: Server + Send + Sync, R: Threads + Wait + Sync>(
     rt: &R,
     alloc: Global,
     shared: &Shared<N, NoStore>,
+    places: DeskPlaces<N>,
     displays: Vec<Display<N>>,
 ) -> bool {
-    let mut displays = displays;
+    let (mut places, mut displays) = (places, displays);
+    let Some(mut one) = beside(shared, &mut places, &mut displays) else {
+        return false;
+    };
     let (Some(learning), Some(other)) = (displays.pop(), displays.pop()) else {
         return false;
     };
-    let desk = shared.desk();
     let (receipt, (other, early)) = thread::join(
         rt,
-        move || confirmed(rt, alloc, &desk),
+        move || confirmed(rt, alloc, &mut one),
         move || asked_early(alloc, other),
     );
     let Some(receipt) = receipt else {
@@ -98,9 +106,9 @@ fn shows_result_in<N: Server + Send + Sync, R: Threads + Wait + Sync>(
 fn confirmed<N: Server, R: Wait>(
     rt: &R,
     alloc: Global,
-    desk: &Desk<'_, N, NoStore>,
+    beside: &mut Beside<'_, N, NoStore>,
 ) -> Option<Receipt<N>> {
-    let (text, receipt) = told(rt, alloc, desk, RESULT)?;
+    let (text, receipt) = told(rt, alloc, beside, RESULT)?;
     if text.as_str() == TOLD {
         Some(receipt)
     } else {

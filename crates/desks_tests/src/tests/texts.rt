@@ -20,6 +20,13 @@ use wire::{
     receipt_text,
 };
 
+/// A desk, and the display beside which it is asked.
+#[derive(Drop)]
+pub(super) struct Beside<'a, N: Server, K: EntryStore> {
+    pub(super) desk: Desk<'a, N, K>,
+    pub(super) display: Display<N>,
+}
+
 /// What is told of a batch or of an audit, and the receipt; if the message is one.
 pub(super) type Told<N> = Option<(String, Receipt<N>)>;
 
@@ -27,11 +34,11 @@ pub(super) type Told<N> = Option<(String, Receipt<N>)>;
 pub(super) fn told<N: Server, K: EntryStore, R: Wait>(
     rt: &R,
     alloc: Global,
-    desk: &Desk<'_, N, K>,
+    beside: &mut Beside<'_, N, K>,
     message: &str,
 ) -> Told<N> {
     match read_script_request(alloc, message.as_bytes(), Edition::First) {
-        Ok(said) => told_of(rt, alloc, desk, &said),
+        Ok(said) => told_of(rt, alloc, beside, &said),
         Err(_) => None,
     }
 }
@@ -39,16 +46,16 @@ pub(super) fn told<N: Server, K: EntryStore, R: Wait>(
 fn told_of<N: Server, K: EntryStore, R: Wait>(
     rt: &R,
     alloc: Global,
-    desk: &Desk<'_, N, K>,
+    beside: &mut Beside<'_, N, K>,
     said: &ScriptRequest,
 ) -> Told<N>
     requires { HasFew said.now.request }
 {
     match &said.request {
         UserRequest::Batch { commands } => {
-            told_of_batch(rt, alloc, desk, said.user, commands.as_slice())
+            told_of_batch(rt, alloc, beside, said.user, commands.as_slice())
         }
-        UserRequest::Audit { range } => told_of_audit(rt, alloc, desk, said.user, range),
+        UserRequest::Audit { range } => told_of_audit(rt, alloc, beside, said.user, range),
         UserRequest::Query { .. } => None,
     }
 }
@@ -56,13 +63,14 @@ fn told_of<N: Server, K: EntryStore, R: Wait>(
 fn told_of_batch<N: Server, K: EntryStore, R: Wait>(
     rt: &R,
     alloc: Global,
-    desk: &Desk<'_, N, K>,
+    beside: &mut Beside<'_, N, K>,
     user: Name,
     batch: &[Command],
 ) -> Told<N>
     requires { length batch.now ≤ most_commands }
 {
-    let Ok((answers, receipt)) = desk.submit(rt, user, batch) else {
+    let Beside { desk, display } = beside;
+    let Ok((answers, receipt)) = desk.submit(rt, display, user, batch) else {
         return None;
     };
     let submission = Submission {
@@ -80,7 +88,7 @@ fn told_of_batch<N: Server, K: EntryStore, R: Wait>(
 pub(super) fn fault<N: Server, K: EntryStore, R: Wait>(
     rt: &R,
     alloc: Global,
-    desk: &Desk<'_, N, K>,
+    beside: &mut Beside<'_, N, K>,
     message: &str,
 ) -> Option<SubmitFault> {
     let Ok(said) = read_script_request(alloc, message.as_bytes(), Edition::First) else {
@@ -89,17 +97,20 @@ pub(super) fn fault<N: Server, K: EntryStore, R: Wait>(
     let UserRequest::Batch { commands } = &said.request else {
         return None;
     };
-    desk.submit(rt, said.user, commands.as_slice()).err()
+    let Beside { desk, display } = beside;
+    desk.submit(rt, display, said.user, commands.as_slice())
+        .err()
 }
 
 fn told_of_audit<N: Server, K: EntryStore, R: Wait>(
     rt: &R,
     alloc: Global,
-    desk: &Desk<'_, N, K>,
+    beside: &mut Beside<'_, N, K>,
     user: Name,
     range: &AuditRange,
 ) -> Told<N> {
-    let (rows, receipt) = desk.audit(rt, user, range.from as usize, range.limit as usize);
+    let Beside { desk, display } = beside;
+    let (rows, receipt) = desk.audit(rt, display, user, range.from as usize, range.limit as usize);
     let text = match &rows {
         Ok(rows) => audit_text(alloc, rows, receipt.version()),
         Err(_) => audit_refusal_text(alloc),
@@ -145,11 +156,11 @@ pub(super) fn shows<N: Server>(
 pub(super) fn tells<N: Server, K: EntryStore, R: Wait>(
     rt: &R,
     alloc: Global,
-    desk: &Desk<'_, N, K>,
+    beside: &mut Beside<'_, N, K>,
     message: &str,
     answer: &str,
 ) -> bool {
-    match told(rt, alloc, desk, message) {
+    match told(rt, alloc, beside, message) {
         Some((text, _)) => text.as_str() == answer,
         None => false,
     }

@@ -1,10 +1,10 @@
 //! What is left to solve at a cell.
 
-use super::serving::{Part, is_served};
+use super::serving::{Part, beside, is_served};
 use super::session::FIRST_DEAL;
-use super::texts::told;
+use super::texts::{Beside, told};
 use cards::{Card, Deal, Play, Rank};
-use desks::{Desk, Shared};
+use desks::{DeskPlaces, Shared};
 use displays::{Display, Server};
 use double_dummy::{Budget, play_costs};
 use entry_store::NoStore;
@@ -108,15 +108,19 @@ impl Part for Works {
         rt: &R,
         alloc: Global,
         shared: &Shared<N, NoStore>,
-        _displays: Vec<Display<N>>,
+        places: DeskPlaces<N>,
+        displays: Vec<Display<N>>,
     ) -> bool {
-        let desk = shared.desk();
+        let (mut places, mut displays) = (places, displays);
+        let Some(mut one) = beside(shared, &mut places, &mut displays) else {
+            return false;
+        };
         for row in &ROWS {
-            if !leaves(rt, alloc, &desk, row) {
+            if !leaves(rt, alloc, &mut one, row) {
                 return false;
             }
         }
-        is_found(rt, alloc, &desk)
+        is_found(rt, alloc, &mut one)
     }
 }
 
@@ -124,13 +128,13 @@ impl Part for Works {
 fn leaves<N: Server, R: Wait>(
     rt: &R,
     alloc: Global,
-    desk: &Desk<'_, N, NoStore>,
+    beside: &mut Beside<'_, N, NoStore>,
     &(message, table, board, is_left): &(&str, u8, u8, bool),
 ) -> bool {
-    if told(rt, alloc, desk, message).is_none() {
+    if told(rt, alloc, beside, message).is_none() {
         return false;
     }
-    match desk.work_of(rt, Cell { table, board }) {
+    match beside.desk.work_of(rt, Cell { table, board }) {
         Some(work) => is_left && is_of_the_lead(work),
         None => !is_left,
     }
@@ -155,13 +159,17 @@ fn is_of_the_lead(work: Work) -> bool {
 }
 
 // Whether the costs are entered, and then none are left to find.
-fn is_found<N: Server, R: Wait>(rt: &R, alloc: Global, desk: &Desk<'_, N, NoStore>) -> bool {
+fn is_found<N: Server, R: Wait>(
+    rt: &R,
+    alloc: Global,
+    beside: &mut Beside<'_, N, NoStore>,
+) -> bool {
     let Some(costs) = costs_of(alloc) else {
         return false;
     };
     let cell = Cell { table: 1, board: 1 };
-    let (answer, _) = desk.submit_analysed(rt, cell, costs);
-    matches!(answer, Answer::Accepted) && desk.work_of(rt, cell).is_none()
+    let (answer, _) = beside.desk.submit_analysed(rt, cell, costs);
+    matches!(answer, Answer::Accepted) && beside.desk.work_of(rt, cell).is_none()
 }
 
 #[test]

@@ -1,5 +1,9 @@
 use Rattle.display_times.proofs.measuring.measure.Given as goal
 
 -- the server is that of the session that was just opened
-abbrev pub ghosts-measure_named : goal.ghosts-measure_named
-ghosts-measure_named g a = record { opening = a.book.opening; history = a.history }
+abbrev pub ghosts-measure_named-N-Server : goal.ghosts-measure_named-N-Server
+ghosts-measure_named-N-Server g a = record { opening = a.book.opening; history = a.history }
+
+-- and the count of what its desks enter is the new one
+abbrev pub ghosts-measure_named-N-Ledger : goal.ghosts-measure_named-N-Ledger
+ghosts-measure_named-N-Ledger g a = record { name = a.tally.name; parts = a.tally.parts }

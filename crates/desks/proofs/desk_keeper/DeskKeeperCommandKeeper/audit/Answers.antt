@@ -9,16 +9,16 @@ returns-clause-later g c = record { same = refl; begins = entries_of_prefix _ _ 
 
 pub returns-clause-receipt : goal.returns-clause-receipt
 returns-clause-receipt g c =
-    let journal = entries_of c.audit_from-rows.result.1.published in
+    let journal = entries_of c.audit-rows.result.1.published in
     record {
       journal = journal;
-      came = c.audit_from-rows.ensures.seen;
-      rows = c.audit_from-rows.ensures.rows;
-      permitted = c.audit_from-rows.ensures.permitted;
-      refused = c.audit_from-rows.ensures.refused;
-      valid = c.audit_from-rows.ensures.valid;
+      came = c.audit-rows.ensures.seen;
+      rows = c.audit-rows.ensures.rows;
+      permitted = c.audit-rows.ensures.permitted;
+      refused = c.audit-rows.ensures.refused;
+      valid = c.audit-rows.ensures.valid;
       version = c.version.ensures.version
-          ∙ sym (exact_version g.N.Server.opening journal c.audit_from-rows.ensures.published.accepted);
+          ∙ sym (exact_version g.N.Server.opening journal c.audit-rows.ensures.published.accepted);
       went = entries_of_prefix _ _ c.learn.ensures.told;
       begins = entries_of_prefix _ _ c.learn.ensures.told;
     }

@@ -1,5 +1,4 @@
-use Rattle.std.proofs.Common.{◌≡◌, List, ap, ◌∙◌, sym, subst}
-use Rattle.std.specs.Prelude.{Bool, MatchBool}
+use Rattle.std.proofs.Common.{◌≡◌, ◌↔◌, true, List, ap, ◌∙◌, sym, subst}
 use Rattle.std.specs.Mem.{manually_drop_value}
 use mathlib.Core.List.{IsPrefix}
 use Rattle.session_commands.specs.declared.entry.Entry.{Entry}
@@ -12,12 +11,20 @@ use Rattle.desks.specs.Kept.{LeavesAll}
 use Rattle.desks.proofs.KeptLemmas.{kept_seen}
 use Rattle.desks.proofs.locked_book.LockedBook.has_seen.Goals as goal
 
+pub returns-clause-seen : goal.returns-clause-seen
+returns-clause-seen g c =
+    let shown = c.deref-2.result.now.published in
+    let seen = c.args.display.now in
+    let same : shown ≡ c.args.self.now.published =
+    ap (λ (l : Outgoing). l.published) c.deref-2.ensures
+    ∙ ap (λ (s : KeptPublications g.row.K.Denot). s.published) c.self.view_is in
+    subst (λ (l : List (List Entry)). (c.is_behind.result ≡ true) ↔ IsPrefix seen l) same c.is_behind.ensures.begins
+
 pub returns-clause-begins : goal.returns-clause-begins
 returns-clause-begins g c is =
     let shown = c.deref-2.result.now.published in
     let seen = c.args.display.now in
-    let begins : IsPrefix seen shown =
-    subst (λ (b : Bool). MatchBool b (IsPrefix seen shown) (IsPrefix shown seen)) is c.is_behind.ensures.begins in
+    let begins : IsPrefix seen shown = c.is_behind.ensures.begins.0 is in
     let same : shown ≡ c.args.self.now.published =
     ap (λ (l : Outgoing). l.published) c.deref-2.ensures
     ∙ ap (λ (s : KeptPublications g.row.K.Denot). s.published) c.self.view_is in
@@ -29,8 +36,7 @@ returns-clause-kept g c is =
     let opening = g.N.Server.opening in
     let shown = c.deref-2.result.now.published in
     let seen = c.args.display.now in
-    let begins : IsPrefix seen shown =
-    subst (λ (b : Bool). MatchBool b (IsPrefix seen shown) (IsPrefix shown seen)) is c.is_behind.ensures.begins in
+    let begins : IsPrefix seen shown = c.is_behind.ensures.begins.0 is in
     let inside = c.self.inside in
     let here = (manually_drop_value inside.publisher).published in
     let allowed : IsPublished opening here =

@@ -16,4 +16,5 @@ invariant_of-result g c =
       ap (λ (o : Outgoing). o.pending) is ∙ c.requires.published.1,
       subst (λ (o : Outgoing). IsKeptBy g.N.Server.opening o.published doubt shown left) (sym is)
           (kept_just g.N.Server.opening c.args.publisher.published doubt shown left c.requires.kept),
+      c.requires.tally,
     )
