@@ -1,6 +1,6 @@
 # The kit's command `rt` must be on the path (README.md, "Get it, build it, run it").
 RT ?= rt
-# The built server: `rt run` in crates/bridge_server builds it.
+# The built server: `make demo` proves and builds it, as the gate does, and `rt run` in crates/bridge_server.
 PROGRAM ?= crates/bridge_server/out/bridge_server
 PORT ?= 8080
 # What `make serve` keeps: started again it goes on with the evening. Remove the file, and its log beside it, to begin a new one.
@@ -9,18 +9,20 @@ PAGE_PORT ?= 8000
 
 .PHONY: demo quick serve demo-page test test-page
 
-# Proves and builds all that the program stands on, answers the example's script, and says what was seen. What `rt` says of
-# its own work goes to standard error.
+# Proves and builds all that the program stands on, answers the two example scripts, and says what was seen. The gate counts
+# what this proved on the same machine.
 demo:
-	mkdir -p out
-	cd crates/bridge_server && $(RT) run -- script < ../../examples/first_round.script > ../../out/first_round.answers
-	python3 examples/say_round.py out/first_round.answers
+	python3 tests/build_program.py bridge_server "$(RT)"
+	python3 examples/say_answers.py examples/one_board.script --by $(PROGRAM)
+	python3 examples/say_answers.py examples/first_round.script --by $(PROGRAM)
 
 # The same before any proof: it shows what the program does, and proves nothing.
 quick:
 	mkdir -p out
+	cd crates/bridge_server && $(RT) try -- script < ../../examples/one_board.script > ../../out/one_board.answers
+	python3 examples/say_answers.py examples/one_board.script out/one_board.answers
 	cd crates/bridge_server && $(RT) try -- script < ../../examples/first_round.script > ../../out/first_round.answers
-	python3 examples/say_round.py out/first_round.answers
+	python3 examples/say_answers.py examples/first_round.script out/first_round.answers
 	@echo "Nothing was proved: make demo proves it all."
 
 # The example session for clients over WebSocket, on this computer, until Ctrl-C.

@@ -1,5 +1,5 @@
 #!/usr/bin/env python3
-# Writes the example of this folder: club.pbn, session.json, first_round.script and first_round.answers.
+# Writes the examples of this folder: club.pbn, session.json, and each script with its answers.
 #
 #     python3 examples/make_example.py
 #
@@ -261,6 +261,28 @@ def messages():
     yield from (ask("anna", 3), ask("anna", 3, "traveller"), ask("anna", 4), ask("anna", 22), ask("vera", 3), ask("dora", 25))
 
 
+# The shortest example: three tables and three boards, each player with a whole suit. North of pair 1 asks for board 1, a
+# scorer enters and confirms the result of her table, and she asks again.
+def one_board():
+    suits = ["." * i + RANKS + "." * (3 - i) for i in range(4)]
+    deal = "N:" + " ".join(suits)
+    pbn_text = "".join(f'[Board "{board}"]\n[Deal "{"NES"[board - 1]}:{" ".join(suits)}"]\n\n' for board in (1, 2, 3))
+    player = lambda table: {"pair": f"NS{table}", "place": "N", "roles": ["Contestant"]}
+    staff = {"a": {"roles": ["Administrator"]}, "k": {"roles": ["Scorer"]}, "n1": player(1), "n2": player(2)}
+    people = [dict(of, digest=digest_of(name), name=name) for name, of in staff.items()]
+    opening = {"budget": 0, "pbn": pbn_text, "per_set": 1, "rounds": 3, "tables": 3, "users": people}
+    result = {"by": "N", "doubled": 0, "level": 4, "strain": "S", "tricks": 10}
+    ask = {"as": "n1", "ask": "board", "board": 1}
+    messages = [ask, {"as": "k", "do": [enter("Enter", 1, 1, result), enter("Confirm", 1, 1, result)]}, ask]
+    denied = {"board": 1, "rule": 5, "table": 1, "why": "your pair has still to play this board"}
+    answers = [
+        {"denied": denied, "version": 0},
+        {"answers": ["ok", "ok"], "first": 1, "last": 2, "version": 2},
+        {"board": {"deal": deal, "dealer": "N", "number": 1, "vul": "none"}, "version": 2},
+    ]
+    return [opening, *messages], answers
+
+
 def compact(value):
     return json.dumps(value, separators=(",", ":"), sort_keys=True)
 
@@ -278,8 +300,13 @@ def main():
     for message in messages():
         script.append(compact(message))
         answers.append(compact(club.answer(message)))
-    (here / "first_round.script").write_text("".join(line + "\n" for line in script))
-    (here / "first_round.answers").write_text("".join(line + "\n" for line in answers))
+    write(here / "first_round", script, answers)
+    write(here / "one_board", *([compact(value) for value in values] for values in one_board()))
+
+
+def write(path, script, answers):
+    path.with_suffix(".script").write_text("".join(line + "\n" for line in script))
+    path.with_suffix(".answers").write_text("".join(line + "\n" for line in answers))
 
 
 if __name__ == "__main__":

@@ -28,17 +28,26 @@ CHECKS = (
     ("tests/model_runs.py",),
     ("tests/links.py",),
     ("tests/document_sizes.py",),
+    ("tests/house_map.py", "--check"),
 )
 NODE = 20
 # named one by one, since versions of Node.js differ in how they read a folder
 PAGE = ("--test", *sorted(str(path.relative_to(ROOT)) for path in ROOT.glob("client/tests/*.test.js")))
 SERVER = "crates/bridge_server/out/bridge_server"
+BOARDS = "crates/pbn_boards/out/pbn_boards"
+TABLES = "crates/deal_tables/out/deal_tables"
 STORED_RUNS = "crates/bridge_server_stored_runs/out/bridge_server_stored_runs"
 # Debian's own Python, which has Debian's packages
 DEBIAN_PYTHON = "/usr/bin/python3"
 BUILT = (
+    (sys.executable, ("examples/say_answers.py", "examples/one_board.script", "--by", SERVER)),
+    (sys.executable, ("examples/say_answers.py", "examples/first_round.script", "--by", SERVER)),
+    (sys.executable, ("tests/pbn_prefixes.py", BOARDS)),
+    (sys.executable, ("tests/refuse_growths.py", BOARDS, "crates/pbn_boards/data/accepted.pbn", "1")),
+    (sys.executable, ("tests/refuse_growths.py", BOARDS, "crates/pbn_boards/data/255_boards.pbn", "255")),
     (sys.executable, ("tests/refuse_growths.py", STORED_RUNS, "solver")),
     (sys.executable, ("tests/refuse_growths.py", "crates/rules_tests/out/rules_tests_tests", "loses_no_more")),
+    (sys.executable, ("tests/refuse_growths.py", "crates/rules_tests/out/rules_tests_tests", "under_every_memory")),
     (sys.executable, ("tests/refuse_connection_growths.py", STORED_RUNS)),
     (sys.executable, ("tests/refuse_serving_growths.py", SERVER)),
     (sys.executable, ("tests/hold_ups.py", SERVER)),
@@ -89,9 +98,18 @@ def has_node():
     return bool(number) and int(number[1]) >= NODE
 
 
-# the checks of built programs, two of which read a stored run's script, one of each edition
+# lines of `deal_tables` that show its growths: a deal and a play, and endings
+LINES = (("special", 1, 2), ("plays", 2, 3)), (("endings", 0, 3),)
+
+
+# the checks of built programs, two of which read a stored run's script, one of each edition, and two some lines of figures
 def built_checks(folder):
     refused = []
+    for word, pieces in zip(("numbers", "endings"), LINES):
+        lines = pathlib.Path(folder, f"{word}.lines")
+        texts = [(ROOT / f"crates/deal_tables/figures/{name}.txt").read_text(encoding="utf-8").splitlines()[first:last] for name, first, last in pieces]
+        lines.write_text("".join(line.split("\t")[0] + "\n" for text in texts for line in text), encoding="utf-8")
+        refused.append((sys.executable, ("tests/refuse_growths.py", TABLES, str(lines), word)))
     for part in ("desk", "embargo"):
         script = pathlib.Path(folder, part)
         with script.open("w", encoding="utf-8") as file:

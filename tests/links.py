@@ -3,7 +3,7 @@
 
     tests/links.py
 
-The pages are README.md, docs/*.md, examples/README.md and each README.md below crates/. Of each page
+The pages are README.md, docs/*.md, examples/README.md, client/README.md and each README.md below crates/. Of each page
 
 - a relative link must lead to a file or a folder, and where it names a chapter (`#..`) to a heading of that page;
 - a path that is named, as `crates/cards/specs/Play.antt`, `docs/POLICY.md` or `tests/links.py`, must be there, and so must
@@ -31,6 +31,7 @@ def pages():
     yield ROOT / "README.md"
     yield from sorted((ROOT / "docs").glob("*.md"))
     yield ROOT / "examples/README.md"
+    yield ROOT / "client/README.md"
     yield from sorted((ROOT / "crates").glob("*/README.md"))
     yield from sorted((ROOT / "crates").glob("*/*/README.md"))
 

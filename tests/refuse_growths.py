@@ -1,8 +1,10 @@
 #!/usr/bin/env python3
-"""Refuses each growth in turn: of a script's run, of double-dummy tables, endings and costs, or of tests that hold under every memory.
+"""Refuses each growth in turn: of a script's run, of double-dummy tables, endings and costs, of a PBN text's boards, or of tests that hold
+under every memory.
 
     tests/refuse_growths.py crates/bridge_server/out/bridge_server <(tests/stored_runs.py desk) [COMMANDS]
     tests/refuse_growths.py crates/deal_tables/out/deal_tables LINES
+    tests/refuse_growths.py crates/pbn_boards/out/pbn_boards TEXT.pbn BOARDS
     tests/refuse_growths.py crates/bridge_server_stored_runs/out/bridge_server_stored_runs solver
     tests/refuse_growths.py crates/rules_tests/out/rules_tests_tests loses_no_more
 
@@ -26,6 +28,9 @@ with every query, as `tests/stored_runs.py protocol`, shows that each growth of 
 Of `deal_tables` each line is run alone, a deal for `table`, an ending for `solve` or a play for `costs`: once with ample memory, which must solve
 it, and then with the Nth request refused, for each N. Each of these must write the same numbers or none: then the line is named
 as not solved (OutOfMemory), or the program ends with a status of its own, for it couldn't read the line or write the answer.
+
+Of `pbn_boards` the boards of the text are asked for, as standard input: with a request refused it writes the same boards, or nothing and
+ends with status 4.
 
 Of `bridge_server_stored_runs` the part of this name is run, as `solver`, which tells tables and what cards cost: with a request refused
 its answers are those that are stored up to some line, and the next one says OutOfMemory or isn't there. Where one of the first four requests is refused,
@@ -216,6 +221,22 @@ def refuse_tables(program, deals, words, room):
         print(f"{line.decode()}: {asked} requests: {unsolved} not solved, {ended} ended the program, {same} with the same numbers")
 
 
+def refuse_boards(program, text, boards, room):
+    with open(text, "rb") as it:
+        given = it.read()
+    status, ample, err, asked = run([program, boards], given, room, 0)
+    assert (status, err) == (0, b"") and ample.count(b"\n") == int(boards), f"with ample memory: status {status}, {err!r}"
+    assert asked > 0, "the program asked for no memory through this allocator: nothing is tried"
+    same = 0
+    for n in range(1, asked + 1):
+        status, out, err, _ = run([program, boards], given, room, n)
+        if (status, out, err) == (0, ample, b""):
+            same += 1
+        else:
+            assert (status, out) == (4, b""), f"with request {n} of {asked} refused: status {status}, {out[:80]!r}, {err[:80]!r}"
+    print(f"{text}: {asked} requests, each refused in turn: {asked - same} ended the program, {same} with the same boards")
+
+
 def refuse_part(program, part, room):
     given = f"\n== {part}\n{stored_runs.read('stdin')[part]}".encode()
     wanted = f"\n== {part}\n{stored_runs.read('stdout')[part]}".encode().splitlines()
@@ -265,6 +286,8 @@ def main():
         subprocess.run(["cc", "-O1", "-shared", "-fPIC", "-o", f"{room}/refusing.so", f"{room}/refusing.c", "-ldl"], check=True)
         if os.path.basename(program) == "deal_tables":
             refuse_tables(program, given, words, room)
+        elif os.path.basename(program) == "pbn_boards":
+            refuse_boards(program, given, words[0], room)
         elif os.path.basename(program) == "bridge_server_stored_runs":
             refuse_part(program, given, room)
         elif os.path.basename(program).endswith("_tests"):

@@ -6,7 +6,7 @@ wanted.
     tests/stored_runs.py desk               # the script of a part, for `bridge_server script`
     tests/stored_runs.py desk answers       # the answers to it
 
-The last ten parts are no scripts: the program knows them by their names, up to a comma.
+The last eleven parts are no scripts: the program knows them by their names, up to a comma.
 
 The crate's files stdin and stdout have one form: before each part stand an LF and a line with its name, `== desk`. So a script
 may end without an LF of its own, and no message begins so.
@@ -53,6 +53,7 @@ PARTS = {
     "solver": SOLVER,
     "solver, second edition": SOLVER,
     "both ways": "tests/write_both_ways_run.py: how many commands the rules accept, and that no reply differs",
+    "both ways, each cell": "tests/write_both_ways_run.py: the same, with the play, the costs and the reason of every cell",
     "both ways, 2,000 commands": "tests/write_both_ways_run.py: the same, of commands that are drawn with a fixed seed",
     "both ways, second edition": "tests/write_both_ways_run.py: the same, also with embargoes and with who comments",
     "session objects": "tests/write_stored_runs.py: from the rules of docs/SESSION.md",

@@ -1,5 +1,5 @@
 #!/usr/bin/env python3
-"""Writes the parts `both ways`, `both ways, 2,000 commands` and `both ways, second edition` of the stored runs of
+"""Writes the parts `both ways`, `both ways, each cell`, `both ways, 2,000 commands` and `both ways, second edition` of the stored runs of
 crates/bridge_server_stored_runs: sessions in which every question is answered from what a view keeps and afresh, after each command,
 for every user and for a stranger.
 
@@ -49,13 +49,13 @@ def round_of(table, board):
     return (board - table) % BOARDS + 1
 
 
-def played():
-    """Every table plays every board in its round; and then a board is held, a result voided, ruled and released."""
+def played(outcome):
+    """Every table plays every board in its round, and comes to an outcome; and then a board is held, a result voided, ruled and released."""
     commands = []
     for number in range(1, ROUNDS + 1):
         for table in range(1, TABLES + 1):
             board = next(b for b in range(1, BOARDS + 1) if round_of(table, b) == number)
-            told = {"board": board, "result": result(4, 8 + table), "table": table}
+            told = {"board": board, "result": outcome(table, board), "table": table}
             commands += [("k", {"cmd": "Enter", **told}), ("k", {"cmd": "Confirm", **told})]
         if number < ROUNDS:
             commands.append(("d", {"cmd": "NextRound"}))
@@ -149,7 +149,11 @@ class SecondDrawn(Drawn):
 
 drawn, second_drawn = Drawn(20261126), SecondDrawn(20261127)
 SOME = [text_of({"as": "d", "ask": "ranking"}), text_of({"as": "d", "ask": "list"}), text_of({"as": "d", "ask": "traveller", "board": 1})]
-write("both ways", questions((1, 2, 3), ((1, 1), (2, 1), (3, 2))), played())
+ALL_CELLS = [(table, board) for table in range(1, TABLES + 1) for board in range(1, BOARDS + 1)]
+write("both ways", questions((1, 2, 3), ((1, 1), (2, 1), (3, 2))), played(lambda table, board: result(4, 8 + table)))
+# Four spades by North make ten, eleven and ten tricks, and the other boards are passed out.
+write("both ways, each cell", [*questions((1, 2, 3), ALL_CELLS), text_of({"as": "d", "ask": "ranking", "since": 21})],
+      played(lambda table, board: result(4, (10, 11, 10)[table - 1]) if board == 1 else "pass"))
 write("both ways, 2,000 commands", SOME, [drawn.command() for _ in range(2000)])
 write("both ways, second edition", [*SOME, text_of({"as": "d", "ask": "board", "board": 2}), text_of({"as": "d", "ask": "play", "board": 1, "table": 2})],
       [second_drawn.command() for _ in range(200)], 2)

@@ -1,5 +1,6 @@
 mod boards;
 mod figures;
+mod growths;
 mod lines;
 mod pool;
 mod ranking;

@@ -20,7 +20,7 @@ const SUITS: &str = "N:AKQJT98765432... .AKQJT98765432.. ..AKQJT98765432. ...AKQ
 const TURNED: &str = "E:AKQJT98765432... .AKQJT98765432.. ..AKQJT98765432. ...AKQJT98765432";
 
 /// The table of the first of these deals.
-fn table_work() -> Option<Work> {
+pub(crate) fn table_work() -> Option<Work> {
     table_of(1, SUITS)
 }
 

@@ -1,15 +1,15 @@
 #!/usr/bin/env python3
-"""Compares what was answered to first_round.script with first_round.answers, and says in words what was seen.
+"""Compares what a script of this folder was answered with the answers beside it, and says in words what was seen.
 
-    examples/say_round.py ANSWERS
+    examples/say_answers.py SCRIPT ANSWERS         # SCRIPT as examples/one_board.script, ANSWERS what the program wrote
+    examples/say_answers.py SCRIPT --by PROGRAM    # the same, and PROGRAM, a built bridge_server, is asked first
 
 The status is 1 where a line differs.
 """
 import json
 import pathlib
+import subprocess
 import sys
-
-HERE = pathlib.Path(__file__).resolve().parent
 
 
 def say(message, answer):
@@ -31,10 +31,18 @@ def say(message, answer):
     return f"{message['as']:>6}  {what:<34} {came}"
 
 
+def answers(script, words):
+    if words[0] != "--by":
+        return pathlib.Path(words[0]).read_text(encoding="utf-8")
+    with script.open(encoding="utf-8") as messages:
+        return subprocess.run([words[1], "script"], stdin=messages, stdout=subprocess.PIPE, text=True, check=True).stdout
+
+
 def main():
-    messages = (HERE / "first_round.script").read_text(encoding="utf-8").splitlines()[1:]
-    wanted = (HERE / "first_round.answers").read_text(encoding="utf-8").splitlines()
-    got = pathlib.Path(sys.argv[1]).read_text(encoding="utf-8").splitlines()
+    script = pathlib.Path(sys.argv[1])
+    messages = script.read_text(encoding="utf-8").splitlines()[1:]
+    wanted = script.with_suffix(".answers").read_text(encoding="utf-8").splitlines()
+    got = answers(script, sys.argv[2:]).splitlines()
     for number, (message, want) in enumerate(zip(messages, wanted)):
         if number >= len(got) or got[number] != want:
             came = got[number] if number < len(got) else "nothing"
@@ -45,7 +53,8 @@ def main():
         print(f"{len(got) - len(wanted)} lines too many")
         return 1
     denied = sum("denied" in json.loads(line) for line in wanted)
-    print(f"{len(wanted)} messages, each answered as promised; {denied} were denied, each by the first rule that forbids.")
+    were = f"{denied} was denied" if denied == 1 else f"{denied} were denied, each"
+    print(f"{len(wanted)} messages, each answered as promised; {were} by the first rule that forbids.")
     return 0
 
 
