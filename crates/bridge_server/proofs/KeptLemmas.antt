@@ -5,7 +5,7 @@ use Rattle.sqlite.specs.State.{State}
 use Rattle.session_commands.specs.declared.entry.Entry.{Entry}
 use Rattle.desks.specs.Kept.{LeavesJust}
 use Rattle.row_journal.specs.Leaving.{LeavesPublications}
-use Rattle.bridge_server.specs.Kept.{KeepsJust}
+use Rattle.kept_sessions.specs.Kept.{KeepsJust}
 
 pub leaves_just : (s : State) (publications : List (List Entry)) → KeepsJust s publications
     → LeavesJust publications (doubt s.is_clean) (LeavesPublications s)

@@ -1,5 +1,5 @@
 -- What the program says besides: what it writes to the place for errors.
-use Rattle.std.specs.Prelude.{◌≡◌, ◌≢◌, ◌⊎◌, ℕ, Bool, true, false, Option, List, [], codes}
+use Rattle.std.specs.Prelude.{◌≡◌, ◌≢◌, ◌⊎◌, ℕ, Bool, false, Option, List, [], codes}
 use Rattle.std.specs.Io.KnownBytes.{Appends}
 use Rattle.clap.specs.Words.{Text}
 use Rattle.script_lines.specs.Writing.{WritesPart}
@@ -9,8 +9,9 @@ use Rattle.server_words.specs.declared.words.Words.TheVariants.{Script, Serve, A
 use Rattle.server_words.specs.declared.words.Serving.{Serving}
 use Rattle.server_words.specs.declared.words.SessionSource.{SessionSource}
 use Rattle.server_words.specs.declared.words.SessionSource.TheVariants.{Files, Journal as Kept}
+use Rattle.kept_sessions.specs.Sources.{is_of_a_journal}
 use Rattle.bridge_server.specs.declared.serving_fault.ServingFault.{ServingFault}
-use Rattle.bridge_server.specs.declared.serving_fault.ServingFault.TheVariants.{Journal, CopyUnwritten}
+use Rattle.bridge_server.specs.declared.serving_fault.ServingFault.TheVariants.{Source}
 
 -- own: the line for who serves a session that nobody keeps
 abbrev pub unkept_line : List ℕ
@@ -21,10 +22,9 @@ abbrev pub TellsLine : Option (List ℕ) → Option (List ℕ) → List ℕ → 
 TellsLine before after text = Appends before after text ⊎ WritesPart before after text
 
 -- own: the fault is one of a journal or of its copy, which is named also where the status is 3
-abbrev pub is_of_a_journal : ServingFault → Bool
-is_of_a_journal (Journal fault) = true
-is_of_a_journal CopyUnwritten = true
-is_of_a_journal _ = false
+abbrev pub is_named_fault : ServingFault → Bool
+is_named_fault (Source fault) = is_of_a_journal fault
+is_named_fault _ = false
 
 -- what is said where a session was served to the end: that it was kept nowhere, if it was, and nothing else
 abbrev pub IsToldUnkept : SessionSource → Option (List ℕ) → Option (List ℕ) → Type 0

@@ -6,10 +6,8 @@
 mod auditing;
 mod calling;
 mod copying;
-mod files;
 mod serving;
 mod serving_fault;
-mod session_source;
 #[cfg(test)]
 mod tests;
 

@@ -1,18 +1,19 @@
 //! Clients that are served over WebSockets.
 
-ghost use Rattle.std.specs.Prelude.{◌≡◌, ◌≢◌, ◌⊎◌, [], false, map, IfErr};
+ghost use Rattle.std.specs.Prelude.{◌≡◌, ◌≢◌, ◌⊎◌, [], false, map, IfOk, IfErr};
 ghost use Rattle.std.specs.Io.KnownBytes.{Appends};
 ghost use Rattle.sqlite.specs.Held.{state};
 ghost use Rattle.desks.specs.Kept.{LeavesJust};
 ghost use Rattle.kept_entries.specs.KeptRows.{lists_in};
 ghost use Rattle.program.specs.Status.{IsStatus};
-ghost use Rattle.bridge_server.specs.Kept.{KeepsJust};
-ghost use Rattle.bridge_server.specs.Said.{SaysOf, IsToldUnkept, TellsLine, is_of_a_journal, unkept_line};
+ghost use Rattle.kept_sessions.specs.Kept.{KeepsJust};
+ghost use Rattle.bridge_server.specs.Said.{SaysOf, IsToldUnkept, TellsLine, is_named_fault, unkept_line};
 
-use crate::serving_fault::{ServingFault, status_of_serving_fault};
-use crate::session_source::{kept_session_for, session_of_files};
+use crate::serving_fault::{ServingFault, status_of_serving_fault, status_of_source_fault};
 use entry_store::{EntryStore, NoStore};
-use journal_store::JournalFiles;
+use kept_sessions::{
+    JournalPaths, KeptSession, SourceFault, kept_session, kept_session_of_files, session_of_files,
+};
 use opened_session::OpenedSession;
 use row_journal::OpenedJournal;
 use script_lines::write_text;
@@ -37,7 +38,7 @@ const _: () = prove!(server_words::DISPLAYS_AT_MOST as usize == displays::MOST_D
 
 /// Serves clients in a session, and answers the status after it, or where none could be served.
 pub(crate) fn status_of_serving<
-    R: Files + Net + Clock + Wait + Threads + JournalFiles + AllocGlobal + Sync,
+    R: Files + Net + Clock + Wait + Threads + JournalPaths + AllocGlobal + Sync,
     E: Write,
 >(rt: &R, serving: &Serving<'_>, errors: &mut E) -> u8
 where
@@ -70,9 +71,9 @@ where
     ensures told { result ≡ 0 → TellsLine (E.contents errors.old) (E.contents errors.new) unkept_line }
     ensures understood { result ≢ 2 }
 {
-    match session_of_files(rt, files) {
+    match session_of_files(rt, files.session, files.deals) {
         Ok(session) => status_of_unkept(rt, serving, session, errors),
-        Err(fault) => status_of_serving_fault(fault, errors),
+        Err(fault) => status_of_source_fault(fault, errors),
     }
 }
 
@@ -108,7 +109,7 @@ fn tell_unkept<E: Write>(errors: &mut E)
 
 // Serves clients in a session that a journal keeps.
 fn status_of_journal<
-    R: Files + Net + Clock + Wait + Threads + JournalFiles + AllocGlobal + Sync,
+    R: Files + Net + Clock + Wait + Threads + JournalPaths + AllocGlobal + Sync,
     E: Write,
 >(rt: &R, serving: &Serving<'_>, path: &str, files: &Option<SessionFiles<'_>>, errors: &mut E) -> u8
 where
@@ -125,7 +126,7 @@ where
 }
 
 // Serves clients in a session that a journal keeps. What the solver found is found again even where nobody is to solve.
-fn serve_journal<R: Files + Net + Clock + Wait + Threads + JournalFiles + AllocGlobal + Sync>(
+fn serve_journal<R: Files + Net + Clock + Wait + Threads + JournalPaths + AllocGlobal + Sync>(
     rt: &R,
     serving: &Serving<'_>,
     path: &str,
@@ -135,10 +136,27 @@ where
     R::Listener: Sync,
     R::Stream: Send,
 {
+    match open_kept(rt, serving, path, files) {
+        Ok(kept) => serve_kept(rt, serving, kept),
+        Err(fault) => Err(ServingFault::Source(fault)),
+    }
+}
+
+// The session that is served, with its journal: that of the files, if there are any.
+fn open_kept<R: Files + Threads + JournalPaths + AllocGlobal + Sync>(
+    rt: &R,
+    serving: &Serving<'_>,
+    path: &str,
+    files: &Option<SessionFiles<'_>>,
+) -> Result<KeptSession<R::Kept>, SourceFault>
+    ensures opening { IfOk result (λ kept. kept.session.book.journal ≡ []) }
+    ensures kept { IfOk result (λ kept. KeepsJust (state R.Kept.Store kept.journal.store.conn)
+        (lists_in kept.journal.publications.items)) }
+{
     let workers = serving.workers.max(1) as usize;
-    match kept_session_for(rt, path, files, workers) {
-        Ok((session, journal)) => serve_kept(rt, serving, session, journal),
-        Err(fault) => Err(fault),
+    match files {
+        Some(files) => kept_session_of_files(rt, path, files.session, files.deals, workers),
+        None => kept_session(rt, path, workers),
     }
 }
 
@@ -146,15 +164,15 @@ where
 fn serve_kept<R: Net + Clock + Wait + Threads + AllocGlobal + Sync, S: Alter + Drop + Send>(
     rt: &R,
     serving: &Serving<'_>,
-    session: OpenedSession,
-    journal: OpenedJournal<S>,
+    kept: KeptSession<S>,
 ) -> Result<(), ServingFault>
 where
     R::Listener: Sync,
     R::Stream: Send,
-    requires opening { session.book.journal ≡ [] }
-    requires kept { KeepsJust (state S.Store journal.store.conn) (lists_in journal.publications.items) }
+    requires opening { kept.session.book.journal ≡ [] }
+    requires kept { KeepsJust (state S.Store kept.journal.store.conn) (lists_in kept.journal.publications.items) }
 {
+    let KeptSession { session, journal } = kept;
     let OpenedJournal {
         store,
         publications,
@@ -179,7 +197,7 @@ where
     R::Stream: Send,
     requires journal { session.book.journal ≡ [] }
     requires kept { LeavesJust (map (λ publication. publication.items) publications.items) (K.doubt store) (K.leaves store) }
-    ensures { IfErr result (λ fault. is_of_a_journal fault ≡ false) }
+    ensures { IfErr result (λ fault. is_named_fault fault ≡ false) }
 {
     let OpenedSession { book, budget } = session;
     let plan = ServingPlan {
@@ -195,7 +213,9 @@ where
     };
     match serve_book(rt, rt.alloc(), book, plan, store, publications) {
         Ok(store) => Ok(store),
-        Err(ServingError::NotAccepted(number)) => Err(ServingFault::NotAccepted(number)),
+        Err(ServingError::NotAccepted(number)) => {
+            Err(ServingFault::Source(SourceFault::NotAccepted(number)))
+        }
         Err(ServingError::NotListening) => Err(ServingFault::NotListening),
         Err(ServingError::OutOfMemory | ServingError::NoPlace | ServingError::NoThread) => {
             Err(ServingFault::NoRoom)

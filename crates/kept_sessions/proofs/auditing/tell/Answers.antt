@@ -1,7 +1,7 @@
 use Rattle.std.proofs.Common.{◌≡◌, ◌∙◌, sym, ap, ℕ, ◌+◌, List, [], ◌∷◌, ◌++◌, length, arith, rules}
-use Rattle.bridge_server.specs.Audited.{line_of_row, lines_from}
-use Rattle.bridge_server.proofs.LineLemmas.{lines_from_more}
-use Rattle.bridge_server.proofs.auditing.tell.Goals as goal
+use Rattle.kept_sessions.specs.Audited.{line_of_row, lines_from}
+use Rattle.kept_sessions.proofs.LineLemmas.{lines_from_more}
+use Rattle.kept_sessions.proofs.auditing.tell.Goals as goal
 
 pub returns-in-Ok-add_line : goal.returns-in-Ok-add_line
 returns-in-Ok-add_line c =

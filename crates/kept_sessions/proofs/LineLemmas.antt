@@ -17,7 +17,7 @@ use Rattle.std.proofs.Common.{
   arith,
 }
 use Rattle.session_commands.specs.declared.entry.Entry.{Entry}
-use Rattle.bridge_server.specs.Audited.{line_of_row, lines_from}
+use Rattle.kept_sessions.specs.Audited.{line_of_row, lines_from}
 
 -- the lines of entries and of one more, with the next number
 pub lines_from_more : (number : ℕ) (entries : List Entry) (entry : Entry) (next : ℕ) → next ≡ number + length entries

@@ -1,0 +1,3 @@
+pub mod FileLemmas
+pub mod KeptLemmas
+pub mod LineLemmas

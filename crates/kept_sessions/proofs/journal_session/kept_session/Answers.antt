@@ -1,0 +1,26 @@
+use Rattle.std.proofs.Common.{ap, sym, subst, ◌∷◌, [], map}
+use Rattle.std.specs.Prelude.{string_bytes}
+use Rattle.std.proofs.lemmas.Result.{IfOk-weaker}
+use Rattle.sqlite.specs.Held.{state}
+use Rattle.journal_store.specs.Kept.{texts_of, row_of_session}
+use Rattle.kept_entries.specs.KeptRows.{lists_in, rows_of}
+use Rattle.kept_sessions.specs.Sources.{IsSessionOf}
+use Rattle.kept_sessions.proofs.KeptLemmas.{kept_as}
+use Rattle.kept_sessions.proofs.journal_session.kept_session.Goals as goal
+
+pub returns-in-Ok-session_of_texts-clause-kept : goal.returns-in-Ok-session_of_texts-clause-kept
+returns-in-Ok-session_of_texts-clause-kept g c =
+    let texts = c.in-Ok.kept.0 in
+    let found = c.in-Ok.kept.1 in
+    let opened = c.in-Ok-session_of_texts.session in
+    let of_texts : IsSessionOf (string_bytes texts.object) texts.boards.items opened.book.opening opened.book.journal opened.budget =
+    rw (c.as_bytes.ensures.value, c.as_slice.ensures.value) at c.in-Ok-session_of_texts.ensures.session in
+    IfOk-weaker c.with_journal.result _ _ (λ kept read. record {
+      object = string_bytes texts.object;
+      boards = texts.boards.items;
+      session = subst (λ s. IsSessionOf (string_bytes texts.object) texts.boards.items s.book.opening s.book.journal s.budget)
+          (sym read.0) of_texts;
+      kept = kept_as g.R.JournalPaths.held (row_of_session texts ∷ []) (map texts_of found.rows)
+          (rows_of (lists_in kept.journal.publications.items)) (state g.R.Kept.Store found.conn)
+          (state g.R.Kept.Store kept.journal.store.conn) (ap (state g.R.Kept.Store) read.1) read.2 c.in-Ok.ensures;
+    }) c.with_journal.ensures.read

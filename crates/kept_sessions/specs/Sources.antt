@@ -1,0 +1,25 @@
+-- What a session is opened from.
+use Rattle.std.specs.Prelude.{◌≡◌, ℕ, Bool, true, false, List, [], Some}
+use Rattle.session_state.specs.SessionState.{SessionState}
+use Rattle.session_commands.specs.declared.entry.Entry.{Entry}
+use Rattle.opened_session.specs.Opened.{OpensWith, GivesBudget}
+use Rattle.kept_sessions.specs.declared.source_texts.TheConstants.{MOST_FILE_BYTES}
+use Rattle.kept_sessions.specs.declared.source_fault.SourceFault.{SourceFault}
+use Rattle.kept_sessions.specs.declared.source_fault.SourceFault.TheVariants.{Journal, CopyUnwritten}
+
+-- own: how many bytes a file has at most
+abbrev pub most_file_bytes : ℕ
+most_file_bytes = MOST_FILE_BYTES
+
+-- the session is the one that a session object opens with the boards beside it, with the visits that the object gives,
+-- and nothing is entered in it
+pub record IsSessionOf (object boards : List ℕ) (opening : SessionState) (journal : List Entry) (budget : ℕ) : Type 0 where
+  pub opens : OpensWith (Some boards) object opening
+  pub gives : GivesBudget (Some boards) object budget
+  pub empty : journal ≡ []
+
+-- own: the fault is one of a journal or of its copy, which is named also where the status is 3
+abbrev pub is_of_a_journal : SourceFault → Bool
+is_of_a_journal (Journal fault) = true
+is_of_a_journal CopyUnwritten = true
+is_of_a_journal _ = false

@@ -1,0 +1,47 @@
+//! A copy of a journal, made where no server has it.
+
+use crate::journal_paths::JournalPaths;
+use crate::paths::may_hold_database;
+use crate::source_fault::SourceFault;
+use row_journal::JournalFault;
+use script_lines::write_text;
+use std::fs::{File, OpenFile};
+use std::io::{ErrorKind, Write};
+use std::rt::Files;
+
+/// Copies the journal at a path to one where nothing is yet. The copy is a whole journal by itself.
+pub fn copy_journal<R: Files + JournalPaths>(
+    rt: &R,
+    path: &str,
+    to: &str,
+) -> Result<(), SourceFault> {
+    match may_hold_database(rt, path) {
+        Ok(true) => {}
+        Ok(false) => return Err(SourceFault::Journal(JournalFault::NotAJournal)),
+        Err(fault) => return Err(fault),
+    }
+    match rt.bytes_there(path) {
+        Ok(bytes) => write_new(rt, to, bytes.as_slice()),
+        Err(fault) => Err(fault),
+    }
+}
+
+// Writes a file whole, and has it on the disk.
+fn write_and_sync<F: Write + OpenFile>(file: &mut F, bytes: &[u8]) -> Result<(), SourceFault> {
+    if write_text(file, bytes).is_err() {
+        return Err(SourceFault::CopyUnwritten);
+    }
+    match file.sync_all() {
+        Ok(()) => Ok(()),
+        Err(_) => Err(SourceFault::CopyUnwritten),
+    }
+}
+
+// Writes a file that isn't there yet, and has it on the disk.
+fn write_new<R: Files>(rt: &R, path: &str, bytes: &[u8]) -> Result<(), SourceFault> {
+    match File::create_new(rt, path) {
+        Ok(mut file) => write_and_sync(&mut file, bytes),
+        Err(error) if error.kind() == ErrorKind::AlreadyExists => Err(SourceFault::CopyExists),
+        Err(_) => Err(SourceFault::CopyUnwritten),
+    }
+}

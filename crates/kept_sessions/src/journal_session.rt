@@ -1,0 +1,126 @@
+//! A session with the journal that keeps it.
+
+ghost use Rattle.std.specs.Prelude.{◌≡◌, ◌≤◌, ℕ, List, length, map, IfOk};
+ghost use Rattle.sqlite.specs.Held.{state};
+ghost use Rattle.journal_store.specs.Kept.{texts_of};
+ghost use Rattle.kept_entries.specs.KeptRows.{lists_in, rows_of};
+ghost use Rattle.kept_sessions.specs.Sources.{most_file_bytes};
+ghost use Rattle.kept_sessions.specs.Kept.{IsKeptSession, IsTakenSession, KeepsJust};
+
+use crate::journal_paths::JournalPaths;
+use crate::paths::{may_hold_database, texts_of_files};
+use crate::source_fault::SourceFault;
+use crate::source_texts::SourceTexts;
+use crate::texts_session::session_of_texts;
+use opened_session::{OpenedSession, OpeningFault};
+use row_journal::{FoundJournal, JournalFault, OpenedJournal};
+use session_object::SessionFault;
+use sqlite::Alter;
+use std::rt::Files;
+use std::str;
+use std::thread::Threads;
+
+/// A session with the journal that keeps it.
+#[derive(Drop)]
+pub struct KeptSession<S: Alter> {
+    /// The session, in which nothing is entered yet.
+    pub session: OpenedSession,
+    /// The journal, with its publications.
+    pub journal: OpenedJournal<S>,
+}
+
+/// The session that texts open, with its journal at a path, which is made if there is none. What the solver found is found
+/// again by so many workers.
+pub fn kept_session_of_texts<R: JournalPaths + Threads + AllocGlobal + Sync>(
+    rt: &R,
+    path: &str,
+    texts: &SourceTexts,
+    workers: usize,
+) -> Result<KeptSession<R::Kept>, SourceFault>
+    ensures taken { IfOk result (λ kept. IsTakenSession R.held texts.now.object.items texts.now.boards.items
+        kept.session.book.opening kept.session.book.journal kept.session.budget
+        (lists_in kept.journal.publications.items) (state R.Kept.Store kept.journal.store.conn)) }
+    ensures leaves { IfOk result (λ kept. KeepsJust (state R.Kept.Store kept.journal.store.conn)
+        (lists_in kept.journal.publications.items)) }
+{
+    let boards = texts.boards.as_slice();
+    let session = match session_of_texts(rt.alloc(), texts.object.as_slice(), boards) {
+        Ok(session) => session,
+        Err(fault) => return Err(fault),
+    };
+    // A session object that opens a session is a text.
+    let Ok(object) = str::from_utf8(texts.object.as_slice()) else {
+        return Err(SourceFault::Unopened(OpeningFault::Session(SessionFault::Malformed)));
+    };
+    match rt.open_or_make(path, object, boards) {
+        Ok(found) => with_journal(rt, session, found, workers),
+        Err(fault) => Err(SourceFault::Journal(fault)),
+    }
+}
+
+/// The same of the files at two paths, which are read before the journal is opened.
+pub fn kept_session_of_files<R: Files + JournalPaths + Threads + AllocGlobal + Sync>(
+    rt: &R,
+    path: &str,
+    object_path: &str,
+    boards_path: &str,
+    workers: usize,
+) -> Result<KeptSession<R::Kept>, SourceFault>
+    ensures taken { IfOk result (λ kept. (object boards : List ℕ)
+        × (length object ≤ most_file_bytes) × (length boards ≤ most_file_bytes)
+        × IsTakenSession R.held object boards
+        kept.session.book.opening kept.session.book.journal kept.session.budget
+        (lists_in kept.journal.publications.items) (state R.Kept.Store kept.journal.store.conn)) }
+    ensures leaves { IfOk result (λ kept. KeepsJust (state R.Kept.Store kept.journal.store.conn)
+        (lists_in kept.journal.publications.items)) }
+{
+    match texts_of_files(rt, object_path, boards_path) {
+        Ok(texts) => kept_session_of_texts(rt, path, &texts, workers),
+        Err(fault) => Err(fault),
+    }
+}
+
+/// The session of the journal at a path, which has to be there.
+pub fn kept_session<R: Files + JournalPaths + Threads + AllocGlobal + Sync>(
+    rt: &R,
+    path: &str,
+    workers: usize,
+) -> Result<KeptSession<R::Kept>, SourceFault>
+    ensures kept { IfOk result (λ kept. IsKeptSession R.held
+        kept.session.book.opening kept.session.book.journal kept.session.budget
+        (lists_in kept.journal.publications.items) (state R.Kept.Store kept.journal.store.conn)) }
+    ensures leaves { IfOk result (λ kept. KeepsJust (state R.Kept.Store kept.journal.store.conn)
+        (lists_in kept.journal.publications.items)) }
+{
+    match may_hold_database(rt, path) {
+        Ok(true) => {}
+        Ok(false) => return Err(SourceFault::Journal(JournalFault::NotAJournal)),
+        Err(fault) => return Err(fault),
+    }
+    let (texts, found) = match rt.open_there(path) {
+        Ok(kept) => kept,
+        Err(fault) => return Err(SourceFault::Journal(fault)),
+    };
+    match session_of_texts(rt.alloc(), texts.object.as_bytes(), texts.boards.as_slice()) {
+        Ok(session) => with_journal(rt, session, found, workers),
+        Err(fault) => Err(fault),
+    }
+}
+
+// A session with the journal of it that was found, once that is read.
+fn with_journal<R: Threads + AllocGlobal + Sync, S: Alter + Drop>(
+    rt: &R,
+    session: OpenedSession,
+    found: FoundJournal<S>,
+    workers: usize,
+) -> Result<KeptSession<S>, SourceFault>
+    ensures read { IfOk result (λ kept. (kept.session ≡ session) × (kept.journal.store.conn ≡ found.conn)
+        × (map texts_of found.rows ≡ rows_of (lists_in kept.journal.publications.items))) }
+    ensures leaves { IfOk result (λ kept. KeepsJust (state S.Store kept.journal.store.conn)
+        (lists_in kept.journal.publications.items)) }
+{
+    match found.read(rt, rt.alloc(), session.budget, workers) {
+        Ok(journal) => Ok(KeptSession { session, journal }),
+        Err(fault) => Err(SourceFault::Journal(fault)),
+    }
+}

@@ -1,0 +1,23 @@
+//! A session from its files: opened by two texts or from its journal, and a journal told and copied.
+#![tactic(auto)]
+
+mod auditing;
+mod closed_journal;
+mod copying;
+mod journal_paths;
+mod journal_session;
+mod paths;
+mod source_fault;
+mod source_texts;
+mod texts_session;
+
+pub use auditing::audit_of_journal;
+pub use copying::copy_journal;
+pub use journal_paths::JournalPaths;
+pub use journal_session::{
+    KeptSession, kept_session, kept_session_of_files, kept_session_of_texts,
+};
+pub use paths::{session_of_files, texts_of_files};
+pub use source_fault::SourceFault;
+pub use source_texts::{MOST_FILE_BYTES, SourceTexts, read_texts};
+pub use texts_session::session_of_texts;

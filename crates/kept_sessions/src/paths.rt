@@ -1,0 +1,74 @@
+//! Files at paths: those of a session, and whether one may hold a database.
+
+ghost use Rattle.std.specs.Prelude.{◌≡◌, ◌≤◌, ℕ, List, length, false, IfOk, IfErr};
+ghost use Rattle.kept_sessions.specs.Sources.{IsSessionOf, most_file_bytes, is_of_a_journal};
+
+use crate::source_fault::SourceFault;
+use crate::source_texts::{SourceTexts, read_texts};
+use crate::texts_session::session_of_texts;
+use opened_session::OpenedSession;
+use row_journal::JournalFault;
+use std::fs;
+use std::io::{self, ErrorKind};
+use std::rt::Files;
+
+// How many bytes a page of a database has at least.
+const LEAST_DATABASE_BYTES: u64 = 512;
+
+/// The texts of the files at two paths: the session object's is opened first, and read first.
+pub fn texts_of_files<R: Files + AllocGlobal>(
+    rt: &R,
+    object_path: &str,
+    boards_path: &str,
+) -> Result<SourceTexts, SourceFault>
+    ensures few { IfOk result (λ texts. (length texts.object.items ≤ most_file_bytes)
+        × (length texts.boards.items ≤ most_file_bytes)) }
+    ensures fault { IfErr result (λ fault. is_of_a_journal fault ≡ false) }
+{
+    let object = match fs::open(rt, object_path) {
+        Ok(file) => file,
+        Err(error) => return Err(fault_of_reading(error)),
+    };
+    match fs::open(rt, boards_path) {
+        Ok(boards) => read_texts(rt.alloc(), object, boards),
+        Err(error) => Err(fault_of_reading(error)),
+    }
+}
+
+/// The session that the files at two paths open.
+pub fn session_of_files<R: Files + AllocGlobal>(
+    rt: &R,
+    object_path: &str,
+    boards_path: &str,
+) -> Result<OpenedSession, SourceFault>
+    ensures session { IfOk result (λ session. (object boards : List ℕ)
+        × (length object ≤ most_file_bytes) × (length boards ≤ most_file_bytes)
+        × IsSessionOf object boards session.book.opening session.book.journal session.budget) }
+    ensures fault { IfErr result (λ fault. is_of_a_journal fault ≡ false) }
+{
+    match texts_of_files(rt, object_path, boards_path) {
+        Ok(texts) => session_of_texts(rt.alloc(), texts.object.as_slice(), texts.boards.as_slice()),
+        Err(fault) => Err(fault),
+    }
+}
+
+// What an error of the system is to one who reads a session's file.
+fn fault_of_reading(error: io::Error) -> SourceFault
+    ensures { is_of_a_journal result ≡ false }
+{
+    match error.kind() {
+        ErrorKind::OutOfMemory => SourceFault::OutOfMemory,
+        _ => SourceFault::Unread,
+    }
+}
+
+/// Whether there is something at a path that may hold a database. A shorter file holds none, and an open would make one in
+/// it.
+pub(crate) fn may_hold_database<R: Files>(rt: &R, path: &str) -> Result<bool, SourceFault> {
+    match fs::metadata(rt, path) {
+        Ok(found) => Ok(!found.is_file() || found.len() >= LEAST_DATABASE_BYTES),
+        Err(error) if error.kind() == ErrorKind::NotFound => Ok(false),
+        Err(error) if error.kind() == ErrorKind::OutOfMemory => Err(SourceFault::OutOfMemory),
+        Err(_) => Err(SourceFault::Journal(JournalFault::Unread)),
+    }
+}

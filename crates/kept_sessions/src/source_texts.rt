@@ -1,0 +1,59 @@
+//! The texts of a session's two files.
+
+ghost use Rattle.std.specs.Prelude.{◌≡◌, ◌≤◌, length, false, IfOk, IfErr, IfSome};
+ghost use Rattle.kept_sessions.specs.Sources.{most_file_bytes, is_of_a_journal};
+
+use crate::source_fault::SourceFault;
+use std::alloc::Global;
+use std::io::{ErrorKind, Read};
+
+/// How many bytes a file has at most.
+pub const MOST_FILE_BYTES: usize = 16_777_216;
+
+/// The texts of a session's two files.
+#[derive(Drop)]
+pub struct SourceTexts {
+    /// The session object's.
+    pub object: Vec<u8>,
+    /// The boards'.
+    pub boards: Vec<u8>,
+}
+
+/// All that two readers give, the session object's first.
+pub fn read_texts<I: Read + Drop, J: Read + Drop>(
+    alloc: Global,
+    object: I,
+    boards: J,
+) -> Result<SourceTexts, SourceFault>
+    ensures object { IfOk result (λ texts. IfSome (I.remaining object) (λ all. texts.object.items ≡ all)) }
+    ensures boards { IfOk result (λ texts. IfSome (J.remaining boards) (λ all. texts.boards.items ≡ all)) }
+    ensures few { IfOk result (λ texts. (length texts.object.items ≤ most_file_bytes)
+        × (length texts.boards.items ≤ most_file_bytes)) }
+    ensures fault { IfErr result (λ fault. is_of_a_journal fault ≡ false) }
+{
+    let object = match read_whole(alloc, object) {
+        Ok(bytes) => bytes,
+        Err(fault) => return Err(fault),
+    };
+    match read_whole(alloc, boards) {
+        Ok(boards) => Ok(SourceTexts { object, boards }),
+        Err(fault) => Err(fault),
+    }
+}
+
+// All bytes of a reader, unless there are too many.
+fn read_whole<I: Read + Drop>(alloc: Global, reader: I) -> Result<Vec<u8>, SourceFault>
+    ensures whole { IfOk result (λ bytes. IfSome (I.remaining reader) (λ all. bytes.items ≡ all)) }
+    ensures few { IfOk result (λ bytes. length bytes.items ≤ most_file_bytes) }
+    ensures fault { IfErr result (λ fault. is_of_a_journal fault ≡ false) }
+{
+    let mut bytes = Vec::new(alloc);
+    match reader
+        .take(MOST_FILE_BYTES as u64 + 1)
+        .read_to_end(&mut bytes)
+    {
+        Ok(_) if bytes.len() <= MOST_FILE_BYTES => Ok(bytes),
+        Err(error) if error.kind() == ErrorKind::OutOfMemory => Err(SourceFault::OutOfMemory),
+        Ok(_) | Err(_) => Err(SourceFault::Unread),
+    }
+}
