@@ -2,6 +2,7 @@
 use Rattle.std.proofs.Common.{
   ◌≡◌,
   ◌≢◌,
+  ◌⊎◌,
   ℕ,
   zero,
   suc,
@@ -28,10 +29,10 @@ use Rattle.std.proofs.Common.{
   inr,
   arith,
 }
-use Rattle.std.specs.Prelude.{Some, ◌&&◌, ◌||◌, not, min, nat_eq, nat_le}
+use Rattle.std.specs.Prelude.{Option, Some, None, ◌&&◌, ◌||◌, not, min, nat_eq, nat_le}
 use Rattle.std.specs.List.{range_with_len, sum_by}
-use Rattle.std.proofs.lemmas.Bool.{cases_Bool, cases_eq, le-leb, lt-leb, leb-true, leb-false, eq-eqb}
-use Rattle.std.proofs.lemmas.List.{get_or-set_same, get_or-set_other, length-set}
+use Rattle.std.proofs.lemmas.Bool.{cases_Bool, cases_eq, cases_lt, le-leb, lt-leb, leb-true, leb-false, eq-eqb}
+use Rattle.std.proofs.lemmas.List.{get_or-set_same, get_or-set_other, get_or_default, length-set}
 use Rattle.std.proofs.lemmas.List.Sums.{sum_by-cons}
 use Rattle.movement.specs.Movement.{IsSection, boards_of, most_boards}
 use Rattle.scoring.specs.declared.standing.Standing.{Standing}
@@ -49,6 +50,7 @@ use Rattle.class_views.specs.Kept.{
   AreWithinBoard,
   AreStandings,
   IsBoardOf,
+  IsChangedAt,
   IsClassKept,
   IsClassWith,
   IsKept,
@@ -301,6 +303,37 @@ module _ (state : SessionState) (own : ℕ) (from : 1 ≤ own) (to : own ≤ boa
           again : board - 1 + 1 ≡ board
           again = omega (arith, low)
 
+-- a class changes by a board's row alone, however that is listed
+pub with_row : (own : ℕ) (sees : Bool) (old new row : List Standing) (before after : ClassView) (earned : List Earning) →
+    AreStandings earned new → AreStandings earned row → IsClassWith own sees old new before after →
+    IsClassWith own sees old row before after
+with_row own sees old new row before after earned is_new is_row step = record {
+  boards = step.boards;
+  totals = λ place d below.
+      step.totals place d below
+      ∙ ap (λ standing. total_with (has_number before.boards own) (get_or old place d) sees standing
+      (get_or before.totals place d)) (is_new place d below ∙ sym (is_row place d below));
+}
+
+-- so what is kept stays as it would be worked out afresh, where the others are as they were
+pub kept_changed_at : (state : SessionState) (own : ℕ) → 1 ≤ own → own ≤ boards_of state.public.movement →
+    IsSection state.public.movement →
+    (sees sees_now : UserClass → ℕ → Bool) (earned earned_now : ℕ → List Earning) (classes classes_now : List ClassView)
+    (rows rows_now : List (List Standing)) →
+    IsKept (boards_of state.public.movement) sees earned classes rows →
+    IsBoardOf state own (boards_of state.public.movement) sees sees_now earned earned_now → length classes_now ≡ 36 →
+    IsChangedAt state own classes rows classes_now rows_now →
+    IsKept (boards_of state.public.movement) sees_now earned_now classes_now rows_now
+kept_changed_at state own from to is_section sees sees_now earned earned_now classes classes_now rows rows_now kept now
+    each_class changed =
+    let within : own - 1 < length rows = omega (arith, from, to, kept.each_board) in
+    subst (λ (rows : List (List Standing)). IsKept (boards_of state.public.movement) sees_now earned_now classes_now rows)
+    (sym changed.put)
+    (kept_changed state own from to is_section sees sees_now earned earned_now classes classes_now rows
+    (get_or rows (own - 1) []) changed.row changed.row kept now each_class
+    (λ place d below. changed.each_class place d [] below)
+    (λ d. get_or_default rows (own - 1) [] d within) changed.earned changed.earned changed.small)
+
 -- what is kept says the same of boards of which the same is seen and earned
 pub kept_same : (boards : ℕ) (sees sees_now : UserClass → ℕ → Bool) (earned earned_now : ℕ → List Earning)
     (classes : List ClassView) (rows : List (List Standing)) →
@@ -470,3 +503,53 @@ module _ (state : SessionState) (entry : Entry) (is_section : IsSection state.pu
       subst (λ n. IsBoardOf (apply state entry) own n (seen_in state) (seen_in (apply state entry)) (earnings_on state)
       (earnings_on (apply state entry))) (sym same_boards)
       (board_after own about)
+
+  -- after any entry, where what is kept took in its board alone
+  pub kept_followed : (classes classes_now : List ClassView) (rows rows_now : List (List Standing)) →
+      IsKeptOf state classes rows → length classes_now ≡ 36 →
+      ((own : ℕ) → 1 ≤ own → own ≤ boards_of (apply state entry).public.movement → told_board entry.command ≡ Some own →
+      IsChangedAt (apply state entry) own classes rows classes_now rows_now) →
+      (((own : ℕ) → 1 ≤ own → own ≤ boards_of (apply state entry).public.movement →
+      told_board entry.command ≢ Some own) → (classes_now ≡ classes) × (rows_now ≡ rows)) →
+      IsKeptOf (apply state entry) classes_now rows_now
+  kept_followed classes classes_now rows rows_now kept each_class changed same =
+      elim (about_one (told_board entry.command) (boards_of (apply state entry).public.movement)) [
+        | inl one ↦
+            kept_changed_at (apply state entry) one.0 one.1.0 one.1.1.0
+            (subst IsSection (sym (entry_part state entry).movement) is_section) (seen_in state)
+            (seen_in (apply state entry)) (earnings_on state) (earnings_on (apply state entry)) classes classes_now rows
+            rows_now (kept_before classes rows kept) (board_now one.0 one.1.1.1) each_class
+            (changed one.0 one.1.0 one.1.1.0 one.1.1.1)
+        | inr none ↦
+            let as_before = same none in
+            subst (λ (classes : List ClassView). IsKeptOf (apply state entry) classes rows_now) (sym as_before.0)
+            (subst (λ (rows : List (List Standing)). IsKeptOf (apply state entry) classes rows) (sym as_before.1)
+            (kept_still classes rows
+            (λ board low high. none board low (subst (λ (n : ℕ). board ≤ n) (sym same_boards) high)) kept))
+      ]
+    where
+      some_injective : {m n : ℕ} → Some m ≡ Some n → m ≡ n
+      some_injective same = cc
+
+      no_board : (board : ℕ) → None ≢ Some board
+      no_board board same = absurd cc
+
+      about_one : (told : Option ℕ) (boards : ℕ) →
+          ((own : ℕ) × ((1 ≤ own) × ((own ≤ boards) × (told ≡ Some own))))
+          ⊎ ((own : ℕ) → 1 ≤ own → own ≤ boards → told ≢ Some own)
+      about_one None boards = inr (λ own from to. no_board own)
+      about_one (Some board) boards =
+          elim (cases_lt board 1) [
+            | inl low ↦
+                inr (λ own from to same.
+                let here : board ≡ own = some_injective same in
+                absurd (omega (arith, low, from, here)))
+            | inr from ↦
+                elim (cases_lt boards board) [
+                  | inl past ↦
+                      inr (λ own low to same.
+                      let here : board ≡ own = some_injective same in
+                      absurd (omega (arith, past, to, here)))
+                  | inr to ↦ inl (board, (omega (arith, from), (omega (arith, to), refl)))
+                ]
+          ]

@@ -18,6 +18,7 @@ use Rattle.std.specs.Prelude.{
   [],
   length,
   get_or,
+  slice_set,
 }
 use Rattle.std.specs.List.{range_with_len, sum_by}
 use Rattle.table_terms.specs.declared.pair.Pair.{Pair}
@@ -133,6 +134,18 @@ pub record IsClassWith (board : ℕ) (sees : Bool) (old new : List Standing) (be
       get_or after.totals place d
       ≡ total_with (has_number before.boards board) (get_or old place d) sees (get_or new place d)
       (get_or before.totals place d)
+
+-- what is kept takes in what a board is now: its row is what its results earn, each class has it among its boards where it
+-- sees it, and the totals have what it counts now in place of what it counted. Whatever was kept of another board stays
+pub record IsChangedAt (state : SessionState) (own : ℕ) (classes : List ClassView) (rows : List (List Standing))
+    (classes_now : List ClassView) (rows_now : List (List Standing)) : Type 0 where
+  pub row : List Standing
+  pub earned : AreStandings (earnings_on state own) row
+  pub small : AreWithinBoard row
+  pub put : rows_now ≡ slice_set rows (own - 1) row
+  pub each_class : (place : ℕ) (d : ClassView) (e : List Standing) → place < class_places →
+      IsClassWith own (seen_in state (class_at place) own) (get_or rows (own - 1) e) row (get_or classes place d)
+      (get_or classes_now place d)
 
 -- a class that sees no board
 pub record IsNothing (kept : ClassView) : Type 0 where

@@ -7,7 +7,7 @@ ghost use Rattle.session_state.specs.Apply.{apply};
 ghost use Rattle.session_state.specs.SessionState.{AreLive};
 ghost use Rattle.standings.specs.Ranking.{pairs_on, pairs_of};
 ghost use Rattle.class_views.specs.Classes.{class_of, is_kept_class, is_kept_pair};
-ghost use Rattle.class_views.specs.Totals.{told_board, total_for};
+ghost use Rattle.class_views.specs.Totals.{total_for};
 
 use crate::class_view::is_shown_boards;
 use crate::kept::Kept;
@@ -15,7 +15,7 @@ use crate::user_class::{UserClass, place_of};
 use disclosure_rules::Viewer;
 use movement::Movement;
 use scoring::Standing;
-use session_commands::{Command, Entry};
+use session_commands::Entry;
 use session_state::State;
 use std::alloc::{AllocError, Global};
 use std::marker::Model;
@@ -66,9 +66,7 @@ impl ClassViews {
         ensures { self.new ≡ apply self.old entry.now }
     {
         self.state.absorb(entry);
-        if let Some(board) = told_board(&self.state, &entry.command) {
-            self.kept.change(&self.state, board);
-        }
+        self.kept.follow(&self.state, &entry.command);
     }
 
     /// Whether a user is shown the hands of a board.
@@ -165,31 +163,4 @@ fn add_side(
         }
     }
     Ok(())
-}
-
-/// The board of the session that a command is about, if it is about one.
-fn told_board(state: &State, command: &Command) -> Option<u8>
-    ensures board { IfSome result (λ board. told_board command.now ≡ Some board) }
-    ensures from { IfSome result (λ board. 1 ≤ board) }
-    ensures to { IfSome result (λ board. board ≤ boards_of state.now.public.movement) }
-    ensures none { IfNone result ((board : ℕ) → 1 ≤ board → board ≤ boards_of state.now.public.movement →
-        told_board command.now ≢ Some board) }
-    ensures live { AreLive state.now.public.live state.now.cells }
-    ensures section { IsSection state.now.public.movement }
-{
-    let boards = state.public().movement.boards();
-    match named_board(command) {
-        Some(board) if 1 <= board && board <= boards => Some(board),
-        _ => None,
-    }
-}
-
-/// The board that a command names, if it names one.
-fn named_board(command: &Command) -> Option<u8>
-    ensures { result ≡ told_board command.now }
-{
-    match command.cell() {
-        Some(cell) => Some(cell.board),
-        None => command.board(),
-    }
 }

@@ -1,17 +1,17 @@
-ghost use Rattle.std.specs.Prelude.{◌≡◌, ◌≤◌, ◌<◌, ◌+◌, ℕ, Bool, false, [], List, ◌&&◌, nat_le, if◌then◌else◌, length, get_or, IfOk, vec_len};
+ghost use Rattle.std.specs.Prelude.{◌≡◌, ◌≢◌, ◌≤◌, ◌<◌, ◌+◌, ℕ, false, [], List, ◌&&◌, nat_le, if◌then◌else◌, length, get_or, Some, IfNone, IfOk, IfSome, vec_len};
 ghost use Rattle.movement.specs.Movement.{boards_of, IsSection};
 ghost use Rattle.scoring.specs.declared.standing.Standing.{Standing};
 ghost use Rattle.session_state.specs.SessionState.{AreLive};
-ghost use Rattle.standings.specs.declared.earning.Earning.{Earning};
-ghost use Rattle.class_views.specs.Kept.{AreWithinBoard, AreStandings, IsBoardOf, IsKept, IsKeptOf, IsNothing};
+ghost use Rattle.class_views.specs.Kept.{AreWithinBoard, AreStandings, IsChangedAt, IsKept, IsKeptOf, IsNothing};
+ghost use Rattle.class_views.specs.Totals.{told_board};
 ghost use Rattle.class_views.specs.Places.{class_places};
 ghost use Rattle.class_views.specs.declared.class_view.ClassView.{ClassView};
-ghost use Rattle.class_views.specs.declared.user_class.UserClass.{UserClass};
 
 use crate::board_earnings::BoardEarnings;
 use crate::class_view::{ClassView, change_each};
 use crate::pair_totals::PairTotals;
 use crate::user_class::CLASSES;
+use session_commands::Command;
 use session_state::State;
 use std::alloc::{AllocError, Global};
 
@@ -56,8 +56,28 @@ impl Kept {
         })
     }
 
-    /// Takes in what a board is now. It takes no memory, and looks at the results of this board alone.
-    pub(crate) fn change(&mut self, state: &State, board: u8)
+    /// Takes in what the board is now that a command is about. What is kept of any other board stays, whatever it is, and all
+    /// of it where the command is about no board of the session. It takes no memory.
+    pub(crate) fn follow(&mut self, state: &State, command: &Command)
+        requires classes { vec_len self.old.classes ≡ class_places }
+        requires rows { vec_len self.old.rows ≡ boards_of state.now.public.movement }
+        ensures classes { vec_len self.new.classes ≡ class_places }
+        ensures board { (own : ℕ) → 1 ≤ own → own ≤ boards_of state.now.public.movement →
+            told_board command.now ≡ Some own →
+            IsChangedAt state.now own self.old.classes.items self.old.rows.items self.new.classes.items
+            self.new.rows.items }
+        ensures none { ((own : ℕ) → 1 ≤ own → own ≤ boards_of state.now.public.movement →
+            told_board command.now ≢ Some own) → self.new ≡ self.old }
+        ensures section { IsSection state.now.public.movement }
+        ensures live { AreLive state.now.public.live state.now.cells }
+    {
+        if let Some(board) = told_board(state, command) {
+            self.change(state, board);
+        }
+    }
+
+    // Takes in what a board is now, and looks at the results of this board alone.
+    fn change(&mut self, state: &State, board: u8)
         requires section { IsSection state.now.public.movement }
         requires from { 1 ≤ board }
         requires to { board ≤ boards_of state.now.public.movement }
@@ -65,10 +85,8 @@ impl Kept {
         requires rows { vec_len self.old.rows ≡ boards_of state.now.public.movement }
         ensures classes { vec_len self.new.classes ≡ class_places }
         ensures rows { vec_len self.new.rows ≡ boards_of state.now.public.movement }
-        ensures kept { (sees sees_now : UserClass → ℕ → Bool) (earned earned_now : ℕ → List Earning) →
-            IsKept (boards_of state.now.public.movement) sees earned self.old.classes.items self.old.rows.items →
-            IsBoardOf state.now board (boards_of state.now.public.movement) sees sees_now earned earned_now →
-            IsKept (boards_of state.now.public.movement) sees_now earned_now self.new.classes.items self.new.rows.items }
+        ensures changed { IsChangedAt state.now board self.old.classes.items self.old.rows.items self.new.classes.items
+            self.new.rows.items }
     {
         let row = board as usize - 1;
         self.earnings.put(state, board);
@@ -110,4 +128,31 @@ fn empty_rows(alloc: Global, boards: u8) -> Result<Vec<PairTotals>, AllocError>
         rows.push(PairTotals::open(alloc)?)?;
     }
     Ok(rows)
+}
+
+/// The board of the session that a command is about, if it is about one.
+fn told_board(state: &State, command: &Command) -> Option<u8>
+    ensures board { IfSome result (λ board. told_board command.now ≡ Some board) }
+    ensures from { IfSome result (λ board. 1 ≤ board) }
+    ensures to { IfSome result (λ board. board ≤ boards_of state.now.public.movement) }
+    ensures none { IfNone result ((board : ℕ) → 1 ≤ board → board ≤ boards_of state.now.public.movement →
+        told_board command.now ≢ Some board) }
+    ensures live { AreLive state.now.public.live state.now.cells }
+    ensures section { IsSection state.now.public.movement }
+{
+    let boards = state.public().movement.boards();
+    match named_board(command) {
+        Some(board) if 1 <= board && board <= boards => Some(board),
+        _ => None,
+    }
+}
+
+/// The board that a command names, if it names one.
+fn named_board(command: &Command) -> Option<u8>
+    ensures { result ≡ told_board command.now }
+{
+    match command.cell() {
+        Some(cell) => Some(cell.board),
+        None => command.board(),
+    }
 }

@@ -1,5 +1,5 @@
 //! Why a class may stand for its users, and why an entry about a board is no matter to the others.
-ghost use Rattle.std.specs.Prelude.{◌≡◌, ◌≤◌, ◌+◌, ◌&&◌, ℕ, false, Option, Some};
+ghost use Rattle.std.specs.Prelude.{◌≡◌, ◌≢◌, ◌≤◌, ◌+◌, ◌&&◌, ℕ, false, Option, Some};
 ghost use Rattle.movement.specs.Movement.{IsSection, boards_of};
 ghost use Rattle.disclosure_rules.specs.declared.public.Public.{Public};
 ghost use Rattle.disclosure_rules.specs.declared.viewer.Viewer.{Viewer};
@@ -12,7 +12,7 @@ ghost use Rattle.disclosure_rules.specs.Policy.{first_rule};
 ghost use Rattle.disclosure_rules.specs.declared.fact.Fact.{Fact};
 ghost use Rattle.class_views.specs.Classes.{CommentAlike, IsSeatedAlike, class_of, class_sees, is_shown_boards};
 ghost use Rattle.class_views.specs.Classes.{sees_board, without_embargo};
-ghost use Rattle.class_views.specs.Totals.{counted_for, counted_on, told_board, total_for};
+ghost use Rattle.class_views.specs.Totals.{counted_for, counted_on, earnings_on, told_board, total_for};
 ghost use Rattle.class_views.specs.declared.user_class.UserClass.{UserClass};
 ghost use Rattle.table_terms.specs.declared.pair.Pair.{Pair};
 
@@ -43,12 +43,21 @@ pub fn an_embargo_hides_all_boards()
         total_for state (Some class) pair ≡ record { pair = pair; earned = 0; tops = 0 } }
 {}
 
-/// An entry changes what all boards count for a class by what its own board counts.
+/// An entry changes what all boards count for a class by what its own board counts. Of another board each class is shown
+/// what it was, but for an embargo, and its results earn what they did; so an entry about no board, as on seats, accounts,
+/// roles, rounds, phases or an embargo, changes no class's boards.
 pub fn an_entry_changes_its_board()
-    ensures { (count : Earning → ℕ) (state : SessionState) (entry : Entry) (class : Option UserClass) (board : ℕ) →
+    ensures counted { (count : Earning → ℕ) (state : SessionState) (entry : Entry) (class : Option UserClass) (board : ℕ) →
         IsSection state.public.movement → AreLive state.public.live state.cells →
         AreLive (apply state entry).public.live (apply state entry).cells → 1 ≤ board →
         board ≤ boards_of state.public.movement → told_board entry.command ≡ Some board →
         counted_for count (apply state entry) class + counted_on count state class board
         ≡ counted_for count state class + counted_on count (apply state entry) class board }
+    ensures elsewhere { (state : SessionState) (entry : Entry) (class : UserClass) (board : ℕ) →
+        IsSection state.public.movement → AreLive state.public.live state.cells →
+        AreLive (apply state entry).public.live (apply state entry).cells → 1 ≤ board →
+        board ≤ boards_of state.public.movement → told_board entry.command ≢ Some board →
+        (class_sees (without_embargo (apply state entry).public) (Some class) board
+        ≡ class_sees (without_embargo state.public) (Some class) board)
+        × (earnings_on (apply state entry) board ≡ earnings_on state board) }
 {}

@@ -1,8 +1,9 @@
-use Rattle.std.proofs.Common.{rules, ◌≡◌, ◌+◌, ℕ, subst}
-use Rattle.movement.specs.Movement.{boards_of}
+use Rattle.std.proofs.Common.{rules, arith, ◌≡◌, ◌+◌, ℕ, subst}
+use Rattle.movement.specs.Movement.{IsSection, boards_of}
+use Rattle.disclosure_rules.specs.declared.public.Public.{Public}
 use Rattle.std.specs.Prelude.{false, []}
 use Rattle.class_views.specs.Kept.{IsKept, earned_to, seen_to}
-use Rattle.class_views.proofs.KeptLemmas.{kept_first, kept_all, one_more}
+use Rattle.class_views.proofs.KeptLemmas.{kept_changed_at, kept_first, kept_all, one_more}
 use Rattle.class_views.proofs.kept.Kept.open.Goals as goal
 
 pub loop-before-init : goal.loop-before-init
@@ -31,9 +32,11 @@ loop-before-preserved c =
       classes = c.change.ensures.classes;
       rows = c.change.ensures.rows;
       kept =
-          c.change.ensures.kept (seen_to state before) (seen_to state (before + 1)) (earned_to state before)
-          (earned_to state (before + 1)) c.loop-before.invariant.kept
-          (one_more state before (boards_of state.public.movement));
+          kept_changed_at state (before + 1) (omega arith) (search rules) (subst (λ (public : Public). IsSection public.movement) c.public.ensures.public c.boards-boards.ensures.section) (seen_to state before)
+          (seen_to state (before + 1)) (earned_to state before) (earned_to state (before + 1))
+          c.loop-before.kept.classes.items c.change.new.self.classes.items c.loop-before.kept.rows.items
+          c.change.new.self.rows.items c.loop-before.invariant.kept
+          (one_more state before (boards_of state.public.movement)) (search rules) c.change.ensures.changed;
     }
 
 pub returns-clause-kept : goal.returns-clause-kept
