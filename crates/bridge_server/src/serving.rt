@@ -12,7 +12,8 @@ ghost use Rattle.bridge_server.specs.Said.{SaysOf, IsToldUnkept, TellsLine, is_n
 use crate::serving_fault::{ServingFault, status_of_serving_fault, status_of_source_fault};
 use entry_store::{EntryStore, NoStore};
 use kept_sessions::{
-    JournalPaths, KeptSession, SourceFault, kept_session, kept_session_of_files, session_of_files,
+    JournalPaths, KeptSession, KeptSessionFault, kept_session, kept_session_of_files,
+    session_of_files,
 };
 use opened_session::OpenedSession;
 use row_journal::OpenedJournal;
@@ -148,7 +149,7 @@ fn open_kept<R: Files + Threads + JournalPaths + AllocGlobal + Sync>(
     serving: &Serving<'_>,
     path: &str,
     files: &Option<SessionFiles<'_>>,
-) -> Result<KeptSession<R::Kept>, SourceFault>
+) -> Result<KeptSession<R::Kept>, KeptSessionFault>
     ensures opening { IfOk result (λ kept. kept.session.book.journal ≡ []) }
     ensures kept { IfOk result (λ kept. KeepsJust (state R.Kept.Store kept.journal.store.conn)
         (lists_in kept.journal.publications.items)) }
@@ -214,7 +215,7 @@ where
     match serve_book(rt, rt.alloc(), book, plan, store, publications) {
         Ok(store) => Ok(store),
         Err(ServingError::NotAccepted(number)) => {
-            Err(ServingFault::Source(SourceFault::NotAccepted(number)))
+            Err(ServingFault::Source(KeptSessionFault::NotAccepted(number)))
         }
         Err(ServingError::NotListening) => Err(ServingFault::NotListening),
         Err(ServingError::OutOfMemory | ServingError::NoPlace | ServingError::NoThread) => {

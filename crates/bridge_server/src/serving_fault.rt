@@ -6,7 +6,7 @@ ghost use Rattle.program.specs.Status.{IsStatus};
 ghost use Rattle.kept_sessions.specs.Sources.{is_of_a_journal};
 ghost use Rattle.bridge_server.specs.Said.{is_named_fault};
 
-use kept_sessions::SourceFault;
+use kept_sessions::KeptSessionFault;
 use row_journal::JournalFault;
 use std::io::Write;
 
@@ -14,7 +14,7 @@ use std::io::Write;
 #[derive(Clone, Copy)]
 pub(crate) enum ServingFault {
     /// It isn't opened from its files or its journal.
-    Source(SourceFault),
+    Source(KeptSessionFault),
     /// Nothing can listen at the port.
     NotListening,
     /// There is no memory, no place for a display, or no thread for any.
@@ -37,15 +37,15 @@ pub(crate) fn status_of_serving_fault<E: Write>(fault: ServingFault, errors: &mu
 }
 
 /// The status after a session wasn't opened from its files or its journal, or that wasn't told or copied.
-pub(crate) fn status_of_source_fault<E: Write>(fault: SourceFault, errors: &mut E) -> u8
+pub(crate) fn status_of_source_fault<E: Write>(fault: KeptSessionFault, errors: &mut E) -> u8
     ensures statuses { (result ≡ 1) ⊎ (result ≡ 3) ⊎ (result ≡ 4) }
     ensures silent { result ≢ 1 → is_of_a_journal fault ≡ false → Appends (E.contents errors.old) (E.contents errors.new) [] }
     ensures memory { result ≡ 4 → Appends (E.contents errors.old) (E.contents errors.new) [] }
 {
     match fault {
-        SourceFault::OutOfMemory | SourceFault::Journal(JournalFault::OutOfMemory) => 4,
-        SourceFault::Unopened(fault) if fault.is_out_of_memory() => 4,
-        SourceFault::Unread => 3,
+        KeptSessionFault::OutOfMemory | KeptSessionFault::Journal(JournalFault::OutOfMemory) => 4,
+        KeptSessionFault::Unopened(fault) if fault.is_out_of_memory() => 4,
+        KeptSessionFault::Unread => 3,
         _ => {
             // Where it can't be written, the status still tells.
             let _unwritten = writeln!(errors, "bridge_server: {fault}");
@@ -55,13 +55,13 @@ pub(crate) fn status_of_source_fault<E: Write>(fault: SourceFault, errors: &mut 
 }
 
 // The status after a fault that is named.
-fn status_of_named(fault: SourceFault) -> u8
+fn status_of_named(fault: KeptSessionFault) -> u8
     ensures statuses { (result ≡ 1) ⊎ (result ≡ 3) }
     ensures silent { result ≢ 1 → is_of_a_journal fault ≢ false }
 {
     match fault {
-        SourceFault::Journal(JournalFault::Busy | JournalFault::Damaged | JournalFault::Unread)
-        | SourceFault::CopyUnwritten => 3,
+        KeptSessionFault::Journal(JournalFault::Busy | JournalFault::Damaged | JournalFault::Unread)
+        | KeptSessionFault::CopyUnwritten => 3,
         _ => 1,
     }
 }

@@ -30,7 +30,7 @@ pub fn collect<N: Server, K: EntryStore, R: Wait>(
     ensures same { IfNone result (desk.new ≡ desk.old) }
     ensures entered { IfSome result (λ t. (command : Command) × (entered_of pool.old done.now ≡ Some command)
         × (before : List Entry) × IsEntered N.opening before command t.0 t.1
-            × EntersJust desk.old before desk.new (entries_of t.1.published)) }
+        × EntersJust desk.old before desk.new (entries_of t.1.published)) }
 {
     match pool.collect(done) {
         Ok(()) => enter(rt, desk, done),
@@ -50,7 +50,7 @@ fn enter<N: Server, K: EntryStore, R: Wait>(
     ensures entered { IfSome result (λ t. (command : Command)
         × (telling_command done.now.job.work done.now.found ≡ Some command)
         × (before : List Entry) × IsEntered N.opening before command t.0 t.1
-            × EntersJust desk.old before desk.new (entries_of t.1.published)) }
+        × EntersJust desk.old before desk.new (entries_of t.1.published)) }
 {
     match done.found() {
         Found::Table(table) => enter_table(rt, desk, done.job().work, *table),
@@ -71,7 +71,7 @@ fn enter_table<N: Server, K: EntryStore, R: Wait>(
     ensures entered { IfSome result (λ t. (command : Command)
         × (telling_command work (found.Table table) ≡ Some command)
         × (before : List Entry) × IsEntered N.opening before command t.0 t.1
-            × EntersJust desk.old before desk.new (entries_of t.1.published)) }
+        × EntersJust desk.old before desk.new (entries_of t.1.published)) }
 {
     match work {
         Work::Table { board, .. } => Some(desk.submit_solved(rt, board, table)),
@@ -91,7 +91,7 @@ fn enter_costs<N: Server, K: EntryStore, R: Wait>(
     ensures entered { IfSome result (λ t. (command : Command)
         × (telling_command work (found.Costs costs) ≡ Some command)
         × (before : List Entry) × IsEntered N.opening before command t.0 t.1
-            × EntersJust desk.old before desk.new (entries_of t.1.published)) }
+        × EntersJust desk.old before desk.new (entries_of t.1.published)) }
 {
     match work {
         Work::Costs { cell, .. } => Some(desk.submit_analysed(rt, cell, costs)),

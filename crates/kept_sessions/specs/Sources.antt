@@ -4,8 +4,8 @@ use Rattle.session_state.specs.SessionState.{SessionState}
 use Rattle.session_commands.specs.declared.entry.Entry.{Entry}
 use Rattle.opened_session.specs.Opened.{OpensWith, GivesBudget}
 use Rattle.kept_sessions.specs.declared.source_texts.TheConstants.{MOST_FILE_BYTES}
-use Rattle.kept_sessions.specs.declared.source_fault.SourceFault.{SourceFault}
-use Rattle.kept_sessions.specs.declared.source_fault.SourceFault.TheVariants.{Journal, CopyUnwritten}
+use Rattle.kept_sessions.specs.declared.source_fault.KeptSessionFault.{KeptSessionFault}
+use Rattle.kept_sessions.specs.declared.source_fault.KeptSessionFault.TheVariants.{Journal, CopyUnwritten}
 
 -- own: how many bytes a file has at most
 abbrev pub most_file_bytes : ℕ
@@ -19,7 +19,7 @@ pub record IsSessionOf (object boards : List ℕ) (opening : SessionState) (jour
   pub empty : journal ≡ []
 
 -- own: the fault is one of a journal or of its copy, which is named also where the status is 3
-abbrev pub is_of_a_journal : SourceFault → Bool
+abbrev pub is_of_a_journal : KeptSessionFault → Bool
 is_of_a_journal (Journal fault) = true
 is_of_a_journal CopyUnwritten = true
 is_of_a_journal _ = false

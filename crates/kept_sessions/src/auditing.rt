@@ -5,7 +5,7 @@ ghost use Rattle.kept_sessions.specs.Audited.{TellsJournal, line_of_row, lines_f
 
 use crate::journal_paths::JournalPaths;
 use crate::journal_session::{KeptSession, kept_session};
-use crate::source_fault::SourceFault;
+use crate::source_fault::KeptSessionFault;
 use session_book::{AuditRow, Book};
 use session_commands::Entry;
 use std::alloc::{AllocError, Global};
@@ -18,7 +18,7 @@ pub fn audit_of_journal<R: Files + Threads + JournalPaths + AllocGlobal + Sync>(
     rt: &R,
     path: &str,
     workers: usize,
-) -> Result<String, SourceFault>
+) -> Result<String, KeptSessionFault>
     ensures { IfOk result (λ text. TellsJournal (string_bytes text)) }
 {
     let KeptSession { session, journal } = match kept_session(rt, path, workers) {
@@ -33,7 +33,7 @@ fn audit_of_entries(
     alloc: Global,
     book: Book,
     publications: &[Vec<Entry>],
-) -> Result<String, SourceFault>
+) -> Result<String, KeptSessionFault>
     requires { book.journal ≡ [] }
     ensures { IfOk result (λ text. TellsJournal (string_bytes text)) }
 {
@@ -53,7 +53,7 @@ fn tell_all(
     book: &mut Book,
     text: &mut String,
     entries: &[Entry],
-) -> Result<(), SourceFault>
+) -> Result<(), KeptSessionFault>
     requires { string_bytes text.old ≡ lines_from 1 book.old.journal }
     ensures { OnOk result (string_bytes text.new ≡ lines_from 1 book.new.journal) }
 {
@@ -64,19 +64,24 @@ fn tell_all(
 }
 
 // Enters an entry again, and tells a line of it.
-fn tell(alloc: Global, book: &mut Book, text: &mut String, entry: &Entry) -> Result<(), SourceFault>
+fn tell(
+    alloc: Global,
+    book: &mut Book,
+    text: &mut String,
+    entry: &Entry,
+) -> Result<(), KeptSessionFault>
     requires { string_bytes text.old ≡ lines_from 1 book.old.journal }
     ensures { OnOk result (string_bytes text.new ≡ lines_from 1 book.new.journal) }
 {
     let number = book.version() + 1;
     match book.check(entry.actor, &entry.command) {
         Ok(checked) => book.commit(checked),
-        Err(cause) if cause.is_out_of_memory() => return Err(SourceFault::OutOfMemory),
-        Err(_) => return Err(SourceFault::NotAccepted(number as u32)),
+        Err(cause) if cause.is_out_of_memory() => return Err(KeptSessionFault::OutOfMemory),
+        Err(_) => return Err(KeptSessionFault::NotAccepted(number as u32)),
     }
     match add_line(alloc, text, number, entry) {
         Ok(()) => Ok(()),
-        Err(_) => Err(SourceFault::OutOfMemory),
+        Err(_) => Err(KeptSessionFault::OutOfMemory),
     }
 }
 

@@ -2,7 +2,7 @@
 
 ghost use Rattle.std.specs.Prelude.{◌≡◌, IfOk, IsTrue};
 
-use crate::source_fault::SourceFault;
+use crate::source_fault::KeptSessionFault;
 use journal_store::close_journal;
 use row_journal::{JournalFault, fault_of_file};
 use sqlite::{Connection, FileStore};
@@ -13,29 +13,29 @@ use std::alloc::Global;
 pub(crate) fn bytes_of_closed<D: Disk + Drop>(
     alloc: Global,
     conn: Connection<FileStore<D>>,
-) -> Result<Vec<u8>, SourceFault> {
+) -> Result<Vec<u8>, KeptSessionFault> {
     match close_journal(conn) {
         Ok(mut files) => bytes_of(alloc, &mut files.db),
-        Err(fault) => Err(SourceFault::Journal(fault_of_file(fault))),
+        Err(fault) => Err(KeptSessionFault::Journal(fault_of_file(fault))),
     }
 }
 
 // All bytes of a file.
-fn bytes_of<D: Disk>(alloc: Global, file: &mut D) -> Result<Vec<u8>, SourceFault>
+fn bytes_of<D: Disk>(alloc: Global, file: &mut D) -> Result<Vec<u8>, KeptSessionFault>
     ensures { IfOk result (λ bytes. IsTrue (D.is_clean file.new) → bytes.items ≡ D.seen file.old) }
 {
     if !file.may_be_used() {
-        return Err(SourceFault::Journal(JournalFault::Unread));
+        return Err(KeptSessionFault::Journal(JournalFault::Unread));
     }
     let Ok(length) = file.len() else {
-        return Err(SourceFault::Journal(JournalFault::Unread));
+        return Err(KeptSessionFault::Journal(JournalFault::Unread));
     };
     let mut bytes = Vec::new(alloc);
     if bytes.resize(length, 0).is_err() {
-        return Err(SourceFault::OutOfMemory);
+        return Err(KeptSessionFault::OutOfMemory);
     }
     match file.read_at(0, bytes.as_mut_slice()) {
         Ok(()) => Ok(bytes),
-        Err(_) => Err(SourceFault::Journal(JournalFault::Unread)),
+        Err(_) => Err(KeptSessionFault::Journal(JournalFault::Unread)),
     }
 }

@@ -2,7 +2,7 @@
 
 use crate::journal_paths::JournalPaths;
 use crate::paths::may_hold_database;
-use crate::source_fault::SourceFault;
+use crate::source_fault::KeptSessionFault;
 use row_journal::JournalFault;
 use script_lines::write_text;
 use std::fs::{File, OpenFile};
@@ -14,10 +14,10 @@ pub fn copy_journal<R: Files + JournalPaths>(
     rt: &R,
     path: &str,
     to: &str,
-) -> Result<(), SourceFault> {
+) -> Result<(), KeptSessionFault> {
     match may_hold_database(rt, path) {
         Ok(true) => {}
-        Ok(false) => return Err(SourceFault::Journal(JournalFault::NotAJournal)),
+        Ok(false) => return Err(KeptSessionFault::Journal(JournalFault::NotAJournal)),
         Err(fault) => return Err(fault),
     }
     match rt.bytes_there(path) {
@@ -27,21 +27,21 @@ pub fn copy_journal<R: Files + JournalPaths>(
 }
 
 // Writes a file whole, and has it on the disk.
-fn write_and_sync<F: Write + OpenFile>(file: &mut F, bytes: &[u8]) -> Result<(), SourceFault> {
+fn write_and_sync<F: Write + OpenFile>(file: &mut F, bytes: &[u8]) -> Result<(), KeptSessionFault> {
     if write_text(file, bytes).is_err() {
-        return Err(SourceFault::CopyUnwritten);
+        return Err(KeptSessionFault::CopyUnwritten);
     }
     match file.sync_all() {
         Ok(()) => Ok(()),
-        Err(_) => Err(SourceFault::CopyUnwritten),
+        Err(_) => Err(KeptSessionFault::CopyUnwritten),
     }
 }
 
 // Writes a file that isn't there yet, and has it on the disk.
-fn write_new<R: Files>(rt: &R, path: &str, bytes: &[u8]) -> Result<(), SourceFault> {
+fn write_new<R: Files>(rt: &R, path: &str, bytes: &[u8]) -> Result<(), KeptSessionFault> {
     match File::create_new(rt, path) {
         Ok(mut file) => write_and_sync(&mut file, bytes),
-        Err(error) if error.kind() == ErrorKind::AlreadyExists => Err(SourceFault::CopyExists),
-        Err(_) => Err(SourceFault::CopyUnwritten),
+        Err(error) if error.kind() == ErrorKind::AlreadyExists => Err(KeptSessionFault::CopyExists),
+        Err(_) => Err(KeptSessionFault::CopyUnwritten),
     }
 }

@@ -9,7 +9,7 @@ ghost use Rattle.journal_store.specs.Kept.{texts_of, row_of_session};
 ghost use Rattle.journal_store.specs.Restart.{IsTakenUp, IsKeptAt};
 
 use crate::closed_journal::bytes_of_closed;
-use crate::source_fault::SourceFault;
+use crate::source_fault::KeptSessionFault;
 use journal_store::{JournalFiles, SessionText};
 use row_journal::{FoundJournal, JournalFault, fault_of_file, open_kept_journal, open_row_journal};
 use sqlite::{Alter, FileFrom, FileStore, Start, Wary};
@@ -46,7 +46,7 @@ pub trait JournalPaths {
             (state Self.Kept.Store kept.1.conn)) };
 
     /// All bytes of a journal that is there, once its log is in its file.
-    fn bytes_there(&self, path: &str) -> Result<Vec<u8>, SourceFault>;
+    fn bytes_there(&self, path: &str) -> Result<Vec<u8>, KeptSessionFault>;
 }
 
 /// The system's files. Nothing is supposed of what a torn write leaves, so each publication is synced twice.
@@ -79,10 +79,10 @@ impl JournalPaths for HostRuntime {
         }
     }
 
-    fn bytes_there(&self, path: &str) -> Result<Vec<u8>, SourceFault> {
+    fn bytes_there(&self, path: &str) -> Result<Vec<u8>, KeptSessionFault> {
         match self.open_kept_at(path, Wary) {
             Ok((conn, _session, _rows)) => bytes_of_closed(self.alloc(), conn),
-            Err((fault, _)) => Err(SourceFault::Journal(fault_of_file(fault))),
+            Err((fault, _)) => Err(KeptSessionFault::Journal(fault_of_file(fault))),
         }
     }
 }

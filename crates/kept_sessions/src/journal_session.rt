@@ -9,7 +9,7 @@ ghost use Rattle.kept_sessions.specs.Kept.{IsKeptSession, IsTakenSession, KeepsJ
 
 use crate::journal_paths::JournalPaths;
 use crate::paths::{may_hold_database, texts_of_files};
-use crate::source_fault::SourceFault;
+use crate::source_fault::KeptSessionFault;
 use crate::source_texts::SourceTexts;
 use crate::texts_session::session_of_texts;
 use opened_session::{OpenedSession, OpeningFault};
@@ -36,7 +36,7 @@ pub fn kept_session_of_texts<R: JournalPaths + Threads + AllocGlobal + Sync>(
     path: &str,
     texts: &SourceTexts,
     workers: usize,
-) -> Result<KeptSession<R::Kept>, SourceFault>
+) -> Result<KeptSession<R::Kept>, KeptSessionFault>
     ensures taken { IfOk result (λ kept. IsTakenSession R.held texts.now.object.items texts.now.boards.items
         kept.session.book.opening kept.session.book.journal kept.session.budget
         (lists_in kept.journal.publications.items) (state R.Kept.Store kept.journal.store.conn)) }
@@ -50,11 +50,11 @@ pub fn kept_session_of_texts<R: JournalPaths + Threads + AllocGlobal + Sync>(
     };
     // A session object that opens a session is a text.
     let Ok(object) = str::from_utf8(texts.object.as_slice()) else {
-        return Err(SourceFault::Unopened(OpeningFault::Session(SessionFault::Malformed)));
+        return Err(KeptSessionFault::Unopened(OpeningFault::Session(SessionFault::Malformed)));
     };
     match rt.open_or_make(path, object, boards) {
         Ok(found) => with_journal(rt, session, found, workers),
-        Err(fault) => Err(SourceFault::Journal(fault)),
+        Err(fault) => Err(KeptSessionFault::Journal(fault)),
     }
 }
 
@@ -65,7 +65,7 @@ pub fn kept_session_of_files<R: Files + JournalPaths + Threads + AllocGlobal + S
     object_path: &str,
     boards_path: &str,
     workers: usize,
-) -> Result<KeptSession<R::Kept>, SourceFault>
+) -> Result<KeptSession<R::Kept>, KeptSessionFault>
     ensures taken { IfOk result (λ kept. (object boards : List ℕ)
         × (length object ≤ most_file_bytes) × (length boards ≤ most_file_bytes)
         × IsTakenSession R.held object boards
@@ -85,7 +85,7 @@ pub fn kept_session<R: Files + JournalPaths + Threads + AllocGlobal + Sync>(
     rt: &R,
     path: &str,
     workers: usize,
-) -> Result<KeptSession<R::Kept>, SourceFault>
+) -> Result<KeptSession<R::Kept>, KeptSessionFault>
     ensures kept { IfOk result (λ kept. IsKeptSession R.held
         kept.session.book.opening kept.session.book.journal kept.session.budget
         (lists_in kept.journal.publications.items) (state R.Kept.Store kept.journal.store.conn)) }
@@ -94,12 +94,12 @@ pub fn kept_session<R: Files + JournalPaths + Threads + AllocGlobal + Sync>(
 {
     match may_hold_database(rt, path) {
         Ok(true) => {}
-        Ok(false) => return Err(SourceFault::Journal(JournalFault::NotAJournal)),
+        Ok(false) => return Err(KeptSessionFault::Journal(JournalFault::NotAJournal)),
         Err(fault) => return Err(fault),
     }
     let (texts, found) = match rt.open_there(path) {
         Ok(kept) => kept,
-        Err(fault) => return Err(SourceFault::Journal(fault)),
+        Err(fault) => return Err(KeptSessionFault::Journal(fault)),
     };
     match session_of_texts(rt.alloc(), texts.object.as_bytes(), texts.boards.as_slice()) {
         Ok(session) => with_journal(rt, session, found, workers),
@@ -113,7 +113,7 @@ fn with_journal<R: Threads + AllocGlobal + Sync, S: Alter + Drop>(
     session: OpenedSession,
     found: FoundJournal<S>,
     workers: usize,
-) -> Result<KeptSession<S>, SourceFault>
+) -> Result<KeptSession<S>, KeptSessionFault>
     ensures read { IfOk result (λ kept. (kept.session ≡ session) × (kept.journal.store.conn ≡ found.conn)
         × (map texts_of found.rows ≡ rows_of (lists_in kept.journal.publications.items))) }
     ensures leaves { IfOk result (λ kept. KeepsJust (state S.Store kept.journal.store.conn)
@@ -121,6 +121,6 @@ fn with_journal<R: Threads + AllocGlobal + Sync, S: Alter + Drop>(
 {
     match found.read(rt, rt.alloc(), session.budget, workers) {
         Ok(journal) => Ok(KeptSession { session, journal }),
-        Err(fault) => Err(SourceFault::Journal(fault)),
+        Err(fault) => Err(KeptSessionFault::Journal(fault)),
     }
 }

@@ -18,6 +18,6 @@ pub use journal_session::{
     KeptSession, kept_session, kept_session_of_files, kept_session_of_texts,
 };
 pub use paths::{session_of_files, texts_of_files};
-pub use source_fault::SourceFault;
+pub use source_fault::KeptSessionFault;
 pub use source_texts::{MOST_FILE_BYTES, SourceTexts, read_texts};
 pub use texts_session::session_of_texts;

@@ -3,7 +3,7 @@
 ghost use Rattle.std.specs.Prelude.{◌≡◌, ◌≤◌, ℕ, List, length, false, IfOk, IfErr};
 ghost use Rattle.kept_sessions.specs.Sources.{IsSessionOf, most_file_bytes, is_of_a_journal};
 
-use crate::source_fault::SourceFault;
+use crate::source_fault::KeptSessionFault;
 use crate::source_texts::{SourceTexts, read_texts};
 use crate::texts_session::session_of_texts;
 use opened_session::OpenedSession;
@@ -20,7 +20,7 @@ pub fn texts_of_files<R: Files + AllocGlobal>(
     rt: &R,
     object_path: &str,
     boards_path: &str,
-) -> Result<SourceTexts, SourceFault>
+) -> Result<SourceTexts, KeptSessionFault>
     ensures few { IfOk result (λ texts. (length texts.object.items ≤ most_file_bytes)
         × (length texts.boards.items ≤ most_file_bytes)) }
     ensures fault { IfErr result (λ fault. is_of_a_journal fault ≡ false) }
@@ -40,7 +40,7 @@ pub fn session_of_files<R: Files + AllocGlobal>(
     rt: &R,
     object_path: &str,
     boards_path: &str,
-) -> Result<OpenedSession, SourceFault>
+) -> Result<OpenedSession, KeptSessionFault>
     ensures session { IfOk result (λ session. (object boards : List ℕ)
         × (length object ≤ most_file_bytes) × (length boards ≤ most_file_bytes)
         × IsSessionOf object boards session.book.opening session.book.journal session.budget) }
@@ -53,22 +53,22 @@ pub fn session_of_files<R: Files + AllocGlobal>(
 }
 
 // What an error of the system is to one who reads a session's file.
-fn fault_of_reading(error: io::Error) -> SourceFault
+fn fault_of_reading(error: io::Error) -> KeptSessionFault
     ensures { is_of_a_journal result ≡ false }
 {
     match error.kind() {
-        ErrorKind::OutOfMemory => SourceFault::OutOfMemory,
-        _ => SourceFault::Unread,
+        ErrorKind::OutOfMemory => KeptSessionFault::OutOfMemory,
+        _ => KeptSessionFault::Unread,
     }
 }
 
 /// Whether there is something at a path that may hold a database. A shorter file holds none, and an open would make one in
 /// it.
-pub(crate) fn may_hold_database<R: Files>(rt: &R, path: &str) -> Result<bool, SourceFault> {
+pub(crate) fn may_hold_database<R: Files>(rt: &R, path: &str) -> Result<bool, KeptSessionFault> {
     match fs::metadata(rt, path) {
         Ok(found) => Ok(!found.is_file() || found.len() >= LEAST_DATABASE_BYTES),
         Err(error) if error.kind() == ErrorKind::NotFound => Ok(false),
-        Err(error) if error.kind() == ErrorKind::OutOfMemory => Err(SourceFault::OutOfMemory),
-        Err(_) => Err(SourceFault::Journal(JournalFault::Unread)),
+        Err(error) if error.kind() == ErrorKind::OutOfMemory => Err(KeptSessionFault::OutOfMemory),
+        Err(_) => Err(KeptSessionFault::Journal(JournalFault::Unread)),
     }
 }

@@ -5,7 +5,7 @@ use thiserror::Error;
 
 /// Why a session isn't opened from its files, or its journal isn't told or copied.
 #[derive(Clone, Copy, Debug, Error)]
-pub enum SourceFault {
+pub enum KeptSessionFault {
     /// There is no memory.
     OutOfMemory,
     /// A file of the session can't be read, or is too long.
@@ -23,16 +23,16 @@ pub enum SourceFault {
 }
 
 /// Faults of the texts and of the journal are called as their crates call them.
-impl fmt::Display for SourceFault {
+impl fmt::Display for KeptSessionFault {
     fn fmt<W: fmt::Write>(&self, f: &mut fmt::Formatter<W>) -> fmt::Result {
         match self {
-            SourceFault::OutOfMemory => f.write_str("out of memory"),
-            SourceFault::Unread => f.write_str("a file can't be read"),
-            SourceFault::Unopened(fault) => write!(f, "{fault}"),
-            SourceFault::Journal(fault) => write!(f, "{fault}"),
-            SourceFault::NotAccepted(number) => write!(f, "NotAccepted({number})"),
-            SourceFault::CopyExists => f.write_str("CopyExists"),
-            SourceFault::CopyUnwritten => f.write_str("CopyUnwritten"),
+            KeptSessionFault::OutOfMemory => f.write_str("out of memory"),
+            KeptSessionFault::Unread => f.write_str("a file can't be read"),
+            KeptSessionFault::Unopened(fault) => write!(f, "{fault}"),
+            KeptSessionFault::Journal(fault) => write!(f, "{fault}"),
+            KeptSessionFault::NotAccepted(number) => write!(f, "NotAccepted({number})"),
+            KeptSessionFault::CopyExists => f.write_str("CopyExists"),
+            KeptSessionFault::CopyUnwritten => f.write_str("CopyUnwritten"),
         }
     }
 }

@@ -3,7 +3,7 @@
 ghost use Rattle.std.specs.Prelude.{◌≡◌, ◌≤◌, length, false, IfOk, IfErr, IfSome};
 ghost use Rattle.kept_sessions.specs.Sources.{most_file_bytes, is_of_a_journal};
 
-use crate::source_fault::SourceFault;
+use crate::source_fault::KeptSessionFault;
 use std::alloc::Global;
 use std::io::{ErrorKind, Read};
 
@@ -24,7 +24,7 @@ pub fn read_texts<I: Read + Drop, J: Read + Drop>(
     alloc: Global,
     object: I,
     boards: J,
-) -> Result<SourceTexts, SourceFault>
+) -> Result<SourceTexts, KeptSessionFault>
     ensures object { IfOk result (λ texts. IfSome (I.remaining object) (λ all. texts.object.items ≡ all)) }
     ensures boards { IfOk result (λ texts. IfSome (J.remaining boards) (λ all. texts.boards.items ≡ all)) }
     ensures few { IfOk result (λ texts. (length texts.object.items ≤ most_file_bytes)
@@ -42,7 +42,7 @@ pub fn read_texts<I: Read + Drop, J: Read + Drop>(
 }
 
 // All bytes of a reader, unless there are too many.
-fn read_whole<I: Read + Drop>(alloc: Global, reader: I) -> Result<Vec<u8>, SourceFault>
+fn read_whole<I: Read + Drop>(alloc: Global, reader: I) -> Result<Vec<u8>, KeptSessionFault>
     ensures whole { IfOk result (λ bytes. IfSome (I.remaining reader) (λ all. bytes.items ≡ all)) }
     ensures few { IfOk result (λ bytes. length bytes.items ≤ most_file_bytes) }
     ensures fault { IfErr result (λ fault. is_of_a_journal fault ≡ false) }
@@ -53,7 +53,7 @@ fn read_whole<I: Read + Drop>(alloc: Global, reader: I) -> Result<Vec<u8>, Sourc
         .read_to_end(&mut bytes)
     {
         Ok(_) if bytes.len() <= MOST_FILE_BYTES => Ok(bytes),
-        Err(error) if error.kind() == ErrorKind::OutOfMemory => Err(SourceFault::OutOfMemory),
-        Ok(_) | Err(_) => Err(SourceFault::Unread),
+        Err(error) if error.kind() == ErrorKind::OutOfMemory => Err(KeptSessionFault::OutOfMemory),
+        Ok(_) | Err(_) => Err(KeptSessionFault::Unread),
     }
 }
