@@ -35,7 +35,7 @@ invariant_of-self c =
       seated = subst (λ roles. AreSeated roles inside.seats.items) (sym changed)
           (still_seated _ _ inside.seats.items kept.seated (λ other there. there));
       placed = kept.placed;
-      edition = ap (λ (roles : RoleData). roles.edition) c.add_inheritance.ensures ∙ kept.edition;
+      edition = ap (λ (roles : RoleData). roles.edition) changed ∙ kept.edition;
       live = kept.live;
     }
 

@@ -52,7 +52,7 @@ invariant_of-self c =
       seated = subst (λ roles. AreSeated roles inside.seats.items) (sym added)
           (seated_added inside.roles c.args.name inside.seats.items kept.seated);
       placed = kept.placed;
-      edition = ap (λ (roles : RoleData). roles.edition) c.add_user.ensures ∙ kept.edition;
+      edition = ap (λ (roles : RoleData). roles.edition) added ∙ kept.edition;
       live = kept.live;
     }
 

@@ -41,7 +41,7 @@ invariant_of-self c =
       seated = subst (λ roles. AreSeated roles inside.seats.items) (sym changed)
           (seated_changed (λ set. with_role set c.args.role) inside.roles c.args.name inside.seats.items kept.seated);
       placed = kept.placed;
-      edition = ap (λ (roles : RoleData). roles.edition) c.assign.ensures ∙ kept.edition;
+      edition = ap (λ (roles : RoleData). roles.edition) changed ∙ kept.edition;
       live = kept.live;
     }
 

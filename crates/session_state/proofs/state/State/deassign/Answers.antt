@@ -42,7 +42,7 @@ invariant_of-self c =
           (seated_changed (λ set. without_role set c.args.role) inside.roles c.args.name inside.seats.items
           kept.seated);
       placed = kept.placed;
-      edition = ap (λ (roles : RoleData). roles.edition) c.deassign.ensures ∙ kept.edition;
+      edition = ap (λ (roles : RoleData). roles.edition) changed ∙ kept.edition;
       live = kept.live;
     }
 
