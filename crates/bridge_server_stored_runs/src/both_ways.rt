@@ -1,4 +1,4 @@
-//! A session in which every question is answered both ways: from what a view keeps, and afresh from its state. The text
+//! A session in which every question is answered both ways: from what a view keeps, and afresh from the book's state. The text
 //! begins with a session object, a line with the names of those who ask, and lines with messages that ask something;
 //! after an empty line come messages with commands. After each accepted command, and before the first, each question is
 //! asked for each name. A reply that isn't the same both ways is told at once, and at the end how many were compared.
@@ -166,7 +166,7 @@ impl BothWays {
         let Ok(kept) = self.view.answer(alloc, user, query, since) else {
             return None;
         };
-        let Ok(afresh) = answer_afresh(alloc, &self.view, user, query, since) else {
+        let Ok(afresh) = answer_afresh(alloc, &self.book, user, query, since) else {
             return None;
         };
         match (reply_text(alloc, &kept), reply_text(alloc, &afresh)) {

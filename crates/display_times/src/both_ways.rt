@@ -39,11 +39,12 @@ enum Part {
     Message,
 }
 
-// A query of a user, the message that asks it, and the view that is asked.
+// A query of a user, the message that asks it, the view that is asked, and the book that leads to it.
 #[derive(Drop)]
 struct Asked<'a> {
     alloc: Global,
     view: &'a View,
+    book: &'a Book,
     user: Name,
     query: &'a Query,
     since: u64,
@@ -102,6 +103,7 @@ fn follow(
             let asked = Asked {
                 alloc: rt.alloc(),
                 view: &session.view,
+                book: &session.book,
                 user: said.user,
                 query,
                 since: *since,
@@ -163,14 +165,7 @@ fn is_done(asked: &Asked<'_>, part: Part, way: Way) -> bool {
 }
 
 fn reply(asked: &Asked<'_>, way: Way) -> Result<Reply, AllocError> {
-    answered(
-        asked.alloc,
-        asked.view,
-        asked.user,
-        asked.query,
-        asked.since,
-        way,
-    )
+    answered(asked, asked.user, asked.query, asked.since, way)
 }
 
 // Whether the message is read, answered, and the reply written as a text.
@@ -184,7 +179,7 @@ fn is_told(asked: &Asked<'_>, way: Way) -> bool {
 fn is_written(asked: &Asked<'_>, said: &ScriptRequest, way: Way) -> bool {
     match &said.request {
         UserRequest::Query { query, since } => {
-            match answered(asked.alloc, asked.view, said.user, query, *since, way) {
+            match answered(asked, said.user, query, *since, way) {
                 Ok(reply) => reply_text(asked.alloc, &reply).is_ok(),
                 Err(_) => false,
             }
@@ -194,15 +189,14 @@ fn is_written(asked: &Asked<'_>, said: &ScriptRequest, way: Way) -> bool {
 }
 
 fn answered(
-    alloc: Global,
-    view: &View,
+    asked: &Asked<'_>,
     user: Name,
     query: &Query,
     since: u64,
     way: Way,
 ) -> Result<Reply, AllocError> {
     match way {
-        Way::Kept => view.answer(alloc, user, query, since),
-        Way::Afresh => answer_afresh(alloc, view, user, query, since),
+        Way::Kept => asked.view.answer(asked.alloc, user, query, since),
+        Way::Afresh => answer_afresh(asked.alloc, asked.book, user, query, since),
     }
 }
