@@ -45,6 +45,48 @@ fn earn(alloc: Global, scores: &[i32], units: &[u32]) -> bool {
     }
 }
 
+/// How many scores there are of boards on which each beats all before it.
+static COUNTS: [u16; 3] = [65, 1_000, 65_535];
+
+/// Whether scores that climb by one earn two units for each that stands before them.
+fn climb(alloc: Global, count: u16) -> bool {
+    let mut scores = Vec::new(alloc);
+    for score in 0..count {
+        if scores.push(i32::from(score)).is_err() {
+            return false;
+        }
+    }
+    earn_twice_their_places(alloc, scores.as_slice())
+}
+
+/// Whether the scores of a board, which are 65,535 at most, earn twice their places each.
+fn earn_twice_their_places(alloc: Global, scores: &[i32]) -> bool {
+    if scores.len() > 65_535 {
+        return false;
+    }
+    match matchpoints(alloc, scores) {
+        Ok(earned) => are_twice_their_places(earned.as_slice()),
+        Err(_) => false,
+    }
+}
+
+/// Whether each number is twice its place, from 0.
+fn are_twice_their_places(numbers: &[u32]) -> bool {
+    for (place, number) in numbers.iter().enumerate() {
+        if *number as usize != place.wrapping_mul(2) {
+            return false;
+        }
+    }
+    true
+}
+
+#[test]
+fn many_scores_find_their_memory(rt: HostRuntime) {
+    for count in &COUNTS {
+        assert!(rt; climb(rt.alloc(), *count));
+    }
+}
+
 #[test]
 fn boards_are_scored_in_matchpoints(rt: HostRuntime) {
     for (scores, units) in &BOARDS {
