@@ -1,6 +1,6 @@
 #!/usr/bin/env python3
 """Says which documents have outgrown what a reader takes in: README.md has at most 250 lines, the page of a crate 20 to 60, and
-docs/DECISIONS.md 25,000 bytes. Each that hasn't its size is a line; the status is 1 where there is one.
+docs/DECISIONS.md 30,000 bytes. Each that hasn't its size is a line; the status is 1 where there is one.
 
     python3 tests/document_sizes.py
 """
@@ -8,7 +8,7 @@ import pathlib
 import sys
 
 ROOT = pathlib.Path(__file__).resolve().parent.parent
-MOST_LINES, LINES_OF_A_CRATE, MOST_BYTES = 250, range(20, 61), 25_000
+MOST_LINES, LINES_OF_A_CRATE, MOST_BYTES = 250, range(20, 61), 30_000
 
 
 def lines(path):

@@ -1,5 +1,6 @@
 mod batches;
 mod beside;
+mod collecting;
 mod keeping;
 mod opening;
 mod serving;

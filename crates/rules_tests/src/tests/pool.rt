@@ -1,6 +1,7 @@
 //! The pool and its workers: what it refuses, that workers work beside one another, what they find and when, and what
 //! becomes of a result for which there is no room.
 
+mod answering;
 mod beside;
 mod dropping;
 mod pooling;
