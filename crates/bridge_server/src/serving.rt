@@ -200,19 +200,8 @@ where
     requires kept { LeavesJust (map (λ publication. publication.items) publications.items) (K.doubt store) (K.leaves store) }
     ensures { IfErr result (λ fault. is_named_fault fault ≡ false) }
 {
-    let OpenedSession { book, budget } = session;
-    let plan = ServingPlan {
-        port: serving.port,
-        displays: serving.displays,
-        workers: serving.workers,
-        connections: serving.connections,
-        budget,
-        terms: ClientTerms {
-            idle: serving.idle,
-            origin: serving.origin,
-        },
-    };
-    match serve_book(rt, rt.alloc(), book, plan, store, publications) {
+    let plan = plan_of(serving, &session);
+    match serve_book(rt, rt.alloc(), session.book, plan, store, publications) {
         Ok(store) => Ok(store),
         Err(ServingError::NotAccepted(number)) => {
             Err(ServingFault::Source(KeptSessionFault::NotAccepted(number)))
@@ -221,5 +210,22 @@ where
         Err(ServingError::OutOfMemory | ServingError::NoPlace | ServingError::NoThread) => {
             Err(ServingFault::NoRoom)
         }
+    }
+}
+
+// How an open session is served: as the words ask for it, and with its own visits.
+fn plan_of<'a>(serving: &Serving<'a>, session: &OpenedSession) -> ServingPlan<'a>
+    ensures { result.budget ≡ session.now.budget }
+{
+    ServingPlan {
+        port: serving.port,
+        displays: serving.displays,
+        workers: serving.workers,
+        connections: serving.connections,
+        budget: session.budget,
+        terms: ClientTerms {
+            idle: serving.idle,
+            origin: serving.origin,
+        },
     }
 }
