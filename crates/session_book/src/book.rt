@@ -233,20 +233,24 @@ impl Book {
         let accounts = self.state().accounts();
         for place in 0..accounts.len() {
             let user = accounts[place].name;
-            if self.spoils(user, cell) {
+            if self.spoils(place, user, cell) {
                 return Some(user);
             }
         }
         None
     }
 
-    // Whether a user was shown something of the cell's board, and sits at the cell.
-    fn spoils(&self, user: Name, cell: Cell) -> bool
+    // Whether the user at a place was shown something of the cell's board, and sits at the cell.
+    fn spoils(&self, place: usize, user: Name, cell: Cell) -> bool
+        requires place { place < length (users_of (state_of self.now)) }
+        requires room { place < most_users }
+        requires user { user ≡ user_at (state_of self.now) place }
         requires from { 1 ≤ cell.board }
         requires to { cell.board ≤ boards_of self.now.opening.public.movement }
         ensures { result ≡ spoils self.now.opening self.now.journal cell user }
     {
-        self.exposed(user, cell.board) && sits_at(self.state(), user, cell)
+        let state = self.state();
+        self.is_noted(place, cell.board) && sits_at(state, user, cell)
     }
 
     // Whether the user at a place was shown something of a board.
