@@ -23,6 +23,7 @@ KEPT = {
     "movement::set_on": "`Movement::board_at` alone needs it",
     "scoring::matchpoints": "Law 78A over any list of scores; a traveller has sixteen rows at most, and counts without memory",
     "session_state::State::decide": "the policy for a user by name; programs ask it for a user whom they looked up once",
+    "session_book::Book::exposed": "who was shown what, by name; a check goes over the accounts and asks by their places",
     "row_journal::RowJournal::into_connection": "the law of what a crash leaves speaks of the database that it gives back",
 }
 
