@@ -5,8 +5,8 @@ use Rattle.journal_store.specs.Tables.{session_row}
 use Rattle.journal_store.proofs.RestartLemmas.{idle_if_opened}
 use Rattle.row_journal.proofs.tests.found_in.Goals as goal
 
-pub new-requires-clause-rests : goal.new-requires-clause-rests
-new-requires-clause-rests g c = λ clean.
+pub new-requires-in-Ok-take_up-clause-rests : goal.new-requires-in-Ok-take_up-clause-rests
+new-requires-in-Ok-take_up-clause-rests g c = λ clean.
     let early : HasCleanDisk (file_state c.in-Ok.conn) = c.take_up.ensures.clean clean in
     let idle = idle_if_opened (file_state c.in-Ok.conn) (c.in-Ok.ensures.opened early) in
     (session_row (codes "{}") (codes "boards") ∷ [], (c.in-Ok-take_up.ensures.takes clean idle).rests)
