@@ -7,8 +7,10 @@ ghost use Rattle.program.specs.Status.{IsStatus};
 ghost use Rattle.kept_sessions.specs.Audited.{TellsJournal};
 
 use crate::serving_fault::status_of_source_fault;
-use kept_sessions::{JournalPaths, audit_of_journal};
+use journal_store::JournalFiles;
+use kept_sessions::audit_of_journal;
 use script_lines::write_text;
+use sqlite::Wary;
 use std::io::Write;
 use std::rt::Files;
 use std::thread::Threads;
@@ -19,7 +21,7 @@ const WORKERS: usize = 4;
 /// Writes the audit of the journal at a path, a line for each entry, and answers the status. It is written once the whole
 /// journal was entered again.
 pub(crate) fn status_of_audit<
-    R: Files + Threads + JournalPaths + AllocGlobal + Sync,
+    R: Files + Threads + JournalFiles + AllocGlobal + Sync,
     W: Write,
     E: Write,
 >(rt: &R, path: &str, writer: &mut W, errors: &mut E) -> u8
@@ -32,7 +34,7 @@ pub(crate) fn status_of_audit<
         ⊎ ((text : List ℕ) × TellsJournal text × WritesPart (W.contents writer.old) (W.contents writer.new) text) }
     ensures untold { result ≢ 0 → result ≢ 3 → Appends (W.contents writer.old) (W.contents writer.new) [] }
 {
-    match audit_of_journal(rt, path, WORKERS) {
+    match audit_of_journal(rt, path, Wary, WORKERS) {
         Ok(text) => match write_text(writer, text.as_bytes()) {
             Ok(()) => 0,
             Err(_) => 3,

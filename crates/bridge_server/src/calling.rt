@@ -18,7 +18,7 @@ ghost use Rattle.bridge_server.specs.Said.{IsSaidOnErrors, IsToldUnkept};
 use crate::auditing::status_of_audit;
 use crate::copying::status_of_copy;
 use crate::serving::status_of_serving;
-use kept_sessions::JournalPaths;
+use journal_store::JournalFiles;
 use program::status_of_script;
 use server_words::{Words, called_with, read_words, status_of_words};
 use std::io::{self, BufReader, Read, Write};
@@ -30,7 +30,7 @@ use std::time::Clock;
 
 /// Runs the program with these words, its name first, and answers the status with which it ends.
 pub(crate) fn run_words<
-    R: Files + Net + Clock + Wait + Threads + JournalPaths + AllocGlobal + Sync,
+    R: Files + Net + Clock + Wait + Threads + JournalFiles + AllocGlobal + Sync,
     I: Read,
     W: Write,
     E: Write,
@@ -87,7 +87,7 @@ where
 
 /// Hands over the words that the program was called with, and its standard streams but the one for errors.
 pub(crate) fn run_program<
-    R: Runtime + Net + Wait + Threads + JournalPaths + AllocGlobal + Sync,
+    R: Runtime + Net + Wait + Threads + JournalFiles + AllocGlobal + Sync,
     E: Write,
 >(rt: &R, errors: &mut E) -> u8
 where

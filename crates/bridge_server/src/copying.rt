@@ -5,13 +5,15 @@ ghost use Rattle.std.specs.Io.KnownBytes.{Appends};
 ghost use Rattle.program.specs.Status.{IsStatus};
 
 use crate::serving_fault::status_of_source_fault;
-use kept_sessions::{JournalPaths, copy_journal};
+use journal_store::JournalFiles;
+use kept_sessions::copy_journal;
 use server_words::JournalCopy;
+use sqlite::Wary;
 use std::io::Write;
 use std::rt::Files;
 
 /// Copies a journal to a path where nothing is yet, and answers the status.
-pub(crate) fn status_of_copy<R: Files + JournalPaths + AllocGlobal, E: Write>(
+pub(crate) fn status_of_copy<R: Files + JournalFiles + AllocGlobal, E: Write>(
     rt: &R,
     copy: &JournalCopy<'_>,
     errors: &mut E,
@@ -20,7 +22,7 @@ pub(crate) fn status_of_copy<R: Files + JournalPaths + AllocGlobal, E: Write>(
     ensures understood { result ≢ 2 }
     ensures silent { result ≢ 1 → result ≢ 3 → Appends (E.contents errors.old) (E.contents errors.new) [] }
 {
-    match copy_journal(rt, copy.journal, copy.to) {
+    match copy_journal(rt, copy.journal, Wary, copy.to) {
         Ok(()) => 0,
         Err(fault) => status_of_source_fault(fault, errors),
     }

@@ -2,6 +2,7 @@
 
 ghost use Rattle.std.specs.Prelude.{◌≡◌, ◌≢◌, ◌⊎◌, [], false, map, IfOk, IfErr};
 ghost use Rattle.std.specs.Io.KnownBytes.{Appends};
+ghost use Rattle.sqlite.specs.Files.{file_state};
 ghost use Rattle.sqlite.specs.Held.{state};
 ghost use Rattle.desks.specs.Kept.{LeavesJust};
 ghost use Rattle.kept_entries.specs.KeptRows.{lists_in};
@@ -11,9 +12,9 @@ ghost use Rattle.bridge_server.specs.Said.{SaysOf, IsToldUnkept, TellsLine, is_n
 
 use crate::serving_fault::{ServingFault, status_of_serving_fault, status_of_source_fault};
 use entry_store::{EntryStore, NoStore};
+use journal_store::JournalFiles;
 use kept_sessions::{
-    JournalPaths, KeptSession, KeptSessionFault, kept_session, kept_session_of_files,
-    session_of_files,
+    KeptSession, KeptSessionFault, kept_session, kept_session_of_files, session_of_files,
 };
 use opened_session::OpenedSession;
 use row_journal::OpenedJournal;
@@ -21,7 +22,7 @@ use script_lines::write_text;
 use server_words::{Serving, SessionFiles, SessionSource};
 use session_commands::Entry;
 use session_threads::{ServingError, ServingPlan, serve_book};
-use sqlite::Alter;
+use sqlite::{Alter, FileFrom, FileStore, Wary};
 use std::io::Write;
 use std::net::Net;
 use std::rt::Files;
@@ -39,7 +40,7 @@ const _: () = prove!(server_words::DISPLAYS_AT_MOST as usize == displays::MOST_D
 
 /// Serves clients in a session, and answers the status after it, or where none could be served.
 pub(crate) fn status_of_serving<
-    R: Files + Net + Clock + Wait + Threads + JournalPaths + AllocGlobal + Sync,
+    R: Files + Net + Clock + Wait + Threads + JournalFiles + AllocGlobal + Sync,
     E: Write,
 >(rt: &R, serving: &Serving<'_>, errors: &mut E) -> u8
 where
@@ -110,7 +111,7 @@ fn tell_unkept<E: Write>(errors: &mut E)
 
 // Serves clients in a session that a journal keeps.
 fn status_of_journal<
-    R: Files + Net + Clock + Wait + Threads + JournalPaths + AllocGlobal + Sync,
+    R: Files + Net + Clock + Wait + Threads + JournalFiles + AllocGlobal + Sync,
     E: Write,
 >(rt: &R, serving: &Serving<'_>, path: &str, files: &Option<SessionFiles<'_>>, errors: &mut E) -> u8
 where
@@ -127,7 +128,7 @@ where
 }
 
 // Serves clients in a session that a journal keeps. What the solver found is found again even where nobody is to solve.
-fn serve_journal<R: Files + Net + Clock + Wait + Threads + JournalPaths + AllocGlobal + Sync>(
+fn serve_journal<R: Files + Net + Clock + Wait + Threads + JournalFiles + AllocGlobal + Sync>(
     rt: &R,
     serving: &Serving<'_>,
     path: &str,
@@ -144,20 +145,20 @@ where
 }
 
 // The session that is served, with its journal: that of the files, if there are any.
-fn open_kept<R: Files + Threads + JournalPaths + AllocGlobal + Sync>(
+fn open_kept<R: Files + Threads + JournalFiles + AllocGlobal + Sync>(
     rt: &R,
     serving: &Serving<'_>,
     path: &str,
     files: &Option<SessionFiles<'_>>,
-) -> Result<KeptSession<R::Kept>, KeptSessionFault>
+) -> Result<KeptSession<FileStore<FileFrom<Wary>>>, KeptSessionFault>
     ensures opening { IfOk result (λ kept. kept.session.book.journal ≡ []) }
-    ensures kept { IfOk result (λ kept. KeepsJust (state R.Kept.Store kept.journal.store.conn)
+    ensures kept { IfOk result (λ kept. KeepsJust (file_state kept.journal.store.conn)
         (lists_in kept.journal.publications.items)) }
 {
     let workers = serving.workers.max(1) as usize;
     match files {
-        Some(files) => kept_session_of_files(rt, path, files.session, files.deals, workers),
-        None => kept_session(rt, path, workers),
+        Some(files) => kept_session_of_files(rt, path, Wary, files.session, files.deals, workers),
+        None => kept_session(rt, path, Wary, workers),
     }
 }
 

@@ -3,25 +3,27 @@
 ghost use Rattle.std.specs.Prelude.{◌≡◌, ◌++◌, [], string_bytes, IfOk, OnOk};
 ghost use Rattle.kept_sessions.specs.Audited.{TellsJournal, line_of_row, lines_from};
 
-use crate::journal_paths::JournalPaths;
 use crate::journal_session::{KeptSession, kept_session};
 use crate::source_fault::KeptSessionFault;
+use journal_store::JournalFiles;
 use session_book::{AuditRow, Book};
 use session_commands::Entry;
+use sqlite::Start;
 use std::alloc::{AllocError, Global};
 use std::rt::Files;
 use std::thread::Threads;
 use wire::audit_row_text;
 
 /// The audit of the journal at a path, a line for each entry. What the solver found is found again by so many workers.
-pub fn audit_of_journal<R: Files + Threads + JournalPaths + AllocGlobal + Sync>(
+pub fn audit_of_journal<R: Files + Threads + JournalFiles + AllocGlobal + Sync, S: Start>(
     rt: &R,
     path: &str,
+    start: S,
     workers: usize,
 ) -> Result<String, KeptSessionFault>
     ensures { IfOk result (λ text. TellsJournal (string_bytes text)) }
 {
-    let KeptSession { session, journal } = match kept_session(rt, path, workers) {
+    let KeptSession { session, journal } = match kept_session(rt, path, start, workers) {
         Ok(kept) => kept,
         Err(fault) => return Err(fault),
     };

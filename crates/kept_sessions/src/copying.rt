@@ -1,18 +1,21 @@
 //! A copy of a journal, made where no server has it.
 
-use crate::journal_paths::JournalPaths;
+use crate::closed_journal::bytes_of_closed;
 use crate::paths::may_hold_database;
 use crate::source_fault::KeptSessionFault;
-use row_journal::JournalFault;
+use journal_store::JournalFiles;
+use row_journal::{JournalFault, fault_of_file};
 use script_lines::write_text;
+use sqlite::Start;
 use std::fs::{File, OpenFile};
 use std::io::{ErrorKind, Write};
 use std::rt::Files;
 
 /// Copies the journal at a path to one where nothing is yet. The copy is a whole journal by itself.
-pub fn copy_journal<R: Files + JournalPaths>(
+pub fn copy_journal<R: Files + JournalFiles + AllocGlobal, S: Start>(
     rt: &R,
     path: &str,
+    start: S,
     to: &str,
 ) -> Result<(), KeptSessionFault> {
     match may_hold_database(rt, path) {
@@ -20,7 +23,11 @@ pub fn copy_journal<R: Files + JournalPaths>(
         Ok(false) => return Err(KeptSessionFault::Journal(JournalFault::NotAJournal)),
         Err(fault) => return Err(fault),
     }
-    match rt.bytes_there(path) {
+    let conn = match rt.open_kept_at(path, start) {
+        Ok((conn, _session, _rows)) => conn,
+        Err((fault, _)) => return Err(KeptSessionFault::Journal(fault_of_file(fault))),
+    };
+    match bytes_of_closed(rt.alloc(), conn) {
         Ok(bytes) => write_new(rt, to, bytes.as_slice()),
         Err(fault) => Err(fault),
     }

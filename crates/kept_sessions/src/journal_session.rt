@@ -1,21 +1,23 @@
 //! A session with the journal that keeps it.
 
 ghost use Rattle.std.specs.Prelude.{◌≡◌, ◌≤◌, ℕ, List, length, map, IfOk};
+ghost use Rattle.sqlite.specs.Files.{file_state};
 ghost use Rattle.sqlite.specs.Held.{state};
+ghost use Rattle.sqlite.specs.WalFiles.{image_at};
 ghost use Rattle.journal_store.specs.Kept.{texts_of};
 ghost use Rattle.kept_entries.specs.KeptRows.{lists_in, rows_of};
 ghost use Rattle.kept_sessions.specs.Sources.{most_file_bytes};
 ghost use Rattle.kept_sessions.specs.Kept.{IsKeptSession, IsTakenSession, KeepsJust};
 
-use crate::journal_paths::JournalPaths;
 use crate::paths::{may_hold_database, texts_of_files};
 use crate::source_fault::KeptSessionFault;
 use crate::source_texts::SourceTexts;
 use crate::texts_session::session_of_texts;
+use journal_store::JournalFiles;
 use opened_session::{OpenedSession, OpeningFault};
-use row_journal::{FoundJournal, JournalFault, OpenedJournal};
+use row_journal::{FoundJournal, JournalFault, OpenedJournal, open_kept_journal, open_row_journal};
 use session_object::SessionFault;
-use sqlite::Alter;
+use sqlite::{Alter, FileFrom, FileStore, Start};
 use std::rt::Files;
 use std::str;
 use std::thread::Threads;
@@ -31,16 +33,17 @@ pub struct KeptSession<S: Alter> {
 
 /// The session that texts open, with its journal at a path, which is made if there is none. What the solver found is found
 /// again by so many workers.
-pub fn kept_session_of_texts<R: JournalPaths + Threads + AllocGlobal + Sync>(
+pub fn kept_session_of_texts<R: JournalFiles + Threads + AllocGlobal + Sync, S: Start>(
     rt: &R,
     path: &str,
+    start: S,
     texts: &SourceTexts,
     workers: usize,
-) -> Result<KeptSession<R::Kept>, KeptSessionFault>
-    ensures taken { IfOk result (λ kept. IsTakenSession R.held texts.now.object.items texts.now.boards.items
+) -> Result<KeptSession<FileStore<FileFrom<S>>>, KeptSessionFault>
+    ensures taken { IfOk result (λ kept. IsTakenSession (image_at S.Start) texts.now.object.items texts.now.boards.items
         kept.session.book.opening kept.session.book.journal kept.session.budget
-        (lists_in kept.journal.publications.items) (state R.Kept.Store kept.journal.store.conn)) }
-    ensures leaves { IfOk result (λ kept. KeepsJust (state R.Kept.Store kept.journal.store.conn)
+        (lists_in kept.journal.publications.items) (file_state kept.journal.store.conn)) }
+    ensures leaves { IfOk result (λ kept. KeepsJust (file_state kept.journal.store.conn)
         (lists_in kept.journal.publications.items)) }
 {
     let boards = texts.boards.as_slice();
@@ -52,44 +55,46 @@ pub fn kept_session_of_texts<R: JournalPaths + Threads + AllocGlobal + Sync>(
     let Ok(object) = str::from_utf8(texts.object.as_slice()) else {
         return Err(KeptSessionFault::Unopened(OpeningFault::Session(SessionFault::Malformed)));
     };
-    match rt.open_or_make(path, object, boards) {
+    match open_row_journal(rt, path, start, object, boards) {
         Ok(found) => with_journal(rt, session, found, workers),
-        Err(fault) => Err(KeptSessionFault::Journal(fault)),
+        Err((fault, _)) => Err(KeptSessionFault::Journal(fault)),
     }
 }
 
 /// The same of the files at two paths, which are read before the journal is opened.
-pub fn kept_session_of_files<R: Files + JournalPaths + Threads + AllocGlobal + Sync>(
+pub fn kept_session_of_files<R: Files + JournalFiles + Threads + AllocGlobal + Sync, S: Start>(
     rt: &R,
     path: &str,
+    start: S,
     object_path: &str,
     boards_path: &str,
     workers: usize,
-) -> Result<KeptSession<R::Kept>, KeptSessionFault>
+) -> Result<KeptSession<FileStore<FileFrom<S>>>, KeptSessionFault>
     ensures taken { IfOk result (λ kept. (object boards : List ℕ)
         × (length object ≤ most_file_bytes) × (length boards ≤ most_file_bytes)
-        × IsTakenSession R.held object boards
+        × IsTakenSession (image_at S.Start) object boards
         kept.session.book.opening kept.session.book.journal kept.session.budget
-        (lists_in kept.journal.publications.items) (state R.Kept.Store kept.journal.store.conn)) }
-    ensures leaves { IfOk result (λ kept. KeepsJust (state R.Kept.Store kept.journal.store.conn)
+        (lists_in kept.journal.publications.items) (file_state kept.journal.store.conn)) }
+    ensures leaves { IfOk result (λ kept. KeepsJust (file_state kept.journal.store.conn)
         (lists_in kept.journal.publications.items)) }
 {
     match texts_of_files(rt, object_path, boards_path) {
-        Ok(texts) => kept_session_of_texts(rt, path, &texts, workers),
+        Ok(texts) => kept_session_of_texts(rt, path, start, &texts, workers),
         Err(fault) => Err(fault),
     }
 }
 
 /// The session of the journal at a path, which has to be there.
-pub fn kept_session<R: Files + JournalPaths + Threads + AllocGlobal + Sync>(
+pub fn kept_session<R: Files + JournalFiles + Threads + AllocGlobal + Sync, S: Start>(
     rt: &R,
     path: &str,
+    start: S,
     workers: usize,
-) -> Result<KeptSession<R::Kept>, KeptSessionFault>
-    ensures kept { IfOk result (λ kept. IsKeptSession R.held
+) -> Result<KeptSession<FileStore<FileFrom<S>>>, KeptSessionFault>
+    ensures kept { IfOk result (λ kept. IsKeptSession (image_at S.Start)
         kept.session.book.opening kept.session.book.journal kept.session.budget
-        (lists_in kept.journal.publications.items) (state R.Kept.Store kept.journal.store.conn)) }
-    ensures leaves { IfOk result (λ kept. KeepsJust (state R.Kept.Store kept.journal.store.conn)
+        (lists_in kept.journal.publications.items) (file_state kept.journal.store.conn)) }
+    ensures leaves { IfOk result (λ kept. KeepsJust (file_state kept.journal.store.conn)
         (lists_in kept.journal.publications.items)) }
 {
     match may_hold_database(rt, path) {
@@ -97,9 +102,9 @@ pub fn kept_session<R: Files + JournalPaths + Threads + AllocGlobal + Sync>(
         Ok(false) => return Err(KeptSessionFault::Journal(JournalFault::NotAJournal)),
         Err(fault) => return Err(fault),
     }
-    let (texts, found) = match rt.open_there(path) {
+    let (texts, found) = match open_kept_journal(rt, path, start) {
         Ok(kept) => kept,
-        Err(fault) => return Err(KeptSessionFault::Journal(fault)),
+        Err((fault, _)) => return Err(KeptSessionFault::Journal(fault)),
     };
     match session_of_texts(rt.alloc(), texts.object.as_bytes(), texts.boards.as_slice()) {
         Ok(session) => with_journal(rt, session, found, workers),

@@ -4,7 +4,6 @@
 mod auditing;
 mod closed_journal;
 mod copying;
-mod journal_paths;
 mod journal_session;
 mod paths;
 mod source_fault;
@@ -13,7 +12,6 @@ mod texts_session;
 
 pub use auditing::audit_of_journal;
 pub use copying::copy_journal;
-pub use journal_paths::JournalPaths;
 pub use journal_session::{
     KeptSession, kept_session, kept_session_of_files, kept_session_of_texts,
 };

@@ -4,7 +4,7 @@ use super::devices::FailingWriter;
 use super::running::{Ending, ends, status_of};
 use super::session::{script_of, session, session_alone};
 use crate::calling::run_program;
-use kept_sessions::JournalPaths;
+use journal_store::JournalFiles;
 use std::io::{self, ErrorKind};
 use std::net::Net;
 use std::rt::Files;
@@ -240,7 +240,7 @@ static NO_SESSIONS: &[(&str, Ending)] = &[
 ];
 
 // Whether a row's script ends so.
-fn script_ends<R: Files + Net + Clock + Wait + Threads + JournalPaths + AllocGlobal + Sync>(
+fn script_ends<R: Files + Net + Clock + Wait + Threads + JournalFiles + AllocGlobal + Sync>(
     rt: &R,
     (length, rest, ending): &(usize, &str, Ending),
 ) -> bool
@@ -277,7 +277,7 @@ fn ends_by_its_script(rt: HostRuntime) {
 
 // Whether a word, which leaves its script alone, ends so over writers that fail after seven bytes: the status, and
 // how much is written and said.
-fn ends_in_little_room<R: Files + Net + Clock + Wait + Threads + JournalPaths + AllocGlobal + Sync>(
+fn ends_in_little_room<R: Files + Net + Clock + Wait + Threads + JournalFiles + AllocGlobal + Sync>(
     rt: &R,
     word: &str,
     (status, written, said): (u8, usize, usize),

@@ -4,7 +4,7 @@ use super::client::Turn::{Says, ShakesHands};
 use super::client::{Client, is_served};
 use super::running::{Ending, ends};
 use super::serving::port_and_line;
-use kept_sessions::JournalPaths;
+use journal_store::JournalFiles;
 use std::net::Net;
 use std::rt::Files;
 use std::sync::Wait;
@@ -68,7 +68,7 @@ fn remove_files<R: Files>(rt: &R) {
 }
 
 // Whether a server that is called with the words of a line ends, and says nothing.
-fn ends_in_silence<R: Files + Net + Clock + Wait + Threads + JournalPaths + AllocGlobal + Sync>(
+fn ends_in_silence<R: Files + Net + Clock + Wait + Threads + JournalFiles + AllocGlobal + Sync>(
     rt: &R,
     line: &str,
 ) -> bool

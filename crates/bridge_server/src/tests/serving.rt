@@ -4,7 +4,8 @@ use super::client::Turn::{Says, Sends, ShakesHands};
 use super::client::{Client, Turn, is_served};
 use super::running::{Ending, ends};
 use super::session::{deals, session, session_alone};
-use kept_sessions::{JournalPaths, MOST_FILE_BYTES};
+use journal_store::JournalFiles;
+use kept_sessions::MOST_FILE_BYTES;
 use std::alloc::{AllocError, Global};
 use std::net::{Ipv4Addr, Net, OpenListener, TcpListener};
 use std::rt::Files;
@@ -215,7 +216,7 @@ static ENDINGS: &[(&str, Ending)] = &[
 ];
 
 // Whether a row's words end so.
-fn ends_at<R: Files + Net + Clock + Wait + Threads + JournalPaths + AllocGlobal + Sync>(
+fn ends_at<R: Files + Net + Clock + Wait + Threads + JournalFiles + AllocGlobal + Sync>(
     rt: &R,
     port: u16,
     (words, ending): &(&str, Ending),

@@ -1,7 +1,7 @@
 use Rattle.std.proofs.Common.{ap, sym, subst, ◌∷◌, [], map}
 use Rattle.std.specs.Prelude.{string_bytes}
 use Rattle.std.proofs.lemmas.Result.{IfOk-weaker}
-use Rattle.sqlite.specs.Held.{state}
+use Rattle.sqlite.specs.Files.{file_state}
 use Rattle.journal_store.specs.Kept.{texts_of, row_of_session}
 use Rattle.kept_entries.specs.KeptRows.{lists_in, rows_of}
 use Rattle.kept_sessions.specs.Sources.{IsSessionOf}
@@ -20,7 +20,7 @@ returns-in-Ok-session_of_texts-clause-kept g c =
       boards = texts.boards.items;
       session = subst (λ s. IsSessionOf (string_bytes texts.object) texts.boards.items s.book.opening s.book.journal s.budget)
           (sym read.0) of_texts;
-      kept = kept_as g.R.JournalPaths.held (row_of_session texts ∷ []) (map texts_of found.rows)
-          (rows_of (lists_in kept.journal.publications.items)) (state g.R.Kept.Store found.conn)
-          (state g.R.Kept.Store kept.journal.store.conn) (ap (state g.R.Kept.Store) read.1) read.2 c.in-Ok.ensures;
+      kept = kept_as _ (row_of_session texts ∷ []) (map texts_of found.rows)
+          (rows_of (lists_in kept.journal.publications.items)) (file_state found.conn)
+          (file_state kept.journal.store.conn) (ap (λ conn. file_state conn) read.1) read.2 c.in-Ok.ensures.opens;
     }) c.with_journal.ensures.read
