@@ -1,5 +1,5 @@
 //! The limits of the whole product: a function with nothing to do, whose clauses are the numbers.
-ghost use Rattle.std.specs.Prelude.{◌≡◌, codes};
+ghost use Rattle.std.specs.Prelude.{◌≡◌, Option};
 ghost use Rattle.displays.specs.Publishing.{most_places};
 ghost use Rattle.kept_sessions.specs.Sources.{most_file_bytes};
 ghost use Rattle.movement.specs.Movement.{least_tables, most_tables, most_per_set, most_boards};
@@ -15,7 +15,9 @@ ghost use Rattle.user_names.specs.declared.name.TheConstants.Name.{MOST};
 ghost use Rattle.websocket_server.specs.Conversation.{longest_message};
 ghost use Rattle.wire.specs.Request.{most_message_bytes};
 ghost use Rattle.wire.specs.List.{most_listed};
-ghost use Rattle.wire.specs.Audit.{counted, most_rows};
+ghost use Rattle.wire.specs.Audit.{from_1_to, most_rows};
+ghost use Rattle.json_fields.specs.Field.{number};
+ghost use Rattle.serde_json.specs.Data.{Data};
 
 /// Each limit is the number that stands here. What is counted in bytes is a message without the end of its line, a session
 /// object, a file of either text of a session, and a script with both.
@@ -34,7 +36,7 @@ pub fn limits_are_as_written()
     ensures depth_of_a_filter { most_depth ≡ 8 }
     ensures atoms_of_a_filter { most_atoms ≡ 32 }
     ensures members_of_a_filter { most_members ≡ 32 }
-    ensures rows_of_an_audit { most_rows ≡ counted (codes "limit") 1000 }
+    ensures rows_of_an_audit { (found : Option Data) → most_rows.value found ≡ from_1_to 1000 (number found) }
     ensures boards_of_a_list { most_listed ≡ 64 }
     ensures bytes_of_a_message { most_message_bytes ≡ 65536 }
     ensures bytes_of_a_websocket_message { longest_message ≡ 65537 }
