@@ -22,10 +22,10 @@ use Rattle.wire.specs.declared.connection_fault.ConnectionFault.TheVariants.{
 use Rattle.wire.specs.declared.request.RequestBody.{RequestBody}
 use Rattle.wire.specs.declared.request.RequestBody.TheVariants.{OfUser, Hello}
 use Rattle.wire.specs.declared.request.UserRequest.{UserRequest}
-use Rattle.request_answers.specs.Answering.{IsAnsweredOnce, IsTakenIn, IsUnanswered}
+use Rattle.request_answers.specs.Answering.{EntersItOnce, EntersNoneOrIt, IsUnanswered}
 use Rattle.request_answers.specs.declared.answer_fault.AnswerFault.{AnswerFault}
 use Rattle.request_answers.specs.declared.answer_fault.AnswerFault.TheVariants as unanswered
-use Rattle.connections.specs.Linked.{Linked, HasGoneOn, StaysOn}
+use Rattle.connections.specs.Linked.{Linked, EntersNone, HasGoneOn, StaysOn}
 
 -- ---- signing in
 
@@ -42,11 +42,20 @@ hello_text name = compact_text (hello_data name)
 
 -- ---- a request of a user
 
--- a request of a user has no answer for this reason, over the journals of a connection before and after it
+-- a request of a user was answered on a connection, once, and the keeper has entered just what came of it
+abbrev pub AnswersOnce : (List Entry → List Entry → Type 0) → Linked → Linked → List ℕ → UserRequest → List ℕ → Type 0
+AnswersOnce Others before after user request text =
+    EntersItOnce Others after.opening before.own_entries before.journal user request text after.own_entries
+    after.journal
+
+-- a request of a user has no answer for this reason, over the journals of a connection before and after it; the keeper
+-- has entered nothing, or, where memory was refused for the text alone, just what came of it
 abbrev pub GoesUnanswered : (List Entry → List Entry → Type 0) → Type 0 → Type 0 → Linked → Linked → List ℕ → UserRequest
     → AnswerFault → Type 0
 GoesUnanswered Others no_entry not_kept before after user request why =
     IsUnanswered Others no_entry not_kept after.opening before.journal user request why after.journal
+    × EntersNoneOrIt Others after.opening before.own_entries before.journal user request why after.own_entries
+    after.journal
 
 -- why a request of a user is not answered on a connection; somebody is signed in
 abbrev pub IsUnserved : (List Entry → List Entry → Type 0) → Type 0 → Type 0 → Linked → Linked → List ℕ → UserRequest
@@ -69,7 +78,7 @@ abbrev pub IsServed : (List Entry → List Entry → Type 0) → Type 0 → Type
 IsServed Others no_entry not_kept bytes before after request served None =
     (served ≡ Err NotSignedIn) × (after ≡ before)
 IsServed Others no_entry not_kept bytes before after request served (Some user) =
-    IfOk served (λ text. IsAnsweredOnce Others after.opening before.journal user request (bytes text) after.journal)
+    IfOk served (λ text. AnswersOnce Others before after user request (bytes text))
     × IfErr served (λ fault. IsUnserved Others no_entry not_kept before after user request fault)
     × StaysOn before after × IsAccepted after.opening after.journal
 
@@ -90,7 +99,7 @@ abbrev pub ForUser : (List Entry → List Entry → Type 0) → Type 0 → Type 
 ForUser Others no_entry not_kept before after request text None =
     (text ≡ connection_fault_text NotSignedIn) × (after ≡ before)
 ForUser Others no_entry not_kept before after request text (Some user) =
-    (IsAnsweredOnce Others after.opening before.journal user request text after.journal
+    (AnswersOnce Others before after user request text
     ⊎ TellsFault Others no_entry not_kept before after user request text)
     × StaysOn before after × IsAccepted after.opening after.journal
 
@@ -100,6 +109,7 @@ pub record Greets (Others : List Entry → List Entry → Type 0) (no_entry : Ty
   pub later : HasGoneOn before after
   pub accepted : IsAccepted after.opening after.journal
   pub others : Others before.journal after.journal
+  pub none : EntersNone before after
   pub told :
       (IsOwnToken after name token × (after.user ≡ Some name) × (text ≡ hello_text name))
       ⊎ (((¬ IsOwnToken after name token) × (after.user ≡ before.user) × (text ≡ connection_fault_text NotKnown))
@@ -129,24 +139,31 @@ Serves Others no_entry not_kept before after message text =
 
 -- ---- messages to which memory was refused
 
+-- nothing came of it: nothing joined the journal, and the keeper has entered nothing
+abbrev pub AddsNothing : Linked → Linked → Type 0
+AddsNothing before after = (after.journal ≡ before.journal) × EntersNone before after
+
+-- nothing came of it but what others added
+abbrev pub OthersAdd : (List Entry → List Entry → Type 0) → Linked → Linked → Type 0
+OthersAdd Others before after = Others before.journal after.journal × EntersNone before after
+
 -- nothing came of a request of a user, or all but its text
 abbrev pub LeavesRequest : (List Entry → List Entry → Type 0) → Linked → Linked → UserRequest → Option (List ℕ) → Type 0
-LeavesRequest Others before after request None = after.journal ≡ before.journal
+LeavesRequest Others before after request None = AddsNothing before after
 LeavesRequest Others before after request (Some user) =
-    (after.journal ≡ before.journal)
-    ⊎ (IsTakenIn Others after.opening before.journal user request after.journal
+    AddsNothing before after
+    ⊎ ((OthersAdd Others before after ⊎ ((text : List ℕ) × AnswersOnce Others before after user request text))
     × IsAccepted after.opening after.journal)
 
 -- nothing came of what a message wants, or all but its text, or what others added
 abbrev pub LeavesBody : (List Entry → List Entry → Type 0) → Linked → Linked → RequestBody → Type 0
 LeavesBody Others before after (OfUser request) = LeavesRequest Others before after request before.user
 LeavesBody Others before after (Hello name token) =
-    (after.journal ≡ before.journal)
-    ⊎ (Others before.journal after.journal × IsAccepted after.opening after.journal)
+    AddsNothing before after ⊎ (OthersAdd Others before after × IsAccepted after.opening after.journal)
 
 abbrev pub Leaves : (List Entry → List Entry → Type 0) → Linked → Linked → Result RequestBody RequestFault → Type 0
 Leaves Others before after (Ok wanted) = LeavesBody Others before after wanted
-Leaves Others before after (Err fault) = after.journal ≡ before.journal
+Leaves Others before after (Err fault) = AddsNothing before after
 
 -- memory was refused to a message: who was signed in still is
 unfoldable pub HasNoAnswer : (List Entry → List Entry → Type 0) → Linked → Linked → List ℕ → Type 0

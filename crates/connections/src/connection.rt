@@ -4,7 +4,7 @@ ghost use Rattle.std.specs.Prelude.{◌≡◌, ◌≤◌, ◌⊎◌, ◌↔◌, 
 ghost use Rattle.session_book.specs.Journal.{IsAccepted};
 ghost use Rattle.wire.specs.Request.{HasFew};
 ghost use Rattle.wire.specs.declared.connection_fault.ConnectionFault.TheVariants.{NotKnown, NoEntry, OutOfMemory};
-ghost use Rattle.connections.specs.Linked.{HasGoneOn};
+ghost use Rattle.connections.specs.Linked.{EntersNone, HasGoneOn};
 ghost use Rattle.connections.specs.Serving.{IsOwnToken, IsServed, is_fault_of};
 
 use request_answers::{AnswerFault, answer_request};
@@ -30,7 +30,12 @@ impl<K: Keeper> Model for Connection<K> {
 
     ghost coded = { linked_code };
 
-    ghost view = { λ c. record { opening = K.opening c.keeper; journal = K.journal c.keeper; user = c.user } };
+    ghost view = { λ c. record {
+      opening = K.opening c.keeper;
+      journal = K.journal c.keeper;
+      own_entries = K.own_entries c.keeper;
+      user = c.user;
+    } };
 }
 
 impl<K: Keeper> Connection<K> {
@@ -38,6 +43,7 @@ impl<K: Keeper> Connection<K> {
     pub fn new(keeper: K) -> Connection<K>
         ensures opening { result.opening ≡ K.opening keeper }
         ensures journal { result.journal ≡ K.journal keeper }
+        ensures own { result.own_entries ≡ K.own_entries keeper }
         ensures user { result.user ≡ None }
     {
         Connection { keeper, user: None }
@@ -47,6 +53,7 @@ impl<K: Keeper> Connection<K> {
     pub fn into_keeper(self) -> K
         ensures opening { K.opening result ≡ self.opening }
         ensures journal { K.journal result ≡ self.journal }
+        ensures own { K.own_entries result ≡ self.own_entries }
     {
         let Connection { keeper, .. } = self;
         keeper
@@ -72,6 +79,7 @@ impl<K: Keeper> Connection<K> {
         ensures later { HasGoneOn self.old self.new }
         ensures accepted { IsAccepted self.new.opening self.new.journal }
         ensures others { K.others self.old.journal self.new.journal }
+        ensures none { EntersNone self.old self.new }
         ensures known { OnOk result (IsOwnToken self.new name token.now × (self.new.user ≡ Some name)) }
         ensures same { OnErr result (self.new.user ≡ self.old.user) }
         ensures fault { IfErr result (λ fault.

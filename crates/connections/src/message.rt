@@ -5,7 +5,7 @@ ghost use Rattle.std.specs.Cow.{cow_str_bytes};
 ghost use Rattle.session_book.specs.Journal.{IsAccepted};
 ghost use Rattle.wire.specs.Request.{HasFew, HasFewIn, is_message_text};
 ghost use Rattle.connections.specs.Linked.{StaysOn};
-ghost use Rattle.connections.specs.Serving.{Greets, IsToldOf, Leaves, LeavesRequest, Serves, ServesBody, ForUser, HasNoAnswer, LeavesBody};
+ghost use Rattle.connections.specs.Serving.{AddsNothing, OthersAdd, Greets, IsToldOf, Leaves, LeavesRequest, Serves, ServesBody, ForUser, HasNoAnswer, LeavesBody};
 
 use crate::connection::Connection;
 use crate::greeting::hello_text;
@@ -92,7 +92,7 @@ impl<K: Keeper> Connection<K> {
         ensures served { IfOk result (λ text.
             Greets K.others K.no_entry self.old self.new name token.now (cow_str_bytes text)) }
         ensures refused { OnErr result (StaysOn self.old self.new
-            × ((self.new.journal ≡ self.old.journal) ⊎ (K.others self.old.journal self.new.journal
+            × (AddsNothing self.old self.new ⊎ (OthersAdd K.others self.old self.new
             × IsAccepted self.new.opening self.new.journal))) }
     {
         let welcome = hello_text(alloc, name)?;

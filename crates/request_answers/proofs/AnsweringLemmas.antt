@@ -253,6 +253,26 @@ audit_taken_in Others opening before user range receipt now audit =
       },
     )
 
+-- then too its keeper has entered nothing
+pub audit_entered_untold : (Others : List Entry → List Entry → Type 0) (opening : SessionState) (before : List Entry)
+    (user : List ℕ) (range : AuditRange) (receipt : AuditReceipt) (own own_now : ℕ) (now : List Entry) →
+    IsAuditOf Others opening before user range.from range.limit receipt now → own_now ≡ own →
+    (text : List ℕ) × EntersItOnce Others opening own before user (wanting.Audit range) text own_now now
+audit_entered_untold Others opening before user range receipt own own_now now audit same = (
+  audit_reply opening audit.journal user range,
+  record {
+    once = record {
+      met = audit.journal;
+      refused_at = None;
+      came = audit.came;
+      says = refl;
+      went = audit.went;
+      begins = audit.begins;
+    };
+    entered = enters_none own own_now audit.journal same;
+  },
+)
+
 -- a batch of commands under another name
 pub same_batch : (Others : List Entry → List Entry → Type 0) (opening : SessionState) (before : List Entry)
     (user : List ℕ) (given commands : List Command) (receipt : BatchReceipt) (own own_now : ℕ) (now : List Entry) →

@@ -1,6 +1,10 @@
 -- A history of a session that tells a conversation.
 use Rattle.std.proofs.Common.{
+  arith,
   ◌≡◌,
+  ◌+◌,
+  ◌-◌,
+  ◌≤◌,
   inl,
   inr,
   ℕ,
@@ -14,6 +18,8 @@ use Rattle.std.proofs.Common.{
   map,
   take,
   drop,
+  length,
+  length-append,
   refl,
   sym,
   ap,
@@ -54,7 +60,7 @@ use Rattle.session_keeper.proofs.KeepingLemmas.{prefix_self, prefix_trans, runs_
 use Rattle.reply_texts.specs.ReplyText.{reply_text}
 use Rattle.wire.specs.declared.request.UserRequest.{UserRequest}
 use Rattle.wire.specs.declared.request.UserRequest.TheVariants.{Query, Batch, Audit}
-use Rattle.request_answers.specs.Answering.{IsAnsweredOnce}
+use Rattle.request_answers.specs.Answering.{IsAnsweredOnce, EntersItOnce}
 use Rattle.request_answers.specs.Conversing.{
   Turn,
   Answered,
@@ -69,6 +75,9 @@ use Rattle.request_answers.specs.Conversing.{
   IsEffectSince,
   IsTurnSince,
   IsToldBy,
+  added_by_text,
+  added_by_effect,
+  added_by_turn,
 }
 use Rattle.request_answers.specs.Response.{audit_reply, receipt_of, response_at, run_with, stopped_at}
 
@@ -236,6 +245,13 @@ record SinceTold (opening : SessionState) (earlier : List Moment) (journal : Lis
   happened : Since opening earlier journal
   told : Told happened.since
 
+-- so of a text, and how many entries have been added there: as many as lead from one journal to another
+record SinceAdded (opening : SessionState) (earlier : List Moment) (journal : List Entry) (user : List ℕ)
+    (request : UserRequest) (text : List ℕ) (met left : List Entry) : Type 0 where
+  happened : Since opening earlier journal
+  told : IsTextSince opening earlier happened.since user request text
+  added : added_by_text opening earlier happened.since user request text told + length met ≡ length left
+
 -- what tells of a text tells of the effect
 effect_of_text : (opening : SessionState) (earlier since : List Moment) (user : List ℕ) (request : UserRequest)
     (text : List ℕ) →
@@ -243,6 +259,41 @@ effect_of_text : (opening : SessionState) (earlier since : List Moment) (user : 
 effect_of_text opening earlier since user (Query query wanted) text told = tt
 effect_of_text opening earlier since user (Batch commands) text told = told.submitted
 effect_of_text opening earlier since user (Audit range) text told = tt
+
+-- which has added as many
+added_too : (opening : SessionState) (earlier since : List Moment) (user : List ℕ) (request : UserRequest)
+    (text : List ℕ) (told : IsTextSince opening earlier since user request text) →
+    added_by_effect opening earlier since user request (effect_of_text opening earlier since user request text told)
+    ≡ added_by_text opening earlier since user request text told
+unfolding effect_of_text
+added_too opening earlier since user (Query query wanted) text told = refl
+added_too opening earlier since user (Batch commands) text told = refl
+added_too opening earlier since user (Audit range) text told = refl
+
+nothing_added : (n : ℕ) → 0 + n ≡ n
+nothing_added n = omega arith
+
+-- a journal that begins with another has no fewer entries
+no_shorter : (before after : List Entry) → IsPrefix before after → length before ≤ length after
+no_shorter before after begins = omega (arith, sym (ap length begins.1) ∙ length-append before begins.0)
+
+-- a turn that was taken by a keeper, and what it has entered by it: just what its response has beyond the journal that it
+-- met, or nothing
+abbrev pub TakesTurnOnce : (List Entry → List Entry → Type 0) → SessionState → ℕ → List Entry → Turn → ℕ → List Entry
+    → Type 0
+TakesTurnOnce Others opening own before (Answered user request text) own_now after =
+    EntersItOnce Others opening own before user request text own_now after
+TakesTurnOnce Others opening own before (TakenIn user request) own_now after =
+    (text : List ℕ) × EntersItOnce Others opening own before user request text own_now after
+TakesTurnOnce Others opening own before Passed own_now after =
+    (own_now ≡ own) × TakesTurn Others opening before Passed after
+
+-- what happened since a history and tells a turn, by which a keeper has entered as many entries as were added there
+pub record SinceEntered (opening : SessionState) (earlier : List Moment) (journal : List Entry) (turn : Turn)
+    (own own_now : ℕ) : Type 0 where
+  pub happened : Since opening earlier journal
+  pub told : IsTurnSince opening earlier happened.since turn
+  pub entered : own_now ≡ own + added_by_turn opening earlier happened.since turn told
 
 module _ (Others : List Entry → List Entry → Type 0) (only_add : OnlyAdd Others) (opening : SessionState) where
   module _ (earlier : List Moment) (happened : IsHistory opening earlier) (before after : List Entry)
@@ -253,7 +304,8 @@ module _ (Others : List Entry → List Entry → Type 0) (only_add : OnlyAdd Oth
         (commands : List Command) (text : List ℕ) →
         receipt_of met (run_with refused_at opening met user commands) ≡ text →
         IsPrefix (run_with refused_at opening met user commands).journal after →
-        SinceTold opening earlier after (λ since. IsTextSince opening earlier since user (Batch commands) text)
+        SinceAdded opening earlier after user (Batch commands) text met
+        (run_with refused_at opening met user commands).journal
     receipt_since met first refused_at user commands text says begins =
         let world = now (first.since ++ earlier) in
         let progress : Progress = run_with refused_at opening world.journal user commands in
@@ -281,12 +333,21 @@ module _ (Others : List Entry → List Entry → Type 0) (only_add : OnlyAdd Oth
             says = sym says ∙ ap (λ journal. receipt_of journal (run_with refused_at opening journal user commands))
                 (sym first.journal_is);
           };
+          added =
+              let longer : length world.journal ≤ length progress.journal =
+              no_shorter world.journal progress.journal
+              (runs_begin runs.0 opening world.journal user commands progress runs.1) in
+              let exact : (length progress.journal - length world.journal) + length world.journal
+              ≡ length progress.journal = omega (arith, longer) in
+              subst (λ journal. (length progress.journal - length world.journal) + length journal
+              ≡ length (run_with refused_at opening journal user commands).journal) first.journal_is exact;
         }
 
     -- a request was answered
-    text_since : (user : List ℕ) (request : UserRequest) (text : List ℕ) → IsAnsweredOnce Others opening before user
-        request text after →
-        SinceTold opening earlier after (λ since. IsTextSince opening earlier since user request text)
+    text_since : (user : List ℕ) (request : UserRequest) (text : List ℕ) →
+        (answer : IsAnsweredOnce Others opening before user request text after) →
+        SinceAdded opening earlier after user request text answer.met
+        (response_at opening answer.met answer.refused_at user request).journal
     text_since user (Query query wanted) text answer =
         let first : Since opening earlier answer.met =
         goes_on_to opening earlier happened before answer.met is (only_add before answer.met answer.came)
@@ -313,6 +374,7 @@ module _ (Others : List Entry → List Entry → Type 0) (only_add : OnlyAdd Oth
             wants = refl;
             says = sym answer.says ∙ ap reply_text same;
           };
+          added = nothing_added (length answer.met);
         }
     text_since user (Batch commands) text answer =
         let may = runs_of opening answer.met user commands answer.refused_at in
@@ -340,12 +402,15 @@ module _ (Others : List Entry → List Entry → Type 0) (only_add : OnlyAdd Oth
             split = refl;
             says = sym answer.says ∙ ap (λ journal. audit_reply opening journal user range) (sym first.journal_is);
           };
+          added = nothing_added (length answer.met);
         }
 
     -- a turn was taken
     turn_since : (turn : Turn) → TakesTurn Others opening before turn after → SinceTold opening earlier after
         (λ since. IsTurnSince opening earlier since turn)
-    turn_since (Answered user request text) takes = text_since user request text takes
+    turn_since (Answered user request text) takes =
+        let found = text_since user request text takes in
+        record { happened = found.happened; told = found.told }
     turn_since (TakenIn user request) (text, answer) =
         let found = text_since user request text answer in
         record {
@@ -363,6 +428,30 @@ module _ (Others : List Entry → List Entry → Type 0) (only_add : OnlyAdd Oth
           (only_add before after others) accepted;
       told = tt;
     }
+
+    -- a turn was taken by a keeper that has entered by it just what its response has beyond the journal that it met: as
+    -- many entries as what tells the turn has added
+    module _ (own own_now : ℕ) where
+      pub turn_entered : (turn : Turn) → TakesTurnOnce Others opening own before turn own_now after →
+          SinceEntered opening earlier after turn own own_now
+      turn_entered (Answered user request text) once =
+          let found = text_since user request text once.once in
+          record {
+            happened = found.happened;
+            told = found.told;
+            entered = omega (arith, found.added, once.entered);
+          }
+      turn_entered (TakenIn user request) (text, once) =
+          let found = text_since user request text once.once in
+          let same = added_too opening earlier found.happened.since user request text found.told in
+          record {
+            happened = found.happened;
+            told = effect_of_text opening earlier found.happened.since user request text found.told;
+            entered = omega (arith, found.added, once.entered, same);
+          }
+      turn_entered Passed (none, takes) =
+          let found = turn_since Passed takes in
+          record { happened = found.happened; told = tt; entered = omega (arith, none) }
 
   -- a history that tells a conversation, and after which the journal is the one at which it stops
   pub record Telling (stops : List Stop) : Type 0 where

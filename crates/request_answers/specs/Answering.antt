@@ -47,11 +47,12 @@ pub record EntersItOnce (Others : List Entry → List Entry → Type 0) (opening
   pub once : IsAnsweredOnce Others opening before user request text now
   pub entered : EntersJust own once.met own_now (response_at opening once.met once.refused_at user request).journal
 
--- where there is no text: it has entered nothing, or, where memory was refused for the text, just that
+-- where there is no text: nothing came of the request but what others did, and the keeper has entered nothing; or, where
+-- memory was refused for the text, just that
 abbrev pub EntersNoneOrIt : (List Entry → List Entry → Type 0) → SessionState → ℕ → List Entry → List ℕ → UserRequest →
     AnswerFault → ℕ → List Entry → Type 0
 EntersNoneOrIt Others opening own before user request fault own_now now =
-    (own_now ≡ own)
+    ((own_now ≡ own) × ((now ≡ before) ⊎ Others before now))
     ⊎ ((fault ≡ OutOfMemory) × (text : List ℕ) × EntersItOnce Others opening own before user request text own_now now)
 
 -- where memory was refused: nothing came of the request, or all but its text

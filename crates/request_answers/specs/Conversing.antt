@@ -1,6 +1,6 @@
 -- A conversation with one who keeps a session, one request after another, and the history of the session that tells it:
 -- each text in it is that of a reply to a reading, of a receipt for a submission, or of an audit at some moment.
-use Rattle.std.specs.Prelude.{◌≡◌, ◌⊎◌, ℕ, List, [], ◌∷◌, ◌++◌}
+use Rattle.std.specs.Prelude.{◌≡◌, ◌⊎◌, ℕ, ◌+◌, ◌-◌, List, [], ◌∷◌, ◌++◌, length}
 use mathlib.Core.List.{IsPrefix}
 use Rattle.session_state.specs.SessionState.{SessionState}
 use Rattle.session_commands.specs.declared.command.Command.{Command}
@@ -130,3 +130,44 @@ abbrev pub IsToldBy : SessionState → List Stop → List Moment → Type 0
 IsToldBy opening [] history = history ≡ []
 IsToldBy opening (stop ∷ earlier_stops) history =
     (earlier : List Moment) × EndsAt opening stop history earlier × IsToldBy opening earlier_stops earlier
+
+-- ---- what was added
+
+-- how many entries a submission has added
+abbrev pub added_by : (opening : SessionState) (earlier since : List Moment) (user : List ℕ) (commands : List Command)
+    → SubmitsSince opening earlier since user commands → ℕ
+added_by opening earlier since user commands submits =
+    length submits.after.journal - length (now (submits.until ++ earlier)).journal
+
+-- how many what tells of a text has added: only a batch's submission adds any
+abbrev pub added_by_text : (opening : SessionState) (earlier since : List Moment) (user : List ℕ)
+    (request : UserRequest) (text : List ℕ) → IsTextSince opening earlier since user request text → ℕ
+added_by_text opening earlier since user (Query query wanted) text told = 0
+added_by_text opening earlier since user (Batch commands) text told =
+    added_by opening earlier since user commands told.submitted
+added_by_text opening earlier since user (Audit range) text told = 0
+
+-- how many what tells of an effect has added
+abbrev pub added_by_effect : (opening : SessionState) (earlier since : List Moment) (user : List ℕ)
+    (request : UserRequest) → IsEffectSince opening earlier since user request → ℕ
+added_by_effect opening earlier since user (Query query wanted) told = 0
+added_by_effect opening earlier since user (Batch commands) told = added_by opening earlier since user commands told
+added_by_effect opening earlier since user (Audit range) told = 0
+
+-- how many what tells a turn has added
+abbrev pub added_by_turn : (opening : SessionState) (earlier since : List Moment) (turn : Turn)
+    → IsTurnSince opening earlier since turn → ℕ
+added_by_turn opening earlier since (Answered user request text) told =
+    added_by_text opening earlier since user request text told
+added_by_turn opening earlier since (TakenIn user request) told =
+    added_by_effect opening earlier since user request told
+added_by_turn opening earlier since Passed told = 0
+
+-- how many the requests of a conversation have added, in the history that tells it: those that others added aren't among
+-- them
+abbrev pub added_by_all : (opening : SessionState) (stops : List Stop) (history : List Moment)
+    → IsToldBy opening stops history → ℕ
+added_by_all opening [] history told = 0
+added_by_all opening (stop ∷ earlier_stops) history (earlier, ends, tells) =
+    added_by_turn opening earlier ends.since stop.turn ends.told
+    + added_by_all opening earlier_stops earlier tells

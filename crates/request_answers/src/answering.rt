@@ -1,6 +1,6 @@
 //! A user's request, answered over a keeper.
 
-ghost use Rattle.std.specs.Prelude.{◌≡◌, ◌≤◌, ◌⊎◌, Ok, IfOk, IfErr, IsErr, OnErr, length, string_bytes};
+ghost use Rattle.std.specs.Prelude.{◌≡◌, ◌≤◌, ◌⊎◌, ℕ, List, Ok, IfOk, IfErr, IsErr, OnErr, length, string_bytes};
 ghost use Rattle.session_book.specs.Journal.{IsAccepted};
 ghost use Rattle.session_book.specs.Run.{most_commands};
 ghost use Rattle.session_keeper.specs.Keeping.{GoesOn};
@@ -127,6 +127,9 @@ pub fn answer_audit<H, K: CommandKeeper<H>>(
         user (wanting.Audit range) (K.journal keeper.new)) }
     ensures entered { IfOk result (λ text. EntersItOnce K.others (K.opening keeper.new) (K.own_entries keeper.old)
         (K.journal keeper.old) user (wanting.Audit range) (string_bytes text)
+        (K.own_entries keeper.new) (K.journal keeper.new)) }
+    ensures none { OnErr result ((text : List ℕ) × EntersItOnce K.others (K.opening keeper.new)
+        (K.own_entries keeper.old) (K.journal keeper.old) user (wanting.Audit range) text
         (K.own_entries keeper.new) (K.journal keeper.new)) }
     ensures own { K.own_entries keeper.new ≡ K.own_entries keeper.old }
 {

@@ -6,7 +6,7 @@ use Rattle.session_state.specs.SessionState.{SessionState}
 use Rattle.session_commands.specs.declared.entry.Entry.{Entry}
 use Rattle.wire.specs.ReceiptText.{fault_text}
 use Rattle.wire.specs.Request.{is_message_text}
-use Rattle.connections.specs.Conversation.{Exchange, AreExchanged, IsExchanged, journal_then}
+use Rattle.connections.specs.Conversation.{AreExchanged, IsExchanged, journal_then, own_entries_then}
 use Rattle.connections.specs.Linked.{Linked}
 use Rattle.connections.proofs.ConversationLemmas.{opening_stays}
 use Rattle.websocket_server.specs.Clients.{ServesMany}
@@ -21,85 +21,102 @@ use Rattle.session_clients.specs.Transcript.{
 }
 
 -- a connection is what its parts are
-linked_is : (at : Linked) (opening : SessionState) (journal : List Entry) (user : Option (List ℕ)) →
-    at.opening ≡ opening → at.journal ≡ journal → at.user ≡ user →
-    at ≡ record { opening = opening; journal = journal; user = user }
-linked_is at opening journal user same_opening same_journal same_user =
-    subst (λ o. at ≡ record { opening = o; journal = journal; user = user }) same_opening
-    (subst (λ j. at ≡ record { opening = at.opening; journal = j; user = user }) same_journal
-    (subst (λ u. at ≡ record { opening = at.opening; journal = at.journal; user = u }) same_user refl))
+linked_is : (at : Linked) (opening : SessionState) (journal : List Entry) (own : ℕ) (user : Option (List ℕ)) →
+    at.opening ≡ opening → at.journal ≡ journal → at.own_entries ≡ own → at.user ≡ user →
+    at ≡ record { opening = opening; journal = journal; own_entries = own; user = user }
+linked_is at opening journal own user same_opening same_journal same_own same_user = λ i. record {
+  opening = same_opening i;
+  journal = same_journal i;
+  own_entries = same_own i;
+  user = same_user i;
+}
 
 -- a transcript of what was exchanged on connections until now
-record IsOf (Others : List Entry → List Entry → Type 0) (no_entry not_kept : Type 0) (opening : SessionState)
+record IsOf (Others : List Entry → List Entry → Type 0) (no_entry not_kept : Type 0) (opening : SessionState) (own : ℕ)
     (at : Linked) (transcript : Transcript) : Type 0 where
   now : transcript.now ≡ at
   same : at.opening ≡ opening
   journal : at.journal ≡ journal_then transcript.exchanges
-  exchanged : AreExchanged Others no_entry not_kept opening transcript.exchanges
+  entered : at.own_entries ≡ own_entries_then own transcript.exchanges
+  exchanged : AreExchanged Others no_entry not_kept opening own transcript.exchanges
 
-module _ (Others : List Entry → List Entry → Type 0) (no_entry not_kept : Type 0) (opening : SessionState) where
-  note : (before after : Linked) (message : List ℕ) (answer : Option (List ℕ)) (at : Transcript) →
-      IsExchanged Others no_entry not_kept before message answer after × (answer ≡ None → is_message_text message ≡ true) →
-      IsOf Others no_entry not_kept opening before at →
-      (later : Transcript) × Transcribes at message answer later × IsOf Others no_entry not_kept opening after later
-  note before after message answer at (exchanged, short) is =
-      let one = subst (λ b. IsExchanged Others no_entry not_kept b message answer after) (sym is.now) exchanged in
-      let same = ap (λ (l : Linked). l.opening) is.now in
-      let journal = ap (λ (l : Linked). l.journal) is.now in (
-        record {
-          exchanges =
-              record { before = at.now; message = message; answer = answer; after = after } ∷ at.exchanges;
-          now = after;
-        },
-        (refl, short),
-        record {
-          now = refl;
-          same = opening_stays Others no_entry not_kept before after message answer exchanged ∙ is.same;
-          journal = refl;
-          exchanged = (same ∙ is.same, journal ∙ is.journal, one, is.exchanged);
-        },
-      )
+module _ (Others : List Entry → List Entry → Type 0) (no_entry not_kept : Type 0) (opening : SessionState) (own : ℕ)
+  where
+    note : (before after : Linked) (message : List ℕ) (answer : Option (List ℕ)) (at : Transcript) →
+        IsExchanged Others no_entry not_kept before message answer after × (answer ≡ None → is_message_text message ≡ true) →
+        IsOf Others no_entry not_kept opening own before at →
+        (later : Transcript) × Transcribes at message answer later × IsOf Others no_entry not_kept opening own after later
+    note before after message answer at (exchanged, short) is =
+        let one = subst (λ b. IsExchanged Others no_entry not_kept b message answer after) (sym is.now) exchanged in
+        let same = ap (λ (l : Linked). l.opening) is.now in
+        let journal = ap (λ (l : Linked). l.journal) is.now in
+        let entered = ap (λ (l : Linked). l.own_entries) is.now in (
+          record {
+            exchanges =
+                record { before = at.now; message = message; answer = answer; after = after } ∷ at.exchanges;
+            now = after;
+          },
+          (refl, short),
+          record {
+            now = refl;
+            same = opening_stays Others no_entry not_kept before after message answer exchanged ∙ is.same;
+            journal = refl;
+            entered = refl;
+            exchanged = (same ∙ is.same, journal ∙ is.journal, entered ∙ is.entered, one, is.exchanged);
+          },
+        )
 
-  turn_over : (before after : Linked) (at : Transcript) →
-      (after.opening ≡ before.opening) × (after.journal ≡ before.journal) × (after.user ≡ None) →
-      IsOf Others no_entry not_kept opening before at →
-      (later : Transcript) × ComesNext at later × IsOf Others no_entry not_kept opening after later
-  turn_over before after at (same_opening, same_journal, nobody) is =
-      let out : after ≡ signed_out before =
-      linked_is after before.opening before.journal None same_opening same_journal nobody in (
-        record { exchanges = at.exchanges; now = signed_out at.now },
-        refl,
-        record {
-          now = ap signed_out is.now ∙ sym out;
-          same = same_opening ∙ is.same;
-          journal = same_journal ∙ is.journal;
-          exchanged = is.exchanged;
-        },
-      )
+    turn_over : (before after : Linked) (at : Transcript) →
+        (after.opening ≡ before.opening) × (after.journal ≡ before.journal)
+        × (after.own_entries ≡ before.own_entries) × (after.user ≡ None) →
+        IsOf Others no_entry not_kept opening own before at →
+        (later : Transcript) × ComesNext at later × IsOf Others no_entry not_kept opening own after later
+    turn_over before after at (same_opening, same_journal, same_own, nobody) is =
+        let out : after ≡ signed_out before =
+        linked_is after before.opening before.journal before.own_entries None same_opening same_journal same_own nobody
+        in (
+          record { exchanges = at.exchanges; now = signed_out at.now },
+          refl,
+          record {
+            now = ap signed_out is.now ∙ sym out;
+            same = same_opening ∙ is.same;
+            journal = same_journal ∙ is.journal;
+            entered = same_own ∙ is.entered;
+            exchanged = is.exchanged;
+          },
+        )
 
-  -- the transcript of whatever serves clients, from a session's opening on; the session stays the same
-  pub transcribed : {S A : Type 0} (remaining contents : S → Option (List ℕ)) (linked : A → Linked) (clients : ℕ)
-      (server after : A) →
-      (linked server).opening ≡ opening → (linked server).journal ≡ [] → (linked server).user ≡ None →
-      ServesMany remaining contents
-      (λ old message answer new. IsExchanged Others no_entry not_kept (linked old) message answer (linked new)
-      × (answer ≡ None → is_message_text message ≡ true))
-      (fault_text Malformed) (fault_text OutOfMemory)
-      (λ old new. ((linked new).opening ≡ (linked old).opening) × ((linked new).journal ≡ (linked old).journal)
-      × ((linked new).user ≡ None)) clients server after →
-      AreServed remaining contents Others no_entry not_kept opening clients (linked after).journal
-      × ((linked after).opening ≡ opening)
-  transcribed remaining contents linked clients server after same_opening nothing nobody serves =
-      let begins : linked server ≡ record { opening = opening; journal = []; user = None } =
-      linked_is (linked server) opening [] None same_opening nothing nobody in
-      let first : IsOf Others no_entry not_kept opening (linked server) (opening_transcript opening) =
-      record { now = sym begins; same = same_opening; journal = nothing; exchanged = tt } in
-      let (transcript, served, is) =
-      many_too remaining contents (fault_text Malformed) (fault_text OutOfMemory) _ _ Transcribes ComesNext
-      (λ a transcript. IsOf Others no_entry not_kept opening (linked a) transcript)
-      (λ one other message answer at answered is. note (linked one) (linked other) message answer at answered is)
-      (λ one other at left is. turn_over (linked one) (linked other) at left is)
-      clients server after (opening_transcript opening) serves first in (
-        record { transcript = transcript; exchanged = is.exchanged; reached = sym is.journal; served = served },
-        is.same,
-      )
+    -- the transcript of whatever serves clients, from a session's opening on; the session stays the same
+    pub transcribed : {S A : Type 0} (remaining contents : S → Option (List ℕ)) (linked : A → Linked) (clients : ℕ)
+        (server after : A) →
+        (linked server).opening ≡ opening → (linked server).journal ≡ [] → (linked server).own_entries ≡ own →
+        (linked server).user ≡ None →
+        ServesMany remaining contents
+        (λ old message answer new. IsExchanged Others no_entry not_kept (linked old) message answer (linked new)
+        × (answer ≡ None → is_message_text message ≡ true))
+        (fault_text Malformed) (fault_text OutOfMemory)
+        (λ old new. ((linked new).opening ≡ (linked old).opening) × ((linked new).journal ≡ (linked old).journal)
+        × ((linked new).own_entries ≡ (linked old).own_entries) × ((linked new).user ≡ None)) clients server after →
+        AreServed remaining contents Others no_entry not_kept opening own clients (linked after).journal
+        (linked after).own_entries
+        × ((linked after).opening ≡ opening)
+    transcribed remaining contents linked clients server after same_opening nothing same_own nobody serves =
+        let begins : linked server ≡ record { opening = opening; journal = []; own_entries = own; user = None } =
+        linked_is (linked server) opening [] own None same_opening nothing same_own nobody in
+        let first : IsOf Others no_entry not_kept opening own (linked server) (opening_transcript opening own) =
+        record { now = sym begins; same = same_opening; journal = nothing; entered = same_own; exchanged = tt } in
+        let (transcript, served, is) =
+        many_too remaining contents (fault_text Malformed) (fault_text OutOfMemory) _ _ Transcribes ComesNext
+        (λ a transcript. IsOf Others no_entry not_kept opening own (linked a) transcript)
+        (λ one other message answer at answered is. note (linked one) (linked other) message answer at answered is)
+        (λ one other at left is. turn_over (linked one) (linked other) at left is)
+        clients server after (opening_transcript opening own) serves first in (
+          record {
+            transcript = transcript;
+            exchanged = is.exchanged;
+            reached = sym is.journal;
+            entered = sym is.entered;
+            served = served;
+          },
+          is.same,
+        )

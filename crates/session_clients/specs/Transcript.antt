@@ -5,7 +5,7 @@ use Rattle.session_state.specs.SessionState.{SessionState}
 use Rattle.session_commands.specs.declared.entry.Entry.{Entry}
 use Rattle.wire.specs.ReceiptText.{fault_text}
 use Rattle.wire.specs.Request.{is_message_text}
-use Rattle.connections.specs.Conversation.{Exchange, AreExchanged, journal_then}
+use Rattle.connections.specs.Conversation.{Exchange, AreExchanged, journal_then, own_entries_then}
 use Rattle.connections.specs.Linked.{Linked}
 use Rattle.websocket_server.specs.Clients.{ServesMany}
 
@@ -14,14 +14,22 @@ pub record Transcript : Type 0 where
   pub exchanges : List Exchange
   pub now : Linked
 
--- at a session's opening nothing was exchanged yet, nothing is entered, and nobody is signed in
-abbrev pub opening_transcript : SessionState → Transcript
-opening_transcript opening =
-    record { exchanges = []; now = record { opening = opening; journal = []; user = None } }
+-- at a session's opening nothing was exchanged yet, nothing is entered that the keeper knows of, which has entered so many
+-- entries itself, and nobody is signed in
+abbrev pub opening_transcript : SessionState → ℕ → Transcript
+opening_transcript opening own = record {
+  exchanges = [];
+  now = record { opening = opening; journal = []; own_entries = own; user = None };
+}
 
 -- the same connection, on which nobody is signed in
 abbrev pub signed_out : Linked → Linked
-signed_out at = record { opening = at.opening; journal = at.journal; user = None }
+signed_out at = record {
+  opening = at.opening;
+  journal = at.journal;
+  own_entries = at.own_entries;
+  user = None;
+}
 
 -- one exchange more: of a message, with the text that answers it, or none where memory was refused for one
 abbrev pub Transcribes : Transcript → List ℕ → Option (List ℕ) → Transcript → Type 0
@@ -34,15 +42,17 @@ Transcribes before message answer after =
 abbrev pub ComesNext : Transcript → Transcript → Type 0
 ComesNext before after = after ≡ record { exchanges = before.exchanges; now = signed_out before.now }
 
--- so many clients were served from the opening on, over streams whose bytes are known so, and the keeper stands for a
--- journal then: what was exchanged are exchanges on connections over the keeper, one after another; each text that was
--- read of a client is the message of the next of them, and its answer, or that memory is wanting, was the text sent for it
+-- so many clients were served from the opening on, over streams whose bytes are known so, by a keeper that had entered so
+-- many entries, and then it stands for a journal, and has entered so many: what was exchanged are exchanges on
+-- connections over the keeper, one after another, and beside them it has entered nothing; each text that was read of a
+-- client is the message of the next of them, and its answer, or that memory is wanting, was the text sent for it
 pub record AreServed {S : Type 0} (remaining contents : S → Option (List ℕ))
-    (Others : List Entry → List Entry → Type 0) (no_entry not_kept : Type 0) (opening : SessionState) (clients : ℕ)
-    (journal : List Entry) : Type 0 where
+    (Others : List Entry → List Entry → Type 0) (no_entry not_kept : Type 0) (opening : SessionState) (own : ℕ)
+    (clients : ℕ) (journal : List Entry) (own_now : ℕ) : Type 0 where
   pub transcript : Transcript
-  pub exchanged : AreExchanged Others no_entry not_kept opening transcript.exchanges
+  pub exchanged : AreExchanged Others no_entry not_kept opening own transcript.exchanges
   pub reached : journal_then transcript.exchanges ≡ journal
+  pub entered : own_entries_then own transcript.exchanges ≡ own_now
   pub served :
       ServesMany remaining contents Transcribes (fault_text Malformed) (fault_text OutOfMemory) ComesNext clients
-      (opening_transcript opening) transcript
+      (opening_transcript opening own) transcript

@@ -1,10 +1,10 @@
 //! What holds of a session's clients: the function here has nothing to do, and its clauses are the theorem.
 
-ghost use Rattle.std.specs.Prelude.{ℕ, List};
+ghost use Rattle.std.specs.Prelude.{◌≡◌, ◌+◌, ℕ, List};
 ghost use Rattle.session_state.specs.SessionState.{SessionState};
 ghost use Rattle.session_commands.specs.declared.entry.Entry.{Entry};
 ghost use Rattle.published_view.specs.World.{Moment, IsHistory};
-ghost use Rattle.request_answers.specs.Conversing.{Stop, IsConversation, IsToldBy, OnlyAdd};
+ghost use Rattle.request_answers.specs.Conversing.{Stop, IsConversation, IsToldBy, OnlyAdd, added_by_all};
 ghost use Rattle.connections.specs.Conversation.{AreStopsOf};
 ghost use Rattle.session_clients.specs.Transcript.{AreServed};
 
@@ -13,12 +13,15 @@ use std::io::{Read, Write};
 
 /// Whatever clients are served over one who keeps a session, one after another, what each of them is sent is told by a
 /// history of the session: for each exchange in the transcript there is a stop of a conversation of users, and a history
-/// whose readings, submissions and audits have, in their order, the texts that were answered.
+/// whose readings, submissions and audits have, in their order, the texts that were answered. By each stop the keeper has
+/// entered just what came of the request that the client sent, once; in all it has entered as many entries as the
+/// submissions of the clients' requests have added in that history, and none beside.
 pub fn every_client<S: Read + Write, K: Keeper>()
-    ensures { (opening : SessionState) (clients : ℕ) (journal : List Entry)
-        (served : AreServed S.remaining S.contents K.others K.no_entry K.not_kept opening clients journal) →
+    ensures { (opening : SessionState) (own clients : ℕ) (journal : List Entry) (own_now : ℕ)
+        (served : AreServed S.remaining S.contents K.others K.no_entry K.not_kept opening own clients journal own_now) →
         OnlyAdd K.others →
-        (stops : List Stop) × AreStopsOf K.no_entry K.not_kept served.transcript.exchanges stops
+        (stops : List Stop) × AreStopsOf K.others K.no_entry K.not_kept served.transcript.exchanges stops
         × IsConversation K.others opening stops
-        × (history : List Moment) × IsHistory opening history × IsToldBy opening stops history }
+        × (history : List Moment) × IsHistory opening history × (told : IsToldBy opening stops history)
+        × (own_now ≡ own + added_by_all opening stops history told) }
 {}

@@ -27,7 +27,7 @@ where
     requires { K.journal keeper ≡ [] }
     ensures opening { K.opening result ≡ K.opening keeper }
     ensures served { AreServed L.Stream.remaining L.Stream.contents K.others K.no_entry K.not_kept
-        (K.opening keeper) clients (K.journal result) }
+        (K.opening keeper) (K.own_entries keeper) clients (K.journal result) (K.own_entries result) }
 {
     let server = SessionServer::new(keeper);
     let after = serve_clients(rt, alloc, listener, clients, terms, server);

@@ -1,10 +1,6 @@
-use Rattle.request_answers.proofs.ConversingLemmas.{conversation_told}
 use Rattle.connections.proofs.ConversationLemmas.{conversed}
 use Rattle.connections.proofs.laws.every_exchange.Goals as goal
 
 pub returns : goal.returns
-returns g c opening exchanges adds exchanged =
-    let (stops, each, conversation) =
-    conversed g.K.Keeper.others g.K.Keeper.no_entry g.K.Keeper.not_kept opening exchanges exchanged in
-    let (history, is, told) = conversation_told g.K.Keeper.others opening stops adds conversation in
-    (stops, each, conversation, history, is, told)
+returns g c opening own exchanges adds exchanged =
+    conversed g.K.Keeper.others g.K.Keeper.no_entry g.K.Keeper.not_kept opening own exchanges adds exchanged
