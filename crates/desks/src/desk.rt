@@ -36,9 +36,10 @@ use std::sync::{Mutex, MutexGuard, Wait};
 use user_names::Name;
 
 /// Puts commands into the book that it shares with other desks. Each call waits for the lock; one that publishes waits
-/// for displays that still read the older copy, and one that is to be kept for its store. What is told is kept: of the
-/// store under the lock, whatever a crash leaves then is what the receipt tells. Contracts see how many entries this desk
-/// has entered in all: each call enters what it is given, once, and nothing else.
+/// for displays that still read the older copy, and one that is to be kept for its store. What is told is kept: there is a
+/// store of which whatever a crash leaves then is what the receipt tells. That it is the one under the lock, the lock's
+/// own book says. Contracts see how many entries this desk has entered in all: each call enters what it is given, once,
+/// and nothing else.
 #[derive(Drop)]
 pub struct Desk<'a, N: Server, K: EntryStore> {
     lock: &'a Mutex<LockedBook<N, K>>,

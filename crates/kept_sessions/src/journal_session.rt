@@ -124,7 +124,8 @@ fn with_journal<R: Threads + AllocGlobal + Sync, S: Alter + Drop>(
     ensures leaves { IfOk result (λ kept. KeepsJust (state S.Store kept.journal.store.conn)
         (lists_in kept.journal.publications.items)) }
 {
-    match found.read(rt, rt.alloc(), session.budget, workers) {
+    // Of what was found once the session's visits are no measure any more: a later solver may take others to find it again.
+    match found.read(rt, rt.alloc(), u64::MAX, workers) {
         Ok(journal) => Ok(KeptSession { session, journal }),
         Err(fault) => Err(KeptSessionFault::Journal(fault)),
     }
