@@ -46,11 +46,11 @@ use Rattle.std.proofs.lemmas.List.Sums.{sum_by-cons}
 use Rattle.session_roles.specs.declared.role.Role.TheVariants.{Contestant, Director, Commentator}
 use Rattle.session_roles.specs.Edition.{is_second}
 use Rattle.movement.specs.declared.cell.Cell.{Cell}
-use Rattle.movement.specs.Movement.{Section, IsSection, IsCell, Row, rows, boards_of, most_boards}
+use Rattle.movement.specs.declared.row.Row.{Row}
+use Rattle.movement.specs.Movement.{Section, IsSection, IsCell, rows, boards_of, most_boards}
 use Rattle.movement.specs.Row.{Plays}
 use Rattle.movement.specs.Schedule.{is_scheduled, plays}
 use Rattle.movement.proofs.CellLemmas.{cell_in_range}
-use Rattle.movement.proofs.RowLemmas.{in_range}
 use Rattle.disclosure_rules.specs.declared.fact.Fact.TheVariants.{Hands}
 use Rattle.disclosure_rules.specs.declared.public.Public.{Public}
 use Rattle.disclosure_rules.specs.declared.rule.Rule.{Rule}
@@ -210,7 +210,7 @@ module _ (before after : SessionState) (board : ℕ) (same : IsSameOn before aft
   row_live : (row : Row) → Contains (rows before.public.movement) row → is_live after.public.live (cell_in row board) ≡
       is_live before.public.live (cell_in row board)
   row_live row listed =
-      let there = in_range before.public.movement row listed in
+      let there = is_section.in_range row listed in
       same.live row.table there.from_table (omega (arith, there.to_table, is_section.not_too_many_tables))
 
   same_plays : (viewer : Viewer) → plays_board after.public viewer board ≡ plays_board before.public viewer board
@@ -267,7 +267,7 @@ module _ (before after : SessionState) (board : ℕ) (same : IsSameOn before aft
       cell_live : (cell : Cell) → IsCell before.public.movement cell → cell.board ≡ board → is_live after.public.live
           cell ≡ is_live before.public.live cell
       cell_live cell is_cell own =
-          let there = cell_in_range before.public.movement cell is_cell in
+          let there = cell_in_range before.public.movement cell is_section is_cell in
           subst (λ b. is_live after.public.live (record { table = cell.table; board = b }) ≡ is_live before.public.live
           (record { table = cell.table; board = b })) (sym own)
           (same.live cell.table there.from_table (omega (arith, there.to_table, is_section.not_too_many_tables)))

@@ -17,7 +17,6 @@ use Rattle.std.proofs.Common.{
   subst,
   inl,
   inr,
-  arith,
   Contains,
   Any,
 }
@@ -27,10 +26,10 @@ use Rattle.std.proofs.lemmas.Bool.{cases_Bool, false≢true, le-leb, false_from_
 use Rattle.table_terms.specs.declared.pair.Pair.{Pair}
 use Rattle.session_roles.specs.declared.role.Role.{Role}
 use Rattle.session_roles.specs.declared.role.Role.TheVariants.{Member, Spectator, Director, Commentator}
-use Rattle.movement.specs.Movement.{IsSection, Section, rows, Row}
+use Rattle.movement.specs.declared.row.Row.{Row}
+use Rattle.movement.specs.Movement.{IsSection, Section, rows}
 use Rattle.movement.specs.Row.{Seats, Plays}
 use Rattle.movement.specs.Schedule.{plays}
-use Rattle.movement.proofs.RowLemmas.{in_range}
 use Rattle.disclosure_rules.specs.declared.fact.Fact.TheVariants.{Hands}
 use Rattle.disclosure_rules.specs.declared.public.Public.{Public}
 use Rattle.disclosure_rules.specs.declared.rule.Rule.{Rule}
@@ -229,23 +228,22 @@ module _ (public : Public) (viewer : Viewer) (board : ℕ) where
       ap (λ (s : Option Seat). some_that s (λ seat. list_any (plays public.movement seat.pair board)
       (rows public.movement))) none
 
-kept_not : (pair : Pair) → is_kept_pair pair ≡ false → 1 ≤ pair.number → pair.number ≤ 16 → ⊥
-kept_not pair strange from to =
-    false≢true (sym strange ∙ (λ i. le-leb 1 pair.number from i && le-leb pair.number 16 to i))
+-- a pair whose number no section has isn't one that sits somewhere
+strange_not : (seated pair : Pair) → seated ≡ pair → is_kept_pair pair ≡ false → 1 ≤ seated.number →
+    seated.number ≤ 16 → ⊥
+strange_not seated pair same strange from to =
+    false≢true (sym strange ∙ sym (ap is_kept_pair same)
+    ∙ (λ i. le-leb 1 seated.number from i && le-leb seated.number 16 to i))
 
 -- no row seats a pair whose number no section has
 stranger_sits_nowhere : (section : Section) (row : Row) (pair : Pair) → IsSection section → Contains (rows section)
     row → is_kept_pair pair ≡ false → ¬ Seats row pair
 stranger_sits_nowhere section row pair is_section listed strange (inl north_south) =
-    let there = in_range section row listed in
-    let number : pair.number ≡ row.table = ap (λ (p : Pair). p.number) (sym north_south ∙ there.north_south) in
-    kept_not pair strange (omega (arith, number, there.from_table))
-    (omega (arith, number, there.to_table, is_section.not_too_many_tables))
+    let there = is_section.in_range row listed in
+    strange_not row.north_south pair north_south strange there.from_north_south there.to_north_south
 stranger_sits_nowhere section row pair is_section listed strange (inr east_west) =
-    let there = in_range section row listed in
-    let number : pair.number ≡ row.east_west.number = ap (λ (p : Pair). p.number) (sym east_west) in
-    kept_not pair strange (omega (arith, number, there.from_pair))
-    (omega (arith, number, there.to_pair, is_section.not_too_many_tables))
+    let there = is_section.in_range row listed in
+    strange_not row.east_west pair east_west strange there.from_east_west there.to_east_west
 
 some_seat : (a b : Seat) → Some a ≡ Some b → a ≡ b
 some_seat a b same = cc

@@ -8,18 +8,15 @@ use Rattle.std.proofs.Common.{
   ◌+◌,
   ◌<◌,
   ◌≤◌,
-  Bool,
   true,
   false,
   cond,
-  not,
   List,
   [],
   ◌∷◌,
   ◌++◌,
   get_or,
   map,
-  filter,
   append-nil,
   refl,
   sym,
@@ -30,9 +27,9 @@ use Rattle.std.proofs.Common.{
 use Rattle.std.specs.Prelude.{Option, Some, None, is_none, ◌&&◌, if◌then◌else◌}
 use Rattle.std.specs.List.{range_with_len, sum_by}
 use Rattle.std.proofs.lemmas.List.{map-append}
-use Rattle.std.proofs.lemmas.List.Elements.{filter-append}
+use Rattle.std.proofs.lemmas.List.FromFn.{filter_of_map_range_with_len_more}
 use Rattle.std.proofs.lemmas.List.Sums.{sum_by-cons}
-use Rattle.movement.specs.Movement.{Section, IsSection, is_absent, boards_of, has_board}
+use Rattle.movement.specs.Movement.{Section, IsSection, is_pair_of, boards_of, has_board}
 use Rattle.scoring.specs.declared.standing.Standing.{Standing}
 use Rattle.table_terms.specs.declared.pair.Pair.{Pair}
 use Rattle.table_terms.specs.declared.side.Side.{Side}
@@ -159,52 +156,28 @@ nothing_total_shown state class pair closed = λ i. record {
   tops = nothing_shown state class closed (top_for pair) i;
 }
 
--- one number more
-range_more : (first n : ℕ) → range_with_len first (n + 1) ≡ range_with_len first n ++ (first + n) ∷ []
-range_more first n = ap (range_with_len first) one_more ∙ more first n
-  where
-    one_more : n + 1 ≡ suc n
-    one_more = omega arith
-
-    more : (first n : ℕ) → range_with_len first (suc n) ≡ range_with_len first n ++ (first + n) ∷ []
-    more first zero = λ i. none_more i ∷ []
-      where
-        none_more : first ≡ first + 0
-        none_more = omega arith
-    more first (suc n) = ap (λ rest. first ∷ rest)
-        (more (first + 1) n ∙ (λ i. range_with_len (first + 1) n ++ next i ∷ []))
-      where
-        next : first + 1 + n ≡ first + suc n
-        next = omega arith
-
--- the pairs of a side with its next one, where that is there
-pub pairs_with_next : (absent : Option Pair) (side : Side) (n : ℕ) →
-    pairs_on absent side 1 (n + 1)
-    ≡ pairs_on absent side 1 n ++ cond (not (is_absent absent (pair_on side (n + 1)))) (pair_on side (n + 1) ∷ []) []
+-- the pairs of a side with its next one, where the section has that
+pub pairs_with_next : (section : Section) (side : Side) (n : ℕ) →
+    pairs_on section side 1 (n + 1)
+    ≡ pairs_on section side 1 n ++ cond (is_pair_of section (pair_on side (n + 1))) (pair_on side (n + 1) ∷ []) []
 unfolding pairs_on
-pairs_with_next absent side n =
-    let present : Pair → Bool = λ pair. not (is_absent absent pair) in
-    let before : List Pair = map (pair_on side) (range_with_len 1 n) in
-    let same : 1 + n ≡ n + 1 = omega arith in
-    ap (λ numbers. filter present (map (pair_on side) numbers)) (range_more 1 n)
-    ∙ (ap (filter present) (map-append (pair_on side) (range_with_len 1 n) ((1 + n) ∷ []))
-    ∙ (filter-append present before (pair_on side (1 + n) ∷ [])
-    ∙ ap (λ m. filter present before ++ cond (present (pair_on side m)) (pair_on side m ∷ []) []) same))
+pairs_with_next section side n =
+    filter_of_map_range_with_len_more (is_pair_of section) (pair_on side) 1 n (n + 1) (omega arith)
 
-pub pairs_and_one : {A : Type 0} (f : Pair → A) (absent : Option Pair) (side : Side) (n : ℕ) →
-    is_absent absent (pair_on side (n + 1)) ≡ false →
-    map f (pairs_on absent side 1 (n + 1)) ≡ map f (pairs_on absent side 1 n) ++ f (pair_on side (n + 1)) ∷ []
-pairs_and_one f absent side n present =
-    ap (map f) (rw present at (pairs_with_next absent side n))
-    ∙ map-append f (pairs_on absent side 1 n) (pair_on side (n + 1) ∷ [])
+pub pairs_and_one : {A : Type 0} (f : Pair → A) (section : Section) (side : Side) (n : ℕ) →
+    is_pair_of section (pair_on side (n + 1)) ≡ true →
+    map f (pairs_on section side 1 (n + 1)) ≡ map f (pairs_on section side 1 n) ++ f (pair_on side (n + 1)) ∷ []
+pairs_and_one f section side n there =
+    ap (map f) (rw there at (pairs_with_next section side n))
+    ∙ map-append f (pairs_on section side 1 n) (pair_on side (n + 1) ∷ [])
 
-pub pairs_and_none : {A : Type 0} (f : Pair → A) (absent : Option Pair) (side : Side) (n : ℕ) →
-    is_absent absent (pair_on side (n + 1)) ≡ true →
-    map f (pairs_on absent side 1 (n + 1)) ≡ map f (pairs_on absent side 1 n)
-pairs_and_none f absent side n missing =
-    ap (map f) (rw missing at (pairs_with_next absent side n) ∙ append-nil (pairs_on absent side 1 n))
+pub pairs_and_none : {A : Type 0} (f : Pair → A) (section : Section) (side : Side) (n : ℕ) →
+    is_pair_of section (pair_on side (n + 1)) ≡ false →
+    map f (pairs_on section side 1 (n + 1)) ≡ map f (pairs_on section side 1 n)
+pairs_and_none f section side n missing =
+    ap (map f) (rw missing at (pairs_with_next section side n) ∙ append-nil (pairs_on section side 1 n))
 
-pub no_pairs_yet : {A : Type 0} (f : Pair → A) (absent : Option Pair) (side : Side) (before : List A) →
-    before ≡ before ++ map f (pairs_on absent side 1 0)
+pub no_pairs_yet : {A : Type 0} (f : Pair → A) (section : Section) (side : Side) (before : List A) →
+    before ≡ before ++ map f (pairs_on section side 1 0)
 unfolding pairs_on
-no_pairs_yet f absent side before = sym (append-nil before)
+no_pairs_yet f section side before = sym (append-nil before)

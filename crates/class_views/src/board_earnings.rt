@@ -66,7 +66,7 @@ impl BoardEarnings {
         let vulnerability = state.marks(board).vulnerability;
         put_results(state, board, &mut self.results);
         put_earnings(
-            state.public().movement,
+            &state.public().movement,
             vulnerability,
             &self.results,
             &mut self.scores,

@@ -11,7 +11,7 @@ ghost use Rattle.class_views.specs.Totals.{total_for};
 
 use crate::class_view::is_shown_boards;
 use crate::kept::Kept;
-use crate::user_class::{UserClass, place_of};
+use crate::user_class::{PAIRS, UserClass, place_of};
 use disclosure_rules::Viewer;
 use movement::Movement;
 use scoring::Standing;
@@ -95,8 +95,8 @@ impl ClassViews {
         ensures dealt { boards_of self.now.public.movement ≤ length self.now.deals }
     {
         let class = UserClass::of(viewer);
-        let movement = self.state.public().movement;
-        let mut standings = Vec::with_capacity(alloc, 2 * movement.tables() as usize)?;
+        let movement = &self.state.public().movement;
+        let mut standings = Vec::with_capacity(alloc, PAIRS as usize)?;
         add_side(&mut standings, self, class, movement, Side::NorthSouth)?;
         add_side(&mut standings, self, class, movement, Side::EastWest)?;
         Ok(standings)
@@ -141,24 +141,24 @@ fn nothing_earned(pair: Pair) -> Standing
     }
 }
 
-/// Adds how the pairs of a side that are there stand by the boards that a class is shown.
+/// Adds how the pairs of a movement that are named for a side stand by the boards that a class is shown.
 fn add_side(
     standings: &mut Vec<Standing>,
     views: &ClassViews,
     class: Option<UserClass>,
-    movement: Movement,
+    movement: &Movement,
     side: Side,
 ) -> Result<(), AllocError>
     requires class { IfSome class (λ class. is_kept_class class ≡ true) }
     ensures { OnOk result (standings.new.items ≡ standings.old.items
-        ++ map (total_for views.now class) (pairs_on movement.absent side 1 movement.tables)) }
+        ++ map (total_for views.now class) (pairs_on movement.now side 1 most_tables)) }
 {
-    for before in 0..movement.tables() {
+    for before in 0..Movement::MOST_TABLES {
         let pair = Pair {
             side,
             number: before + 1,
         };
-        if !movement.is_absent(pair) {
+        if movement.has_pair(pair) {
             standings.push(views.total(class, pair))?;
         }
     }

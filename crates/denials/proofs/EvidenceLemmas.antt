@@ -72,10 +72,10 @@ not_false true is = refl
 not_false false is = absurd (false≢true (sym is))
 
 -- on an incomplete board a result is awaited from the table that is named
-awaited_there : (public : Public) (board : ℕ) → is_complete public board ≡ false →
+awaited_there : (public : Public) (board : ℕ) → IsSection public.movement → is_complete public board ≡ false →
     is_awaited public.movement public.live board (awaited_table public.movement public.live board) ≡ true
 unfolding awaited_table
-awaited_there public board incomplete = at (find test tables) refl
+awaited_there public board is_section incomplete = at (find test tables) refl
   where
     test : ℕ → Bool
     test = is_awaited public.movement public.live board
@@ -85,7 +85,7 @@ awaited_there public board incomplete = at (find test tables) refl
 
     complete : find test tables ≡ None → IsComplete public board
     complete none cell is_cell at_board =
-        let range = cell_in_range public.movement cell is_cell in
+        let range = cell_in_range public.movement cell is_section is_cell in
         let k : ℕ = cell.table - 1 in
         let place : get_or tables k 0 ≡ cell.table = get_or-range_with_len 1 public.movement.tables k 0
         (omega (arith, range.from_table, range.to_table)) ∙ omega (arith, range.from_table) in
@@ -141,14 +141,14 @@ own_there public viewer board is_section still =
 
 module _ (public : Public) (viewer : Viewer) (fact : Fact) where
   -- what is incomplete is awaited, at the board that is named
-  at_board : (test : ℕ → Bool) → ((b : ℕ) → test b ≡ true → is_complete public b ≡ false) → guarding viewer fact test ≡
-      true →
+  at_board : IsSection public.movement → (test : ℕ → Bool) →
+      ((b : ℕ) → test b ≡ true → is_complete public b ≡ false) → guarding viewer fact test ≡ true →
       is_awaited public.movement public.live (denied_board fact) (awaited_table public.movement public.live
       (denied_board fact)) ≡ true
-  at_board test gives forbidden =
+  at_board is_section test gives forbidden =
       let secret : Guarded fact test = guarded_by viewer fact test forbidden in
       let number : secret.board ≡ denied_board fact = sym (ap (λ o. unwrap_or o 0) secret.is) in
-      awaited_there public (denied_board fact) (subst (λ b. is_complete public b ≡ false) number
+      awaited_there public (denied_board fact) is_section (subst (λ b. is_complete public b ≡ false) number
       (gives secret.board secret.passes))
 
   -- what is still to play is awaited from the own table
@@ -172,12 +172,12 @@ module _ (public : Public) (viewer : Viewer) (fact : Fact) where
   named is_section BoardIsHeld forbidden waits = absurd (false≢true waits)
   named is_section StillToPlay forbidden waits = let own = at_own is_section forbidden in own.awaited
   named is_section OthersStillPlay forbidden waits =
-      at_board _ (λ b test. not-true _ (and_parts _ _ (and_parts _ _ test).1).1) forbidden
+      at_board is_section _ (λ b test. not-true _ (and_parts _ _ (and_parts _ _ test).1).1) forbidden
   named is_section NeitherContestantNorSpectator forbidden waits = absurd (false≢true waits)
   named is_section BoardIsIncomplete forbidden waits =
-      at_board _ (λ b test. not-true _ (and_parts _ _ (and_parts _ _ test).1).1) forbidden
+      at_board is_section _ (λ b test. not-true _ (and_parts _ _ (and_parts _ _ test).1).1) forbidden
   named is_section AnalysisWaits forbidden waits =
-      at_board _ (λ b test. not-true _ (and_parts _ _ (and_parts _ _ test).1).1) forbidden
+      at_board is_section _ (λ b test. not-true _ (and_parts _ _ (and_parts _ _ test).1).1) forbidden
   named is_section PlayWaits forbidden waits = absurd (false≢true waits)
   named is_section ReasonIsForThePairs forbidden waits = absurd (false≢true waits)
   named is_section NoResult forbidden waits = absurd (false≢true waits)

@@ -31,7 +31,8 @@ use Rattle.std.proofs.lemmas.List.FromFn.{get_or-range_with_len, length-range_wi
 use Rattle.std.proofs.lemmas.List.Folds.{list_any-from_Any}
 use Rattle.table_terms.specs.declared.pair.Pair.{Pair}
 use Rattle.movement.specs.declared.cell.Cell.{Cell}
-use Rattle.movement.specs.Movement.{Section, Row, IsSection, rows, HasCell, IsCell}
+use Rattle.movement.specs.declared.row.Row.{Row}
+use Rattle.movement.specs.Movement.{Section, IsSection, rows, HasCell, IsCell}
 use Rattle.movement.specs.Row.{Seats, Plays}
 use Rattle.movement.specs.Schedule.{plays}
 use Rattle.movement.proofs.ScheduleTests.{any_as, plays_decides, scheduled-cell}

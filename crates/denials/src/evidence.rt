@@ -62,7 +62,7 @@ fn table_named(rule: Rule, public: &Public, seat: &Option<Seat>, fact: Fact) -> 
     match rule {
         Rule::NoAccount | Rule::NotAMember | Rule::AccountsAreClosed => 0,
         Rule::SessionIsEmbargoed | Rule::BoardIsHeld | Rule::NeitherContestantNorSpectator => 0,
-        Rule::StillToPlay => own_table(public.movement, seat, board),
+        Rule::StillToPlay => own_table(&public.movement, seat, board),
         Rule::OthersStillPlay | Rule::BoardIsIncomplete | Rule::AnalysisWaits => {
             awaited_table(public, board)
         }
@@ -71,8 +71,8 @@ fn table_named(rule: Rule, public: &Public, seat: &Option<Seat>, fact: Fact) -> 
 }
 
 /// The table where the user plays the board, or 0.
-fn own_table(movement: Movement, seat: &Option<Seat>, board: u8) -> u8
-    ensures { result ≡ own_table movement seat.now board }
+fn own_table(movement: &Movement, seat: &Option<Seat>, board: u8) -> u8
+    ensures { result ≡ own_table movement.now seat.now board }
 {
     match seat {
         Some(seat) => table_of_pair(movement, seat.pair, board),
@@ -81,8 +81,8 @@ fn own_table(movement: Movement, seat: &Option<Seat>, board: u8) -> u8
 }
 
 /// The table where the pair plays the board, or 0 where it doesn't play it.
-fn table_of_pair(movement: Movement, pair: Pair, board: u8) -> u8
-    ensures { result ≡ table_of_pair movement pair board }
+fn table_of_pair(movement: &Movement, pair: Pair, board: u8) -> u8
+    ensures { result ≡ table_of_pair movement.now pair board }
 {
     match movement.cell_of(pair, board) {
         Some(cell) => cell.table,

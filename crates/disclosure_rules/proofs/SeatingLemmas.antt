@@ -5,7 +5,8 @@ use Rattle.std.proofs.lemmas.Bool.{false_from_ne_true, not-true, not_from_false,
 use Rattle.std.proofs.lemmas.Bool.Decides.{same_from_decides}
 use Rattle.table_terms.specs.declared.pair.Pair.{Pair}
 use Rattle.movement.specs.declared.cell.Cell.{Cell}
-use Rattle.movement.specs.Movement.{Section, Row, IsSection, rows, HasCell, IsOfSet}
+use Rattle.movement.specs.declared.row.Row.{Row}
+use Rattle.movement.specs.Movement.{Section, IsSection, rows, HasCell, IsOfSet}
 use Rattle.movement.specs.Row.{Seats, Plays}
 use Rattle.movement.proofs.MovementLemmas.{same_play}
 use Rattle.movement.proofs.ScheduleTests.{any_as}

@@ -17,7 +17,8 @@ use Rattle.std.proofs.lemmas.Bool.Decides.{Decides-and}
 use Rattle.std.proofs.lemmas.List.{get_or_default}
 use Rattle.std.proofs.lemmas.List.Sums.{AllPass-from_list_all, list_all-from_AllPass}
 use Rattle.movement.specs.declared.cell.Cell.{Cell}
-use Rattle.movement.specs.Movement.{Section, Row, rows, IsOfSet, HasCell}
+use Rattle.movement.specs.declared.row.Row.{Row}
+use Rattle.movement.specs.Movement.{Section, rows, IsOfSet, HasCell}
 use Rattle.movement.specs.Schedule.{is_of_set, stands_in}
 use Rattle.movement.proofs.ScheduleTests.{
   any_decides,

@@ -3,7 +3,8 @@
 use Rattle.std.specs.Prelude.{◌≡◌, ℕ, Bool, true, false, not, ◌&&◌, ◌||◌, Option, Some, None, Any, IsSomeAnd}
 use Rattle.std.specs.List.{list_any, list_all}
 use Rattle.movement.specs.declared.cell.Cell.{Cell}
-use Rattle.movement.specs.Movement.{Row, rows, HasCell, IsCell}
+use Rattle.movement.specs.declared.row.Row.{Row}
+use Rattle.movement.specs.Movement.{rows, HasCell, IsCell}
 use Rattle.movement.specs.Row.{Seats, Plays}
 use Rattle.movement.specs.Schedule.{is_of_set, stands_in, seats, plays}
 use Rattle.disclosure_rules.specs.declared.public.Public.{Public}

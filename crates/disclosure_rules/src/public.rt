@@ -32,7 +32,7 @@ impl Public {
         ensures { result ≡ self.now }
     {
         Public {
-            movement: self.movement,
+            movement: self.movement.copy(),
             marks: self.marks,
             round: self.round,
             phase: self.phase,

@@ -11,7 +11,17 @@ no_session = record {
   digests = [];
   seats = [];
   public = record {
-    movement = record { tables = 0; rounds = 0; per_set = 0; absent = None };
+    movement = record {
+      tables = 0;
+      rounds = 0;
+      sets = 0;
+      per_set = 0;
+      absent = None;
+      north_south = [];
+      east_west = [];
+      is_named = false;
+      rows = [];
+    };
     marks = [];
     round = 0;
     phase = Running;

@@ -90,6 +90,10 @@ side_pairs side = map (λ number. record { side = side; number = number }) (rang
 unfoldable pub pair_named : List ℕ → Option Pair
 pair_named word = find (λ pair. bytes_eq (pair_text pair) word) (side_pairs NorthSouth ++ side_pairs EastWest)
 
+-- the pair whose text stands there
+abbrev pub pair_said : Option Data → Option Pair
+pair_said o = option_and_then pair_named (text o)
+
 -- what stands there is the text of this pair
 pub record IsPair (o : Option Data) (pair : Pair) : Type 0 where
   pub is : text o ≡ Some (pair_text pair)
@@ -98,7 +102,7 @@ pub record IsPair (o : Option Data) (pair : Pair) : Type 0 where
 
 -- a pair in the member of this name
 abbrev pub paired : List ℕ → Member Pair
-paired name = record { name = name; value = λ o. option_and_then pair_named (text o); Is = IsPair }
+paired name = record { name = name; value = pair_said; Is = IsPair }
 
 -- the pair in which a user sits
 abbrev pub pair : Member Pair

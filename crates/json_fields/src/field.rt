@@ -1,12 +1,12 @@
 //! The members of a JSON object, by their names.
 
-ghost use Rattle.std.specs.Prelude.{◌≡◌, map, option_map};
+ghost use Rattle.std.specs.Prelude.{◌≡◌, Some, map, option_map};
 ghost use Rattle.std.specs.List.{list_any};
 ghost use Rattle.std.specs.Str.{bytes_eq};
 ghost use Rattle.serde_json.specs.Find.{get};
 ghost use Rattle.serde_json.specs.View.{view, members_view};
-ghost use Rattle.json_fields.specs.Form.{names_are, has_only};
-ghost use Rattle.json_fields.specs.Field.{text_at, number, small, at_most, called};
+ghost use Rattle.json_fields.specs.Form.{names_are, has_only, if_there};
+ghost use Rattle.json_fields.specs.Field.{text_at, number, small, numbered, at_most, called};
 
 use serde_json::{Map, Value};
 use user_names::Name;
@@ -63,13 +63,36 @@ pub fn whole_at(value: &Value, name: &str) -> Option<u64>
     }
 }
 
+/// The number up to 255 that the value is.
+pub fn small_number(value: &Value) -> Option<u8>
+    ensures { result ≡ small (Some (view value.now)) }
+{
+    match value.as_u64() {
+        Some(number) if number < 256 => Some(number as u8),
+        _ => None,
+    }
+}
+
 /// The number up to 255 in the member of this name.
 pub fn small_number_at(value: &Value, name: &str) -> Option<u8>
     ensures { result ≡ small (get name.now (view value.now)) }
 {
-    match whole_at(value, name) {
-        Some(number) if number < 256 => Some(number as u8),
-        _ => None,
+    match value.get(name) {
+        Some(member) => small_number(member),
+        None => None,
+    }
+}
+
+/// The number up to 255 in the member of this name, where there is one.
+pub fn small_number_if_there(value: &Value, name: &str) -> Option<Option<u8>>
+    ensures { result ≡ (if_there (numbered name.now)).value (get name.now (view value.now)) }
+{
+    match value.get(name) {
+        None => Some(None),
+        Some(member) => match small_number(member) {
+            Some(number) => Some(Some(number)),
+            None => None,
+        },
     }
 }
 

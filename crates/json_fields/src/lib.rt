@@ -24,12 +24,15 @@ mod word;
 
 pub use array_writer::{ArrayWriter, array_value};
 pub use doubling::doubling_numbered;
-pub use field::{has_only, limited_at, name_at, small_number_at, text_at, whole_at};
+pub use field::{
+    has_only, limited_at, name_at, small_number, small_number_at, small_number_if_there, text_at,
+    whole_at,
+};
 pub use filter_fault::FilterFault;
 pub use filter_reading::read_filter;
 pub use message::{read_board, read_declarer, read_since, read_strain, read_table};
 pub use object_writer::ObjectWriter;
 pub use request_fault::RequestFault;
 pub use text_value::string_value;
-pub use user::{read_absent, read_digest, read_pair, read_place, read_role, role_named};
+pub use user::{pair_said, read_absent, read_digest, read_pair, read_place, read_role, role_named};
 pub use word::is_one_of;

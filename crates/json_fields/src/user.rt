@@ -1,9 +1,9 @@
 //! The members that say who a user is, which roles one has, and where one sits.
 
-ghost use Rattle.std.specs.Prelude.{◌≡◌};
+ghost use Rattle.std.specs.Prelude.{◌≡◌, Some};
 ghost use Rattle.serde_json.specs.Find.{get};
 ghost use Rattle.serde_json.specs.View.{view};
-ghost use Rattle.json_fields.specs.User.{digest_named, digest, role_named, role_of, pair_named, pair, absent, place};
+ghost use Rattle.json_fields.specs.User.{digest_named, digest, role_named, role_of, pair_named, pair_said, pair, absent, place};
 
 use crate::field::text_at;
 use crate::letter::place_named;
@@ -62,12 +62,22 @@ fn pair_named(word: &str) -> Option<Pair>
     }
 }
 
+/// The pair whose text the value is.
+pub fn pair_said(value: &Value) -> Option<Pair>
+    ensures { result ≡ pair_said (Some (view value.now)) }
+{
+    match value.as_str() {
+        Some(word) => pair_named(word),
+        None => None,
+    }
+}
+
 /// The pair in the member `pair`.
 pub fn read_pair(value: &Value) -> Option<Pair>
     ensures { result ≡ pair.value (get pair.name (view value.now)) }
 {
-    match text_at(value, "pair") {
-        Some(word) => pair_named(word),
+    match value.get("pair") {
+        Some(member) => pair_said(member),
         None => None,
     }
 }
@@ -78,11 +88,8 @@ pub fn read_absent(value: &Value) -> Option<Option<Pair>>
 {
     match value.get("absent") {
         None => Some(None),
-        Some(member) => match member.as_str() {
-            Some(word) => match pair_named(word) {
-                Some(pair) => Some(Some(pair)),
-                None => None,
-            },
+        Some(member) => match pair_said(member) {
+            Some(pair) => Some(Some(pair)),
             None => None,
         },
     }

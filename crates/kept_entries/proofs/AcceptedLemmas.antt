@@ -1,10 +1,11 @@
 -- What is accepted is read of its texts.
 use Rattle.std.proofs.Common.{slice_get, ◌≡◌, ◌≢◌, ◌≤◌, ◌<◌, ◌⊎◌, inl, inr, ℕ, zero, suc, Bool, true, false, Option, Some, None, List, [], ◌∷◌, length, map, get_or, All, refl, sym, ap, subst, ◌∙◌, arith}
-use Rattle.std.specs.Prelude.{not, nat_le, ◌&&◌}
+use Rattle.std.specs.Prelude.{nat_le}
 use Rattle.std.specs.Option.{option_or}
+use Rattle.std.proofs.lemmas.Bool.{and_parts}
 use Rattle.std.proofs.lemmas.List.{length-map}
 use Rattle.table_terms.specs.declared.pair.Pair.{Pair}
-use Rattle.movement.specs.Movement.{Section, is_absent}
+use Rattle.movement.specs.Movement.{Section, is_pair_of}
 use Rattle.session_commands.specs.declared.actor.Actor.{Actor}
 use Rattle.session_commands.specs.declared.actor.Actor.TheVariants.{User, Solver}
 use Rattle.session_commands.specs.declared.command.Command.{Command}
@@ -13,7 +14,6 @@ use Rattle.session_commands.specs.declared.entry.Entry.{Entry}
 use Rattle.session_commands.specs.declared.refusal.Refusal.{Refusal}
 use Rattle.session_commands.specs.declared.refusal.Refusal.TheVariants.{NotPermitted}
 use Rattle.session_state.specs.Refusal.{first_cause, is_permitted, hindrance_of, refusal_of}
-use Rattle.session_state.specs.Seats.{is_pair}
 use Rattle.session_state.specs.SessionState.{SessionState}
 use Rattle.session_state.proofs.SeatCauseLemmas.{seats_at_a_pair}
 use Rattle.session_state.proofs.RefusalLemmas.{refused_actor, refused_else, last_causes}
@@ -57,19 +57,14 @@ free state spoiler actor command entries none = by_permission (is_permitted stat
         ∙ none in
         absurd cc
 
--- a pair of the movement has a number from 1
-numbered_pair : (low high present : Bool) → ((low && high) && present) ≡ true → low ≡ true
-numbered_pair true high present is = refl
-numbered_pair false high present is = absurd cc
-
 from_one : (n : ℕ) → nat_le 1 n ≡ true → 1 ≤ n
 from_one zero is = absurd cc
 from_one (suc n) is = omega arith
 
-pair_from_one : (section : Section) (pair : Pair) → is_pair section pair ≡ true → 1 ≤ pair.number
+-- a pair of the movement has a number from 1
+pair_from_one : (section : Section) (pair : Pair) → is_pair_of section pair ≡ true → 1 ≤ pair.number
 pair_from_one section pair is =
-    from_one pair.number
-    (numbered_pair (nat_le 1 pair.number) (nat_le pair.number section.tables) (not (is_absent section.absent pair)) is)
+    from_one pair.number (and_parts _ _ is).0
 
 not_own : false ≡ true → ⊥
 not_own is = cc

@@ -1,29 +1,19 @@
 -- The tests on the movement against its own words.
-use Rattle.std.proofs.Common.{◌≡◌, ℕ, ◌<◌, Bool, true, List, refl, sym, ap, ◌∙◌, subst, Any, Contains}
+use Rattle.std.proofs.Common.{◌≡◌, ℕ, ◌<◌, Bool, true, List, sym, ap, ◌∙◌, subst, Any, Contains}
 use Rattle.std.specs.Prelude.{◌&&◌, nat_lt}
 use Rattle.std.specs.Bool.{Decides}
 use Rattle.std.specs.List.{list_any}
-use Rattle.std.proofs.lemmas.Bool.{
-  false≢true,
-  eqb-true,
-  ltb-true,
-  lt-ltb,
-  leb-true,
-  le-leb,
-  eq-eqb,
-  and_from,
-  and_parts,
-}
+use Rattle.std.proofs.lemmas.Bool.{eqb-true, ltb-true, lt-ltb, leb-true, le-leb, eq-eqb, and_from, and_parts}
 use Rattle.std.proofs.lemmas.Bool.Decides.{Decides-or, same_from_decides}
 use Rattle.std.proofs.lemmas.List.Folds.{Any-from_list_any, list_any-from_Any}
 use Rattle.table_terms.specs.declared.pair.Pair.{Pair}
-use Rattle.table_terms.specs.declared.side.Side.{Side}
-use Rattle.table_terms.specs.declared.side.Side.TheVariants.{NorthSouth, EastWest}
 use Rattle.movement.specs.declared.cell.Cell.{Cell}
-use Rattle.movement.specs.Movement.{Section, Row, IsSection, IsOfSet, same_side, same_pair, rows, HasCell, IsCell}
+use Rattle.movement.specs.Movement.{Section, IsSection, IsOfSet, HasCell, IsCell, rows}
+use Rattle.movement.specs.declared.row.Row.{Row}
 use Rattle.movement.specs.Row.{Seats, Plays}
 use Rattle.movement.specs.Schedule.{is_of_set, stands_in, is_scheduled, is_later, seats, plays}
 use Rattle.movement.proofs.MovementLemmas.{same_cell}
+pub use Rattle.mitchell.proofs.PairTests.{pair_decides}
 
 -- what holds of some element, said in other words
 pub any_as : {X : Type 0} (P Q : X → Type 0) (xs : List X) → ((x : X) → P x → Q x) → Any P xs → Any Q xs
@@ -94,29 +84,6 @@ later_than section cell own round is_section found =
             Any (λ other. HasCell section other cell × (other.round ≡ own)) (rows section) → row.round ≡ own
         one row listed has (j, other, at, there, holds') = ap (λ (r : Row). r.round)
             (same_cell section row other cell is_section listed (j, at, there) has holds'.0) ∙ holds'.1
-
--- the sides are one
-side_decides : (side other : Side) → Decides (same_side side other) (side ≡ other)
-side_decides NorthSouth NorthSouth = (λ test. refl, λ same. refl)
-side_decides NorthSouth EastWest = (λ test. absurd (false≢true test), λ same. absurd (cc))
-side_decides EastWest NorthSouth = (λ test. absurd (false≢true test), λ same. absurd (cc))
-side_decides EastWest EastWest = (λ test. refl, λ same. refl)
-
--- the pairs are one
-pub pair_decides : (pair other : Pair) → Decides (same_pair pair other) (pair ≡ other)
-pair_decides pair other = (from, to)
-  where
-    from : same_pair pair other ≡ true → pair ≡ other
-    from test =
-        let parts = and_parts _ _ test in
-        let side : pair.side ≡ other.side = (side_decides pair.side other.side).0 parts.0 in
-        let number : pair.number ≡ other.number = eqb-true _ _ parts.1 in
-        λ i. record { side = side i; number = number i }
-
-    to : pair ≡ other → same_pair pair other ≡ true
-    to same =
-        and_from _ _ ((side_decides pair.side other.side).1 (ap (λ (p : Pair). p.side) same))
-        (eq-eqb _ _ (ap (λ (p : Pair). p.number) same))
 
 -- the row seats the pair
 pub seats_decides : (row : Row) (pair : Pair) → Decides (seats row pair) (Seats row pair)

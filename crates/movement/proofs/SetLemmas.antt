@@ -26,22 +26,12 @@ same_set section first second board one_first one_second in_first in_second =
     let second_quotient = set_of_board section (second - 1) board (rw b in_second) in
     omega arith
 
--- the boards of a set below the tables are boards of the section
-pub within-boards : (section : Section) (set board : ℕ) → set < section.tables → IsOfSet section (set + 1) board →
+-- the boards of one of the sets are boards of the section
+pub within-boards : (section : Section) (set board : ℕ) → set < section.sets → IsOfSet section (set + 1) board →
     (1 ≤ board) × (board ≤ boards_of section)
 within-boards section set board set_below is_of_set =
     let p : ℕ = section.per_set in
-    let most : (set + 1) * p ≤ section.tables * p = mul-le (set + 1) p section.tables p (omega arith) (omega arith) in
+    let most : (set + 1) * p ≤ section.sets * p = mul-le (set + 1) p section.sets p (omega arith) (omega arith) in
     let after = is_of_set.after in
     let within = is_of_set.within in
     (omega arith, omega arith)
-
--- the k-th board of a set is of that set
-pub nth_board : (section : Section) (set k board : ℕ) → 1 ≤ set → 1 ≤ k → k ≤ section.per_set →
-    board ≡ (set - 1) * section.per_set + k → IsOfSet section set board
-nth_board section set k board one_set one_board in_set is_board =
-    let p : ℕ = section.per_set in
-    let same : (set - 1) + 1 ≡ set = omega arith in
-    let next : ((set - 1) + 1) * p ≡ (set - 1) * p + p = rw add-one (suc-mul (set - 1) p) in
-    let last : set * p ≡ (set - 1) * p + p = rw same at next in
-    record { after = omega arith; within = omega arith }

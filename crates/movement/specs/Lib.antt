@@ -1,4 +1,9 @@
+pub mod Kept
+pub mod Listed
+pub mod Mitchell
 pub mod Movement
 pub mod Refusal
 pub mod Row
 pub mod Schedule
+pub mod Sound
+pub mod Switched

@@ -1,28 +1,32 @@
--- When no movement is made: the causes of refusal, in the order in which they are tested.
-use Rattle.std.specs.Prelude.{ℕ, ◌<◌, ◌⊎◌, IsSomeAnd}
-use Rattle.movement.specs.Movement.{
-  Section,
-  most_rounds,
-  boards_of,
-  least_tables,
-  most_tables,
-  most_per_set,
-  most_boards,
-}
-use Rattle.movement.specs.declared.movement_error.MovementError.{MovementError}
-use Rattle.movement.specs.declared.movement_error.MovementError.TheVariants.{BadTables, BadRounds, BadSets, BadPair}
+-- When no movement is made: the causes of refusal, of a Mitchell's numbers and of a list.
+use Rattle.std.specs.Prelude.{◌≡◌, ℕ, ◌*◌, ◌<◌, ◌⊎◌, false, Option, List, IsSomeAnd}
+use Rattle.table_terms.specs.declared.pair.Pair.{Pair}
+use Rattle.movement.specs.declared.limits.Limits.{Limits}
+use Rattle.movement.specs.declared.list_error.ListError.{ListError}
+use Rattle.movement.specs.declared.list_error.ListError.TheVariants.{BadTables, BadRounds, BadSets, BadRow, BadPair}
+use Rattle.movement.specs.Movement.{least_tables, most_tables, most_sets, most_per_set, most_boards}
+use Rattle.movement.specs.declared.row.Row.{Row}
+use Rattle.movement.specs.Listed.{is_seated}
+use Rattle.movement.specs.Sound.{IsSound, IsFirstMisplaced}
+pub use Rattle.mitchell.specs.Refusal.{Refuses, number_of}
 
--- the limit that each refusal says is broken: too few or too many tables, rounds, boards in a set or boards in all; or
--- no such pair is absent
-abbrev pub Refuses : MovementError → Section → Type 0
-Refuses BadTables section = (section.tables < least_tables) ⊎ (most_tables < section.tables)
-Refuses BadRounds section = (section.rounds < 1) ⊎ (most_rounds section.tables < section.rounds)
-Refuses BadSets section = (section.per_set < 1) ⊎ ((most_per_set < section.per_set) ⊎ (most_boards < boards_of section))
-Refuses BadPair section = IsSomeAnd section.absent (λ pair. (pair.number < 1) ⊎ (section.tables < pair.number))
+-- what each refusal of a list says: too few or too many tables, no round, too few or
+-- too many sets or boards, the first row that can't stand after those before it, or no row that seats the absent pair
+abbrev pub RefusesList : Limits → ℕ → Option Pair → List Row → ListError → Type 0
+RefusesList limits per_set absent rows BadTables = (limits.tables < least_tables) ⊎ (most_tables < limits.tables)
+RefusesList limits per_set absent rows BadRounds = limits.rounds < 1
+RefusesList limits per_set absent rows BadSets =
+    (per_set < 1) ⊎
+    ((most_per_set < per_set) ⊎
+    ((limits.sets < 1) ⊎ ((most_sets < limits.sets) ⊎ (most_boards < limits.sets * per_set))))
+RefusesList limits per_set absent rows (BadRow misplaced) =
+    IsFirstMisplaced limits rows misplaced × ¬ IsSound limits rows
+RefusesList limits per_set absent rows BadPair = IsSomeAnd absent (λ pair. is_seated rows pair ≡ false)
 
 -- the place of a cause in the order
-abbrev pub number_of : MovementError → ℕ
-number_of BadTables = 1
-number_of BadRounds = 2
-number_of BadSets = 3
-number_of BadPair = 4
+abbrev pub list_error_number : ListError → ℕ
+list_error_number BadTables = 1
+list_error_number BadRounds = 2
+list_error_number BadSets = 3
+list_error_number (BadRow misplaced) = 4
+list_error_number BadPair = 5

@@ -1,9 +1,11 @@
 -- Which cells of the movement are played, by whom and when, as tests.
-use Rattle.std.specs.Prelude.{ℕ, ◌-◌, ◌*◌, Bool, ◌&&◌, ◌||◌, nat_eq, nat_lt, nat_le}
+use Rattle.std.specs.Prelude.{ℕ, ◌-◌, ◌*◌, Bool, ◌&&◌, nat_eq, nat_lt, nat_le}
 use Rattle.std.specs.List.{list_any}
 use Rattle.table_terms.specs.declared.pair.Pair.{Pair}
 use Rattle.movement.specs.declared.cell.Cell.{Cell}
-use Rattle.movement.specs.Movement.{Section, Row, rows, same_pair}
+use Rattle.movement.specs.Movement.{Section, rows}
+use Rattle.movement.specs.declared.row.Row.{Row}
+pub use Rattle.movement.specs.Sound.{seats}
 
 -- whether the set has the board
 abbrev pub is_of_set : Section → ℕ → ℕ → Bool
@@ -20,10 +22,6 @@ is_scheduled section cell = list_any (stands_in section cell) (rows section)
 -- whether the cell is played after a round
 abbrev pub is_later : Section → Cell → ℕ → Bool
 is_later section cell round = list_any (λ row. stands_in section cell row && nat_lt round row.round) (rows section)
-
--- whether the row seats the pair
-abbrev pub seats : Row → Pair → Bool
-seats row pair = same_pair row.north_south pair || same_pair row.east_west pair
 
 -- whether the row seats the pair at a set that has the board
 abbrev pub plays : Section → Pair → ℕ → Row → Bool

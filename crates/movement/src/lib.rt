@@ -1,12 +1,28 @@
-//! The movement of one section: which table plays which boards in which round, and who sits there.
+//! The movement of one section, as a list of rows: which table plays which boards in which round, and who sits there.
 #![tactic(auto)]
 
 mod cell;
 pub mod laws;
-mod mitchell;
+mod limits;
+mod list_error;
+mod misplaced_row;
 mod movement;
-mod movement_error;
+mod movement_fault;
+mod pairs;
+mod refusal;
+mod row;
+mod sitting;
+mod sittings;
+mod sound;
+#[cfg(test)]
+mod tests;
 
 pub use cell::Cell;
+pub use limits::Limits;
+pub use list_error::ListError;
+pub use misplaced_row::MisplacedRow;
+pub use mitchell::MovementError;
 pub use movement::Movement;
-pub use movement_error::MovementError;
+pub use movement_fault::MovementFault;
+pub use row::Row;
+pub use sound::first_misplaced;

@@ -27,7 +27,6 @@ use Rattle.std.proofs.lemmas.Bool.{false≢true}
 use Rattle.cards.specs.Hands.{Hands}
 use Rattle.movement.specs.declared.cell.Cell.{Cell}
 use Rattle.movement.specs.Movement.{IsSection, boards_of, has_board}
-use Rattle.movement.specs.Schedule.{is_scheduled}
 use Rattle.movement.proofs.CellLemmas.{cell_in_range}
 use Rattle.movement.proofs.ScheduleTests.{scheduled-cell}
 use Rattle.disclosure_rules.specs.declared.fact.Fact.{Fact}
@@ -41,6 +40,7 @@ use Rattle.session_state.specs.Readers.{seats_in_order}
 use Rattle.session_state.specs.SessionState.{SessionState, cell_at, IsPlaced}
 use Rattle.session_book.proofs.session_state_lemmas.ScheduleLemmas.{placed}
 use Rattle.query_filter.specs.declared.trick_table.TrickTable.{TrickTable}
+use Rattle.session_queries.specs.Facts.{has_table_on}
 use Rattle.session_queries.specs.Content.{Content, analysis_of, play_of, costs_of, reason_of}
 use Rattle.session_queries.specs.Reading.{
   as_public,
@@ -60,6 +60,7 @@ use Rattle.session_queries.specs.Reading.{
   shown_analysis,
 }
 use Rattle.session_queries.specs.Shown.{Shown, is_allowed, shown}
+use Rattle.session_queries.proofs.FactLemmas.{has_scheduled}
 use Rattle.session_queries.proofs.ShownLemmas.{content_allowed, content_denied}
 use Rattle.session_queries.specs.declared.body.Body.TheVariants as body
 use Rattle.session_queries.specs.declared.query.Query.TheVariants as query
@@ -90,12 +91,12 @@ pub not_seen : (rule : Option Rule) (sees : Bool) → sees ≡ is_none rule → 
 not_seen None sees is hidden = absurd (false≢true (sym (ap not is) ∙ hidden))
 not_seen (Some rule) sees is hidden = refl
 
--- a place is kept for a scheduled cell
+-- a place is kept for a cell of the section
 pub scheduled_placed : (state : SessionState) (cell : Cell) → IsSection state.public.movement →
-    is_scheduled state.public.movement cell ≡ true → IsPlaced cell
-scheduled_placed state cell section scheduled =
-    placed state.public.movement cell section (cell_in_range state.public.movement cell
-    (scheduled-cell state.public.movement cell scheduled))
+    has_table_on state.public.movement cell ≡ true → IsPlaced cell
+scheduled_placed state cell section has =
+    placed state.public.movement cell section (cell_in_range state.public.movement cell section
+    (scheduled-cell state.public.movement cell (has_scheduled state.public.movement cell has)))
 
 module _ (state : SessionState) (viewer : Viewer) where
   -- where some fact is allowed, what every member may see is
@@ -149,7 +150,7 @@ module _ (state : SessionState) (viewer : Viewer) where
       sym (ap (λ c. analysis_by board (option_and_then as_analysis c))
       (content_allowed state viewer (fact.Analysis board) there none))
 
-  pub play_answered : (cell : Cell) → is_scheduled state.public.movement cell ≡ true →
+  pub play_answered : (cell : Cell) → has_table_on state.public.movement cell ≡ true →
       first_rule state.public viewer (fact.Play cell) ≡ None →
       body.Play cell (play_of (cell_at state cell)) ≡ answer_from (query.Play cell) (shown state viewer)
   unfolding answer_from
@@ -157,7 +158,7 @@ module _ (state : SessionState) (viewer : Viewer) where
       sym (ap (λ c. body.Play cell (option_and_then as_play c)) (content_allowed state viewer (fact.Play cell) there
       none))
 
-  pub costs_answered : (cell : Cell) → is_scheduled state.public.movement cell ≡ true →
+  pub costs_answered : (cell : Cell) → has_table_on state.public.movement cell ≡ true →
       first_rule state.public viewer (fact.Cost cell) ≡ None →
       body.Costs cell (costs_of (cell_at state cell)) ≡ answer_from (query.Costs cell) (shown state viewer)
   unfolding answer_from
@@ -165,7 +166,7 @@ module _ (state : SessionState) (viewer : Viewer) where
       sym (ap (λ c. body.Costs cell (option_and_then as_costs c)) (content_allowed state viewer (fact.Cost cell) there
       none))
 
-  pub reason_answered : (cell : Cell) → is_scheduled state.public.movement cell ≡ true →
+  pub reason_answered : (cell : Cell) → has_table_on state.public.movement cell ≡ true →
       first_rule state.public viewer (fact.Reason cell) ≡ None →
       body.Reason cell (reason_of (cell_at state cell)) ≡ answer_from (query.Reason cell) (shown state viewer)
   unfolding answer_from

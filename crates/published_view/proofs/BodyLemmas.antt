@@ -28,7 +28,6 @@ use Rattle.std.proofs.lemmas.Bool.{false≢true}
 use Rattle.cards.specs.Hands.{Hands}
 use Rattle.movement.specs.declared.cell.Cell.{Cell}
 use Rattle.movement.specs.Movement.{IsSection}
-use Rattle.movement.specs.Schedule.{is_scheduled}
 use Rattle.rbac.specs.declared.account.Account.{Account}
 use Rattle.rbac.specs.declared.inheritance.Inheritance.{Inheritance}
 use Rattle.disclosure_rules.specs.declared.fact.Fact.{Fact}
@@ -47,7 +46,7 @@ use Rattle.session_state.specs.OwnNumbers.{KeepsOwn}
 use Rattle.session_state.specs.SessionState.{SessionState, cell_at, seat_of, viewer_of}
 use Rattle.session_state.specs.declared.seated.Seated.{Seated}
 use Rattle.session_queries.specs.Content.{Content, analysis_of, costs_of}
-use Rattle.session_queries.specs.Facts.{has_place}
+use Rattle.session_queries.specs.Facts.{has_place, has_table_on}
 use Rattle.session_queries.specs.Numbers.{IsAnalysisOf, IsCountOf}
 use Rattle.session_queries.specs.Reading.{
   as_analysis,
@@ -435,9 +434,9 @@ module _ (state : SessionState) (version : ℕ) (user : List ℕ) (asked : Query
       let answer = by_answer place (nat_lt version since) first (body.Costs cell (Some counted)) (sym body_is ∙ is)
       (omega arith) in
       let asks = costs_answered asked (shown state (viewer_of state user)) cell counted answer.1 in
-      let scheduled : is_scheduled state.public.movement cell ≡ true =
+      let there : has_table_on state.public.movement cell ≡ true =
       sym (ap (λ q. has_place state.public.movement (fact_of q)) asks.query) ∙ answer.0 in
-      costs_own state cell counted keeps (scheduled_placed state cell section scheduled)
+      costs_own state cell counted keeps (scheduled_placed state cell section there)
       (costs_shown_own state (viewer_of state user) cell counted asks.shown) not_pending some_cards
 
 pub filter_is : (state : SessionState) (viewer : Viewer) (board : ℕ) (tricks : TrickTable) → KeepsOwn state →

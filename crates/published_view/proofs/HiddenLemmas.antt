@@ -33,6 +33,7 @@ use Rattle.session_queries.specs.Content.{
 }
 use Rattle.session_queries.specs.Facts.{has_place}
 use Rattle.session_queries.specs.Shown.{is_allowed}
+use Rattle.session_queries.proofs.FactLemmas.{has_scheduled}
 use Rattle.published_view.specs.Agreement.{DifferAt}
 use Rattle.published_view.specs.Reply.{reply_of}
 use Rattle.published_view.proofs.AgreementLemmas.{same_replies}
@@ -74,16 +75,16 @@ module _ (board : ℕ) (one other : SessionState) (user : List ℕ) (differ : Di
       (differ.analyses number has (elsewhere (fact.Analysis number) number refl allowed))
   same_contents (fact.Result cell) has allowed =
       ap (λ known. says_result (result_of known))
-      (differ.cells cell has (elsewhere (fact.Result cell) cell.board refl allowed))
+      (differ.cells cell (has_scheduled one.public.movement cell has) (elsewhere (fact.Result cell) cell.board refl allowed))
   same_contents (fact.Play cell) has allowed =
       ap (λ known. says_play (play_of known))
-      (differ.cells cell has (elsewhere (fact.Play cell) cell.board refl allowed))
+      (differ.cells cell (has_scheduled one.public.movement cell has) (elsewhere (fact.Play cell) cell.board refl allowed))
   same_contents (fact.Cost cell) has allowed =
       ap (λ known. says_costs (costs_of known))
-      (differ.cells cell has (elsewhere (fact.Cost cell) cell.board refl allowed))
+      (differ.cells cell (has_scheduled one.public.movement cell has) (elsewhere (fact.Cost cell) cell.board refl allowed))
   same_contents (fact.Reason cell) has allowed =
       ap (λ known. says_reason (reason_of known))
-      (differ.cells cell has (elsewhere (fact.Reason cell) cell.board refl allowed))
+      (differ.cells cell (has_scheduled one.public.movement cell has) (elsewhere (fact.Reason cell) cell.board refl allowed))
 
   pub hidden_replies : (version : ℕ) (query : Query) (since : ℕ) → reply_of one version user query since ≡ reply_of
       other version user query since

@@ -2,7 +2,6 @@
 ghost use Rattle.std.specs.Prelude.{◌≡◌, ◌≤◌, ◌+◌, ◌-◌, ◌++◌, true, Some, None, All, IfOk, OnOk, slice_get, vec_len};
 ghost use Rattle.disclosure_rules.specs.Policy.{first_rule};
 ghost use Rattle.movement.specs.Movement.{IsSection, has_board, most_tables};
-ghost use Rattle.movement.specs.Schedule.{is_scheduled};
 ghost use Rattle.session_state.specs.SessionState.{cell_at};
 ghost use Rattle.session_state.specs.Readers.{seats_in_order};
 ghost use Rattle.disclosure_rules.specs.declared.fact.Fact.TheVariants as fact;
@@ -12,7 +11,7 @@ ghost use Rattle.session_queries.specs.declared.query.Query.TheVariants as query
 ghost use Rattle.published_view.specs.Answers.{answer_from, traveller_by, list_by, ranking_by, board_earnings, all_earnings};
 ghost use Rattle.session_queries.specs.Query.{fact_of};
 ghost use Rattle.session_queries.specs.Content.{analysis_of};
-ghost use Rattle.session_queries.specs.Facts.{has_place};
+ghost use Rattle.session_queries.specs.Facts.{has_place, has_table_on};
 ghost use Rattle.session_queries.specs.Shown.{shown};
 
 use crate::listing::listed_from;
@@ -75,7 +74,7 @@ pub(crate) fn answer_of(
 #[tactic(auto, using(crate::proofs::AnswerLemmas::scheduled_placed))]
 fn known(state: &State, cell: Cell) -> CellState
     requires section { IsSection state.now.public.movement }
-    requires there { is_scheduled state.now.public.movement cell ≡ true }
+    requires there { has_table_on state.now.public.movement cell ≡ true }
     ensures { result ≡ cell_at state.now cell }
 {
     state.cell(cell)
@@ -139,7 +138,7 @@ fn traveller(alloc: Global, state: &State, viewer: &Viewer, number: u8) -> Resul
 {
     let vulnerability = state.marks(number).vulnerability;
     let results = shown_results(alloc, state, viewer, number)?;
-    let rows = traveller_rows(alloc, state.public().movement, vulnerability, &results)?;
+    let rows = traveller_rows(alloc, &state.public().movement, vulnerability, &results)?;
     Ok(Body::Traveller {
         number,
         rows: Items::new(rows),
@@ -173,7 +172,7 @@ fn ranking(alloc: Global, state: &State, viewer: &Viewer) -> Result<Body, AllocE
         ranking_by (shown state.now viewer.now) (Some state.now.public)) }
 {
     let earnings = earnings_of(alloc, state, viewer)?;
-    let standings = ranking_of(alloc, state.public().movement, &earnings)?;
+    let standings = ranking_of(alloc, &state.public().movement, &earnings)?;
     Ok(Body::Ranking {
         standings: Items::new(standings),
     })
@@ -212,7 +211,7 @@ fn add_board(
     }
     let results = shown_results(alloc, state, viewer, number)?;
     let vulnerability = state.marks(number).vulnerability;
-    add_earnings(alloc, public.movement, vulnerability, &results, earnings)?;
+    add_earnings(alloc, &public.movement, vulnerability, &results, earnings)?;
     Ok(())
 }
 

@@ -25,7 +25,7 @@ pub(crate) fn before_answer(
     ensures allowed { IfNone result (first_rule public.now viewer.now asked ≡ None) }
     ensures section { IfNone result (IsSection public.now.movement) }
 {
-    if !has_place(public.movement, asked) {
+    if !has_place(&public.movement, asked) {
         return Some(no_such_place(asked));
     }
     if (version as u64) < since {
@@ -38,9 +38,10 @@ pub(crate) fn before_answer(
 }
 
 /// Whether the movement has what a fact belongs to.
-fn has_place(movement: Movement, asked: Fact) -> bool
-    ensures place { result ≡ has_place movement asked }
-    ensures section { IsSection movement }
+#[tactic(auto, using(crate::proofs::PlaceLemmas::place_is))]
+fn has_place(movement: &Movement, asked: Fact) -> bool
+    ensures place { result ≡ has_place movement.now asked }
+    ensures section { IsSection movement.now }
 {
     let last = movement.boards();
     match asked {

@@ -1,14 +1,15 @@
 -- A reply has no float.
-use Rattle.std.proofs.Common.{◌≡◌, ℕ, ℤ, pos, negsuc, List, [], ◌∷◌, ◌||◌, Bool, Option, Some, None, false, refl, ap}
-use Rattle.std.specs.Prelude.{take}
+use Rattle.std.proofs.Common.{◌≡◌, ℕ, ℤ, pos, negsuc, List, [], ◌∷◌, ◌||◌, Bool, Option, Some, None, true, false, refl, ap}
+use Rattle.std.specs.Prelude.{codes, take}
 use Rattle.std.specs.List.{range_with_len}
-use Rattle.serde_json.specs.Data.{Data, Members, object}
+use Rattle.serde_json.specs.Data.{Data, Members, string, object, member, no_members}
 use Rattle.serde_json.specs.Find.{of_integer, is_float}
 use Rattle.serde_json.specs.Written.{has_float}
 use Rattle.table_terms.specs.declared.pair.Pair.{Pair}
 use Rattle.session_roles.specs.declared.edition.Edition.{Edition}
 use Rattle.session_roles.specs.declared.edition.Edition.TheVariants.{First, Second}
-use Rattle.movement.specs.Movement.{boards_of}
+use Rattle.movement.specs.declared.row.Row.{Row}
+use Rattle.movement.specs.Movement.{rows, boards_of}
 use Rattle.disclosure_rules.specs.declared.public.Public.{Public}
 use Rattle.rbac.specs.declared.account.Account.{Account}
 use Rattle.session_roles.specs.Role.{roles_that, has}
@@ -25,16 +26,19 @@ use Rattle.standings.specs.declared.row_result.RowResult.TheVariants.{Played, Ru
 use Rattle.standings.specs.declared.traveller_row.TravellerRow.{TravellerRow}
 use Rattle.reply_texts.specs.DataOf.{number_data, list_data, option_data}
 use Rattle.reply_texts.specs.StatusText.{
+  phase_name,
   held_boards,
   live_tables,
   tables_data,
   live_data,
   mark_data,
   marks_data,
+  movement_row_data,
   seat_data,
   status_data,
   with_absent,
   with_edition,
+  with_movement,
 }
 use Rattle.reply_texts.specs.BoardText.{tricks_data}
 use Rattle.reply_texts.specs.TravellerText.{outcome_data, result_data, traveller_row_data}
@@ -84,14 +88,35 @@ none_with_edition : (edition : Edition) (embargo : Bool) (others : Members) → 
 none_with_edition First embargo others none = none
 none_with_edition Second embargo others none = none
 
+none_with_movement : (named : Bool) (rows : List Row) (others : Members) → has_float (object others) ≡ false →
+    has_float (object (with_movement named rows others)) ≡ false
+none_with_movement false rows others none = none
+none_with_movement true rows others none = λ i. none_in_a_list movement_row_data (λ row. refl) rows i || none i
+
+-- the members after the movement's rows
+abbrev later_members : Public → List Seated → Members
+later_members public seats =
+    member (codes "per_set") (number_data public.movement.per_set)
+    (member (codes "phase") (string (phase_name public.phase))
+    (member (codes "round") (number_data public.round)
+    (member (codes "rounds") (number_data public.movement.rounds)
+    (member (codes "seats") (list_data seat_data seats)
+    (member (codes "tables") (number_data public.movement.tables) no_members)))))
+
+none_in_later_members : (public : Public) (seats : List Seated) → has_float (object (later_members public seats)) ≡
+    false
+none_in_later_members public seats =
+    λ i. false || (false || (false || (false
+    || (none_in_a_list seat_data (λ seated. refl) seats i || (false || false)))))
+
 none_in_a_status : (public : Public) (seats : List Seated) → has_float (status_data public seats) ≡ false
 none_in_a_status public seats =
     none_with_absent public.movement.absent _ (none_with_edition public.edition public.embargo _
     (λ i. none_in_numbers (held_boards public) i
     || (none_in_live_tables public i
     || (none_in_marks public i
-    || (false || (false || (false || (false
-    || (none_in_a_list seat_data (λ seated. refl) seats i || (false || false))))))))))
+    || none_with_movement public.movement.is_named (rows public.movement) (later_members public seats)
+    (none_in_later_members public seats) i))))
 
 none_in_an_outcome : (outcome : Outcome) → has_float (outcome_data outcome) ≡ false
 none_in_an_outcome outcome.PassedOut = refl

@@ -1,5 +1,5 @@
 -- What is written of a session's status: what every member may see.
-use Rattle.std.specs.Prelude.{ℕ, Bool, Option, None, Some, List, [], ◌∷◌, ◌++◌, take, codes}
+use Rattle.std.specs.Prelude.{ℕ, Bool, true, false, Option, None, Some, List, [], ◌∷◌, ◌++◌, take, codes}
 use Rattle.std.specs.List.{range_with_len}
 use Rattle.serde_json.specs.Data.{Data, Members, boolean, string, array, object, member, no_members}
 use Rattle.serde_json.specs.View.{items_of}
@@ -9,7 +9,8 @@ use Rattle.table_terms.specs.Place.{place_letter}
 use Rattle.table_terms.specs.Vulnerability.{vulnerability_text}
 use Rattle.session_roles.specs.declared.edition.Edition.{Edition}
 use Rattle.session_roles.specs.declared.edition.Edition.TheVariants.{First, Second}
-use Rattle.movement.specs.Movement.{boards_of}
+use Rattle.movement.specs.declared.row.Row.{Row}
+use Rattle.movement.specs.Movement.{rows, boards_of}
 use Rattle.disclosure_rules.specs.declared.marks.Marks.{Marks}
 use Rattle.disclosure_rules.specs.declared.phase.Phase.{Phase}
 use Rattle.disclosure_rules.specs.declared.phase.Phase.TheVariants.{Running, Closed, Final}
@@ -52,6 +53,16 @@ mark_data marks = string (marks_text marks)
 abbrev pub marks_data : Public → Data
 marks_data public = list_data mark_data (take (boards_of public.movement) public.marks)
 
+-- what a table plays in a round: the round, the table, the set, and who sits there North-South and East-West
+abbrev pub movement_row_data : Row → Data
+movement_row_data row =
+    array (items_of (number_data row.round
+    ∷ number_data row.table
+    ∷ number_data row.set
+    ∷ string (pair_text row.north_south)
+    ∷ string (pair_text row.east_west)
+    ∷ []))
+
 -- a user's name, pair and place
 abbrev pub seat_data : Seated → Data
 seat_data seated =
@@ -71,15 +82,21 @@ with_edition First embargo others = others
 with_edition Second embargo others =
     member (codes "edition") (number_data 2) (member (codes "embargo") (boolean embargo) others)
 
+-- the rows of a movement that was named, by set and then by table, before the other members
+abbrev pub with_movement : Bool → List Row → Members → Members
+with_movement false rows others = others
+with_movement true rows others = member (codes "movement") (list_data movement_row_data rows) others
+
 abbrev pub status_data : Public → List Seated → Data
 status_data public seats =
     object (with_absent public.movement.absent (with_edition public.edition public.embargo
     (member (codes "held") (list_data number_data (held_boards public))
     (member (codes "live") (live_data public)
     (member (codes "marks") (marks_data public)
+    (with_movement public.movement.is_named (rows public.movement)
     (member (codes "per_set") (number_data public.movement.per_set)
     (member (codes "phase") (string (phase_name public.phase))
     (member (codes "round") (number_data public.round)
     (member (codes "rounds") (number_data public.movement.rounds)
     (member (codes "seats") (list_data seat_data seats)
-    (member (codes "tables") (number_data public.movement.tables) no_members)))))))))))
+    (member (codes "tables") (number_data public.movement.tables) no_members))))))))))))

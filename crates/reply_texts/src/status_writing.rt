@@ -1,18 +1,19 @@
 //! What is written of a session's status.
 
-ghost use Rattle.std.specs.Prelude.{◌≡◌, IfOk, Option};
-ghost use Rattle.serde_json.specs.Data.{no_members};
+ghost use Rattle.std.specs.Prelude.{◌≡◌, IfOk, Option, if◌then◌else◌, codes};
+ghost use Rattle.serde_json.specs.Data.{Members, no_members, put};
 ghost use Rattle.serde_json.specs.View.{view};
 ghost use Rattle.table_terms.specs.declared.pair.Pair.{Pair};
+ghost use Rattle.movement.specs.Movement.{rows};
 ghost use Rattle.json_fields.specs.Written.{HasMembers};
 ghost use Rattle.reply_texts.specs.DataOf.{number_data, list_data};
 ghost use Rattle.reply_texts.specs.StatusText.{phase_name, held_boards, live_tables, tables_data, live_data, mark_data};
-ghost use Rattle.reply_texts.specs.StatusText.{marks_data, seat_data, with_absent, with_edition, status_data};
+ghost use Rattle.reply_texts.specs.StatusText.{marks_data, movement_row_data, seat_data, with_absent, with_edition, status_data};
 
 use crate::to_json::{ToJson, list_value};
 use disclosure_rules::{Marks, Phase, Public};
 use json_fields::{ArrayWriter, ObjectWriter, array_value, string_value};
-use movement::Cell;
+use movement::{Cell, Movement, Row};
 use serde_json::{Value, push};
 use session_roles::Edition;
 use session_state::Seated;
@@ -26,24 +27,25 @@ pub(crate) fn status_value(
 ) -> Result<Value, AllocError>
     ensures { IfOk result (λ value. view value ≡ status_data public.now seats.now) }
 {
-    with_edition(
+    let begun = with_edition(
         begun_with(alloc, public.movement.absent()),
         public.edition,
         public.embargo,
     )
     .member("held", held_value(alloc, public))
     .member("live", live_value(alloc, public))
-    .member("marks", marks_value(alloc, public))
-    .number("per_set", public.movement.per_set())
-    .member(
-        "phase",
-        Value::try_from_str(alloc, phase_name(public.phase)),
-    )
-    .number("round", public.round)
-    .number("rounds", public.movement.rounds())
-    .member("seats", list_value(alloc, seats))
-    .number("tables", public.movement.tables())
-    .object()
+    .member("marks", marks_value(alloc, public));
+    with_movement(begun, alloc, &public.movement)
+        .number("per_set", public.movement.per_set())
+        .member(
+            "phase",
+            Value::try_from_str(alloc, phase_name(public.phase)),
+        )
+        .number("round", public.round)
+        .number("rounds", public.movement.rounds())
+        .member("seats", list_value(alloc, seats))
+        .number("tables", public.movement.tables())
+        .object()
 }
 
 // An object that begins with the pair that is absent, where one is.
@@ -69,6 +71,27 @@ fn with_edition(object: ObjectWriter, edition: Edition, embargo: bool) -> Object
             .number("edition", 2)
             .member("embargo", Ok(Value::from(embargo))),
     }
+}
+
+// The rows of a movement that was named, after the members before them.
+fn with_movement(object: ObjectWriter, alloc: Global, movement: &Movement) -> ObjectWriter
+    ensures { (members : Members) →
+        HasMembers object members →
+        HasMembers result (if movement.now.is_named
+        then put (codes "movement") (list_data movement_row_data (rows movement.now)) members else members) }
+{
+    if movement.is_named() {
+        object.member("movement", rows_value(alloc, movement))
+    } else {
+        object
+    }
+}
+
+fn rows_value(alloc: Global, movement: &Movement) -> Result<Value, AllocError>
+    ensures { IfOk result (λ value. view value ≡ list_data movement_row_data (rows movement.now)) }
+{
+    let rows = movement.rows(alloc)?;
+    list_value(alloc, rows.as_slice())
 }
 
 fn held_value(alloc: Global, public: &Public) -> Result<Value, AllocError>
@@ -138,6 +161,20 @@ impl ToJson for Marks {
     fn to_json(&self, alloc: Global) -> Result<Value, AllocError> {
         let text = format!(in alloc; "{} {}", self.dealer, self.vulnerability)?;
         Ok(Value::String(text))
+    }
+}
+
+impl ToJson for Row {
+    ghost json = { movement_row_data };
+
+    fn to_json(&self, alloc: Global) -> Result<Value, AllocError> {
+        ArrayWriter::new(alloc)
+            .item(Ok(Value::from(self.round)))
+            .item(Ok(Value::from(self.table)))
+            .item(Ok(Value::from(self.set)))
+            .item(string_value(self.north_south.to_string(alloc)))
+            .item(string_value(self.east_west.to_string(alloc)))
+            .array()
     }
 }
 

@@ -6,6 +6,7 @@ use Rattle.std.proofs.Common.{
   zero,
   suc,
   ◌-◌,
+  ◌<◌,
   ◌≤◌,
   Bool,
   true,
@@ -27,7 +28,7 @@ use Rattle.std.proofs.Common.{
   subst,
   arith,
 }
-use Rattle.std.specs.Prelude.{Option, Some, None, is_some, not, ◌&&◌, ◌||◌, ◌⊎◌, find, filter, option_map}
+use Rattle.std.specs.Prelude.{◌*◌, Option, Some, None, is_some, not, ◌&&◌, ◌||◌, ◌⊎◌, find, filter, option_map}
 use Rattle.std.specs.List.{range_with_len}
 use Rattle.std.specs.Bool.{then_some}
 use Rattle.std.specs.Option.{option_or}
@@ -46,9 +47,8 @@ use Rattle.std.proofs.lemmas.List.{get_or-set_other}
 use Rattle.std.proofs.lemmas.List.Folds.{find-append}
 use Rattle.table_terms.specs.Bits.{any_filter}
 use Rattle.movement.specs.declared.cell.Cell.{Cell}
-use Rattle.movement.specs.Movement.{most_tables, most_boards}
+use Rattle.movement.specs.Movement.{Section, IsCell, most_tables, most_boards}
 use Rattle.movement.specs.Schedule.{is_scheduled}
-use Rattle.movement.proofs.CellLemmas.{cell_in_range}
 use Rattle.movement.proofs.ScheduleTests.{scheduled-cell}
 use Rattle.rbac.specs.Account.{same_name, assigned_roles, new_account, with_change}
 use Rattle.rbac.specs.Authorization.{reached}
@@ -479,6 +479,14 @@ is_scheduled_there (Some other) cell scheduled at none =
     let same : other ≡ cell = cc in subst (λ c. scheduled c ≡ true) same (met_not (scheduled other) none)
 is_scheduled_there None cell scheduled at none = absurd cc
 
+after_some : (n board : ℕ) → n < board → 1 ≤ board
+after_some n board after = omega (arith, after)
+
+-- a cell's board comes after those of the sets before its own
+from_first_board : (section : Section) (cell : Cell) → IsCell section cell → 1 ≤ cell.board
+from_first_board section cell (k, row, below, here, has) =
+    after_some ((row.set - 1) * section.per_set) cell.board has.board.after
+
 -- an entry that nothing hinders, and that is about a cell, has a board
 its_board_is_there : (state : SessionState) (command : Command) → hindrance_of state command ≡ None → (cell : Cell) →
     subject_cell command ≡ Some cell → 1 ≤ cell.board
@@ -486,7 +494,7 @@ unfolding hindrance_of
 its_board_is_there state command none cell at =
     let free = second_free _ _ _ none in
     let scheduled = is_scheduled_there (subject_cell command) cell (is_scheduled state.public.movement) at free in
-    (cell_in_range state.public.movement cell (scheduled-cell state.public.movement cell scheduled)).from_board
+    from_first_board state.public.movement cell (scheduled-cell state.public.movement cell scheduled)
 
 -- of what an entry doesn't touch it shows no more
 pub untouched_shows : (state : SessionState) (entry : Entry) (user : List ℕ) (board : ℕ) → 1 ≤ board →

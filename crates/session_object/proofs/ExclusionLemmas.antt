@@ -18,13 +18,14 @@ use Rattle.session_object.specs.declared.session_fault.SessionFault.TheVariants.
   Malformed,
   BadField,
   Movement,
+  Row,
   Deals,
   OutOfMemory,
 }
 use Rattle.session_object.specs.Session.{Session}
 use Rattle.session_object.specs.Reading.{
   section_of,
-  HasNoMovementError,
+  HasNoMovementFault,
   ReadsObject,
   IsRefusedObject,
   ReadsSession,
@@ -77,7 +78,10 @@ object_or_refused Malformed given d object other read refused = refused
 object_or_refused BadField given d object other read refused = refused read.session read.says
 object_or_refused (Movement error) given d object other read refused =
     let same = one_session given d refused.session read.session refused.says read.says in
-    subst (λ s. HasNoMovementError (section_of s)) (sym same) read.allowed error refused.refused.holds
+    subst HasNoMovementFault (sym same) read.allowed (Movement error) refused.refused.holds
+object_or_refused (Row fault number) given d object other read refused =
+    let same = one_session given d refused.session read.session refused.says read.says in
+    subst HasNoMovementFault (sym same) read.allowed (Row fault number) refused.refused.holds
 object_or_refused (Deals error) given d object other read (kind, refused) =
     let same = one_session given d refused.session read.session refused.says read.says in
     read_or_refused read.session.pbn (boards_of (section_of read.session)) object.config.boards error kind read.boards
@@ -102,6 +106,8 @@ not_refused given text object BadField read other refused = text_or_refused BadF
     refused
 not_refused given text object (Movement error) read other refused = text_or_refused (Movement error) given text object
     other read refused
+not_refused given text object (Row fault number) read other refused = text_or_refused (Row fault number) given text
+    object other read refused
 not_refused given text object (Deals error) read other refused = text_or_refused (Deals error) given text object other
     read refused
 not_refused given text object OutOfMemory read other refused = other refl

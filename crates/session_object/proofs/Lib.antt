@@ -1,3 +1,4 @@
+pub mod AskedLemmas
 pub mod ExclusionLemmas
 pub mod ReadingLemmas
 pub mod SessionLemmas

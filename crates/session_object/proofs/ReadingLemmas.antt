@@ -43,8 +43,12 @@ use Rattle.json_fields.specs.Form.{first_then, each}
 use Rattle.json_fields.proofs.ListLemmas.{with_front}
 use Rattle.small_sets.specs.First.{IsFirst}
 use Rattle.movement.specs.Movement.{Section, boards_of}
-use Rattle.movement.specs.Refusal.{Refuses, number_of}
-use Rattle.movement.specs.declared.movement_error.MovementError.{MovementError}
+use Rattle.mitchell.specs.declared.movement_error.MovementError.{MovementError}
+use Rattle.mitchell.specs.declared.movement_error.MovementError.TheVariants.{BadTables, BadRounds, BadSets, BadPair}
+use Rattle.movement.specs.declared.list_error.ListError.{ListError}
+use Rattle.movement.specs.declared.list_error.ListError.TheVariants as list
+use Rattle.session_object.specs.declared.asked_movement.AskedMovement.{AskedMovement}
+use Rattle.session_object.specs.declared.asked_movement.AskedMovement.TheVariants.{Nothing, Word, Rows}
 use Rattle.pbn_records.specs.Reads as pbn
 use Rattle.pbn_records.specs.declared.board.Board.{Board}
 use Rattle.pbn_records.specs.declared.deals_error.DealsError.{DealsError}
@@ -58,25 +62,12 @@ use Rattle.session_object.specs.declared.session_fault.SessionFault.TheVariants.
   Malformed,
   BadField,
   Movement,
+  Row,
   Deals,
   OutOfMemory,
 }
 use Rattle.session_object.specs.Session.{Session, session_of, IsSession}
-use Rattle.session_object.specs.Reading.{
-  section_of,
-  HasNoMovementError,
-  ReadsObject,
-  HasNoBoards,
-  IsRefusedObject,
-  most_bytes,
-  IsReadAsJson,
-  ReadsSession,
-  IsObjectText,
-  IsSessionRefused,
-  session_of_parts,
-  fault_of_deals,
-  FailsPart,
-}
+use Rattle.session_object.specs.Reading.{section_of, fault_of_list, fault_place, RefusesAsked, RefusesMovement, HasNoMovementFault, ReadsObject, HasNoMovement, HasNoBoards, IsRefusedObject, most_bytes, IsReadAsJson, ReadsSession, IsObjectText, IsSessionRefused, session_of_parts, fault_of_deals, FailsPart}
 use Rattle.session_object.proofs.SessionLemmas.{session_read, session_reads, one_session}
 
 -- ---- the elements of a list
@@ -101,6 +92,7 @@ each_fails read front values i v Malformed kept below is fails = fails
 each_fails read front values i v BadField kept below is fails = sym kept ∙ ap (with_front front)
     (none_from read values i v below is fails)
 each_fails read front values i v (Movement error) kept below is fails = fails
+each_fails read front values i v (Row fault number) kept below is fails = fails
 each_fails read front values i v (Deals error) kept below is fails = fails
 each_fails read front values i v OutOfMemory kept below is fails = tt
 
@@ -121,6 +113,19 @@ each_end read front values i kept end =
 
 -- ---- objects
 
+no_place_of_numbers : (error : MovementError) → fault_place (Movement error) ≡ 0 → ⊥
+no_place_of_numbers BadTables none = absurd (cc)
+no_place_of_numbers BadRounds none = absurd (cc)
+no_place_of_numbers BadSets none = absurd (cc)
+no_place_of_numbers BadPair none = absurd (cc)
+
+no_place_of_list : (error : ListError) → fault_place (fault_of_list error) ≡ 0 → ⊥
+no_place_of_list list.BadTables none = absurd (cc)
+no_place_of_list list.BadRounds none = absurd (cc)
+no_place_of_list list.BadSets none = absurd (cc)
+no_place_of_list (list.BadRow misplaced) none = absurd (cc)
+no_place_of_list list.BadPair none = absurd (cc)
+
 module _ (given : Option (List ℕ)) (d : Data) where
   -- a member is wrong, or memory was refused
   pub refused_parts : (fault : SessionFault) → FailsPart fault (session_of given d) → IsRefusedObject fault given d
@@ -128,21 +133,41 @@ module _ (given : Option (List ℕ)) (d : Data) where
   refused_parts Malformed fails = absurd fails
   refused_parts BadField fails = λ session is. let found = session_reads given d session is in absurd (cc)
   refused_parts (Movement error) fails = absurd fails
+  refused_parts (Row fault number) fails = absurd fails
   refused_parts (Deals error) fails = absurd fails
   refused_parts OutOfMemory fails = tt
 
-  pub refused_section : (parts : Parts) (error : MovementError) → session_of given d ≡ Some (session_of_parts parts)
-      → IsFirst number_of (λ other. Refuses other (section_of (session_of_parts parts))) error
-      → IsRefusedObject (Movement error) given d
-  refused_section parts error said refused =
-      record {
-        session = session_of_parts parts;
-        says = session_read given d (session_of_parts parts) said;
-        refused =
-            refused;
-      }
+  module _ (parts : Parts) (said : session_of given d ≡ Some (session_of_parts parts)) where
+    no_movement : (fault : SessionFault) → IsFirst fault_place (RefusesMovement (session_of_parts parts)) fault
+        → HasNoMovement given d fault
+    no_movement fault refused = record {
+      session = session_of_parts parts;
+      says = session_read given d (session_of_parts parts) said;
+      refused = refused;
+    }
 
-  module _ (session : Session) (says : IsSession given d session) (allowed : HasNoMovementError (section_of session))
+    -- no other fault is one of a movement
+    other_fault : (asked : AskedMovement) (session : Session) (fault : SessionFault) → RefusesAsked asked session fault
+        → fault_place fault ≡ 0 → ⊥
+    other_fault Nothing session fault refuses none = no_place_of_numbers refuses.0 (ap fault_place (sym refuses.1) ∙ none)
+    other_fault (Word word) session fault refuses none = no_place_of_list refuses.0 (ap fault_place (sym refuses.1) ∙ none)
+    other_fault (Rows rows) session fault refuses none = no_place_of_list refuses.0 (ap fault_place (sym refuses.1) ∙ none)
+
+    -- the movement isn't made
+    pub refused_movement : (fault : SessionFault) → IsFirst fault_place (RefusesMovement (session_of_parts parts)) fault
+        → IsRefusedObject fault given d
+    refused_movement (Movement error) refused = no_movement (Movement error) refused
+    refused_movement (Row fault number) refused = no_movement (Row fault number) refused
+    refused_movement TooLong refused = absurd (other_fault parts.movement (session_of_parts parts) TooLong refused.holds refl)
+    refused_movement Malformed refused = absurd (other_fault parts.movement (session_of_parts parts) Malformed refused.holds
+        refl)
+    refused_movement BadField refused = absurd (other_fault parts.movement (session_of_parts parts) BadField refused.holds
+        refl)
+    refused_movement (Deals error) refused = absurd (other_fault parts.movement (session_of_parts parts) (Deals error)
+        refused.holds refl)
+    refused_movement OutOfMemory refused = tt
+
+  module _ (session : Session) (says : IsSession given d session) (allowed : HasNoMovementFault session)
     where
       refused_by : (error : DealsError) → pbn.IsRefused error session.pbn (boards_of (section_of session)) →
           HasNoBoards given d error
@@ -165,17 +190,19 @@ module _ (given : Option (List ℕ)) (d : Data) where
 
   pub refused_boards : (parts : Parts) (section : Section) (boards : ℕ) (error : DealsError) (fault : SessionFault)
       → fault ≡ fault_of_deals error → session_of given d ≡ Some (session_of_parts parts)
-      → section ≡ section_of (session_of_parts parts) → HasNoMovementError section → boards ≡ boards_of section
+      → section ≡ section_of (session_of_parts parts) → HasNoMovementFault (session_of_parts parts)
+      → boards ≡ boards_of section
       → pbn.IsRefused error parts.pbn.now boards → IsRefusedObject fault given d
   refused_boards parts section boards error fault is said same allowed many refused =
       subst (λ f. IsRefusedObject f given d) (sym is)
       (by_error (session_of_parts parts) (session_read given d (session_of_parts parts) said)
-      (subst HasNoMovementError same allowed) error
+      allowed error
       (subst (pbn.IsRefused error parts.pbn.now) (many ∙ ap boards_of same) refused))
 
   pub reads_object : (parts : Parts) (section : Section) (many : ℕ) (boards : List Board) → session_of given d ≡ Some
       (session_of_parts parts)
-      → section ≡ section_of (session_of_parts parts) → HasNoMovementError section → many ≡ boards_of section
+      → section ≡ section_of (session_of_parts parts) → HasNoMovementFault (session_of_parts parts)
+      → many ≡ boards_of section
       → pbn.Reads parts.pbn.now many boards
       → ReadsObject given d (record {
         config = record { edition = parts.edition; movement = section; boards = boards; users = parts.users };
@@ -186,7 +213,7 @@ module _ (given : Option (List ℕ)) (d : Data) where
     says = session_read given d (session_of_parts parts) said;
     edition = refl;
     movement = same;
-    allowed = subst HasNoMovementError same allowed;
+    allowed = allowed;
     boards = subst (λ n. pbn.Reads parts.pbn.now n boards) (is_many ∙ ap boards_of same) read;
     users = refl;
     budget = refl;
@@ -200,6 +227,7 @@ refused_text TooLong given text d is refused = absurd refused
 refused_text Malformed given text d is refused = absurd refused
 refused_text BadField given text d is refused = record { said = d; is = is; refused = refused }
 refused_text (Movement error) given text d is refused = record { said = d; is = is; refused = refused }
+refused_text (Row fault number) given text d is refused = record { said = d; is = is; refused = refused }
 refused_text (Deals error) given text d is refused = record { said = d; is = is; refused = refused }
 refused_text OutOfMemory given text d is refused = tt
 

@@ -7,6 +7,7 @@ use Rattle.std.proofs.Common.{
   Bool,
   true,
   false,
+  cond,
   List,
   [],
   ◌∷◌,
@@ -29,6 +30,7 @@ use Rattle.session_roles.specs.declared.edition.Edition.{Edition}
 use Rattle.session_roles.specs.declared.edition.Edition.TheVariants.{First, Second}
 use Rattle.session_roles.specs.Edition.{edition_number}
 use Rattle.session_opening.specs.declared.new_user.NewUser.{NewUser}
+use Rattle.json_fields.specs.Form.{HasForm}
 use Rattle.json_fields.specs.User.{user_name, digest, user_roles, pair, absent, place}
 use Rattle.json_fields.specs.Field.{whole, limited, numbered, written}
 use Rattle.json_fields.proofs.FormLemmas.{
@@ -38,11 +40,14 @@ use Rattle.json_fields.proofs.FormLemmas.{
   with_agrees,
   formed_read,
   formed_reads,
+  kept,
   numbered_agrees,
 }
 use Rattle.json_fields.proofs.FormLemmas.{limited_agrees, called_agrees, written_agrees, listed_agrees}
 use Rattle.json_fields.proofs.UserLemmas.{digest_agrees, user_roles_agree, pair_agrees, absent_agrees, place_agrees}
 use Rattle.json_fields.proofs.LetterLemmas.{find_nothing, found_passes}
+use Rattle.session_object.specs.AskedMovement.{asked_movement, shared_by, switched_rounds, stands_beside}
+use Rattle.session_object.proofs.AskedLemmas.{asked_agrees, shared_by_agrees, switched_agrees, stands_read, stands_reads}
 use Rattle.session_object.specs.Session.{
   Session,
   edition_numbered,
@@ -60,6 +65,8 @@ use Rattle.session_object.specs.Session.{
   with_boards,
   beside_boards,
   session_form,
+  members_say,
+  standing,
   session_of,
   IsSession,
 }
@@ -140,38 +147,65 @@ module _ (edition : Edition) where
 
   with_boards_agrees : AgreesForm (with_boards edition)
   with_boards_agrees =
-      with_agrees _ (users edition) (with_agrees _ (numbered (codes "tables"))
-      (with_agrees _ (numbered (codes "rounds")) (with_agrees _ (numbered (codes "per_set"))
-      (with_agrees _ (written (codes "pbn")) (with_agrees _ session_edition
+      with_agrees _ (users edition) (with_agrees _ (numbered (codes "tables")) (with_agrees _ switched_rounds
+      (with_agrees _ shared_by (with_agrees _ (numbered (codes "rounds")) (with_agrees _ (numbered (codes "per_set"))
+      (with_agrees _ (written (codes "pbn")) (with_agrees _ asked_movement (with_agrees _ session_edition
       (with_agrees _ (limited (codes "budget") most_visits)
-      (with_agrees _ absent (form_agrees [] _) absent_agrees) (limited_agrees _ _)) edition_agrees) (written_agrees _))
-      (numbered_agrees _)) (numbered_agrees _)) (numbered_agrees _)) users_agree
+      (with_agrees _ absent (form_agrees [] _) absent_agrees) (limited_agrees _ _)) edition_agrees) asked_agrees)
+      (written_agrees _)) (numbered_agrees _)) (numbered_agrees _)) shared_by_agrees) switched_agrees)
+      (numbered_agrees _)) users_agree
 
   beside_boards_agrees : (given : List ℕ) → AgreesForm (beside_boards edition given)
   beside_boards_agrees given =
-      with_agrees _ (users edition) (with_agrees _ (numbered (codes "tables"))
-      (with_agrees _ (numbered (codes "rounds")) (with_agrees _ (numbered (codes "per_set"))
-      (with_agrees _ session_edition (with_agrees _ (limited (codes "budget") most_visits)
-      (with_agrees _ absent (form_agrees [] _) absent_agrees) (limited_agrees _ _)) edition_agrees) (numbered_agrees _))
-      (numbered_agrees _)) (numbered_agrees _)) users_agree
+      with_agrees _ (users edition) (with_agrees _ (numbered (codes "tables")) (with_agrees _ switched_rounds
+      (with_agrees _ shared_by (with_agrees _ (numbered (codes "rounds")) (with_agrees _ (numbered (codes "per_set"))
+      (with_agrees _ asked_movement (with_agrees _ session_edition (with_agrees _ (limited (codes "budget") most_visits)
+      (with_agrees _ absent (form_agrees [] _) absent_agrees) (limited_agrees _ _)) edition_agrees) asked_agrees)
+      (numbered_agrees _)) (numbered_agrees _)) shared_by_agrees) switched_agrees) (numbered_agrees _)) users_agree
 
   session_agrees : (given : Option (List ℕ)) → AgreesForm (session_form edition given)
   session_agrees None = with_boards_agrees
   session_agrees (Some given) = beside_boards_agrees given
 
-pub session_read : (given : Option (List ℕ)) (d : Data) (session : Session) → session_of given d ≡ Some session
-    → IsSession given d session
-unfolding session_of
-session_read given d session h =
+-- what the members say
+members_read : (given : Option (List ℕ)) (d : Data) (session : Session) → members_say given d ≡ Some session
+    → HasForm [] (session_form (edition_said (get (codes "edition") d)) given) d session
+unfolding members_say
+members_read given d session h =
     let edition = edition_said (get (codes "edition") d) in
     formed_read [] (session_form edition given) (session_agrees edition given) d session h
 
-pub session_reads : (given : Option (List ℕ)) (d : Data) (session : Session) → IsSession given d session
-    → session_of given d ≡ Some session
-unfolding session_of
-session_reads given d session is =
+members_reads : (given : Option (List ℕ)) (d : Data) (session : Session)
+    → HasForm [] (session_form (edition_said (get (codes "edition") d)) given) d session
+    → members_say given d ≡ Some session
+unfolding members_say
+members_reads given d session is =
     let edition = edition_said (get (codes "edition") d) in
     formed_reads [] (session_form edition given) (session_agrees edition given) d session is
+
+-- a session that is kept because its members may stand together
+kept_standing : (o : Option Session) (session : Session) → option_and_then standing o ≡ Some session
+    → (o ≡ Some session) × (stands_beside session.movement session.rounds session.shared_by session.switched ≡ true)
+kept_standing None session h = absurd (cc)
+kept_standing (Some said) session h =
+    let both = kept (stands_beside said.movement said.rounds said.shared_by said.switched) (Some said) session h in
+    let same : said ≡ session = same_Some said session both.1 in
+    (both.1, subst (λ (s : Session). stands_beside s.movement s.rounds s.shared_by s.switched ≡ true) same both.0)
+
+pub session_read : (given : Option (List ℕ)) (d : Data) (session : Session) → session_of given d ≡ Some session
+    → IsSession given d session
+session_read given d session h =
+    let both = kept_standing (members_say given d) session h in
+    record {
+      members = members_read given d session both.0;
+      together = stands_read session.movement session.rounds session.shared_by session.switched both.1;
+    }
+
+pub session_reads : (given : Option (List ℕ)) (d : Data) (session : Session) → IsSession given d session
+    → session_of given d ≡ Some session
+session_reads given d session is =
+    ap (option_and_then standing) (members_reads given d session is.members)
+    ∙ ap (λ b. cond b (Some session) None) (stands_reads session.movement session.rounds session.shared_by session.switched is.together)
 
 -- an object says one session at most
 pub one_session : (given : Option (List ℕ)) (d : Data) (one other : Session) → IsSession given d one

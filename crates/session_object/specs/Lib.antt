@@ -1,3 +1,4 @@
+pub mod AskedMovement
 pub mod Session
 pub mod Reading
 pub mod FaultText

@@ -1,5 +1,18 @@
 -- The session object: the JSON object with which a session opens, by its members.
-use Rattle.std.specs.Prelude.{◌≡◌, ℕ, nat_eq, List, [], ◌∷◌, codes, Option, Some, None, option_and_then}
+use Rattle.std.specs.Prelude.{
+  ◌≡◌,
+  ℕ,
+  nat_eq,
+  List,
+  [],
+  ◌∷◌,
+  if◌then◌else◌,
+  codes,
+  Option,
+  Some,
+  None,
+  option_and_then,
+}
 use Rattle.std.specs.List.{find}
 use Rattle.std.specs.Option.{unwrap_or}
 use Rattle.serde_json.specs.Data.{Data}
@@ -12,6 +25,8 @@ use Rattle.session_opening.specs.declared.new_user.NewUser.{NewUser}
 use Rattle.json_fields.specs.Form.{Member, Form, form, ◌with◌, formed, HasForm}
 use Rattle.json_fields.specs.Field.{whole, limited, numbered, written, listed}
 use Rattle.json_fields.specs.User.{user_name, digest, user_roles, pair, absent, place}
+use Rattle.session_object.specs.declared.asked_movement.AskedMovement.{AskedMovement}
+use Rattle.session_object.specs.AskedMovement.{asked_movement, shared_by, switched_rounds, StandsBeside, stands_beside}
 
 -- ---- the edition of the policy: 1 or 2, and 1 where it is left out
 
@@ -73,14 +88,17 @@ users edition = listed (codes "users") (new_user_of edition) (IsUser edition)
 -- ---- sessions
 
 -- what a session object says: the pair that is absent, if one is, the visits of a solver's call, the edition of the
--- policy, the boards' PBN text, the three numbers of the movement, and the users
+-- policy, the movement that it asks for, the boards' PBN text, the numbers of the movement, and the users
 pub record Session : Type 0 where
   pub absent : Option Pair
   pub budget : ℕ
   pub edition : Edition
+  pub movement : AskedMovement
   pub pbn : List ℕ
   pub per_set : ℕ
   pub rounds : ℕ
+  pub shared_by : Option ℕ
+  pub switched : Option ℕ
   pub tables : ℕ
   pub users : List NewUser
 
@@ -91,46 +109,65 @@ most_visits = 1000000000000000000
 -- a session object that has its boards in it
 abbrev pub with_boards : Edition → Form Session
 with_boards edition =
-    form [] (λ absent budget said pbn per_set rounds tables users. record {
+    form [] (λ absent budget said asked pbn per_set rounds shared_by switched tables users. record {
       absent = absent;
       budget = budget;
       edition = said;
+      movement = asked;
       pbn = pbn;
       per_set = per_set;
       rounds = rounds;
+      shared_by = shared_by;
+      switched = switched;
       tables = tables;
       users = users;
     })
-    with absent with limited (codes "budget") most_visits with session_edition with written (codes "pbn")
-    with numbered (codes "per_set") with numbered (codes "rounds") with numbered (codes "tables") with users edition
+    with absent with limited (codes "budget") most_visits with session_edition with asked_movement
+    with written (codes "pbn") with numbered (codes "per_set") with numbered (codes "rounds") with shared_by
+    with switched_rounds with numbered (codes "tables") with users edition
 
 -- a session object whose boards are given beside it
 abbrev pub beside_boards : Edition → List ℕ → Form Session
 beside_boards edition pbn =
-    form [] (λ absent budget said per_set rounds tables users. record {
+    form [] (λ absent budget said asked per_set rounds shared_by switched tables users. record {
       absent = absent;
       budget = budget;
       edition = said;
+      movement = asked;
       pbn = pbn;
       per_set = per_set;
       rounds = rounds;
+      shared_by = shared_by;
+      switched = switched;
       tables = tables;
       users = users;
     })
-    with absent with limited (codes "budget") most_visits with session_edition with numbered (codes "per_set")
-    with numbered (codes "rounds") with numbered (codes "tables") with users edition
+    with absent with limited (codes "budget") most_visits with session_edition with asked_movement
+    with numbered (codes "per_set") with numbered (codes "rounds") with shared_by with switched_rounds
+    with numbered (codes "tables") with users edition
 
 -- which of the two it is, by the deals that are given
 abbrev pub session_form : Edition → Option (List ℕ) → Form Session
 session_form edition None = with_boards edition
 session_form edition (Some deals) = beside_boards edition deals
 
--- the object has the members of this session, and no other; the roles of its users are those of its edition
-abbrev pub IsSession : Option (List ℕ) → Data → Session → Type 0
-IsSession deals d session = HasForm [] (session_form (edition_said (get (codes "edition") d)) deals) d session
+-- the object has the members of this session, and no other, and they may stand together; the roles of its users are those
+-- of its edition
+pub record IsSession (deals : Option (List ℕ)) (d : Data) (session : Session) : Type 0 where
+  pub members : HasForm [] (session_form (edition_said (get (codes "edition") d)) deals) d session
+  pub together : StandsBeside session.movement session.rounds session.shared_by session.switched
 
 -- ---- for private clauses
 
+-- what an object's members say
+unfoldable pub members_say : Option (List ℕ) → Data → Option Session
+members_say deals d = formed [] (session_form (edition_said (get (codes "edition") d)) deals) d
+
+-- a session whose members may stand together
+abbrev pub standing : Session → Option Session
+standing session =
+    if stands_beside session.movement session.rounds session.shared_by session.switched then Some session else None
+
 -- the session that an object says
-unfoldable pub session_of : Option (List ℕ) → Data → Option Session
-session_of deals d = formed [] (session_form (edition_said (get (codes "edition") d)) deals) d
+abbrev pub session_of : Option (List ℕ) → Data → Option Session
+session_of deals d = option_and_then standing (members_say deals d)

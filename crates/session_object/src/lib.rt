@@ -1,12 +1,17 @@
 //! The session object with which a session opens: read from its JSON text and from the PBN text of its boards.
 #![tactic(auto)]
 
+mod asked_movement;
 mod edition_reading;
 pub mod laws;
+mod made_movement;
+mod movement_reading;
 mod object;
 mod parts;
 mod reading;
 mod session_fault;
+#[cfg(test)]
+mod tests;
 mod user;
 
 pub use object::SessionObject;

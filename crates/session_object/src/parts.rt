@@ -2,10 +2,12 @@
 
 ghost use Rattle.std.specs.Prelude.{◌≡◌, Some, None, IfOk, IfErr, option_map};
 ghost use Rattle.serde_json.specs.View.{view};
-ghost use Rattle.session_object.specs.Session.{session_of};
+ghost use Rattle.session_object.specs.Session.{members_say, session_of};
 ghost use Rattle.session_object.specs.Reading.{FailsPart, session_of_parts};
 
+use crate::asked_movement::AskedMovement;
 use crate::edition_reading::read_edition;
+use crate::movement_reading::{read_asked_movement, read_shared_by, read_switched, stands_beside};
 use crate::session_fault::SessionFault;
 use crate::user::users_of;
 use json_fields::{has_only, limited_at, read_absent, small_number_at, text_at};
@@ -24,23 +26,36 @@ pub(crate) struct Parts<'t> {
     pub(crate) absent: Option<Pair>,
     pub(crate) budget: u64,
     pub(crate) edition: Edition,
+    pub(crate) movement: AskedMovement,
     /// The PBN text of the boards.
     pub(crate) pbn: &'t [u8],
     pub(crate) per_set: u8,
     pub(crate) rounds: u8,
+    pub(crate) shared_by: Option<u8>,
+    pub(crate) switched: Option<u8>,
     pub(crate) tables: u8,
     pub(crate) users: Items<NewUser>,
 }
 
-#[tactic(auto, unfolding(crate::specs::Session::session_of))]
+#[tactic(auto, unfolding(crate::specs::Session::members_say))]
 fn with_boards<'t>(alloc: Global, value: &'t Value) -> Result<Parts<'t>, SessionFault>
-    ensures parts { IfOk result (λ parts. session_of None (view value.now) ≡ Some (session_of_parts parts)) }
-    ensures fault { IfErr result (λ fault. FailsPart fault (session_of None (view value.now))) }
+    ensures parts { IfOk result (λ parts. members_say None (view value.now) ≡ Some (session_of_parts parts)) }
+    ensures fault { IfErr result (λ fault. FailsPart fault (members_say None (view value.now))) }
 {
     if !has_only(
         value,
         &[
-            "absent", "budget", "edition", "pbn", "per_set", "rounds", "tables", "users",
+            "absent",
+            "budget",
+            "edition",
+            "movement",
+            "pbn",
+            "per_set",
+            "rounds",
+            "shared_by",
+            "switched",
+            "tables",
+            "users",
         ],
     ) {
         return Err(SessionFault::BadField);
@@ -54,6 +69,7 @@ fn with_boards<'t>(alloc: Global, value: &'t Value) -> Result<Parts<'t>, Session
     let Some(edition) = read_edition(value) else {
         return Err(SessionFault::BadField);
     };
+    let movement = read_asked_movement(alloc, value)?;
     let Some(pbn) = text_at(value, "pbn") else {
         return Err(SessionFault::BadField);
     };
@@ -63,6 +79,12 @@ fn with_boards<'t>(alloc: Global, value: &'t Value) -> Result<Parts<'t>, Session
     let Some(rounds) = small_number_at(value, "rounds") else {
         return Err(SessionFault::BadField);
     };
+    let Some(shared_by) = read_shared_by(value) else {
+        return Err(SessionFault::BadField);
+    };
+    let Some(switched) = read_switched(value) else {
+        return Err(SessionFault::BadField);
+    };
     let Some(tables) = small_number_at(value, "tables") else {
         return Err(SessionFault::BadField);
     };
@@ -71,24 +93,36 @@ fn with_boards<'t>(alloc: Global, value: &'t Value) -> Result<Parts<'t>, Session
         absent,
         budget,
         edition,
+        movement,
         pbn: pbn.as_bytes(),
         per_set,
         rounds,
+        shared_by,
+        switched,
         tables,
         users,
     })
 }
 
-#[tactic(auto, unfolding(crate::specs::Session::session_of))]
+#[tactic(auto, unfolding(crate::specs::Session::members_say))]
 fn beside_boards<'t>(alloc: Global, value: &Value, pbn: &'t [u8]) -> Result<Parts<'t>, SessionFault>
-    ensures parts { IfOk result (λ parts. session_of (Some pbn.now) (view value.now) ≡ Some (session_of_parts parts)) }
+    ensures parts { IfOk result (λ parts. members_say (Some pbn.now) (view value.now) ≡ Some (session_of_parts parts)) }
     ensures fault { IfErr result (λ fault.
-        FailsPart fault (session_of (Some pbn.now) (view value.now))) }
+        FailsPart fault (members_say (Some pbn.now) (view value.now))) }
 {
     if !has_only(
         value,
         &[
-            "absent", "budget", "edition", "per_set", "rounds", "tables", "users",
+            "absent",
+            "budget",
+            "edition",
+            "movement",
+            "per_set",
+            "rounds",
+            "shared_by",
+            "switched",
+            "tables",
+            "users",
         ],
     ) {
         return Err(SessionFault::BadField);
@@ -102,10 +136,17 @@ fn beside_boards<'t>(alloc: Global, value: &Value, pbn: &'t [u8]) -> Result<Part
     let Some(edition) = read_edition(value) else {
         return Err(SessionFault::BadField);
     };
+    let movement = read_asked_movement(alloc, value)?;
     let Some(per_set) = small_number_at(value, "per_set") else {
         return Err(SessionFault::BadField);
     };
     let Some(rounds) = small_number_at(value, "rounds") else {
+        return Err(SessionFault::BadField);
+    };
+    let Some(shared_by) = read_shared_by(value) else {
+        return Err(SessionFault::BadField);
+    };
+    let Some(switched) = read_switched(value) else {
         return Err(SessionFault::BadField);
     };
     let Some(tables) = small_number_at(value, "tables") else {
@@ -116,15 +157,34 @@ fn beside_boards<'t>(alloc: Global, value: &Value, pbn: &'t [u8]) -> Result<Part
         absent,
         budget,
         edition,
+        movement,
         pbn,
         per_set,
         rounds,
+        shared_by,
+        switched,
         tables,
         users,
     })
 }
 
-/// The members of a session object; its boards' text is among them, unless it is given.
+fn members_of<'t>(
+    alloc: Global,
+    value: &'t Value,
+    given: Option<&'t [u8]>,
+) -> Result<Parts<'t>, SessionFault>
+    ensures parts { IfOk result (λ parts.
+        members_say (option_map (λ bytes. bytes.now) given.entry) (view value.now) ≡ Some (session_of_parts parts)) }
+    ensures fault { IfErr result (λ fault.
+        FailsPart fault (members_say (option_map (λ bytes. bytes.now) given.entry) (view value.now))) }
+{
+    match given {
+        Some(pbn) => beside_boards(alloc, value, pbn),
+        None => with_boards(alloc, value),
+    }
+}
+
+/// The members of a session object, if they may stand together; its boards' text is among them, unless it is given.
 pub(crate) fn parts_of<'t>(
     alloc: Global,
     value: &'t Value,
@@ -135,8 +195,14 @@ pub(crate) fn parts_of<'t>(
     ensures fault { IfErr result (λ fault.
         FailsPart fault (session_of (option_map (λ bytes. bytes.now) given.entry) (view value.now))) }
 {
-    match given {
-        Some(pbn) => beside_boards(alloc, value, pbn),
-        None => with_boards(alloc, value),
+    let parts = members_of(alloc, value, given)?;
+    if !stands_beside(
+        &parts.movement,
+        parts.rounds,
+        parts.shared_by,
+        parts.switched,
+    ) {
+        return Err(SessionFault::BadField);
     }
+    Ok(parts)
 }

@@ -5,10 +5,10 @@ ghost use Rattle.serde_json.specs.View.{view};
 ghost use Rattle.session_object.specs.declared.session_fault.SessionFault.TheVariants.{OutOfMemory};
 ghost use Rattle.session_object.specs.Reading.{most_bytes, IsReadAsJson, ReadsSession, IsSessionRefused, ReadsObject, IsRefusedObject, fault_of_deals};
 
+use crate::made_movement::movement_of;
 use crate::object::SessionObject;
 use crate::parts::parts_of;
 use crate::session_fault::SessionFault;
-use movement::Movement;
 use pbn_records::{BoardSet, DealsError, read_deals};
 use serde_json::Value;
 use session_opening::Config;
@@ -55,7 +55,7 @@ fn read_text(alloc: Global, text: &str, given: Option<&[u8]>) -> Result<SessionO
     read_object(alloc, &value, given)
 }
 
-// Reads an object: its members, then the movement of its numbers, then its boards.
+// Reads an object: its members, then the movement that it asks for, then its boards.
 fn read_object(
     alloc: Global,
     value: &Value,
@@ -69,14 +69,9 @@ fn read_object(
         Ok(parts) => parts,
         Err(fault) => return Err(fault),
     };
-    let movement = match Movement::with_absent(
-        parts.tables,
-        parts.rounds,
-        parts.per_set,
-        parts.absent,
-    ) {
+    let movement = match movement_of(&parts) {
         Ok(movement) => movement,
-        Err(error) => return Err(SessionFault::Movement(error)),
+        Err(fault) => return Err(fault),
     };
     match read_deals(alloc, parts.pbn, movement.boards()) {
         Ok(boards) => Ok(SessionObject {

@@ -1,8 +1,8 @@
 ghost use Rattle.std.specs.Prelude.{◌≡◌};
-ghost use Rattle.session_object.specs.FaultText.{fault_output};
+ghost use Rattle.session_object.specs.FaultText.{fault_output, row_fault_name};
 ghost use Rattle.session_object.specs.declared.session_fault.SessionFault.TheVariants.{OutOfMemory};
 
-use movement::MovementError;
+use movement::{MovementError, MovementFault};
 use pbn_records::DealsError;
 use std::alloc::AllocFailed;
 use std::fmt;
@@ -17,8 +17,10 @@ pub enum SessionFault {
     Malformed,
     /// A member is missing, isn't listed, or hasn't the type or the range that it should.
     BadField,
-    /// No movement can be made of the numbers.
+    /// No movement can be made of the numbers, or of the list's.
     Movement(MovementError),
+    /// The row of a list that has this number, from 1, can't stand after those before it.
+    Row(MovementFault, usize),
     /// No boards are read from the PBN text.
     Deals(DealsError),
     /// Memory was refused.
@@ -38,9 +40,24 @@ impl fmt::Display for SessionFault {
             SessionFault::Movement(MovementError::BadRounds) => f.write_str("BadRounds"),
             SessionFault::Movement(MovementError::BadSets) => f.write_str("BadSets"),
             SessionFault::Movement(MovementError::BadPair) => f.write_str("BadPair"),
+            SessionFault::Row(fault, number) => write!(f, "{}({number})", row_fault_name(*fault)),
             SessionFault::Deals(error) => write!(f, "{error}"),
             SessionFault::OutOfMemory => f.write_str("OutOfMemory"),
         }
+    }
+}
+
+fn row_fault_name(fault: MovementFault) -> &'static str
+    ensures { result.now ≡ row_fault_name fault }
+{
+    match fault {
+        MovementFault::OutOfRange => "OutOfRange",
+        MovementFault::TableTwice => "TableTwice",
+        MovementFault::SetAtTableAgain => "SetAtTableAgain",
+        MovementFault::PairTwice => "PairTwice",
+        MovementFault::SetAgain => "SetAgain",
+        MovementFault::OpponentsAgain => "OpponentsAgain",
+        MovementFault::SharedByTooMany => "SharedByTooMany",
     }
 }
 

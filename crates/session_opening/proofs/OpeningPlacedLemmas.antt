@@ -22,7 +22,7 @@ use Rattle.std.proofs.Common.{
 use Rattle.std.specs.Prelude.{Option, Some, not}
 use Rattle.std.specs.Bool.{then_some}
 use Rattle.std.proofs.lemmas.List.{append-nil, take_all}
-use Rattle.movement.specs.Movement.{Section}
+use Rattle.movement.specs.Movement.{Section, is_pair_of}
 use Rattle.session_roles.specs.declared.edition.Edition.{Edition}
 use Rattle.session_roles.specs.Role.{has}
 use Rattle.session_roles.specs.declared.role.Role.TheVariants.{Contestant}
@@ -36,7 +36,7 @@ use Rattle.session_opening.specs.declared.opening_refusal.OpeningRefusal.TheVari
   SeatTaken,
 }
 use Rattle.session_state.specs.Refusal.{first_cause}
-use Rattle.session_state.specs.Seats.{is_pair, is_of_side, is_taken, AreSeatsOf}
+use Rattle.session_state.specs.Seats.{is_of_side, is_taken, AreSeatsOf}
 use Rattle.session_opening.specs.NewUser.{authorized_at_opening}
 use Rattle.session_opening.specs.Opening.{opening_seats}
 use Rattle.session_opening.specs.OpeningRefusal.{seat_causes, opening_refusal}
@@ -52,13 +52,13 @@ user_placed : (edition : Edition) (movement : Section) (before : List NewUser) (
 user_placed edition movement before user are None none =
     subst (AreSeatsOf movement) (sym (append-nil (opening_seats before))) are
 user_placed edition movement before user are (Some seat) none =
-    let a = none_parts (then_some (not (is_pair movement seat.pair)) NoSuchPair) _ none in
+    let a = none_parts (then_some (not (is_pair_of movement seat.pair)) NoSuchPair) _ none in
     let b = none_parts (then_some (not (is_of_side seat.pair seat.place)) WrongDirection) _ a.1 in
     let c = none_parts (then_some (not (has (authorized_at_opening edition user) Contestant)) NotContestant) _ b.1 in
     let d = none_parts (then_some (is_taken (opening_seats before) seat) SeatTaken) _ c.1 in
     one_more_placed movement (opening_seats before) (record { name = user.name; seat = seat }) are
     (record {
-      pair = was_met (is_pair movement seat.pair) (not_met _ NoSuchPair a.0);
+      pair = was_met (is_pair_of movement seat.pair) (not_met _ NoSuchPair a.0);
       place = was_met (is_of_side seat.pair seat.place) (not_met _ WrongDirection b.0);
     })
     (not_met _ SeatTaken d.0)

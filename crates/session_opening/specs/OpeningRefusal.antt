@@ -5,7 +5,7 @@
 use Rattle.std.specs.Prelude.{not, nat_le, List, [], ◌∷◌, ◌++◌, length, find, Option, None, Some}
 use Rattle.std.specs.Bool.{then_some}
 use Rattle.std.specs.Option.{option_map}
-use Rattle.movement.specs.Movement.{Section}
+use Rattle.movement.specs.Movement.{Section, is_pair_of}
 use Rattle.rbac.specs.Account.{most_users, is_user_name}
 use Rattle.session_roles.specs.declared.edition.Edition.{Edition}
 use Rattle.session_roles.specs.Role.{has}
@@ -32,7 +32,7 @@ use Rattle.session_state.specs.Accounts.{has_account, has_administrator}
 use Rattle.session_opening.specs.NewUser.{repeats, knows_roles, authorized_at_opening}
 use Rattle.session_opening.specs.Opening.{opening_roles, opening_seats}
 use Rattle.session_state.specs.Refusal.{first_cause}
-use Rattle.session_state.specs.Seats.{is_pair, is_of_side, is_taken}
+use Rattle.session_state.specs.Seats.{is_of_side, is_taken}
 
 -- the causes in a user's account, after the users before it; of several separation sets the first in their order is
 -- named
@@ -50,7 +50,7 @@ account_causes edition before user =
 abbrev pub seat_causes : Edition → Section → List NewUser → NewUser → Option Seat → List (Option OpeningRefusal)
 seat_causes edition movement before user None = []
 seat_causes edition movement before user (Some seat) =
-    then_some (not (is_pair movement seat.pair)) NoSuchPair
+    then_some (not (is_pair_of movement seat.pair)) NoSuchPair
     ∷ then_some (not (is_of_side seat.pair seat.place)) WrongDirection
     ∷ then_some (not (has (authorized_at_opening edition user) Contestant)) NotContestant
     ∷ then_some (is_taken (opening_seats before) seat) SeatTaken

@@ -133,7 +133,7 @@ fn public(config: &Config) -> Public
     ensures { result ≡ opening_public config.now }
 {
     Public {
-        movement: config.movement,
+        movement: config.movement.copy(),
         marks: marks(config),
         round: 1,
         phase: Phase::Running,

@@ -20,7 +20,7 @@ use disclosure_rules::Seat;
 use movement::Movement;
 use rbac::{Roles, is_user_name};
 use session_roles::{Edition, Role, RoleSet, SeparationSet};
-use session_state::{first_cause, is_of_side, is_pair};
+use session_state::{first_cause, is_of_side};
 use user_names::Name;
 
 /// The first cause not to open a session, if one is met.
@@ -28,7 +28,7 @@ pub fn opening_refusal(config: &Config) -> Option<OpeningRefusal>
     ensures { result ≡ opening_refusal config.now }
 {
     let users = config.users.as_slice();
-    let refused = users_refusal(config.edition, config.movement, users);
+    let refused = users_refusal(config.edition, &config.movement, users);
     if refused.is_some() {
         return refused;
     }
@@ -36,8 +36,8 @@ pub fn opening_refusal(config: &Config) -> Option<OpeningRefusal>
 }
 
 // The first cause in the users, one after another.
-fn users_refusal(edition: Edition, movement: Movement, users: &[NewUser]) -> Option<OpeningRefusal>
-    ensures { result ≡ first_cause (users_causes edition movement [] users.now) }
+fn users_refusal(edition: Edition, movement: &Movement, users: &[NewUser]) -> Option<OpeningRefusal>
+    ensures { result ≡ first_cause (users_causes edition movement.now [] users.now) }
 {
     for place in 0..users.len() {
         let refused = user_refusal(edition, movement, &users[..place], &users[place]);
@@ -51,11 +51,11 @@ fn users_refusal(edition: Edition, movement: Movement, users: &[NewUser]) -> Opt
 // The first cause in a user, after the users before it.
 fn user_refusal(
     edition: Edition,
-    movement: Movement,
+    movement: &Movement,
     before: &[NewUser],
     user: &NewUser,
 ) -> Option<OpeningRefusal>
-    ensures { result ≡ first_cause (user_causes edition movement before.now user.now) }
+    ensures { result ≡ first_cause (user_causes edition movement.now before.now user.now) }
 {
     let refused = account_refusal(edition, before, user);
     if refused.is_some() {
@@ -95,16 +95,16 @@ fn separation_refusal(edition: Edition, user: &NewUser) -> Option<OpeningRefusal
 // The first cause in a user's seat.
 fn seat_refusal(
     edition: Edition,
-    movement: Movement,
+    movement: &Movement,
     before: &[NewUser],
     user: &NewUser,
     seat: Seat,
 ) -> Option<OpeningRefusal>
-    ensures { result ≡ first_cause (seat_causes edition movement before.now user.now (Some seat)) }
+    ensures { result ≡ first_cause (seat_causes edition movement.now before.now user.now (Some seat)) }
 {
     let contestant = authorized_at_opening(edition, user).has(Role::Contestant);
     first_cause(&[
-        (!is_pair(movement, seat.pair)).then_some(OpeningRefusal::NoSuchPair),
+        (!movement.has_pair(seat.pair)).then_some(OpeningRefusal::NoSuchPair),
         (!is_of_side(seat.pair, seat.place)).then_some(OpeningRefusal::WrongDirection),
         (!contestant).then_some(OpeningRefusal::NotContestant),
         is_taken(before, seat).then_some(OpeningRefusal::SeatTaken),

@@ -31,7 +31,7 @@ use Rattle.std.specs.List.{flat_map, list_any, range_with_len}
 use Rattle.std.proofs.lemmas.Bool.{cases_Bool, cases_eq, eq-eqb, ne_eqb}
 use Rattle.std.proofs.lemmas.List.Folds.{list_any-append}
 use Rattle.movement.specs.declared.cell.Cell.{Cell}
-use Rattle.movement.specs.Movement.{Section, boards_of, IsCell, has_board}
+use Rattle.movement.specs.Movement.{Section, IsSection, boards_of, has_board}
 use Rattle.movement.specs.Row.{IsCellInRange}
 use Rattle.movement.specs.Schedule.{is_scheduled}
 use Rattle.movement.proofs.CellLemmas.{cell_in_range}
@@ -48,6 +48,7 @@ use Rattle.session_queries.specs.Facts.{
   facts,
   kind_of,
   same_fact,
+  has_table_on,
   has_place,
 }
 
@@ -158,7 +159,19 @@ cell_is cell other same =
     let board : other.board ≡ cell.board = search rules in
     λ i. record { table = table i; board = board i }
 
-module _ (section : Section) (cell : Cell) (scheduled : is_scheduled section cell ≡ true) where
+-- a kept section has each table on a board that the table is scheduled to play
+pub scheduled_there : (section : Section) (cell : Cell) → IsSection section → is_scheduled section cell ≡ true →
+    has_table_on section cell ≡ true
+scheduled_there section cell is_section scheduled =
+    let range : IsCellInRange section cell =
+    cell_in_range section cell is_section (scheduled-cell section cell scheduled) in
+    search (range.from_table, range.to_table, range.from_board, range.to_board, rules)
+
+module _ (section : Section) (cell : Cell) (has : has_table_on section cell ≡ true) where
+  -- a table that the section has on a board is scheduled to play it
+  pub has_scheduled : is_scheduled section cell ≡ true
+  has_scheduled = search rules
+
   -- a scheduled cell is among those of its board at tables that have its own
   among : (tables : List ℕ) → list_any (λ n. nat_eq n cell.table) tables ≡ true →
       list_any (is_cell cell) (filter (is_scheduled section) (map (cell_on cell.board) tables)) ≡ true
@@ -168,7 +181,7 @@ module _ (section : Section) (cell : Cell) (scheduled : is_scheduled section cel
         | inl here ↦
             let own : cell_on cell.board table ≡ cell = λ i. record { table = here i; board = cell.board } in
             kept_there (is_cell cell) (is_scheduled section (cell_on cell.board table)) (cell_on cell.board table) rest
-            (ap (is_scheduled section) own ∙ scheduled) (ap (is_cell cell) own ∙ itself)
+            (ap (is_scheduled section) own ∙ has_scheduled) (ap (is_cell cell) own ∙ itself)
         | inr other ↦
             still_there (is_cell cell) (is_scheduled section (cell_on cell.board table)) (cell_on cell.board table) rest
             (among tables
@@ -182,14 +195,17 @@ module _ (section : Section) (cell : Cell) (scheduled : is_scheduled section cel
       itself : is_cell cell cell ≡ true
       itself = search rules
 
-  range : IsCellInRange section cell
-  range = cell_in_range section cell (scheduled-cell section cell scheduled)
-
   -- a scheduled cell is one of its board's
   pub cell_there : list_any (is_cell cell) (cells_of_board section cell.board) ≡ true
   cell_there =
       among (range_with_len 1 section.tables)
-      (in_range 1 section.tables cell.table range.from_table (omega (arith, range.to_table)))
+      (in_range 1 section.tables cell.table from_table (omega (arith, to_table)))
+    where
+      from_table : 1 ≤ cell.table
+      from_table = search rules
+
+      to_table : cell.table ≤ section.tables
+      to_table = search rules
 
   -- what is a fact of the cell is a fact of its board
   on_board : (asked : Fact) → has_fact (facts_of_cell cell) asked ≡ true → has_fact (facts_of_board section cell.board)
@@ -208,7 +224,7 @@ module _ (section : Section) (cell : Cell) (scheduled : is_scheduled section cel
 
   -- its board is one of the section's
   board_has : has_board section cell.board ≡ true
-  board_has = search (range.from_board, range.to_board, rules)
+  board_has = search rules
 
 -- what is a fact of a board of the section is a fact of the section
 of_section : (section : Section) (board : ℕ) (asked : Fact) → has_board section board ≡ true →

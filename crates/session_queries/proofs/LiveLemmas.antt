@@ -246,15 +246,15 @@ module _ (state : SessionState) (viewer : Viewer) (board : ℕ) (seen : first_ru
         by true is =
             all_at (cell_on board table) refl
             (placed state.public.movement (cell_on board table) is_section
-            (cell_in_range state.public.movement (cell_on board table) (scheduled-cell state.public.movement
-            (cell_on board table) is)))
+            (cell_in_range state.public.movement (cell_on board table) is_section
+            (scheduled-cell state.public.movement (cell_on board table) is)))
         by false is = refl
 
     -- the results that are shown of the board are all that there are
     pub all_results : shown_results state.public.movement (shown state viewer) board ≡ live_results state board
     unfolding allowed_results live_results
     all_results =
-        sym (results_shown state viewer board) ∙ same (range_with_len 1 state.public.movement.tables)
+        sym (results_shown state viewer is_section board) ∙ same (range_with_len 1 state.public.movement.tables)
       where
         same : (tables : List ℕ) → filter_map (allowed_result state viewer board) tables ≡ filter_map
             (live_result state board) tables

@@ -27,7 +27,7 @@ use Rattle.std.specs.Option.{option_map, option_and_then}
 use Rattle.std.proofs.lemmas.Bool.{cases_Bool, false_from_ne_true}
 use Rattle.std.proofs.lemmas.List.Elements.{filter_map-append, All-cons}
 use Rattle.movement.specs.declared.cell.Cell.{Cell}
-use Rattle.movement.specs.Movement.{IsCell}
+use Rattle.movement.specs.Movement.{IsCell, IsSection}
 use Rattle.movement.specs.Schedule.{is_scheduled}
 use Rattle.movement.proofs.ScheduleTests.{scheduled-cell, cell-scheduled}
 use Rattle.disclosure_rules.specs.declared.fact.Fact.TheVariants as fact
@@ -42,6 +42,7 @@ use Rattle.session_queries.specs.Facts.{cell_on, cells_of_board}
 use Rattle.session_queries.specs.Reading.{as_result, result_at, shown_result, shown_results}
 use Rattle.session_queries.specs.Results.{allowed_at, allowed_result, allowed_results}
 use Rattle.session_queries.specs.Shown.{is_allowed, shown, content_shown}
+use Rattle.session_queries.proofs.FactLemmas.{scheduled_there}
 use Rattle.session_queries.proofs.ShownLemmas.{content_allowed, content_denied}
 
 module _ (state : SessionState) (viewer : Viewer) where
@@ -59,12 +60,14 @@ module _ (state : SessionState) (viewer : Viewer) where
   shown_at cell = option_map (result_at cell) (shown_result (shown state viewer) cell)
 
   -- of a scheduled cell that result is shown which the user may see
-  same_at : (cell : Cell) → is_played cell ≡ true → shown_at cell ≡ allowed_at state viewer cell
-  same_at cell played =
+  same_at : IsSection state.public.movement → (cell : Cell) → is_played cell ≡ true →
+      shown_at cell ≡ allowed_at state viewer cell
+  same_at is_section cell played =
       elim (cases_Bool (is_allowed state.public viewer (fact.Result cell))) [
         | inl allowed ↦
             ap (λ c. option_map (result_at cell) (option_and_then as_result c))
-            (content_allowed state viewer (fact.Result cell) played (no_rule _ allowed))
+            (content_allowed state viewer (fact.Result cell)
+            (scheduled_there state.public.movement cell is_section played) (no_rule _ allowed))
             ∙ sym (ap (λ b. cond b (option_map (result_at cell) (result_of (cell_at state cell))) None) allowed)
         | inr denied ↦
             ap (λ c. option_map (result_at cell) (option_and_then as_result c))
@@ -85,20 +88,20 @@ module _ (state : SessionState) (viewer : Viewer) where
   allowed_nowhere board table idle = ap (λ b. cond b (allowed_at state viewer (cell_on board table)) None) idle
 
   -- what is shown of the results at some tables is what the user may see of them
-  same_results : (board : ℕ) (tables : List ℕ) →
+  same_results : IsSection state.public.movement → (board : ℕ) (tables : List ℕ) →
       filter_map shown_at (filter is_played (map (cell_on board) tables)) ≡ filter_map
       (allowed_result state viewer board) tables
-  same_results board [] = refl
-  same_results board (table ∷ tables) =
+  same_results is_section board [] = refl
+  same_results is_section board (table ∷ tables) =
       elim (cases_Bool (is_played (cell_on board table))) [
         | inl played ↦
             ap (λ b. filter_map shown_at (cond b (cell_on board table ∷ rest) rest)) played
-            ∙ ((λ i. cons_option (same_at (cell_on board table) played i) (same_results board tables i))
+            ∙ ((λ i. cons_option (same_at is_section (cell_on board table) played i) (same_results is_section board tables i))
             ∙ ap (λ o. cons_option o (filter_map (allowed_result state viewer board) tables))
             (sym (allowed_there board table played)))
         | inr idle ↦
             ap (λ b. filter_map shown_at (cond b (cell_on board table ∷ rest) rest)) idle
-            ∙ (same_results board tables
+            ∙ (same_results is_section board tables
             ∙ ap (λ o. cons_option o (filter_map (allowed_result state viewer board) tables))
             (sym (allowed_nowhere board table idle)))
       ]
@@ -107,11 +110,11 @@ module _ (state : SessionState) (viewer : Viewer) where
       rest = filter is_played (map (cell_on board) tables)
 
   -- what is shown of the results on a board is what the user may see of them
-  pub results_shown : (board : ℕ) →
+  pub results_shown : IsSection state.public.movement → (board : ℕ) →
       allowed_results state viewer board state.public.movement.tables ≡ shown_results state.public.movement
       (shown state viewer) board
   unfolding allowed_results
-  results_shown board = sym (same_results board (range_with_len 1 state.public.movement.tables))
+  results_shown is_section board = sym (same_results is_section board (range_with_len 1 state.public.movement.tables))
 
   -- a table that doesn't play a board has no result on it
   pub unscheduled : (board table : ℕ) → ¬ IsCell state.public.movement (cell_on board table) → None ≡ allowed_result

@@ -50,13 +50,19 @@ same_fact a b =
     nat_eq (kind_of a) (kind_of b)
     && (nat_eq (denied_board a) (denied_board b) && nat_eq (denied_table a) (denied_table b))
 
+-- whether the section has a table on a board: both are the section's, and the table plays the board
+abbrev pub has_table_on : Section → Cell → Bool
+has_table_on section cell =
+    has_board section cell.board
+    && (nat_le 1 cell.table && (nat_le cell.table section.tables && is_scheduled section cell))
+
 -- whether the section has what a fact belongs to: its board, or its table on its board
 abbrev pub has_place : Section → Fact → Bool
 has_place section Public = true
 has_place section Accounts = true
 has_place section (Hands board) = has_board section board
 has_place section (Analysis board) = has_board section board
-has_place section (Result cell) = is_scheduled section cell
-has_place section (Play cell) = is_scheduled section cell
-has_place section (Cost cell) = is_scheduled section cell
-has_place section (Reason cell) = is_scheduled section cell
+has_place section (Result cell) = has_table_on section cell
+has_place section (Play cell) = has_table_on section cell
+has_place section (Cost cell) = has_table_on section cell
+has_place section (Reason cell) = has_table_on section cell

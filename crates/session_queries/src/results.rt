@@ -1,7 +1,7 @@
 ghost use Rattle.std.specs.Prelude.{◌≡◌, ◌≤◌, ◌<◌, ◌+◌, [], ◌++◌, All, IfOk, OnOk, vec_capacity, vec_len};
 ghost use Rattle.std.specs.List.{cons_option};
 ghost use Rattle.std.specs.Option.{option_map};
-ghost use Rattle.movement.specs.Movement.{IsCell, most_tables};
+ghost use Rattle.movement.specs.Movement.{IsCell, IsSection, most_tables};
 ghost use Rattle.session_state.specs.SessionState.{IsPlaced, cell_at};
 ghost use Rattle.session_queries.specs.Content.{result_of};
 ghost use Rattle.session_queries.specs.Reading.{result_at, shown_results};
@@ -45,6 +45,7 @@ fn allowed_results(
     ensures results { IfOk result (λ results.
         results.items ≡ allowed_results state.now viewer.now board state.now.public.movement.tables) }
     ensures few { IfOk result (λ results. vec_len results ≤ most_tables) }
+    ensures section { IfOk result (λ _. IsSection state.now.public.movement) }
 {
     let tables = state.public().movement.tables();
     let mut results = Vec::with_capacity(alloc, tables as usize)?;

@@ -23,7 +23,7 @@ use Rattle.std.specs.Prelude.{◌&&◌, ◌↔◌}
 use Rattle.std.specs.List.{list_all, range_with_len}
 use Rattle.std.proofs.lemmas.Bool.{cases_eq, cases_Bool, false≢true}
 use Rattle.movement.specs.declared.cell.Cell.{Cell}
-use Rattle.movement.specs.Movement.{boards_of, IsCell}
+use Rattle.movement.specs.Movement.{boards_of, IsCell, IsSection}
 use Rattle.session_state.proofs.movement_lemmas.CellLemmas.{cell_in_range}
 use Rattle.disclosure_rules.specs.LiveCells.{is_live}
 use Rattle.session_state.proofs.disclosure_rules_lemmas.SeatingTests.{complete_decides}
@@ -79,12 +79,12 @@ each_of_range p first n k all from below =
       | inr fails ↦ absurd (false≢true (sym (not_all_of_range p first n k from below fails) ∙ all))
     ]
 
-pub all_live_decides : (public : Public) → (are_all_live public ≡ true) ↔ ((cell : Cell) → IsCell public.movement cell →
-    is_live public.live cell ≡ true)
+pub all_live_decides : (public : Public) → IsSection public.movement → (are_all_live public ≡ true) ↔
+    ((cell : Cell) → IsCell public.movement cell → is_live public.live cell ≡ true)
 unfolding are_all_live
-all_live_decides public = (
+all_live_decides public is_section = (
   λ all cell is_cell.
-      let range = cell_in_range public.movement cell is_cell in
+      let range = cell_in_range public.movement cell is_section is_cell in
       let complete = each_of_range (is_complete public) 1 (boards_of public.movement) cell.board all range.from_board
       (omega (arith, range.to_board)) in
       (complete_decides public cell.board).0 complete cell is_cell refl,

@@ -338,7 +338,7 @@ not_false false none = absurd (false≢true (sym none))
 pub scheduled_placed : (state : SessionState) (own : Cell) → IsSection state.public.movement →
     not (is_scheduled state.public.movement own) ≡ false → IsPlaced own
 scheduled_placed state own is_section scheduled =
-    placed state.public.movement own is_section (cell_in_range state.public.movement own
+    placed state.public.movement own is_section (cell_in_range state.public.movement own is_section
     (scheduled-cell state.public.movement own (not_false _ scheduled)))
 
 effect_elsewhere : (state : SessionState) (command : Command) (cell : Cell) → IsSection state.public.movement →

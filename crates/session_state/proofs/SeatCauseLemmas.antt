@@ -4,6 +4,7 @@ use Rattle.std.specs.Prelude.{Option, None, not}
 use Rattle.std.specs.Bool.{then_some}
 use Rattle.table_terms.specs.declared.pair.Pair.{Pair}
 use Rattle.table_terms.specs.declared.place.Place.{Place}
+use Rattle.movement.specs.Movement.{is_pair_of}
 use Rattle.session_roles.specs.declared.role.Role.TheVariants.{Contestant}
 use Rattle.session_commands.specs.declared.command.Command.TheVariants as command
 use Rattle.session_commands.specs.declared.refusal.Refusal.{Refusal}
@@ -16,7 +17,7 @@ use Rattle.session_commands.specs.declared.refusal.Refusal.TheVariants.{
 }
 use Rattle.session_state.specs.Accounts.{has_account, is_authorized_for}
 use Rattle.session_state.specs.Refusal.{hindrance_of}
-use Rattle.session_state.specs.Seats.{is_pair, is_of_side, has_seat, is_taken, AreSeated, AreSeatsOf}
+use Rattle.session_state.specs.Seats.{is_of_side, has_seat, is_taken, AreSeated, AreSeatsOf}
 use Rattle.session_state.specs.SessionState.{SessionState}
 use Rattle.session_state.proofs.HindranceLemmas.{first_unmet, rest_unmet, not_met, user_unhindered, own_unhindered}
 use Rattle.session_state.proofs.PlacedLemmas.{one_more_placed}
@@ -34,7 +35,7 @@ module _ (state : SessionState) (name : List ℕ) (pair : Pair) (place : Place)
       unhindered)
 
   no_pair : Option Refusal
-  no_pair = then_some (not (is_pair state.public.movement pair)) NoSuchPair
+  no_pair = then_some (not (is_pair_of state.public.movement pair)) NoSuchPair
 
   other_direction : Option Refusal
   other_direction = then_some (not (is_of_side pair place)) WrongDirection
@@ -65,10 +66,10 @@ module _ (state : SessionState) (name : List ℕ) (pair : Pair) (place : Place)
       one_more_sits state.roles state.seats (record { name = name; seat = record { pair = pair; place = place } }) are
       seats_a_user seats_nobody_twice
 
-  pub seats_at_a_pair : is_pair state.public.movement pair ≡ true
+  pub seats_at_a_pair : is_pair_of state.public.movement pair ≡ true
   unfolding no_pair other_direction no_contestant seated_already seat_taken
   seats_at_a_pair =
-      was_not (is_pair state.public.movement pair)
+      was_not (is_pair_of state.public.movement pair)
       (not_met _ NoSuchPair
       (first_unmet no_pair (other_direction ∷ no_contestant ∷ seated_already ∷ seat_taken ∷ [])
       (own_unhindered state (command.Seat name pair place) unhindered)))

@@ -9,7 +9,7 @@ use Rattle.std.specs.Bool.{then_some}
 use Rattle.std.specs.List.{list_all, range_with_len}
 use Rattle.std.specs.Option.{option_map_or, option_or}
 use Rattle.cards.specs.declared.card.Card.{Card}
-use Rattle.movement.specs.Movement.{boards_of, has_board}
+use Rattle.movement.specs.Movement.{boards_of, has_board, is_pair_of}
 use Rattle.movement.specs.Schedule.{is_scheduled, is_later}
 use Rattle.rbac.specs.Account.{most_users, is_user_name}
 use Rattle.rbac.specs.Authorization.{HasPermission, has_permission}
@@ -103,7 +103,7 @@ use Rattle.session_commands.specs.Refusal.{spoiled}
 use Rattle.session_commands.specs.declared.actor.Actor.{Actor}
 use Rattle.session_commands.specs.declared.actor.Actor.TheVariants.{User, Solver}
 use Rattle.cards.specs.PlayedCards.{has_card, has_repeat}
-use Rattle.session_state.specs.Seats.{is_pair, is_of_side, has_seat, is_taken}
+use Rattle.session_state.specs.Seats.{is_of_side, has_seat, is_taken}
 use Rattle.session_state.specs.SessionState.{SessionState, cell_at, table_at, is_dealt}
 
 -- how many entries a journal has at most
@@ -163,7 +163,7 @@ own_causes state (Void cell) =
 own_causes state (Hold board) = then_some (has_number state.public.held board) AlreadyHeld ∷ []
 own_causes state (Release board) = then_some (not (has_number state.public.held board)) NotHeld ∷ []
 own_causes state (Seat name pair place) =
-    then_some (not (is_pair state.public.movement pair)) NoSuchPair
+    then_some (not (is_pair_of state.public.movement pair)) NoSuchPair
     ∷ then_some (not (is_of_side pair place)) WrongDirection
     ∷ then_some (not (is_authorized_for state.roles name Contestant)) NotContestant
     ∷ then_some (has_seat state.seats name) AlreadySeated

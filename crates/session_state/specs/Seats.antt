@@ -1,20 +1,15 @@
 -- What a command asks of seats.
-use Rattle.std.specs.Prelude.{◌≡◌, ℕ, Bool, true, ◌&&◌, not, nat_le, nat_eq, List, filter, All}
+use Rattle.std.specs.Prelude.{◌≡◌, ℕ, Bool, true, ◌&&◌, not, nat_eq, List, filter, All}
 use Rattle.std.specs.List.{list_any, IsDistinct}
 use Rattle.table_terms.specs.declared.pair.Pair.{Pair}
 use Rattle.table_terms.specs.declared.place.Place.{Place}
 use Rattle.table_terms.specs.Place.{side_of, place_number}
-use Rattle.movement.specs.Movement.{Section, same_side, same_pair, is_absent}
+use Rattle.movement.specs.Movement.{Section, same_side, same_pair, is_pair_of}
 use Rattle.rbac.specs.Account.{same_name}
 use Rattle.rbac.specs.RoleData.{RoleData}
 use Rattle.disclosure_rules.specs.declared.seat.Seat.{Seat}
 use Rattle.session_state.specs.declared.seated.Seated.{Seated}
 use Rattle.session_state.specs.Accounts.{has_account}
-
--- whether the section has the pair: on each side a pair for each table, but for one that is absent
-abbrev pub is_pair : Section → Pair → Bool
-is_pair section pair =
-    (nat_le 1 pair.number && nat_le pair.number section.tables) && not (is_absent section.absent pair)
 
 -- whether the place is one of the pair's side
 abbrev pub is_of_side : Pair → Place → Bool
@@ -51,7 +46,7 @@ share_seat a b = same_seat a.seat b.seat
 
 -- the seat is one of the section's: of a pair that it has, at a place of the pair's side
 pub record IsSeatOf (section : Section) (seat : Seat) : Type 0 where
-  pub pair : is_pair section seat.pair ≡ true
+  pub pair : is_pair_of section seat.pair ≡ true
   pub place : is_of_side seat.pair seat.place ≡ true
 
 -- no seat has two users, and each that is taken is one of the section's

@@ -55,16 +55,16 @@ pub fn hindrance(state: &State, command: &Command) -> Option<Refusal>
     if misses_user(state, command.user()) {
         return Some(Refusal::NoSuchUser);
     }
-    if misses_cell(public.movement, cell) {
+    if misses_cell(&public.movement, cell) {
         return Some(Refusal::NoSuchCell);
     }
-    if misses_board(public.movement, command.board()) {
+    if misses_board(&public.movement, command.board()) {
         return Some(Refusal::NoSuchBoard);
     }
     if !command.is_taken_in(public.phase) {
         return Some(Refusal::WrongPhase);
     }
-    if !command.is_solvers() && awaits_round(public.movement, cell, public.round) {
+    if !command.is_solvers() && awaits_round(&public.movement, cell, public.round) {
         return Some(Refusal::RoundNotStarted);
     }
     own_cause(state, command)

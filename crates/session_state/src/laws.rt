@@ -58,7 +58,7 @@ pub fn editions_never_change()
 
 /// All results are there just where each cell that the movement schedules has one.
 pub fn all_live_is_each_cell()
-    ensures { (public : Public) → (are_all_live public ≡ true)
+    ensures { (public : Public) → IsSection public.movement → (are_all_live public ≡ true)
         ↔ ((cell : Cell) → IsCell public.movement cell → is_live public.live cell ≡ true) }
 {}
 

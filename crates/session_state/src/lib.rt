@@ -9,7 +9,7 @@ mod seated;
 mod state;
 
 pub use causes::first_cause;
-pub use causes::seats::{is_of_side, is_pair};
+pub use causes::seats::is_of_side;
 pub use schedule::has_cell;
 pub use seated::Seated;
 pub use state::State;

@@ -8,9 +8,9 @@ use movement::{Cell, Movement};
 
 /// Whether the cell's table is scheduled to play its board.
 #[tactic(auto, using(crate::proofs::ScheduleLemmas::found_scheduled))]
-pub fn has_cell(movement: Movement, cell: Cell) -> bool
-    ensures test { result ≡ is_scheduled movement cell }
-    ensures cell { result ≡ true → IsCell movement cell }
+pub fn has_cell(movement: &Movement, cell: Cell) -> bool
+    ensures test { result ≡ is_scheduled movement.now cell }
+    ensures cell { result ≡ true → IsCell movement.now cell }
     ensures placed { result ≡ true → IsPlaced cell }
 {
     movement.cell(cell.table, cell.board).is_some()
@@ -18,17 +18,17 @@ pub fn has_cell(movement: Movement, cell: Cell) -> bool
 
 /// Whether a cell is played after a round.
 #[tactic(auto, using(crate::proofs::ScheduleLemmas::later_than))]
-pub fn is_later(movement: Movement, cell: Cell, round: u8) -> bool
-    requires { IsCell movement cell }
-    ensures { result ≡ is_later movement cell round }
+pub fn is_later(movement: &Movement, cell: Cell, round: u8) -> bool
+    requires { IsCell movement.now cell }
+    ensures { result ≡ is_later movement.now cell round }
 {
     round < movement.round_of(cell)
 }
 
 /// Whether there is a cell that its table is not scheduled to play.
-pub fn misses_cell(movement: Movement, cell: Option<Cell>) -> bool
-    ensures test { result ≡ some_that cell (λ cell. not (is_scheduled movement cell)) }
-    ensures cell { result ≡ false → IfSome cell (IsCell movement) }
+pub fn misses_cell(movement: &Movement, cell: Option<Cell>) -> bool
+    ensures test { result ≡ some_that cell (λ cell. not (is_scheduled movement.now cell)) }
+    ensures cell { result ≡ false → IfSome cell (IsCell movement.now) }
     ensures placed { result ≡ false → IfSome cell IsPlaced }
 {
     match cell {
@@ -38,9 +38,9 @@ pub fn misses_cell(movement: Movement, cell: Option<Cell>) -> bool
 }
 
 /// Whether there is a cell that is played after a round.
-pub fn awaits_round(movement: Movement, cell: Option<Cell>, round: u8) -> bool
-    requires { IfSome cell (IsCell movement) }
-    ensures { result ≡ some_that cell (λ cell. is_later movement cell round) }
+pub fn awaits_round(movement: &Movement, cell: Option<Cell>, round: u8) -> bool
+    requires { IfSome cell (IsCell movement.now) }
+    ensures { result ≡ some_that cell (λ cell. is_later movement.now cell round) }
 {
     match cell {
         Some(cell) => is_later(movement, cell, round),
@@ -49,8 +49,8 @@ pub fn awaits_round(movement: Movement, cell: Option<Cell>, round: u8) -> bool
 }
 
 /// Whether there is a board that is not one of the section.
-pub fn misses_board(movement: Movement, board: Option<u8>) -> bool
-    ensures test { result ≡ some_that board (λ board. not (has_board movement board)) }
+pub fn misses_board(movement: &Movement, board: Option<u8>) -> bool
+    ensures test { result ≡ some_that board (λ board. not (has_board movement.now board)) }
     ensures kept { result ≡ false → IfSome board IsKeptBoard }
 {
     match board {
@@ -60,8 +60,8 @@ pub fn misses_board(movement: Movement, board: Option<u8>) -> bool
 }
 
 // Whether the section has a board of this number.
-fn has_board(movement: Movement, board: u8) -> bool
-    ensures test { result ≡ has_board movement board }
+fn has_board(movement: &Movement, board: u8) -> bool
+    ensures test { result ≡ has_board movement.now board }
     ensures kept { result ≡ true → IsKeptBoard board }
 {
     1 <= board && board <= movement.boards()

@@ -12,8 +12,6 @@ use Rattle.std.proofs.Common.{
   true,
   false,
   cond,
-  not,
-  Option,
   List,
   [],
   ◌∷◌,
@@ -29,7 +27,7 @@ use Rattle.std.proofs.Common.{
   arith,
 }
 use Rattle.std.specs.Prelude.{if◌then◌else◌, All, map}
-use Rattle.std.specs.List.{AllPairs, insert, range_with_len}
+use Rattle.std.specs.List.{AllPairs, insert}
 use Rattle.std.specs.List.Sorted.{IsPermutation}
 use Rattle.std.proofs.lemmas.Bool.{false_from_ne_true}
 use Rattle.std.proofs.lemmas.List.{drop_more, get_or_default}
@@ -48,7 +46,7 @@ use Rattle.table_terms.specs.declared.side.Side.{Side}
 use Rattle.scoring.specs.declared.standing.Standing.{Standing}
 use Rattle.scoring.specs.Ranking.{RanksBefore}
 use Rattle.scoring.proofs.RankingLemmas.{ranks-asym, ranks-trans}
-use Rattle.movement.specs.Movement.{is_absent}
+use Rattle.movement.specs.Movement.{Section, is_pair_of}
 use Rattle.standings.specs.Order.{ranks_before}
 use Rattle.standings.specs.declared.earning.Earning.{Earning}
 use Rattle.standings.specs.Ranking.{pair_on, pairs_on, placed, ranked, standing_of}
@@ -151,42 +149,42 @@ pub ranks_here : (standing : Standing) (others : List Standing) (place : ℕ) (d
 ranks_here standing others place d e below ranks = subst (RanksBefore standing) (get_or_default others place d e below)
     ranks
 
--- a pair more of a side: it is the first of the pairs from its number on, where it is there
-pairs_from : (absent : Option Pair) (side : Side) (tables before : ℕ) → before < tables →
-    pairs_on absent side (tables - (before + 1) + 1) (before + 1)
-    ≡ cond (not (is_absent absent (pair_on side (tables - before))))
-    (pair_on side (tables - before) ∷ pairs_on absent side (tables - before + 1) before)
-    (pairs_on absent side (tables - before + 1) before)
+-- a number more of a side's pairs: the pair that has it is the first of them, where the section has it
+pairs_from : (section : Section) (side : Side) (most before : ℕ) → before < most →
+    pairs_on section side (most - (before + 1) + 1) (before + 1)
+    ≡ cond (is_pair_of section (pair_on side (most - before)))
+    (pair_on side (most - before) ∷ pairs_on section side (most - before + 1) before)
+    (pairs_on section side (most - before + 1) before)
 unfolding pairs_on
-pairs_from absent side tables before below =
-    ap (λ n. pairs_on absent side n (before + 1)) first ∙ ap (pairs_on absent side (tables - before)) more
+pairs_from section side most before below =
+    ap (λ n. pairs_on section side n (before + 1)) first ∙ ap (pairs_on section side (most - before)) more
   where
-    first : tables - (before + 1) + 1 ≡ tables - before
+    first : most - (before + 1) + 1 ≡ most - before
     first = omega arith
 
     more : before + 1 ≡ suc before
     more = omega arith
 
-pub side_more : (earnings : List Earning) (absent : Option Pair) (side : Side) (tables before : ℕ)
-    (others : List Pair) → before < tables → is_absent absent (pair_on side (tables - before)) ≡ false →
-    placed (standing_of earnings (pair_on side (tables - before)))
-    (ranked (map (standing_of earnings) (pairs_on absent side (tables - before + 1) before ++ others)))
-    ≡ ranked (map (standing_of earnings) (pairs_on absent side (tables - (before + 1) + 1) (before + 1) ++ others))
+pub side_more : (earnings : List Earning) (section : Section) (side : Side) (most before : ℕ)
+    (others : List Pair) → before < most → is_pair_of section (pair_on side (most - before)) ≡ true →
+    placed (standing_of earnings (pair_on side (most - before)))
+    (ranked (map (standing_of earnings) (pairs_on section side (most - before + 1) before ++ others)))
+    ≡ ranked (map (standing_of earnings) (pairs_on section side (most - (before + 1) + 1) (before + 1) ++ others))
 unfolding ranked
-side_more earnings absent side tables before others below present =
+side_more earnings section side most before others below has =
     sym (ap (λ pairs. ranked (map (standing_of earnings) (pairs ++ others)))
-    (rw present at (pairs_from absent side tables before below)))
+    (rw has at (pairs_from section side most before below)))
 
--- and where it is absent, nothing is more
-pub side_same : (absent : Option Pair) (side : Side) (tables before : ℕ) → before < tables →
-    is_absent absent (pair_on side (tables - before)) ≡ true →
-    pairs_on absent side (tables - before + 1) before
-    ≡ pairs_on absent side (tables - (before + 1) + 1) (before + 1)
-side_same absent side tables before below missing = sym (rw missing at (pairs_from absent side tables before below))
+-- and where the section hasn't it, nothing is more
+pub side_same : (section : Section) (side : Side) (most before : ℕ) → before < most →
+    is_pair_of section (pair_on side (most - before)) ≡ false →
+    pairs_on section side (most - before + 1) before
+    ≡ pairs_on section side (most - (before + 1) + 1) (before + 1)
+side_same section side most before below missing = sym (rw missing at (pairs_from section side most before below))
 
-pub no_pairs : (absent : Option Pair) (side : Side) (from : ℕ) → pairs_on absent side from 0 ≡ []
+pub no_pairs : (section : Section) (side : Side) (from : ℕ) → pairs_on section side from 0 ≡ []
 unfolding pairs_on
-no_pairs absent side from = refl
+no_pairs section side from = refl
 
 -- no pair at all
 pub none_ranked : (earnings : List Earning) → [] ≡ ranked (map (standing_of earnings) [])

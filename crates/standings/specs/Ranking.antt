@@ -1,12 +1,12 @@
 -- own: the ranking of a session's pairs, by how much they earn of what they could have earned on the boards that are
 -- shown. All is in hundredths of a scoring unit (Law 78A), so that an adjusted score (Law 12C2) earns whole numbers.
-use Rattle.std.specs.Prelude.{ℕ, ◌-◌, ◌*◌, ℤ, not, if◌then◌else◌, Option, List, [], ◌∷◌, ◌++◌, map, filter, length}
+use Rattle.std.specs.Prelude.{ℕ, ◌-◌, ◌*◌, ℤ, if◌then◌else◌, List, [], ◌∷◌, ◌++◌, map, filter, length}
 use Rattle.std.specs.List.{range_with_len, sum_by}
 use Rattle.table_terms.specs.declared.pair.Pair.{Pair}
 use Rattle.table_terms.specs.declared.side.Side.{Side}
 use Rattle.table_terms.specs.declared.side.Side.TheVariants.{NorthSouth, EastWest}
 use Rattle.table_terms.specs.declared.vulnerability.Vulnerability.{Vulnerability}
-use Rattle.movement.specs.Movement.{Section, same_pair, is_absent, most_tables, most_boards}
+use Rattle.movement.specs.Movement.{Section, same_pair, is_pair_of, most_tables, most_boards}
 use Rattle.scoring.specs.Law77.{ns_score_of}
 use Rattle.standings.specs.Units.{units_of_score}
 use Rattle.standings.specs.Order.{ranks_before}
@@ -74,19 +74,17 @@ standing_of earnings pair = record {
   tops = sum_by (top_for pair) earnings;
 }
 
--- the pair of a side that has this number
+-- the pair that is named for a side and has this number
 abbrev pub pair_on : Side → ℕ → Pair
 pair_on side number = record { side = side; number = number }
 
--- the pairs of a side that are there, of so many numbers from one on
-unfoldable pub pairs_on : Option Pair → Side → ℕ → ℕ → List Pair
-pairs_on absent side from many =
-    filter (λ pair. not (is_absent absent pair)) (map (pair_on side) (range_with_len from many))
+-- the pairs that a section has of those that are named for a side, with so many numbers from one on
+unfoldable pub pairs_on : Section → Side → ℕ → ℕ → List Pair
+pairs_on section side from many = filter (is_pair_of section) (map (pair_on side) (range_with_len from many))
 
--- the pairs of a section: on each side a pair for each table, but for one that is absent
+-- the pairs of a section: those that are named NS, and then those that are named EW, each by number
 abbrev pub pairs_of : Section → List Pair
-pairs_of section =
-    pairs_on section.absent NorthSouth 1 section.tables ++ pairs_on section.absent EastWest 1 section.tables
+pairs_of section = pairs_on section NorthSouth 1 most_tables ++ pairs_on section EastWest 1 most_tables
 
 -- others that are in their order, with a standing in its place among them
 abbrev pub placed : Standing → List Standing → List Standing

@@ -6,7 +6,8 @@ use Rattle.table_terms.specs.declared.pair.Pair.{Pair}
 use Rattle.table_terms.specs.declared.side.Side.TheVariants.{NorthSouth, EastWest}
 use Rattle.table_terms.specs.declared.vulnerability.Vulnerability.{Vulnerability}
 use Rattle.movement.specs.declared.cell.Cell.{Cell}
-use Rattle.movement.specs.Movement.{Section, Row, rows}
+use Rattle.movement.specs.declared.row.Row.{Row}
+use Rattle.movement.specs.Movement.{Section, rows}
 use Rattle.movement.specs.Schedule.{stands_in}
 use Rattle.scoring.specs.Law77.{ns_score_of}
 use Rattle.standings.specs.Units.{units_of_score}

@@ -6,7 +6,7 @@ use crate::cell_result::CellResult;
 use crate::earning::Earning;
 use crate::push::push_within;
 use crate::table_result::TableResult;
-use crate::traveller::{east_west_at, north_south_at, put_scores, scores_of};
+use crate::traveller::{put_scores, scores_of};
 use crate::units::units_of_score;
 use movement::Movement;
 use scoring::ns_score;
@@ -17,15 +17,15 @@ use table_terms::Vulnerability;
 #[tactic(auto, unfolding(crate::specs::Ranking::earnings_of))]
 pub fn add_earnings(
     alloc: Global,
-    movement: Movement,
+    movement: &Movement,
     vulnerability: Vulnerability,
     results: &[TableResult],
     earnings: &mut Vec<Earning>,
 ) -> Result<(), AllocError>
     requires few { length results.now ≤ most_tables }
-    requires cells { All (λ found. IsCell movement found.cell) results.now }
+    requires cells { All (λ found. IsCell movement.now found.cell) results.now }
     ensures earnings { OnOk result (earnings.new.items ≡
-        earnings.old.items ++ earnings_of movement vulnerability results.now) }
+        earnings.old.items ++ earnings_of movement.now vulnerability results.now) }
     ensures many { OnOk result (vec_len earnings.new ≡ vec_len earnings.old + length results.now) }
 {
     let scores = scores_of(alloc, vulnerability, results)?;
@@ -39,17 +39,17 @@ pub fn add_earnings(
 /// score.
 #[tactic(auto, unfolding(crate::specs::Ranking::earnings_of))]
 pub fn put_earnings(
-    movement: Movement,
+    movement: &Movement,
     vulnerability: Vulnerability,
     results: &[TableResult],
     scores: &mut Vec<i32>,
     earnings: &mut Vec<Earning>,
 )
     requires few { length results.now ≤ most_tables }
-    requires cells { All (λ found. IsCell movement found.cell) results.now }
+    requires cells { All (λ found. IsCell movement.now found.cell) results.now }
     requires score_room { most_tables ≤ vec_capacity scores.old }
     requires room { most_tables ≤ vec_capacity earnings.old }
-    ensures earnings { earnings.new.items ≡ earnings_of movement vulnerability results.now }
+    ensures earnings { earnings.new.items ≡ earnings_of movement.now vulnerability results.now }
     ensures many { vec_len earnings.new ≡ length results.now }
     ensures score_room { most_tables ≤ vec_capacity scores.new }
     ensures room { most_tables ≤ vec_capacity earnings.new }
@@ -66,19 +66,19 @@ pub fn put_earnings(
 
 /// What a result earns for its two pairs.
 fn earning_of(
-    movement: Movement,
+    movement: &Movement,
     vulnerability: Vulnerability,
     scores: &[i32],
     found: &TableResult,
 ) -> Earning
     requires few { length scores.now ≤ most_tables }
-    requires cell { IsCell movement found.now.cell }
-    ensures { result ≡ earning_of movement vulnerability scores.now found.now }
+    requires cell { IsCell movement.now found.now.cell }
+    ensures { result ≡ earning_of movement.now vulnerability scores.now found.now }
 {
     let for_north_south = earned_north_south(vulnerability, scores, &found.result);
     Earning {
-        north_south: north_south_at(movement, found.cell),
-        east_west: east_west_at(movement, found.cell),
+        north_south: movement.north_south_at(found.cell),
+        east_west: movement.east_west_at(found.cell),
         for_north_south,
         for_east_west: earned_east_west(for_north_south, scores, &found.result),
         top: 100 * top_of(scores),

@@ -1,4 +1,5 @@
 ghost use Rattle.std.specs.Prelude.{◌≡◌, ◌≤◌, ◌<◌, ◌*◌, ◌-◌, ◌++◌, List, get_or, map, length, IfOk, OnOk};
+ghost use Rattle.movement.specs.Movement.{most_tables};
 ghost use Rattle.scoring.specs.declared.standing.Standing.{Standing};
 ghost use Rattle.std.specs.List.{range_with_len, insert};
 ghost use Rattle.table_terms.specs.declared.pair.Pair.{Pair};
@@ -14,14 +15,13 @@ use table_terms::{Pair, Side};
 /// The pairs of a movement in the order in which they rank, by what all results earn.
 pub fn ranking_of(
     alloc: Global,
-    movement: Movement,
+    movement: &Movement,
     earnings: &[Earning],
 ) -> Result<Vec<Standing>, AllocError>
     requires few { length earnings.now ≤ most_results }
-    ensures { IfOk result (λ standings. standings.items ≡ ranking_of movement earnings.now) }
+    ensures { IfOk result (λ standings. standings.items ≡ ranking_of movement.now earnings.now) }
 {
-    let tables = movement.tables();
-    let mut standings = Vec::with_capacity(alloc, 2 * tables as usize)?;
+    let mut standings = Vec::with_capacity(alloc, 2 * usize::from(Movement::MOST_TABLES))?;
     place_side(&mut standings, earnings, movement, Side::EastWest)?;
     place_side(&mut standings, earnings, movement, Side::NorthSouth)?;
     Ok(standings)
@@ -46,26 +46,25 @@ fn from_the_end(standings: &[Standing], others: usize) -> Standing
     standings[standings.len() - 1 - others]
 }
 
-/// Puts the pairs of a side that are there in their places among those that are in their order.
+/// Puts the pairs of a movement that are named for a side in their places among those that are in their order.
 fn place_side(
     standings: &mut Vec<Standing>,
     earnings: &[Earning],
-    movement: Movement,
+    movement: &Movement,
     side: Side,
 ) -> Result<(), AllocError>
     requires few { length earnings.now ≤ most_results }
     ensures { OnOk result ((others : List Pair) →
         standings.old.items ≡ ranked (map (standing_of earnings.now) others) →
         standings.new.items ≡ ranked (map (standing_of earnings.now)
-        (pairs_on movement.absent side 1 movement.tables ++ others))) }
+        (pairs_on movement.now side 1 most_tables ++ others))) }
 {
-    let tables = movement.tables();
-    for before in 0..tables {
+    for before in 0..Movement::MOST_TABLES {
         let pair = Pair {
             side,
-            number: tables - before,
+            number: Movement::MOST_TABLES - before,
         };
-        if !movement.is_absent(pair) {
+        if movement.has_pair(pair) {
             place(standings, standing_of(earnings, pair))?;
         }
     }

@@ -1,7 +1,7 @@
 ghost use Rattle.std.specs.Prelude.{◌≡◌, ◌≤◌, length, All, IfOk, vec_capacity, vec_len};
 ghost use Rattle.movement.specs.Movement.{IsCell, most_tables};
 ghost use Rattle.standings.specs.declared.cell_result.CellResult.TheVariants.{Confirmed};
-ghost use Rattle.standings.specs.Traveller.{north_south_at, east_west_at, row_result, result_score, scores_of, traveller_row, traveller_rows};
+ghost use Rattle.standings.specs.Traveller.{row_result, result_score, scores_of, traveller_row, traveller_rows};
 
 use crate::cell_result::CellResult;
 use crate::push::{push_copy, push_found_within};
@@ -9,22 +9,22 @@ use crate::row_result::RowResult;
 use crate::table_result::TableResult;
 use crate::traveller_row::TravellerRow;
 use crate::units::units_of_score;
-use movement::{Cell, Movement};
+use movement::Movement;
 use scoring::{Outcome, ns_score};
 use std::alloc::{AllocError, Global};
-use table_terms::{Pair, Side, Vulnerability};
+use table_terms::Vulnerability;
 
 /// The rows of a traveller: a row for each result, in their order.
 #[tactic(auto, unfolding(crate::specs::Traveller::traveller_rows))]
 pub fn traveller_rows(
     alloc: Global,
-    movement: Movement,
+    movement: &Movement,
     vulnerability: Vulnerability,
     results: &[TableResult],
 ) -> Result<Vec<TravellerRow>, AllocError>
     requires few { length results.now ≤ most_tables }
-    requires cells { All (λ found. IsCell movement found.cell) results.now }
-    ensures { IfOk result (λ rows. rows.items ≡ traveller_rows movement vulnerability results.now) }
+    requires cells { All (λ found. IsCell movement.now found.cell) results.now }
+    ensures { IfOk result (λ rows. rows.items ≡ traveller_rows movement.now vulnerability results.now) }
 {
     let scores = scores_of(alloc, vulnerability, results)?;
     let mut rows = Vec::with_capacity(alloc, results.len())?;
@@ -80,20 +80,20 @@ fn result_score(vulnerability: Vulnerability, found: CellResult) -> Option<i32>
 
 /// A result with its pairs, and with its score and its units or its percentages.
 fn traveller_row(
-    movement: Movement,
+    movement: &Movement,
     vulnerability: Vulnerability,
     scores: &[i32],
     found: &TableResult,
 ) -> TravellerRow
     requires few { length scores.now ≤ most_tables }
-    requires cell { IsCell movement found.now.cell }
-    ensures { result ≡ traveller_row movement vulnerability scores.now found.now }
+    requires cell { IsCell movement.now found.now.cell }
+    ensures { result ≡ traveller_row movement.now vulnerability scores.now found.now }
 {
     let cell = found.cell;
     TravellerRow {
         table: cell.table,
-        north_south: north_south_at(movement, cell),
-        east_west: east_west_at(movement, cell),
+        north_south: movement.north_south_at(cell),
+        east_west: movement.east_west_at(cell),
         result: row_result(vulnerability, scores, &found.result),
     }
 }
@@ -126,23 +126,4 @@ fn played(vulnerability: Vulnerability, scores: &[i32], outcome: &Outcome) -> Ro
         score,
         points: units_of_score(scores, score),
     }
-}
-
-/// The North-South pair of a cell.
-pub(crate) fn north_south_at(movement: Movement, cell: Cell) -> Pair
-    requires { IsCell movement cell }
-    ensures { result ≡ north_south_at movement cell }
-{
-    Pair {
-        side: Side::NorthSouth,
-        number: cell.table,
-    }
-}
-
-/// The East-West pair of a cell.
-pub(crate) fn east_west_at(movement: Movement, cell: Cell) -> Pair
-    requires { IsCell movement cell }
-    ensures { result ≡ east_west_at movement cell }
-{
-    movement.ew_at(cell.table, movement.round_of(cell))
 }

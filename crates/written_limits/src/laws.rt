@@ -2,7 +2,7 @@
 ghost use Rattle.std.specs.Prelude.{◌≡◌, Option};
 ghost use Rattle.displays.specs.Publishing.{most_places};
 ghost use Rattle.kept_sessions.specs.Sources.{most_file_bytes};
-ghost use Rattle.movement.specs.Movement.{least_tables, most_tables, most_per_set, most_boards};
+ghost use Rattle.movement.specs.Movement.{least_tables, most_tables, most_sets, most_per_set, most_boards};
 ghost use Rattle.program.specs.Writes.{script_limit};
 ghost use Rattle.query_filter.specs.Limits.{most_depth, most_atoms, most_members};
 ghost use Rattle.rbac.specs.Account.{most_users};
@@ -24,6 +24,7 @@ ghost use Rattle.serde_json.specs.Data.{Data};
 pub fn limits_are_as_written()
     ensures least_tables { least_tables ≡ 3 }
     ensures tables { most_tables ≡ 16 }
+    ensures sets { most_sets ≡ 31 }
     ensures boards_of_a_set { most_per_set ≡ 8 }
     ensures boards { most_boards ≡ 128 }
     ensures users { most_users ≡ 256 }

@@ -1,6 +1,7 @@
-//! The movement as it is walked through round by round.
+//! The Mitchell movement as it is walked through round by round: its formulas, and the list of rows that is kept of it.
 
-use movement::{Movement, MovementError};
+use mitchell::Mitchell;
+use movement::{Cell, Movement, MovementError};
 use table_terms::{Pair, Side};
 
 /// What is at the tables, from table 1 on: the pairs, or how many sets are before the table's.
@@ -24,25 +25,94 @@ fn move_down(seats: &mut Seats, tables: u8) {
     }
 }
 
-/// Whether a table plays this pair in a round, and the boards that come after so many sets.
-fn is_row(movement: Movement, table: u8, round: u8, pair: u8, before: u8) -> bool {
-    if table < 1 || movement.tables() < table || round < 1 || movement.rounds() < round {
-        return false;
+/// The pair that stays North-South at a table.
+fn north_south(table: u8) -> Pair {
+    Pair {
+        side: Side::NorthSouth,
+        number: table,
     }
+}
+
+/// Whether a pair's cell is at this table.
+fn is_at(cell: Option<Cell>, table: u8) -> bool {
+    matches!(cell, Some(cell) if cell.table == table)
+}
+
+/// Whether a table plays a board in a round, and which two pairs sit there.
+fn is_played(movement: &Movement, table: u8, board: u8, round: u8, against: Pair) -> bool {
+    let Some(cell) = movement.cell(table, board) else {
+        return false;
+    };
+    let there = north_south(table);
+    movement.round_of(cell) == round
+        && movement.north_south_at(cell) == there
+        && movement.east_west_at(cell) == against
+        && movement.scheduled(board).contains(table)
+        && is_at(movement.cell_of(there, board), table)
+        && is_at(movement.cell_of(against, board), table)
+}
+
+/// Whether a table plays this pair in a round, and the boards that come after so many sets.
+fn is_row(movement: &Movement, table: u8, round: u8, pair: u8, before: u8) -> bool {
     let first = before.wrapping_mul(movement.per_set());
+    let against = Pair {
+        side: Side::EastWest,
+        number: pair,
+    };
     for k in 1..=movement.per_set() {
-        if movement.board_at(table, round, k) != first.wrapping_add(k) {
+        if !is_played(movement, table, first.wrapping_add(k), round, against) {
             return false;
         }
     }
-    movement.ew_at(table, round).number == pair
+    true
+}
+
+/// The same by the formulas.
+fn is_by_formula(mitchell: Mitchell, table: u8, round: u8, pair: u8, before: u8) -> bool {
+    if table < 1 || mitchell.tables() < table || round < 1 || mitchell.rounds() < round {
+        return false;
+    }
+    mitchell.plays(table, round)
+        && mitchell.ew_at(table, round).number == pair
+        && mitchell.set_at(table, round) == before.wrapping_add(1)
 }
 
 /// Whether each table's row in a round is so.
-fn is_round(movement: Movement, round: u8, pairs: &Seats, sets: &Seats) -> bool {
+fn is_round(
+    mitchell: Mitchell,
+    movement: &Movement,
+    round: u8,
+    pairs: &Seats,
+    sets: &Seats,
+) -> bool {
     for i in 0..16 {
         let table = i as u8 + 1;
-        if table <= movement.tables() && !is_row(movement, table, round, pairs[i], sets[i]) {
+        if table <= movement.tables()
+            && !(is_row(movement, table, round, pairs[i], sets[i])
+                && is_by_formula(mitchell, table, round, pairs[i], sets[i]))
+        {
+            return false;
+        }
+    }
+    true
+}
+
+/// How many boards are scheduled at a table.
+fn boards_at(movement: &Movement, table: u8) -> u8 {
+    let mut boards = 0u8;
+    for board in 1..=movement.boards() {
+        if movement.cell(table, board).is_some() {
+            boards = boards.wrapping_add(1);
+        }
+    }
+    boards
+}
+
+/// Whether each table is scheduled to play as many boards as it has rounds for, and so none but those that are walked.
+fn plays_no_more(movement: &Movement) -> bool {
+    let boards = movement.rounds().wrapping_mul(movement.per_set());
+    for table in 1..=movement.tables() {
+        if boards_at(movement, table) != boards {
             return false;
         }
     }
@@ -50,13 +120,13 @@ fn is_round(movement: Movement, round: u8, pairs: &Seats, sets: &Seats) -> bool 
 }
 
 /// After each round the East-West pairs move up a table and the sets down one, and at an even number of tables the
-/// pairs skip one more in the middle.
-fn is_walked(movement: Movement) -> bool {
+/// pairs skip one more in the middle. No table plays anything else.
+fn is_walked(mitchell: Mitchell, movement: &Movement) -> bool {
     let tables = movement.tables();
     let mut pairs = PAIRS;
     let mut sets = SETS;
     for round in 1..=movement.rounds() {
-        if !is_round(movement, round, &pairs, &sets) {
+        if !is_round(mitchell, movement, round, &pairs, &sets) {
             return false;
         }
         move_up(&mut pairs, tables);
@@ -65,16 +135,20 @@ fn is_walked(movement: Movement) -> bool {
             move_up(&mut pairs, tables);
         }
     }
-    true
+    plays_no_more(movement)
 }
 
 /// Whether a movement is as walked, or refused because there are too many rounds. An even number of tables plays a round
 /// less than there are tables.
 fn is_walked_or_refused(tables: u8, rounds: u8, per_set: u8) -> bool {
     let most = tables.saturating_sub(1) | 1;
-    match Movement::new(tables, rounds, per_set) {
-        Ok(movement) => rounds <= most && is_walked(movement),
-        Err(_) => rounds > most,
+    match (
+        Mitchell::new(tables, rounds, per_set, None),
+        Movement::new(tables, rounds, per_set),
+    ) {
+        (Ok(mitchell), Ok(movement)) => rounds <= most && is_walked(mitchell, &movement),
+        (Err(_), Err(_)) => rounds > most,
+        _ => false,
     }
 }
 
@@ -89,43 +163,51 @@ fn movements_are_as_walked(rt: HostRuntime) {
     }
 }
 
-/// Whether a table plays in a round just where neither of its pairs is absent, and would play the boards of the full movement
+/// The board that a table plays in a round, where a set is one board.
+fn board_at(movement: &Movement, table: u8, round: u8) -> Option<u8> {
+    for board in 1..=movement.boards() {
+        if let Some(cell) = movement.cell(table, board) {
+            if movement.round_of(cell) == round {
+                return Some(board);
+            }
+        }
+    }
+    None
+}
+
+/// Whether a table plays in a round just where neither of its pairs is absent, and would play the board of the full movement
 /// against its East-West pair. The cell of the table and its board is there where the table plays it, and is found for both
 /// of its pairs.
 fn sits_out_where_it_must(
-    full: Movement,
-    half: Movement,
-    absent: Pair,
+    mitchell: Mitchell,
+    full: &Movement,
+    half: &Movement,
     table: u8,
     round: u8,
 ) -> bool {
-    let tables = full.tables().min(half.tables());
-    let rounds = full.rounds().min(half.rounds());
-    if table < 1 || tables < table || round < 1 || rounds < round {
+    if table < 1 || mitchell.tables() < table || round < 1 || mitchell.rounds() < round {
         return false;
     }
-    let there = Pair {
-        side: Side::NorthSouth,
-        number: table,
+    let Some(board) = board_at(full, table, round) else {
+        return false;
     };
-    let against = full.ew_at(table, round);
-    let board = full.board_at(table, round, 1);
-    let plays = there != absent && against != absent;
-    full.plays(table, round)
-        && half.plays(table, round) == plays
-        && half.board_at(table, round, 1) == board
-        && half.ew_at(table, round) == against
+    let there = north_south(table);
+    let against = mitchell.ew_at(table, round);
+    let plays = half.has_pair(there) && half.has_pair(against);
+    mitchell.plays(table, round) == plays
+        && is_played(full, table, board, round, against)
         && half.cell(table, board).is_some() == plays
         && half.scheduled(board).contains(table) == plays
         && half.cell_of(there, board).is_some() == plays
         && half.cell_of(against, board).is_some() == plays
+        && (!plays || is_played(half, table, board, round, against))
 }
 
 /// The same of each table in each round.
-fn sits_out(full: Movement, half: Movement, absent: Pair) -> bool {
+fn sits_out(mitchell: Mitchell, full: &Movement, half: &Movement) -> bool {
     for table in 1..=full.tables() {
         for round in 1..=full.rounds() {
-            if !sits_out_where_it_must(full, half, absent, table, round) {
+            if !sits_out_where_it_must(mitchell, full, half, table, round) {
                 return false;
             }
         }
@@ -133,22 +215,53 @@ fn sits_out(full: Movement, half: Movement, absent: Pair) -> bool {
     true
 }
 
+/// Whether a movement has a pair on each side for each table, but for one that is absent, and no other.
+fn has_its_pairs(movement: &Movement) -> bool {
+    for side in [Side::NorthSouth, Side::EastWest] {
+        for number in 0u8..18 {
+            let pair = Pair { side, number };
+            let is_there = number >= 1
+                && number <= movement.tables()
+                && movement.absent() != Some(pair);
+            if movement.has_pair(pair) != is_there {
+                return false;
+            }
+        }
+    }
+    true
+}
+
+/// Whether a table sits out just where it would meet a pair that is absent.
+fn one_sits_out(full: &Movement, absent: Pair) -> bool {
+    let tables = full.tables();
+    let rounds = full.rounds();
+    match (
+        Mitchell::new(tables, rounds, 1, Some(absent)),
+        Movement::with_absent(tables, rounds, 1, Some(absent)),
+    ) {
+        (Ok(mitchell), Ok(half)) => {
+            mitchell.absent() == Some(absent)
+                && half.absent() == Some(absent)
+                && has_its_pairs(&half)
+                && sits_out(mitchell, full, &half)
+        }
+        _ => false,
+    }
+}
+
 /// The same of each pair of a section, which is absent in turn.
 fn each_sits_out(tables: u8) -> bool {
-    let rounds = tables.saturating_sub(1) | 1;
-    let Ok(full) = Movement::new(tables, rounds, 1) else {
+    let Ok(full) = Movement::new(tables, tables.saturating_sub(1) | 1, 1) else {
         return false;
     };
     for side in [Side::NorthSouth, Side::EastWest] {
         for number in 1..=tables {
-            let absent = Pair { side, number };
-            match Movement::with_absent(tables, rounds, 1, Some(absent)) {
-                Ok(half) if half.absent() == Some(absent) && sits_out(full, half, absent) => {}
-                _ => return false,
+            if !one_sits_out(&full, Pair { side, number }) {
+                return false;
             }
         }
     }
-    full.absent().is_none()
+    full.absent().is_none() && has_its_pairs(&full)
 }
 
 /// 3 to 16 tables, and each of their pairs.
@@ -160,7 +273,7 @@ fn whoever_would_meet_an_absent_pair_sits_out(rt: HostRuntime) {
 }
 
 /// Whether a board is scheduled at just these tables.
-fn is_scheduled_at(movement: Movement, board: u8, tables: &[u8]) -> bool {
+fn is_scheduled_at(movement: &Movement, board: u8, tables: &[u8]) -> bool {
     let scheduled = movement.scheduled(board);
     for table in 1u8..17 {
         if scheduled.contains(table) != tables.contains(&table) {
@@ -182,10 +295,10 @@ fn half_table(rounds: u8) -> Result<Movement, MovementError> {
 /// Over three rounds each board is played at two of the three tables, and in the first round the third one sits out.
 #[test]
 fn a_half_table_plays_each_board_at_two_tables(rt: HostRuntime) {
-    assert!(rt; matches!(half_table(3), Ok(half) if is_scheduled_at(half, 1, &[1, 3])));
-    assert!(rt; matches!(half_table(3), Ok(half) if is_scheduled_at(half, 2, &[2, 3])));
-    assert!(rt; matches!(half_table(3), Ok(half) if is_scheduled_at(half, 3, &[1, 2])));
-    assert!(rt; matches!(half_table(1), Ok(half) if is_scheduled_at(half, 3, &[])));
+    assert!(rt; matches!(half_table(3), Ok(half) if is_scheduled_at(&half, 1, &[1, 3])));
+    assert!(rt; matches!(half_table(3), Ok(half) if is_scheduled_at(&half, 2, &[2, 3])));
+    assert!(rt; matches!(half_table(3), Ok(half) if is_scheduled_at(&half, 3, &[1, 2])));
+    assert!(rt; matches!(half_table(1), Ok(half) if is_scheduled_at(&half, 3, &[])));
 }
 
 /// The most boards are those of 16 tables with 8 boards in a set.

@@ -1,13 +1,12 @@
 //! Why a command on a seat is refused.
 ghost use Rattle.std.specs.Prelude.{◌≡◌};
 ghost use Rattle.session_state.specs.Refusal.{first_cause, own_causes};
-ghost use Rattle.session_state.specs.Seats.{is_pair, is_of_side, is_taken};
+ghost use Rattle.session_state.specs.Seats.{is_of_side, is_taken};
 ghost use Rattle.session_commands.specs.declared.command.Command.TheVariants as command;
 
 use crate::causes::first_cause;
 use crate::state::State;
 use disclosure_rules::Seat;
-use movement::Movement;
 use session_commands::Refusal;
 use session_roles::Role;
 use table_terms::{Pair, Place, Side};
@@ -17,7 +16,7 @@ pub fn seat_cause(state: &State, name: Name, seat: Seat) -> Option<Refusal>
     ensures { result ≡ first_cause (own_causes state.now (command.Seat name seat.pair seat.place)) }
 {
     first_cause(&[
-        (!is_pair(state.public().movement, seat.pair)).then_some(Refusal::NoSuchPair),
+        (!state.public().movement.has_pair(seat.pair)).then_some(Refusal::NoSuchPair),
         (!is_of_side(seat.pair, seat.place)).then_some(Refusal::WrongDirection),
         (!state.viewer(name).is_authorized(Role::Contestant)).then_some(Refusal::NotContestant),
         state.has_seat(name).then_some(Refusal::AlreadySeated),
@@ -29,13 +28,6 @@ pub fn unseat_cause(state: &State, name: Name) -> Option<Refusal>
     ensures { result ≡ first_cause (own_causes state.now (command.Unseat name)) }
 {
     (!state.has_seat(name)).then_some(Refusal::NotSeated)
-}
-
-/// Whether the section has the pair, and it isn't absent.
-pub fn is_pair(movement: Movement, pair: Pair) -> bool
-    ensures { result ≡ is_pair movement pair }
-{
-    1 <= pair.number && pair.number <= movement.tables() && !movement.is_absent(pair)
 }
 
 /// Whether the place is one of the pair's side.

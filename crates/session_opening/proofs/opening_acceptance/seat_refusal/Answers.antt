@@ -18,7 +18,7 @@ returns c =
     let taken = c.is_taken.ensures ∙ sym (taken_among c.args.before.now c.args.seat) in
     c.first_cause.ensures
     ∙ (λ i. first_cause (
-    (c.then_some.ensures ∙ ap (λ b. then_some (not b) NoSuchPair) c.is_pair.ensures) i
+    (c.then_some.ensures ∙ ap (λ b. then_some (not b) NoSuchPair) c.has_pair.ensures) i
     ∷ (c.then_some-2.ensures ∙ ap (λ b. then_some (not b) WrongDirection) c.is_of_side.ensures) i
     ∷ (c.then_some-3.ensures ∙ ap (λ b. then_some (not b) NotContestant) contestant) i
     ∷ (c.then_some-4.ensures ∙ ap (λ b. then_some b SeatTaken) taken) i

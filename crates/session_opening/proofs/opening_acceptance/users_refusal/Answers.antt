@@ -7,7 +7,7 @@ use Rattle.session_opening.proofs.opening_acceptance.users_refusal.Goals as goal
 pub returns-then-is_some : goal.returns-then-is_some
 returns-then-is_some c =
     let edition = c.args.edition in
-    let movement = c.args.movement in
+    let movement = c.args.movement.now in
     let users = c.args.users.now in
     let place = c.loop-place.place in
     let user = c.index-users-place.result in
@@ -23,7 +23,7 @@ returns-then-is_some c =
 pub loop-place-preserved : goal.loop-place-preserved
 loop-place-preserved c =
     let edition = c.args.edition in
-    let movement = c.args.movement in
+    let movement = c.args.movement.now in
     let users = c.args.users.now in
     let place = c.loop-place.place in
     let user = c.index-users-place.result in

@@ -5,5 +5,5 @@ use Rattle.standings.proofs.earnings.put_earnings.Goals as goal
 
 pub earning_of-requires-clause-cell : goal.earning_of-requires-clause-cell
 earning_of-requires-clause-cell c =
-    subst (λ (found : TableResult). IsCell c.args.movement found.cell) (sym c.found-item.is)
+    subst (λ (found : TableResult). IsCell c.args.movement.now found.cell) (sym c.found-item.is)
     (c.requires.cells c.loop-found.found-index c.found-item.result c.loop-found-test.true)

@@ -1,4 +1,4 @@
-use Rattle.movement.proofs.ScheduledLemmas.{IsSoFar}
+use Rattle.movement.proofs.TablesLemmas.{IsSoFar}
 use Rattle.movement.proofs.movement.Movement.scheduled.Given as goal
 
 abbrev pub invariant-loop-table : goal.invariant-loop-table

@@ -1,0 +1,3 @@
+pub mod Mitchell
+pub mod MitchellRow
+pub mod Refusal

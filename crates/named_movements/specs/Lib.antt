@@ -1,0 +1,3 @@
+pub mod Howell
+pub mod Named
+pub mod Words
