@@ -32,6 +32,8 @@ texts = {
     "users": lambda: session(boards, [user("u%d" % n, []) for n in range(max(1, size // 112))]),
     # one user with one role many times
     "roles": lambda: session(boards, [user("a", ["Member"] * max(1, size // 10))]),
+    # more rows of a movement than there may be
+    "rows": lambda: session(boards)[:-1] + ',"movement":' + json.dumps([[1, 1, 1, "NS1", "EW1"]] * max(1, size // 25)) + "}",
     # members that come again and again: the last one counts
     "twice": lambda: filled("{", '"budget":1,', session(boards)[1:]),
     # members of many names, from the first in the order of names to the last

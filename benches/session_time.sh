@@ -22,7 +22,7 @@ least() {
   echo "$best"
 }
 
-for kind in users roles twice names names_down brackets braces name digits fraction text escapes blanks comment; do
+for kind in users roles rows twice names names_down brackets braces name digits fraction text escapes blanks comment; do
   few=$(least "$kind" 262144)
   many=$(least "$kind" 1048000)
   echo "$kind: 256 KiB $few us, 1 MiB $many us, $(( 100 * many / few )) / 100 times: $(cat "$work/fault")"

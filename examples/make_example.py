@@ -1,10 +1,11 @@
 #!/usr/bin/env python3
-# Writes the examples of this folder: club.pbn, session.json, and each script with its answers.
+# Writes the examples of this folder: club.pbn and session.json, howell.pbn and howell.json, and each script with its answers.
 #
 #     python3 examples/make_example.py
 #
 # It gives the same files each time. The answers are worked out here by the rules that docs/POLICY.md and
 # docs/PROTOCOL.md state, and not by the program. Nothing is built or tested with it but the example.
+import fractions
 import hashlib
 import json
 import pathlib
@@ -81,6 +82,19 @@ def rows():
 ROWS = list(rows())
 
 
+# Another one, for small clubs: a Howell of five tables, whose rows stand in movements/howell_5.json. A pair is named by the
+# place where it begins, and sits on either side later.
+HOWELL_TABLES, HOWELL_ROUNDS = 5, 9
+HOWELL = json.loads((pathlib.Path(__file__).parent / "movements" / "howell_5.json").read_text())
+HOWELL_BOARDS = HOWELL_ROUNDS * PER_SET
+
+
+def howell_rows():
+    for number, table, which, ns, ew in HOWELL:
+        for k in range(PER_SET):
+            yield {"round": number, "table": table, "board": (which - 1) * PER_SET + k + 1, "ns": ns, "ew": ew}
+
+
 # A plausible contract: the side with more points bids its longest suit, as high as the points say.
 def result_of(board, deal):
     points = {p: sum("0JQKA".index(c[1]) if c[1] in "JQKA" else 0 for c in deal[p]) for p in deal}
@@ -114,12 +128,12 @@ def score_of(result, board):
     return score if by_ns else -score
 
 
-# The session's users, and the session.
-def users():
+# The users of a session of so many tables, and the session.
+def users(tables):
     for name, role in STAFF:
         yield {"digest": digest_of(name), "name": name, "roles": [role]}
     for names, side, places in ((NORTH_SOUTH, "NS", "NS"), (EAST_WEST, "EW", "EW")):
-        for i, name in enumerate(names):
+        for i, name in enumerate(names[: 2 * tables]):
             yield {
                 "digest": digest_of(name),
                 "name": name,
@@ -133,19 +147,23 @@ def digest_of(name):
     return hashlib.sha256(f"{name}-example".encode()).hexdigest()
 
 
-USERS = list(users())
-DEALS = {board: deal_of(board) for board in range(1, BOARDS + 1)}
-RESULTS = {board: result_of(board, DEALS[board]) for board in range(1, BOARDS + 1)}
+USERS = list(users(TABLES))
+DEALS = {board: deal_of(board) for board in range(1, HOWELL_BOARDS + 1)}
+RESULTS = {board: result_of(board, DEALS[board]) for board in range(1, HOWELL_BOARDS + 1)}
 
 
 def session():
     return {"budget": 200000000, "per_set": PER_SET, "rounds": ROUNDS, "tables": TABLES, "users": USERS}
 
 
-def pbn():
+def howell_session():
+    return {**session(), "movement": HOWELL, "rounds": HOWELL_ROUNDS, "tables": HOWELL_TABLES, "users": list(users(HOWELL_TABLES))}
+
+
+def pbn(boards):
     marks = {"none": "None", "ns": "NS", "ew": "EW", "both": "All"}
     text = "% PBN 2.1\n"
-    for board in range(1, BOARDS + 1):
+    for board in range(1, boards + 1):
         dealer = dealer_of(board)
         text += f'[Event "Example"]\n[Board "{board}"]\n[Dealer "{dealer}"]\n'
         text += f'[Vulnerable "{marks[vulnerability_of(board)]}"]\n[Deal "{deal_text(DEALS[board], dealer)}"]\n\n'
@@ -154,14 +172,15 @@ def pbn():
 
 # What the club's server answers, by the rules of docs/POLICY.md for a board that isn't held.
 class Club:
-    def __init__(self):
-        self.live, self.entered, self.version = {}, {}, 0
+    def __init__(self, users, rows):
+        self.users, self.rows, self.boards = users, rows, range(1, max(row["board"] for row in rows) + 1)
+        self.live, self.entered, self.round, self.version = {}, {}, 1, 0
 
     def denied(self, name, board):
-        user = next((u for u in USERS if u["name"] == name), None)
+        user = next((u for u in self.users if u["name"] == name), None)
         if user is None:
             return 1, 0, 0, "no such account"
-        cells = [row for row in ROWS if row["board"] == board]
+        cells = [row for row in self.rows if row["board"] == board]
         waiting = [row["table"] for row in cells if (row["table"], board) not in self.live]
         if "Director" in user["roles"]:
             return None
@@ -179,8 +198,12 @@ class Club:
         return None
 
     def ask(self, message):
+        if message["ask"] == "status":
+            return {"status": self.status(), "version": self.version}
+        if message["ask"] == "ranking":
+            return {"ranking": self.ranking(message["as"]), "version": self.version}
         board = message["board"]
-        if board not in DEALS:
+        if board not in self.boards:
             return {"error": "NoSuchBoard", "version": self.version}
         denied = self.denied(message["as"], board)
         if denied:
@@ -189,7 +212,10 @@ class Club:
         if message["ask"] == "board":
             shown = {"deal": deal_text(DEALS[board]), "dealer": dealer_of(board), "number": board, "vul": vulnerability_of(board)}
             return {"board": shown, "version": self.version}
-        cells = [row for row in sorted(ROWS, key=lambda row: row["table"]) if row["board"] == board and (row["table"], board) in self.live]
+        return {"traveller": {"board": board, "rows": self.traveller(board)}, "version": self.version}
+
+    def traveller(self, board):
+        cells = [row for row in sorted(self.rows, key=lambda row: row["table"]) if row["board"] == board and (row["table"], board) in self.live]
         lines = []
         for row in cells:
             result = self.live[row["table"], board]
@@ -197,14 +223,46 @@ class Club:
         for line in lines:
             others = [other["score"] for other in lines if other is not line]
             line["points"] = sum(2 if line["score"] > s else 1 if line["score"] == s else 0 for s in others)
-        return {"traveller": {"board": board, "rows": lines}, "version": self.version}
+        return lines
+
+    # Of a Howell, with its rows by set and then by table.
+    def status(self):
+        return {
+            "held": [],
+            "live": [sorted(table for table, of in self.live if of == board) for board in self.boards],
+            "marks": [f"{dealer_of(board)} {vulnerability_of(board)}" for board in self.boards],
+            "movement": sorted(HOWELL, key=lambda row: (row[2], row[1])),
+            "per_set": PER_SET,
+            "phase": "Running",
+            "round": self.round,
+            "rounds": HOWELL_ROUNDS,
+            "seats": [[user["name"], user["pair"], user["place"]] for user in self.users if "pair" in user],
+            "tables": HOWELL_TABLES,
+        }
+
+    # By which part of the tops was earned, of the boards that the user may see; then North-South first, and by number.
+    def ranking(self, name):
+        pairs = sorted({user["pair"] for user in self.users if "pair" in user}, key=lambda pair: ("NSEW".index(pair[:2]), int(pair[2:])))
+        earned, tops = dict.fromkeys(pairs, 0), dict.fromkeys(pairs, 0)
+        for board in self.boards:
+            lines = [] if self.denied(name, board) else self.traveller(board)
+            top = 2 * (len(lines) - 1)
+            for line in lines:
+                for pair, units in ((line["ns"], line["points"]), (line["ew"], top - line["points"])):
+                    earned[pair] += 100 * units
+                    tops[pair] += 100 * top
+        part = lambda pair: fractions.Fraction(earned[pair], tops[pair]) if tops[pair] else -1
+        return [[pair, earned[pair], tops[pair]] for pair in sorted(pairs, key=part, reverse=True)]
 
     def command(self, command):
+        if command["cmd"] == "NextRound":
+            self.round += 1
+            return "ok"
         cell, result = (command["table"], command["board"]), command["result"]
-        row = next((row for row in ROWS if (row["table"], row["board"]) == cell), None)
+        row = next((row for row in self.rows if (row["table"], row["board"]) == cell), None)
         if row is None:
             return "NoSuchCell"
-        if row["round"] > 1:
+        if row["round"] > self.round:
             return "RoundNotStarted"
         if cell in self.live:
             return "AlreadyLive"
@@ -219,7 +277,7 @@ class Club:
         return "ok"
 
     def do(self, message):
-        if message["as"] != "sam":
+        if message["as"] != ("dora" if message["do"][0]["cmd"] == "NextRound" else "sam"):
             answers = ["NotPermitted" for command in message["do"]]
         else:
             answers = [self.command(command) for command in message["do"]]
@@ -261,6 +319,27 @@ def messages():
     yield from (ask("anna", 3), ask("anna", 3, "traveller"), ask("anna", 4), ask("anna", 22), ask("vera", 3), ask("dora", 25))
 
 
+def howell_messages():
+    ask = lambda name, board, what="board": {"as": name, "ask": what, "board": board}
+    do = lambda name, commands: {"as": name, "do": commands}
+    told = lambda cells: [enter(kind, row["board"], row["table"]) for kind in ("Enter", "Confirm") for row in cells]
+    in_round = lambda number, k: [row for row in howell_rows() if row["round"] == number and (row["board"] - 1) % PER_SET == k]
+    # Who plays what stands in the status. In the first round each pair sits where its name says.
+    yield from ({"as": "anna", "ask": "status"}, ask("anna", 1), ask("greta", 1))
+    for k in range(PER_SET):
+        yield do("sam", told(in_round(1, k)))
+    yield from (ask("anna", 1), ask("anna", 1, "traveller"), ask("rosa", 1))
+    # In the second, EW2 and NS3 play the first set at table 2, and EW2 sits North-South. They see it when they have played it.
+    yield from (do("sam", [enter("Enter", 1, 2)]), do("dora", [{"cmd": "NextRound"}]), ask("tilda", 1), ask("emma", 1))
+    better = dict(RESULTS[1], tricks=RESULTS[1]["tricks"] + 1)
+    yield do("sam", [enter("Enter", 1, 2, better), enter("Confirm", 1, 2, better)])
+    yield from (ask("tilda", 1), ask("emma", 1, "traveller"), ask("vera", 1))
+    for k in range(1, PER_SET):
+        yield do("sam", told(in_round(2, k)))
+    # Each pair meets each other once, so there is one list of winners; a player's counts the boards that he may see.
+    yield from ({"as": "dora", "ask": "ranking"}, {"as": "tilda", "ask": "ranking"}, ask("anna", 28))
+
+
 # The shortest example: three tables and three boards, each player with a whole suit. North of pair 1 asks for board 1, a
 # scorer enters and confirms the result of her table, and she asks again.
 def one_board():
@@ -289,19 +368,35 @@ def compact(value):
 
 def main():
     here = pathlib.Path(__file__).parent
-    (here / "club.pbn").write_text(pbn())
-    lines = ",\n    ".join(compact(user) for user in USERS)
-    head = {key: value for key, value in session().items() if key != "users"}
-    members = "".join(f'  "{key}": {head[key]},\n' for key in sorted(head))
-    (here / "session.json").write_text("{\n" + members + f'  "users": [\n    {lines}\n  ]\n}}\n')
-    club = Club()
-    script = [compact(dict(session(), pbn=pbn()))]
-    answers = []
-    for message in messages():
+    (here / "club.pbn").write_text(pbn(BOARDS))
+    (here / "session.json").write_text(spread(session()))
+    write(here / "first_round", *played(session(), ROWS, BOARDS, messages()))
+    (here / "howell.pbn").write_text(pbn(HOWELL_BOARDS))
+    (here / "howell.json").write_text(spread(howell_session()))
+    write(here / "howell", *played(howell_session(), list(howell_rows()), HOWELL_BOARDS, howell_messages()))
+    write(here / "one_board", *([compact(value) for value in values] for values in one_board()))
+
+
+# A session object with a line for each member, each user and each round of a movement.
+def spread(found):
+    def lines(parts):
+        return "[\n    " + ",\n    ".join(parts) + "\n  ]"
+
+    texts = {key: str(value) for key, value in found.items()}
+    texts["users"] = lines(map(compact, found["users"]))
+    if "movement" in found:
+        rounds = [[row for row in found["movement"] if row[0] == number] for number in range(1, found["rounds"] + 1)]
+        texts["movement"] = lines(",".join(map(compact, rows)) for rows in rounds)
+    return "{\n" + ",\n".join(f'  "{key}": {texts[key]}' for key in sorted(texts)) + "\n}\n"
+
+
+# The lines of a script, and of its answers.
+def played(found, rows, boards, messages):
+    club, script, answers = Club(found["users"], rows), [compact(dict(found, pbn=pbn(boards)))], []
+    for message in messages:
         script.append(compact(message))
         answers.append(compact(club.answer(message)))
-    write(here / "first_round", script, answers)
-    write(here / "one_board", *([compact(value) for value in values] for values in one_board()))
+    return script, answers
 
 
 def write(path, script, answers):

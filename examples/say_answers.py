@@ -18,16 +18,19 @@ def say(message, answer):
         refused = [why for why in answer["answers"] if why != "ok"]
         came = f"refused ({', '.join(refused)})" if refused else f"accepted, so the version is {answer['version']}"
     else:
-        asked = "" if message["ask"] == "board" else f"the {message['ask']} of "
-        what = f"asks for {asked}board {message['board']}"
+        asked = [] if message["ask"] == "board" else [f"the {message['ask']}"]
+        about = [f"board {message['board']}"] if "board" in message else []
+        what = f"asks for {' of '.join(asked + about)}"
         if "denied" in answer:
             came = f"denied by rule {answer['denied']['rule']}: {answer['denied']['why']}"
         elif "traveller" in answer:
             came = f"shown, with {len(answer['traveller']['rows'])} of its results"
-        elif "board" in answer:
-            came = "shown"
-        else:
+        elif "ranking" in answer:
+            came = f"shown, and {answer['ranking'][0][0]} leads {len(answer['ranking'])} pairs"
+        elif "error" in answer:
             came = "refused: " + answer["error"]
+        else:
+            came = "shown"
     return f"{message['as']:>6}  {what:<34} {came}"
 
 

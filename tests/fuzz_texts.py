@@ -25,6 +25,7 @@ import sys
 
 from many_clients import BOARDS, SECOND_USERS, USERS, Sender, SolvedSession, deal_text, pbn_text, session_of, some_hands
 from message_reader import Fault, read_line
+from movements import mitchell
 from session_doctor import check_session, refusal_of
 from write_stored_runs import text_of
 
@@ -36,9 +37,11 @@ SECOND_SENDERS = [*SENDERS, "t", "t2"]
 # What stands in place of a value; the texts between @ are written as they are, and no JSON writer would write some of them so.
 VALUES = [0, 1, 2, 13, 14, 255, 256, 2**64 - 1, 2**64, -1, -10_000, -10_001, None, True, False, [], {}, "", "pass", "N", "NS1", "NS01",
           "NS256", "SA", "Embargo", "Commentator", "s" * 32, "s" * 33, "Zo\u00eb", "\u6c34" * 11, "a b", "\0", "board", "Director", [0], {"min": 0, "max": 13},
+          "howell", [[1, 1, 1, "NS1", "EW1"]],
           "@-0@", "@1.0@", "@1e3@", "@1e400@", "@01@", "@+1@", "@.5@", "@1.@", "@0x1@", "@NaN@", "@-Infinity@", "@'x'@",
           '@"\\ud800"@', '@"\\u0061"@', '@"\t"@', "@" + "9" * 30 + "@", "@" + "9" * 400 + "@", "@" + "[" * 130 + "]" * 130 + "@"]
-NAMES = ["as", "ask", "do", "audit", "hello", "token", "board", "table", "since", "filter", "from", "limit", "cmd", "name", "Board", "", "play", "edition", "absent", "role"]
+NAMES = ["as", "ask", "do", "audit", "hello", "token", "board", "table", "since", "filter", "from", "limit", "cmd", "name", "Board", "", "play", "edition", "absent", "role",
+         "movement", "shared_by", "switched"]
 failed = []
 
 
@@ -203,6 +206,11 @@ def second_session(pbn):
     return {**small_session(pbn), "edition": 2, "users": [*USERS[:11], SECOND_USERS[-1]]}
 
 
+def listed_session(pbn):
+    """The same, with the rows of its movement."""
+    return {**small_session(pbn), "movement": mitchell(3, 3), "shared_by": 1}
+
+
 TEXT = "{ a note } % no escape\n%an escape [\n[Event \"#\"]\n[Board \"1\"]\n[Dealer \"N\"]\n[Vulnerable \"None\"]\n"
 
 
@@ -220,7 +228,7 @@ def fuzz_openings():
     compare_openings("changed PBN texts", texts)
     objects = []
     while len(objects) < OBJECTS:
-        value = rng.choice([small_session, second_session])(pbn_text([deal_text(one) for one in hands]))
+        value = rng.choice([small_session, second_session, listed_session])(pbn_text([deal_text(one) for one in hands]))
         while rng.random() < 0.7:
             value = changed(rng, value)
             if not isinstance(value, (dict, list)):

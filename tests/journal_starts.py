@@ -20,7 +20,9 @@ import time
 
 from journal_files import change, contents_of, copied, fault, integrity_of, log_of, ran, rows_of, session_of_file
 from raw_client import BOARDS, SESSION, Client, Server, some_deals
-from write_query_runs import hold, release, void
+from write_movement_runs import SESSION as HOWELL
+from write_movement_runs import TOLD as HOWELL_ROWS
+from write_query_runs import NEXT, hold, release, void
 from write_stored_runs import FOUR_SPADES, WHOLE_SUITS, confirm, enter, text_of
 
 PROGRAM = sys.argv[1] if len(sys.argv) > 1 else "crates/bridge_server/out/bridge_server"
@@ -146,6 +148,29 @@ def solved_again(folder):
     check("a number of tricks that somebody changed isn't taken", refused(1, "Unreadable(2)"), Files(folder, **session).start(journal))
 
 
+def moved_on(folder):
+    """A session whose movement is a list goes on as any other; with its rows in another order it is another session."""
+    journal, asked = folder / "howell.journal", [{"ask": "status"}, {"ask": "traveller", "board": 2}, {"ask": "ranking"}]
+    session, deals = {name: value for name, value in HOWELL.items() if name != "pbn"}, HOWELL["pbn"]
+    with Server(PROGRAM, "--journal", journal, *FEW, session=session, deals=deals) as server:
+        scorer, player, director = (signed_in(server, name) for name in ("k", "n1", "d"))
+        told(scorer, {"do": [enter(1, 1, FOUR_SPADES), confirm(1, 1, FOUR_SPADES)]})
+        told(director, {"do": [NEXT]})
+        told(scorer, {"do": [enter(1, 2, "pass"), confirm(1, 2, "pass")]})
+        before = [told(player, {**query, "since": 5}) for query in asked]
+        server.process.kill()
+        server.stopped()
+    check("the status has the rows of a movement that is a list", HOWELL_ROWS, before[0]["status"]["movement"])
+    check("a pair that began East-West sits North-South", [("EW3", "NS1")], [(row["ns"], row["ew"]) for row in before[1]["traveller"]["rows"]])
+    with Server(PROGRAM, "--journal", journal, *FEW, session=session, deals=deals) as server:
+        player, scorer = signed_in(server, "n1"), signed_in(server, "k")
+        check("a start answers so again", before, [told(player, query) for query in asked])
+        check("and plays on by the rows", ["RoundNotStarted", "NoSuchCell", "ok"],
+              told(scorer, {"do": [enter(1, 3, "pass"), enter(2, 6, "pass"), enter(2, 5, "pass")]})["answers"])
+    other = Files(tempfile.mkdtemp(dir=folder), {**session, "movement": session["movement"][::-1]}, deals)
+    check("its rows in another order", refused(1, "OtherSession"), other.start(journal))
+
+
 # ---- what is refused
 
 def refusals(folder):
@@ -189,8 +214,11 @@ def refusals(folder):
     tried("a command that no client would write so", refused(1, "Unreadable(1)"), (set_command, ('{"board": 1, "cmd": "Hold"}', 1)))
     of_the_solver = "UPDATE entry SET actor = 'solver', command = ? WHERE number = 1"
     tried("a table of no deal", refused(1, "Unreadable(1)"), (of_the_solver, ('{"board":1,"cmd":"Solved","deal":"N:..."}',)))
-    solved = text_of({"board": 1, "cmd": "Solved", "deal": f"N:{WHOLE_SUITS}"})
-    tried("a table that isn't found again, since the session has no visits", refused(1, "Unsolved(1)"), (of_the_solver, (solved,)))
+    solved = {"board": 1, "cmd": "Solved", "deal": f"N:{WHOLE_SUITS}"}
+    tricks = {**dict.fromkeys("NS", [13, 0, 13, 0, 0]), **dict.fromkeys("EW", [0, 13, 0, 13, 0])}
+    tried("a table without its numbers", refused(1, "Unreadable(1)"), (of_the_solver, (text_of(solved),)))
+    tried("a table that is found again, though the session has no visits, and in its place a board isn't held any more",
+          refused(1, "NotAccepted(2)"), (of_the_solver, (text_of({**solved, "tricks": tricks}),)))
     tried("a table more in the file", refused(1, "NotAJournal"), "CREATE TABLE note (text TEXT)")
     tried("an index more in the file", refused(1, "NotAJournal"), "CREATE INDEX by_actor ON entry (actor)")
     tried("another program's file of SQLite", refused(1, "NotAJournal"), made=other_program)
@@ -215,7 +243,7 @@ def refusals(folder):
 
 def main():
     with tempfile.TemporaryDirectory() as name:
-        for part in (goes_on, solved_again, refusals):
+        for part in (goes_on, solved_again, moved_on, refusals):
             part(pathlib.Path(name))
     print(f"{len(failed)} failed" if failed else "all is as it should be")
     return 1 if failed else 0

@@ -144,7 +144,7 @@ class JudgedSession(Session):
     def why_seat(self, command):
         name, pair, place = command["name"], command["pair"], command["place"]
         return first_of([
-            ("NoSuchPair", int(pair[2:]) > self.tables or pair == self.absent),
+            ("NoSuchPair", pair not in self.playing),
             ("WrongDirection", place not in pair[:2]),
             ("NotContestant", "Contestant" not in self.authorized(name)),
             ("AlreadySeated", name in self.seats),

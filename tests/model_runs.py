@@ -40,8 +40,9 @@ def opened(line):
     check_session(line.encode())
     found = json.loads(line)
     assert "Dealer" not in found["pbn"] and "Vulnerable" not in found["pbn"], "the model's marks are those of Law 2"
+    more = {name: found[name] for name in ("absent", "movement", "switched") if name in found}
     return JudgedSession(*(found[name] for name in ("tables", "rounds", "per_set", "users")), deals_of(found["pbn"]),
-                         found.get("absent"), edition_of(found))
+                         edition=edition_of(found), **more)
 
 
 def answer_of(session, line):

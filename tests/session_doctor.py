@@ -15,17 +15,27 @@ import re
 import shlex
 import sys
 
+from movements import (LEAST_TABLES, MOST_BOARDS, MOST_PER_SET, MOST_ROWS, MOST_SETS, MOST_TABLES, WORDS, first_misplaced, most_rounds,
+                       movement_of)
 from session_model import SEPARATED, opening_pairs, roles_of
 from stored_runs import read as stored
 
 ROOT = pathlib.Path(__file__).resolve().parent.parent
 MOST_BYTES, MOST_VISITS, MOST_LEVELS, MOST_USERS, MOST_DEALS_BYTES = 1_048_576, 10**18, 127, 256, 16_777_216
 MEMBERS = ["budget", "per_set", "rounds", "tables", "users"]
+MAY_BE_MISSING = ["absent", "edition", "movement", "shared_by", "switched"]
+# by which tables a movement with a word is played: the least and the most, and whether their number is even
+TABLES_OF = {"mitchell": (LEAST_TABLES, MOST_TABLES, False), "howell": (LEAST_TABLES, 8, False), "share_and_relay": (4, MOST_TABLES, True),
+             "web": (6, MOST_TABLES, True)}
 USED = (b"Board", b"Dealer", b"Vulnerable", b"Deal")
 RANKS = b"AKQJT98765432"
-# The user whom each refusal of a user in the part `session objects` is about, in its order.
-WHOM = ["n1", "a b", "", "", "a", "a", "s", "d", "d", "k", "a", "n1", "n1", "n1", "s", "n2", "u254",
-        "c", "c", "c", "n1", "c", "c"]
+# The user whom each refusal of a user in the parts `session objects` is about, in its order.
+WHOM = {
+    "session objects": ["n1", "a b", "", "", "a", "a", "s", "d", "d", "k", "a", "n1", "n1", "n1", "s", "n2", "u254",
+                        "c", "c", "c", "n1", "c", "c"],
+    "session objects, lists of rows": ["n1", "n2", "e16", "e5"],
+    "session objects, words for movements": ["n7", "e6"],
+}
 
 
 class Refused(Exception):
@@ -110,11 +120,14 @@ def check_names(found, wanted, where, user=None):
             raise bad(where, f"there is no member {quoted(name)}", user)
 
 
-def whole(found, name, most):
-    value = found[name]
-    if not isinstance(value, Number) or not value.isdigit() or len(value) > 20 or int(value) > most:
-        raise bad("the session object", f"`{name}` is a whole number from 0 to {most:,}, without quotes, point or sign")
-    return int(value)
+def is_whole(value, most, least=0):
+    return isinstance(value, Number) and value.isdigit() and len(value) <= 20 and least <= int(value) <= most
+
+
+def whole(found, name, most, least=0):
+    if not is_whole(found[name], most, least):
+        raise bad("the session object", f"`{name}` is a whole number from {least} to {most:,}, without quotes, point or sign")
+    return int(found[name])
 
 
 def is_text(value):
@@ -151,8 +164,35 @@ def edition_of(found):
     return int(found.get("edition", 1))
 
 
+def is_row(row):
+    return isinstance(row, list) and len(row) == 5 and all(is_whole(number, 255) for number in row[:3]) and all(map(is_pair, row[3:]))
+
+
+def check_movement_members(found):
+    """A word or a list of rows, and what may stand beside either."""
+    movement = found.get("movement")
+    if is_text(movement) and movement not in WORDS:
+        raise bad("the session object", f"there is no movement {quoted(movement)}; those with a word are {', '.join(WORDS)}")
+    if isinstance(movement, list):
+        if not 1 <= len(movement) <= MOST_ROWS:
+            raise bad("the session object", f"`movement` has {len(movement)} rows, and may have 1 to {MOST_ROWS}")
+        for number, row in enumerate(movement, 1):
+            if not is_row(row):
+                raise bad("the session object", f"row {number} of `movement` is no list of a round, a table, a set and two pairs")
+    elif "movement" in found and not is_text(movement):
+        raise bad("the session object", "`movement` is a word or a list of rows")
+    if "shared_by" in found:
+        if not isinstance(movement, list):
+            raise bad("the session object", "`shared_by` stands beside a list of rows alone")
+        whole(found, "shared_by", MOST_TABLES, 1)
+    if "switched" in found:
+        if not is_text(movement) or movement == "howell":
+            raise bad("the session object", "`switched` stands beside a word alone, which isn't howell")
+        whole(found, "switched", int(found["rounds"]))
+
+
 def check_members(found, deals):
-    may_be_missing = [name for name in ("absent", "edition") if name in found]
+    may_be_missing = [name for name in MAY_BE_MISSING if name in found]
     check_names(found, MEMBERS + may_be_missing + (["pbn"] if deals is None else []), "the session object")
     if "absent" in found and not is_pair(found["absent"]):
         raise bad("the session object", "`absent` is a pair: NS or EW and a number from 1 to 255, as EW9")
@@ -162,6 +202,7 @@ def check_members(found, deals):
     if deals is None and not is_text(found["pbn"]):
         raise bad("the session object", "`pbn` is a text")
     numbers = [whole(found, name, 255) for name in ("tables", "rounds", "per_set")]
+    check_movement_members(found)
     if not isinstance(found["users"], list):
         raise bad("the session object", "`users` is a list")
     for number, user in enumerate(found["users"], 1):
@@ -169,16 +210,46 @@ def check_members(found, deals):
     return numbers
 
 
-def check_movement(tables, rounds, per_set, absent):
-    if not 3 <= tables <= 16:
-        raise Refused("BadTables", f"{tables} tables play, and may be 3 to 16")
-    most = tables - 1 if tables % 2 == 0 else tables
-    if not 1 <= rounds <= most:
-        raise Refused("BadRounds", f"{rounds} rounds are played, and at {tables} tables may be 1 to {most}")
-    if not 1 <= per_set <= 8:
-        raise Refused("BadSets", f"a table plays {per_set} boards in a round, and may play 1 to 8")
-    if absent is not None and int(absent[2:]) > tables:
-        raise Refused("BadPair", f"{absent} is absent, and at {tables} tables the pairs are NS1 to NS{tables} and EW1 to EW{tables}")
+def plain(movement):
+    """A list of rows with numbers in place of what is written."""
+    return [(*map(int, row[:3]), *row[3:]) for row in movement] if isinstance(movement, list) else movement
+
+
+def check_tables(tables, word):
+    least, most, even = TABLES_OF[word]
+    if not least <= tables <= most or (even and tables % 2):
+        which = "an even number from " if even else ""
+        raise Refused("BadTables", f"{tables} tables play, and may be {which}{least} to {most}")
+
+
+def check_rounds(tables, rounds, word):
+    most = 255 if word is None else most_rounds(tables, word)
+    if not 1 <= rounds <= most or (word == "web" and rounds % 2 == 0):
+        which = "an odd number from " if word == "web" else ""
+        raise Refused("BadRounds", f"{rounds} rounds are played, and at {tables} tables may be {which}1 to {most}")
+
+
+def check_sets(sets, per_set):
+    if not 1 <= per_set <= MOST_PER_SET:
+        raise Refused("BadSets", f"a table plays {per_set} boards in a round, and may play 1 to {MOST_PER_SET}")
+    if not 1 <= sets <= MOST_SETS or sets * per_set > MOST_BOARDS:
+        raise Refused("BadSets", f"there are {sets} sets of {per_set} boards, and may be 1 to {MOST_SETS} with at most {MOST_BOARDS} boards")
+
+
+def check_movement(found, tables, rounds, per_set):
+    """The movement of the object, if it can be played."""
+    listed, absent = plain(found.get("movement")), found.get("absent")
+    word = "mitchell" if listed is None else listed if is_text(listed) else None
+    check_tables(tables, word or "mitchell")
+    check_rounds(tables, rounds, word)
+    movement = movement_of(tables, rounds, listed, int(found.get("switched", 0)))
+    check_sets(movement.sets, per_set)
+    if word is None and (misplaced := first_misplaced(movement.rows, rounds, tables, int(found.get("shared_by", 1)))):
+        row = list(movement.rows[int(misplaced.partition("(")[2][:-1]) - 1])
+        raise Refused(misplaced, f"the first row that can't stand after those before it is {json.dumps(row, separators=(',', ':'))}")
+    if absent is not None and absent not in movement.pairs:
+        raise Refused("BadPair", f"{absent} is absent, and the pairs are {', '.join(movement.pairs)}")
+    return movement
 
 
 # ---- the boards' text: its tags, each with the place of its `[`
@@ -364,10 +435,10 @@ def check_account(user, number, before, edition):
             raise Refused(f"Separation({separation})", f"{where} is authorized for {role} and Contestant, by: {assigned}", name)
 
 
-def check_seat(user, number, before, found):
+def check_seat(user, number, before, found, pairs):
     name, where, pair, place = user["name"], at_user(number, user["name"]), user["pair"], user["place"]
-    if int(pair[2:]) > int(found["tables"]):
-        raise Refused("NoSuchPair", f"{where}: there is no pair {pair} at {found['tables']} tables", name)
+    if pair not in pairs:
+        raise Refused("NoSuchPair", f"{where}: the movement has no pair {pair}", name)
     if pair == found.get("absent"):
         raise Refused("NoSuchPair", f"{where}: the pair {pair} is absent", name)
     if place not in pair[:2]:
@@ -379,12 +450,12 @@ def check_seat(user, number, before, found):
             raise Refused("SeatTaken", f"{where} has the seat of {at_user(other, earlier['name'])}: {place} in {pair}", name)
 
 
-def check_users(found):
+def check_users(found, pairs):
     users, edition = found["users"], edition_of(found)
     for place, user in enumerate(users):
         check_account(user, place + 1, users[:place], edition)
         if "pair" in user:
-            check_seat(user, place + 1, users[:place], found)
+            check_seat(user, place + 1, users[:place], found, pairs)
     if not any("Administrator" in authorized(user["roles"], edition) for user in users):
         raise Refused("LastAdministrator", "no user is authorized for Administrator")
 
@@ -393,10 +464,11 @@ def check_session(line, deals=None):
     """Looks at a session object, and the text of its boards where they are given beside it; the first refusal is raised."""
     found = object_of(line)
     tables, rounds, per_set = check_members(found, deals)
-    check_movement(tables, rounds, per_set, found.get("absent"))
-    check_boards(found["pbn"].encode() if deals is None else deals, tables * per_set)
-    check_users(found)
-    return f"opens: {tables} tables, {rounds} rounds, boards 1 to {tables * per_set}, {len(found['users'])} users"
+    movement = check_movement(found, tables, rounds, per_set)
+    boards = movement.sets * per_set
+    check_boards(found["pbn"].encode() if deals is None else deals, boards)
+    check_users(found, movement.pairs)
+    return f"opens: {tables} tables, {rounds} rounds, boards 1 to {boards}, {len(found['users'])} users"
 
 
 # ---- the stored runs
@@ -409,16 +481,16 @@ def refusal_of(look, *given):
         return refused.refusal, refused.user
 
 
-def stored_objects():
-    """What differs from the part `session objects`, with the users of WHOM."""
-    lines, answers = (stored(name)["session objects"].splitlines() for name in ("stdin", "stdout"))
-    users = iter(WHOM)
+def stored_objects(part):
+    """What differs from a part of session objects, with its users of WHOM."""
+    lines, answers = (stored(name)[part].splitlines() for name in ("stdin", "stdout"))
+    users = iter(WHOM[part])
     for number, (line, answer) in enumerate(zip(lines, answers, strict=True), 1):
         wanted = None if answer.startswith("0 ") else answer.removeprefix("1 bridge_server: ")
         refusal, user = refusal_of(check_session, line.encode())
         named = user is None or refusal == "BadField" or user == next(users, None)
-        yield None if refusal == wanted and named else f"line {number}: {refusal} {user}, {answer}"
-    yield None if next(users, None) is None else "WHOM names more users than there are"
+        yield None if refusal == wanted and named else f"{part}, line {number}: {refusal} {user}, {answer}"
+    yield None if next(users, None) is None else f"{part}: WHOM names more users than there are"
 
 
 def stored_texts():
@@ -436,7 +508,7 @@ def stored_texts():
 
 def check():
     example = [(ROOT / "examples" / name).read_bytes() for name in ("session.json", "club.pbn")]
-    found = [*stored_objects(), *stored_texts(), refusal_of(check_session, *example)[0]]
+    found = [*(fault for part in WHOM for fault in stored_objects(part)), *stored_texts(), refusal_of(check_session, *example)[0]]
     faults = [fault for fault in found if fault]
     print("\n".join([*faults, f"{len(found) - len(faults)} passed, {len(faults)} failed"]))
     return 1 if faults else 0

@@ -1,10 +1,12 @@
 """A plain model of a session of either edition, for the stored runs: what each command does, and what each query is answered.
 
 It follows docs/POLICY.md and docs/PROTOCOL.md rule by rule, with the Laws of Duplicate Bridge 2017 where they name them, and
-keeps nothing but what a session's commands say. It is slow and knows nothing of the program. What a command is refused for is in
-tests/judged_session.py.
+keeps nothing but what a session's commands say. It is slow and knows nothing of the program. Who plays what is in
+tests/movements.py, and what a command is refused for in tests/judged_session.py.
 """
 from functools import cmp_to_key
+
+from movements import movement_of
 
 # The last of each is the second edition's alone, and so is the fourth rule.
 PAIRS = [("Spectator", "Member"), ("Contestant", "Member"), ("Scorer", "Member"), ("Administrator", "Member"),
@@ -83,23 +85,14 @@ def units_of(score, scores):
     return sum(2 * (score > other) + (score == other) for other in scores) - 1
 
 
-def movement_of(tables, rounds):
-    """Who plays what: a row (round, table, set, North-South pair, East-West pair), each counted from 1."""
-    rows = []
-    for r in range(rounds):
-        for e in range(tables):
-            skip = 1 if tables % 2 == 0 and r >= tables // 2 else 0
-            table = (e + r + skip) % tables
-            rows.append((r + 1, table + 1, (table + r) % tables + 1, f"NS{table + 1}", f"EW{e + 1}"))
-    return sorted(rows)
-
-
 class Session:
-    def __init__(self, tables, rounds, per_set, users, deals, absent=None, edition=1):
+    def __init__(self, tables, rounds, per_set, users, deals, absent=None, edition=1, movement=None, switched=0):
         self.tables, self.rounds, self.per_set, self.deals, self.absent = tables, rounds, per_set, deals, absent
         self.edition, self.embargo = edition, False
-        self.boards = range(1, tables * per_set + 1)
-        self.rows = [row for row in movement_of(tables, rounds) if absent not in row[3:]]
+        rows, sets, pairs, self.is_named = movement_of(tables, rounds, movement, switched)
+        self.boards = range(1, sets * per_set + 1)
+        self.rows = sorted(row for row in rows if absent not in row[3:])
+        self.playing = [pair for pair in pairs if pair != absent]
         self.scheduled = {board: [row for row in sorted(self.rows, key=lambda row: row[1]) if row[2] == (board - 1) // per_set + 1]
                           for board in self.boards}
         self.users = {user["name"]: set(user["roles"]) for user in users}
@@ -253,7 +246,8 @@ class Session:
         half_table = {} if self.absent is None else {"absent": self.absent}
         second = {"edition": 2, "embargo": self.embargo} if self.edition == 2 else {}
         marks = [f"{dealer_of(board)} {vulnerability_of(board)}" for board in self.boards]
-        return {**half_table, **second, "held": sorted(self.held), "live": live, "marks": marks, "per_set": self.per_set,
+        named = {"movement": sorted(map(list, self.rows), key=lambda row: (row[2], row[1]))} if self.is_named else {}
+        return {**half_table, **second, "held": sorted(self.held), "live": live, "marks": marks, **named, "per_set": self.per_set,
                 "phase": self.phase, "round": self.round, "rounds": self.rounds, "seats": seats, "tables": self.tables}
 
     def ask_board(self, name, query):
@@ -303,9 +297,7 @@ class Session:
         for board in self.boards:
             if self.sees(name, "Hands", board):
                 self.add_earnings(board, self.shown_results(name, board), earned, tops)
-        pairs = [side + str(number) for side in ("NS", "EW") for number in range(1, self.tables + 1)]
-        pairs = [pair for pair in pairs if pair != self.absent]
-        standings = [[pair, earned.get(pair, 0), tops.get(pair, 0)] for pair in pairs]
+        standings = [[pair, earned.get(pair, 0), tops.get(pair, 0)] for pair in self.playing]
         return sorted(standings, key=cmp_to_key(ranks_before))
 
     def ask_accounts(self, name, query):

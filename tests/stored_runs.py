@@ -6,7 +6,7 @@ wanted.
     tests/stored_runs.py desk               # the script of a part, for `bridge_server script`
     tests/stored_runs.py desk answers       # the answers to it
 
-The last eleven parts are no scripts: the program knows them by their names, up to a comma.
+The last fourteen parts are no scripts: the program knows them by their names, up to a comma.
 
 The crate's files stdin and stdout have one form: before each part stand an LF and a line with its name, `== desk`. So a script
 may end without an LF of its own, and no message begins so.
@@ -20,6 +20,7 @@ RULES = "worked by hand, from the rules of docs/POLICY.md and docs/PROTOCOL.md"
 MODEL = "tests/write_query_runs.py: from the plain model of tests/session_model.py, and by hand"
 EDITIONS = "tests/write_edition_runs.py: by hand, and from the plain model of tests/judged_session.py"
 CONNECTIONS = "tests/write_connection_run.py: by hand, from docs/PROTOCOL.md and docs/POLICY.md"
+MOVEMENTS = "tests/write_movement_runs.py: by hand, and from the plain model of tests/judged_session.py"
 SOLVER = "tests/write_solved_run.py: by hand, of deals that give each player a whole suit"
 # Each part, and where its answers come from: never from the program.
 PARTS = {
@@ -47,6 +48,9 @@ PARTS = {
     **{part: EDITIONS for part in (
         "second edition", "embargo", "every role and an embargo", "a commentator who plays", "a commentator's roles",
         "second edition's end", "half table of the second edition", "first edition", "first edition by its number")},
+    **{part: MOVEMENTS for part in (
+        "a Howell", "a Howell, its rows in another order", "a Howell, a void", "a Howell, an absent pair", "496 rows", "a Howell, by its word",
+        "an arrow switch", "share and relay", "share and relay, an absent pair", "a web")},
     "connections": CONNECTIONS,
     "connections, second edition": CONNECTIONS,
     "connections, first edition": CONNECTIONS,
@@ -56,7 +60,10 @@ PARTS = {
     "both ways, each cell": "tests/write_both_ways_run.py: the same, with the play, the costs and the reason of every cell",
     "both ways, 2,000 commands": "tests/write_both_ways_run.py: the same, of commands that are drawn with a fixed seed",
     "both ways, second edition": "tests/write_both_ways_run.py: the same, also with embargoes and with who comments",
+    "both ways, a Howell": "tests/write_both_ways_run.py: the same, in a movement in which pairs change sides",
     "session objects": "tests/write_stored_runs.py: from the rules of docs/SESSION.md",
+    "session objects, lists of rows": "tests/write_movement_runs.py: from the rules of docs/SESSION.md",
+    "session objects, words for movements": "tests/write_movement_runs.py: from the rules of docs/SESSION.md",
     "full journal": RULES,
 }
 

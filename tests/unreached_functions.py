@@ -19,8 +19,6 @@ TESTING = ("test_devices",)
 # public functions that no program reaches, each with the reason why it stays
 KEPT = {
     "movement::Movement::new": "the usual section, with every pair there; a session object says both, by `with_absent`",
-    "movement::Movement::board_at": "which board comes when, as a director asks; programs ask for the cell of a board",
-    "movement::set_on": "`Movement::board_at` alone needs it",
     "scoring::matchpoints": "Law 78A over any list of scores; a traveller has sixteen rows at most, and counts without memory",
     "session_state::State::decide": "the policy for a user by name; programs ask it for a user whom they looked up once",
     "session_book::Book::exposed": "who was shown what, by name; a check goes over the accounts and asks by their places",

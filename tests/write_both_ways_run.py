@@ -1,7 +1,7 @@
 #!/usr/bin/env python3
-"""Writes the parts `both ways`, `both ways, each cell`, `both ways, 2,000 commands` and `both ways, second edition` of the stored runs of
-crates/bridge_server_stored_runs: sessions in which every question is answered from what a view keeps and afresh, after each command,
-for every user and for a stranger.
+"""Writes the parts `both ways`, `both ways, each cell`, `both ways, 2,000 commands`, `both ways, second edition` and `both ways, a Howell`
+of the stored runs of crates/bridge_server_stored_runs: sessions in which every question is answered from what a view keeps and afresh,
+after each command, for every user and for a stranger.
 
     python3 tests/write_both_ways_run.py
 
@@ -14,6 +14,10 @@ import random
 
 from judged_session import JudgedSession
 from stored_runs import put
+from write_movement_runs import DEALS as HOWELL_DEALS
+from write_movement_runs import HOWELL
+from write_movement_runs import SESSION as HOWELL_SESSION
+from write_movement_runs import USERS as HOWELL_USERS
 from write_query_runs import DEALS
 from write_stored_runs import SECOND_SESSION, SECOND_USERS, SESSION, USERS, text_of
 
@@ -36,7 +40,10 @@ def questions(boards, cells):
 
 def write(part, asked, commands, edition=1):
     opening, names, users = (SESSION, NAMES, USERS) if edition == 1 else (SECOND_SESSION, [*NAMES, "c"], SECOND_USERS)
-    session = JudgedSession(TABLES, ROUNDS, 1, users, DEALS, edition=edition)
+    write_session(part, opening, names, JudgedSession(TABLES, ROUNDS, 1, users, DEALS, edition=edition), asked, commands)
+
+
+def write_session(part, opening, names, session, asked, commands):
     for name, command in commands:
         assert session.batch(name, [command])["answers"] == ["ok"], (name, command)
     given = "\n".join([opening, " ".join(names), *asked, "", *(text_of({"as": name, "do": [command]}) for name, command in commands)])
@@ -157,3 +164,17 @@ write("both ways, each cell", [*questions((1, 2, 3), ALL_CELLS), text_of({"as": 
 write("both ways, 2,000 commands", SOME, [drawn.command() for _ in range(2000)])
 write("both ways, second edition", [*SOME, text_of({"as": "d", "ask": "board", "board": 2}), text_of({"as": "d", "ask": "play", "board": 1, "table": 2})],
       [second_drawn.command() for _ in range(200)], 2)
+# A Howell: each cell is played in its round, then a result of a pair that changed its side is voided, ruled and corrected.
+howell = JudgedSession(3, 5, 1, HOWELL_USERS, HOWELL_DEALS, movement=HOWELL)
+by_round = [[row for row in howell.rows if row[0] == number] for number in range(1, 6)]
+howell_commands = []
+for rows in by_round:
+    howell_commands += [("d", {"cmd": "NextRound"})] if howell_commands else []
+    howell_commands += [("k", {"board": row[2], "cmd": word, "result": result(4, 8 + row[1]), "table": row[1]})
+                        for row in rows for word in ("Enter", "Confirm")]
+howell_commands += [("d", {"cmd": "Hold", "board": 2}), ("d", {"board": 2, "cmd": "Void", "table": 1}), ("d", {"cmd": "Release", "board": 2}),
+                    ("d", {"board": 2, "cmd": "Rule", "ew": 40, "ns": 60, "reason": 7, "table": 1}), ("d", {"cmd": "Unseat", "name": "e1"}),
+                    ("d", {"cmd": "Seat", "name": "e1", "pair": "EW3", "place": "W"}),
+                    ("d", {"board": 2, "cmd": "Correct", "result": "pass", "table": 1})]
+write_session("both ways, a Howell", text_of(HOWELL_SESSION), ["a", "d", "k", "s", "n1", "e1", "stranger"], howell,
+              questions((1, 2, 5), ((1, 2), (2, 2), (3, 5))), howell_commands)
