@@ -1,11 +1,15 @@
 // The page: its views by address, what the user does, and how often the server is asked.
 
 import { Connection, ConnectionFault } from "./connection.js";
-import { button, element, replaceContent } from "./dom.js";
+import { button, element, fragmentOf, replaceContent } from "./dom.js";
 import { Drafts } from "./drafts.js";
 import { newForms } from "./forms.js";
+import { keepLetters, readLetters } from "./letters.js";
+import { Notices } from "./notices.js";
 import { pauseOf } from "./pauses.js";
 import { addressOf, routeOf, serverAddress, serverPathOf } from "./routes.js";
+import { keepScrolled } from "./scrolled.js";
+import { signInAs } from "./signing_in.js";
 import { Store } from "./store.js";
 import { texts } from "./texts.js";
 import { statusDeniedView, viewNeeds, viewNodes } from "./views.js";
@@ -26,19 +30,23 @@ class Page {
   route = routeOf(location.hash);
   drafts = new Drafts(storageOfTab());
   forms = newForms();
+  notices = new Notices({ refusal: part("refusal"), done: part("done"), putAway: part("put-away") });
   opened = new Set();
   serverPath = serverPathOf(location.search);
   isBusy = false;
   isSlow = false;
   offlineFor = 0;
-  hasLetters = false;
+  hasLetters = readLetters(storageOfTab());
+  heardAt = null;
   #armed = null;
   #openDetails = new Set();
   #failures = 0;
   #timer = null;
   #announced = "";
+  #lacking = null;
   #isStale = false;
   #isPressed = false;
+  #isFromTop = false;
   #store = this.#newStore();
 
   get state() {
@@ -55,10 +63,13 @@ class Page {
     });
     part("content").addEventListener("toggle", (event) => this.#noteDetails(event.target), true);
     part("content").addEventListener("focusout", () => this.#drawIfStale());
+    part("content").addEventListener("input", () => part("refusal").textContent === this.#lacking && this.refuse(""));
+    document.addEventListener("keydown", ({ key }) => key === "Escape" && this.notices.isShown && this.notices.putAway());
     document.addEventListener("pointerdown", () => {
       this.#isPressed = true;
     });
     for (const released of ["pointerup", "pointercancel"]) document.addEventListener(released, () => this.#released());
+    document.body.classList.toggle("letters", this.hasLetters);
     this.draw();
     part("name")?.focus();
   }
@@ -80,20 +91,21 @@ class Page {
 
   async signIn(name, token) {
     if (this.isBusy) return;
-    if (!name || !token) {
+    if (!name.trim() || !token.trim()) {
       this.refuse(texts.signIn.badNameOrToken);
       return;
     }
-    const isKnown = await this.#whileBusy(() => this.#store.signIn(name, token));
-    if (isKnown === undefined) return;
+    const known = await this.#whileBusy(() => signInAs(this.#store, name, token));
+    if (known === undefined) return;
     this.forms.signIn.token = "";
     this.draw();
-    if (!isKnown) {
+    if (known === null) {
       this.refuse(texts.signIn.notKnown);
       return;
     }
     this.forms = newForms();
     this.#failures = 0;
+    if (known !== name.trim()) this.notices.tell("", texts.signIn.nameIs(known));
     this.drawAnew();
     this.#poll();
   }
@@ -103,8 +115,11 @@ class Page {
     this.#store.signOut();
     this.forms = newForms();
     this.opened.clear();
-    Object.assign(this, { offlineFor: 0, isSlow: false });
-    this.#notice("", texts.signIn.signedOut);
+    this.#openDetails.clear();
+    this.#armed = null;
+    history.replaceState(null, "", location.pathname + location.search);
+    Object.assign(this, { offlineFor: 0, isSlow: false, route: routeOf(location.hash) });
+    this.notices.tell("", texts.signIn.signedOut);
     this.drawAnew();
   };
 
@@ -116,20 +131,26 @@ class Page {
     const answers = receipt.answers ?? [];
     if (answers[0] === "ok") then();
     const refused = answers.find((answer) => answer !== "ok");
-    if (receipt.error) this.#notice(texts.error(receipt.error), "");
-    else if (refused) this.#notice(texts.refusal(refused), answers[0] === "ok" ? done : "");
-    else this.#notice("", done);
+    if (receipt.error) this.notices.tell(texts.error(receipt.error), "");
+    else if (refused) this.notices.tell(texts.refusal(refused), answers[0] === "ok" ? done : "");
+    else this.notices.tell("", done);
     this.#stateChanged();
     this.#poll();
   }
 
   refuse(text) {
-    this.#notice(text, "");
+    this.notices.tell(text, "");
   }
 
   forget(user, table, board) {
     for (const step of ["enter", "confirm"]) this.drafts.remove(user, step, table, board);
     this.drafts.setEntered(user, table, board, false);
+  }
+
+  /** Refuses what lacks something, until anything is changed in a form. */
+  refuseUntilChanged(text) {
+    this.#lacking = text;
+    this.refuse(text);
   }
 
   setRoute({ view, table, board }) {
@@ -140,6 +161,7 @@ class Page {
   setLetters(hasLetters) {
     this.hasLetters = hasLetters;
     document.body.classList.toggle("letters", hasLetters);
+    keepLetters(storageOfTab(), hasLetters);
   }
 
   toggle(key) {
@@ -147,15 +169,15 @@ class Page {
     this.draw();
   }
 
-  /** A button that asks once more before it acts; what is drawn on it may be shorter than its label. */
-  twoStep(id, label, sure, act, drawn = label) {
+  /** A button that asks once more before it acts, where `isReady`; what is drawn on it may be shorter than its label. */
+  twoStep(id, label, sure, act, drawn = label, isReady = () => true) {
     const arm = (armed, focused) => {
       this.#armed = armed;
       this.draw();
       part(focused)?.focus();
     };
     const spoken = drawn === label ? null : label;
-    if (this.#armed !== id) return button(id, drawn, () => arm(id, `${id}-sure`), { class: "quiet", "aria-label": spoken });
+    if (this.#armed !== id) return button(id, drawn, () => isReady() && arm(id, `${id}-sure`), { class: "quiet", "aria-label": spoken });
     const sureButton = button(`${id}-sure`, texts.sure, () => {
       this.#armed = null;
       act();
@@ -168,14 +190,25 @@ class Page {
       button(`${id}-cancel`, texts.cancel, () => arm(null, id), { class: "quiet" }));
   }
 
+  /** What was asked for by a first press isn't meant any more. */
+  disarm() {
+    if (this.#armed === null) return;
+    this.#armed = null;
+    this.draw();
+  }
+
   answer(query) {
     return this.#store.answerOf(query);
   }
 
-  /** Draws, and asks for what the view needs now. */
+  /** Draws, and asks for what the view needs now: @returns {Promise<void>} when it was asked for */
   lookAgain() {
     this.draw();
-    this.#poll();
+    return this.#poll();
+  }
+
+  bringIntoView(id) {
+    part(id)?.scrollIntoView({ block: "start" });
   }
 
   tryNow = () => {
@@ -211,6 +244,8 @@ class Page {
 
   #reached() {
     this.#failures = 0;
+    this.heardAt = new Date();
+    replaceContent(part("foot"), footView(this));
     if (this.offlineFor) {
       this.offlineFor = 0;
       this.#stateChanged();
@@ -222,7 +257,7 @@ class Page {
     if (this.state.user === null) return;
     if (fault.kind === "notKnown") {
       this.signOut();
-      this.#notice(texts.fault.notKnown, "");
+      this.notices.tell(texts.fault.notKnown, "");
       return;
     }
     this.#failures += 1;
@@ -233,7 +268,7 @@ class Page {
   /** @returns {Promise<any>} undefined where the server couldn't be reached, which is said */
   async #whileBusy(act) {
     this.isBusy = true;
-    this.#notice("", "");
+    this.notices.putAway();
     this.draw();
     try {
       return await act();
@@ -253,7 +288,8 @@ class Page {
   #routeChanged() {
     this.route = routeOf(location.hash);
     this.#armed = null;
-    this.#notice("", "");
+    this.#openDetails.clear();
+    this.notices.putAway();
     this.drawAnew();
     if (this.state.user) this.#poll();
   }
@@ -261,6 +297,7 @@ class Page {
   /** What the server answered is drawn at once, but not over an open list of choices, nor under a finger that is down. */
   #stateChanged() {
     if (this.#isPressed || document.activeElement?.tagName === "SELECT") this.#isStale = true;
+    else if (this.#isFromTop) this.drawAnew();
     else this.draw();
   }
 
@@ -284,17 +321,25 @@ class Page {
     this.#isStale = false;
     replaceContent(part("top"), headView(this));
     const hadFocus = part("content").contains(document.activeElement) && document.activeElement !== part("content");
-    replaceContent(part("content"), this.#content());
-    for (const details of part("content").querySelectorAll("details[id]")) {
-      if (this.#openDetails.has(details.id)) details.open = true;
-    }
+    const scrollAgain = keepScrolled(part("content"));
+    const content = fragmentOf(this.#content());
+    // what was open is open before it is put in, so that who types in it stays there
+    for (const details of content.querySelectorAll("details[id]")) details.open = this.#openDetails.has(details.id);
+    replaceContent(part("content"), content);
+    scrollAgain();
     if (hadFocus && document.activeElement === document.body) part("heading")?.focus({ preventScroll: true });
     replaceContent(part("foot"), footView(this));
     this.#drawStrips();
     this.#announce();
   }
 
+  /** The view shows something else now: the next time that it is drawn, it is shown from its top. */
+  showFromTop() {
+    this.#isFromTop = true;
+  }
+
   drawAnew() {
+    this.#isFromTop = false;
     this.draw();
     scrollTo(0, 0);
     part("heading")?.focus({ preventScroll: true });
@@ -309,11 +354,6 @@ class Page {
 
   #drawStrips() {
     replaceContent(part("offline"), offlineView(this), restartView(this));
-  }
-
-  #notice(refusal, done) {
-    replaceContent(part("refusal"), refusal && element("p", {}, refusal));
-    replaceContent(part("done"), done && element("p", {}, done));
   }
 
   /** Tells who listens what was denied, when it changes. */

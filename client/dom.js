@@ -26,6 +26,13 @@ function nodesOf(children) {
     .map((child) => (child instanceof Node ? child : document.createTextNode(String(child))));
 }
 
+/** Elements and texts that stand in no place yet. */
+export function fragmentOf(...children) {
+  const made = document.createDocumentFragment();
+  made.append(...nodesOf(children));
+  return made;
+}
+
 /** Puts new content into an element; who was at a field or a button stays there, found by its id. */
 export function replaceContent(container, ...children) {
   const active = container.contains(document.activeElement) ? document.activeElement : null;
@@ -93,24 +100,19 @@ export function table(caption, heads, rows, more = {}) {
 }
 
 /** Buttons of which one is chosen: radio buttons, drawn as tiles. */
-export function tiles(name, legend, options, chosen, onChoose, more = {}) {
-  return element("fieldset", { class: "tiles", ...more },
-    element("legend", {}, legend),
-    element("div", { class: "tile-row" }, options.map(([value, content, spoken]) => {
-      const id = `${name}-${value}`;
-      return element("label", { class: "tile", for: id },
-        element(
-          "input",
-          {
-            type: "radio",
-            id,
-            name,
-            value,
-            checked: value === chosen,
-            onChange: () => onChoose(value),
-            "aria-label": spoken,
-          },
-        ),
-        element("span", {}, content));
-    })));
+export const tiles = (name, legend, options, chosen, onChoose, more = {}) =>
+  tileRows(name, legend, [options], chosen, onChoose, more);
+
+/** The same, in several rows of options. */
+export function tileRows(name, legend, rows, chosen, onChoose, more = {}) {
+  const rowOf = (options) => element("div", { class: "tile-row" }, options.map((option) => tile(name, option, chosen, onChoose)));
+  return element("fieldset", { class: "tiles", ...more }, element("legend", {}, legend), rows.map(rowOf));
+}
+
+function tile(name, [value, content, spoken], chosen, onChoose) {
+  const id = `${name}-${value}`;
+  const checked = value === chosen;
+  return element("label", { class: "tile", for: id },
+    element("input", { type: "radio", id, name, value, checked, onChange: () => onChoose(value), "aria-label": spoken }),
+    element("span", {}, content));
 }

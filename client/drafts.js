@@ -1,7 +1,7 @@
 // What a scorer has typed, kept for this tab until the server has taken it: in memory, and in the tab's own storage so
 // that a reload loses nothing. Never a token.
 
-import { readDraft } from "./results.js";
+import { emptyDraft, readDraft } from "./results.js";
 
 /** @typedef {"enter"|"confirm"|"correct"} Step */
 
@@ -14,9 +14,10 @@ export class Drafts {
     this.#storage = storage;
   }
 
-  /** @returns {import("./results.js").Draft} */
-  read(user, step, table, board) {
-    return readDraft(this.#get(nameOf(user, step, table, board)));
+  /** @returns {import("./results.js").Draft} what was typed, or what a form begins with where nothing was */
+  read(user, step, table, board, first = emptyDraft()) {
+    const kept = this.#get(nameOf(user, step, table, board));
+    return kept === null ? first : readDraft(kept);
   }
 
   write(user, step, table, board, draft) {

@@ -4,13 +4,14 @@
 export const newForms = () => ({
   signIn: { name: "", token: "" },
   cell: { board: 1, table: 1 },
+  confirmed: new Map(),
   hold: { board: 1 },
   seat: { name: "", pair: "NS1", place: "N" },
-  rule: { ns: "60", ew: "40", reason: "1" },
+  rule: new Map(),
   assign: new Map(),
   inheritance: { senior: "Director", junior: "Scorer" },
   newUser: { name: "", role: "", digest: "", made: null },
-  audit: { from: null },
-  find: { conditions: [], joiner: "and", newKind: "vul", asked: { conditions: [], joiner: "and" }, from: 1 },
+  audit: { before: null },
+  find: { conditions: [], joiner: "and", newKind: "vul", asked: { conditions: [], joiner: "and" } },
   papers: { kind: "ranking" },
 });

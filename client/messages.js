@@ -16,6 +16,8 @@
  * @property {number[]} held the boards that the director holds
  * @property {number[][]} live for each board, from 1 on, the tables that have a result on it
  * @property {string[]} marks for each board its dealer and who is vulnerable, as "E ns"
+ * @property {[number, number, number, string, string][]} [movement] round, table, set, North-South pair and East-West pair of each
+ *   row, where it isn't the plain Mitchell
  * @property {number} per_set
  * @property {"Running"|"Closed"|"Final"} phase
  * @property {number} round

@@ -1,15 +1,15 @@
 // What the page works out from a status alone: what every member may see.
 
-import { boardsOf, movementOf, rowOfPair, rowsOfBoard } from "./movement.js";
+import { boardsOf, changesSides, isIn, pairsOf, placeIn, rowOfCell, rowOfPair, rowsOf, rowsOfBoard, setsOf } from "./movement.js";
 
 /**
- * A status with the movement that follows from it.
+ * A status with the movement that follows from it, its boards and its pairs.
  * @param {import("./messages.js").Status} status
  */
 export function publicFacts(status) {
-  const rows = movementOf(status.tables, status.rounds, status.absent);
-  const boards = Array.from({ length: status.tables * status.per_set }, (_, index) => index + 1);
-  return { edition: 1, embargo: false, ...status, rows, boards };
+  const rows = rowsOf(status);
+  const boards = Array.from({ length: setsOf(status) * status.per_set }, (_, index) => index + 1);
+  return { edition: 1, embargo: false, ...status, rows, boards, pairs: pairsOf(status, rows), changesSides: changesSides(rows) };
 }
 
 /** @typedef {ReturnType<typeof publicFacts>} Facts */
@@ -19,11 +19,7 @@ export const isHeld = (facts, board) => facts.held.includes(board);
 
 export const isLive = (facts, table, board) => (facts.live[board - 1] ?? []).includes(table);
 
-export const isScheduled = (facts, table, board) => rowsOfBoard(
-  facts.rows,
-  board,
-  facts.per_set,
-).some((row) => row.table === table);
+export const isScheduled = (facts, table, board) => rowOf(facts, table, board) !== undefined;
 
 /** The tables that are scheduled to play a board and have no result on it, the least first. */
 export function awaitedTables(facts, board) {
@@ -44,6 +40,9 @@ export function seatOf(facts, name) {
 
 /** The names of those who sit in a pair, in the order of the accounts. */
 export const playersOf = (facts, pair) => facts.seats.filter((seat) => seat[1] === pair).map(([name]) => name);
+
+/** The row in which a table plays a board, in whatever round. */
+export const rowOf = (facts, table, board) => rowOfCell(facts.rows, table, board, facts.per_set);
 
 /** The table where a pair plays a board, or 0 where it doesn't play it. */
 export const tableOfPair = (facts, pair, board) => rowOfPair(facts.rows, pair, board, facts.per_set)?.table ?? 0;
@@ -84,7 +83,14 @@ export function cellsOfTable(facts, table) {
     })));
 }
 
-/** What is still awaited of the rounds so far: a table and a board each. */
+/** The tables that play in the present round, or have still to give a result of an earlier one, the least first. */
+export function tablesToScore(facts) {
+  const now = facts.rows.filter((row) => row.round === facts.round);
+  const tables = new Set([...now, ...awaitedCells(facts)].map((row) => row.table));
+  return [...tables].sort((one, other) => one - other);
+}
+
+/** What is still awaited of the rounds so far, of the earliest first: a table and a board each. */
 export function awaitedCells(facts) {
   return facts.rows.filter((row) => row.round <= facts.round).flatMap((row) =>
     boardsOf(row.set, facts.per_set).filter((board) => !isLive(
@@ -92,4 +98,20 @@ export function awaitedCells(facts) {
       row.table,
       board,
     )).map((board) => ({ ...row, board })));
+}
+
+/**
+ * The cell that is to be scored next elsewhere: at the first table after this one, round the room, that owes a result.
+ * @returns {{table: number, board: number}|undefined}
+ */
+export function nextCellElsewhere(facts, table) {
+  const distance = (cell) => (cell.table - table + facts.tables) % facts.tables;
+  const [next] = awaitedCells(facts).filter((cell) => cell.table !== table).sort((one, other) => distance(one) - distance(other));
+  return next && cellsOfTable(facts, next.table).find((cell) => !cell.live);
+}
+
+/** Where a user who has a seat plays in the present round: the table and the own place there, or null where the pair sits out. */
+export function seatNow(facts, { pair, place }) {
+  const row = facts.rows.find((each) => each.round === facts.round && isIn(each, pair));
+  return row ? { table: row.table, place: placeIn(row, pair, place) } : null;
 }

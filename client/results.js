@@ -22,6 +22,18 @@ export const emptyDraft = () => ({
   play: "",
 });
 
+/**
+ * A draft that says what stands already.
+ * @param {import("./messages.js").Result} result
+ * @param {string[]} cards
+ * @returns {Draft}
+ */
+export function draftOf(result, cards) {
+  if (result === "pass") return { ...emptyDraft(), passedOut: true };
+  const { by, doubled, level, strain, tricks } = result;
+  return { ...emptyDraft(), level, strain, by, doubled, over: tricks - level - 6, play: cards.join(" ") };
+}
+
 /** How many tricks above or below a contract there can be: made first, then set. */
 export function oversOf(level) {
   const made = Array.from({ length: 8 - level }, (_, index) => index);
@@ -49,8 +61,7 @@ export function resultOf(draft) {
   return { by, doubled, level, strain, tricks: level + 6 + over };
 }
 
-/** Whether anything was typed. */
-export const isTouched = (draft) => JSON.stringify(draft) !== JSON.stringify(emptyDraft());
+export const isSameDraft = (one, other) => Object.keys(emptyDraft()).every((part) => one[part] === other[part]);
 
 /** A draft from what was kept, whatever that is. */
 export function readDraft(kept) {

@@ -3,6 +3,7 @@
 const plural = (count, one, many) => `${count} ${count === 1 ? one : many}`;
 const strain = { S: "spades", H: "hearts", D: "diamonds", C: "clubs", N: "no trump" };
 const place = { N: "North", E: "East", S: "South", W: "West" };
+const side = { NS: "North-South", EW: "East-West" };
 const vulnerability = { none: "nobody vulnerable", ns: "North-South vulnerable", ew: "East-West vulnerable", both: "both sides vulnerable" };
 const phase = { Running: "play is going on", Closed: "play has ended, results can still be corrected", Final: "the results are final" };
 
@@ -11,10 +12,14 @@ const overInWords = (over, tricks) => {
   return over > 0 ? `${plural(over, "overtrick", "overtricks")}, ${tricks} tricks` : `${plural(-over, "undertrick", "undertricks")}, ${plural(tricks, "trick", "tricks")}`;
 };
 
+const clock = new Intl.DateTimeFormat("en-GB", { hour: "2-digit", minute: "2-digit" });
+
 const doublings = ["undoubled", "doubled", "redoubled"];
 
 const resultInWords = (result) => result === "pass" ? "passed out"
   : `${result.level} ${strain[result.strain]}${result.doubled ? ` ${doublings[result.doubled]}` : ""} by ${place[result.by]}, ${overInWords(result.tricks - result.level - 6, result.tricks)}`;
+
+const scoresInWords = (score) => (score === 0 ? "scores 0" : score > 0 ? `scores ${score} for North-South` : `scores ${-score} for East-West`);
 
 const separated = {
   S1: "Director and Contestant", S2: "Scorer and Contestant", S3: "Administrator and Contestant", S4: "Commentator and Contestant",
@@ -78,12 +83,13 @@ export const texts = {
   title: "Tevyhora",
   waiting: "Asking the server …",
   passedOut: "passed out",
-  strain, place, phase, overInWords, resultInWords,
+  strain, place, side, phase, overInWords, resultInWords,
   strainLetter: { S: "S", H: "H", D: "D", C: "C", N: "NT" },
   doubledMark: ["", "X", "XX"],
   rank: (letter) => (letter === "T" ? "10" : letter),
   points: (count) => plural(count, "point", "points"),
   dealer: "dealer",
+  noTop: "–",
   void: "void",
   marks: (dealer, vul) => `Dealer ${place[dealer] ?? "unknown"}, ${vulnerability[vul] ?? "vulnerability unknown"}.`,
   sure: "Yes, do it",
@@ -104,8 +110,10 @@ export const texts = {
     nav: "Views",
     signedInAs: (name) => `Signed in as ${name}`,
     signOut: "Sign out",
+    putAway: "Put away",
+    notYours: "This view is for other roles than yours.",
     view: { session: "Session", boards: "My boards", ranking: "Ranking", find: "Find boards", papers: "Papers", scorer: "Scorer", director: "Director", accounts: "Accounts", audit: "Audit" },
-    asOf: (version) => `As of ${plural(version, "entry", "entries")}.`,
+    asOf: (time) => `As of ${clock.format(time)}.`,
     letters: "Suits as letters",
     offline: (seconds) => `No connection to the server. The page tries again within ${plural(seconds, "second", "seconds")}; what you see is what it knew last.`,
     tryNow: "Try now",
@@ -123,7 +131,8 @@ export const texts = {
     tokenNote: "Kept in this tab alone, until it is closed, reloaded or signed out.",
     button: "Sign in",
     busy: "Signing in …",
-    notKnown: "This name and this token aren't known here.",
+    notKnown: "This name and this token aren't known here. Capitals count in both.",
+    nameIs: (name) => `Signed in: the name is ${name}, without capitals.`,
     signedOut: "Signed out.",
     settings: "Connection settings",
     path: "Path of the server",
@@ -210,8 +219,14 @@ export const texts = {
   session: {
     title: "Session",
     roundOf: (round, rounds) => `Round ${round} of ${rounds}`,
-    entries: (version) => plural(version, "entry", "entries"),
+    rank: "Your pair so far",
+    rankParts: { percent: "Percent", total: "Matchpoints", place: "Place" },
+    ofTops: (earned, tops) => `${earned} of ${tops}`,
+    placeOf: (place, of, listSide) => `${place} of ${of}${listSide ? ` ${side[listSide]}` : ""}`,
+    noRank: "No result counts for your pair yet.",
     seat: (pair, seatPlace) => `You sit in ${pair}, ${seatPlace}.`,
+    begins: (pair, seatPlace) => `You sit in ${pair}, and begin as ${seatPlace}.`,
+    seatNow: (round, table, seatPlace) => (table ? `In round ${round} you sit ${seatPlace} at table ${table}.` : `In round ${round} your pair sits out.`),
     noSeat: "You have no seat in this session.",
     tables: (round) => `Tables in round ${round}`,
     tablesCaption: (round) => `Who plays whom in round ${round}, and on which boards`,
@@ -220,14 +235,14 @@ export const texts = {
     noResult: " has no result yet",
     boards: "Boards",
     boardsNote: "How many tables have a result on each board, of those that play it.",
-    boardState: (state, count, of) => ({ held: "held", complete: "complete" }[state] ?? `${count} of ${of}`),
+    boardState: (state, count, of) => ({ held: "held", complete: of ? "complete" : "not played" }[state] ?? `${count} of ${of}`),
   },
 
   boards: {
     title: "My boards",
     explained: "A board opens once the result at your own table is confirmed.",
     round: (round, isNow) => `Round ${round}${isNow ? ", now" : ""}`,
-    against: (table, pair, players) => `Table ${table}, against ${pair}${players ? ` (${players})` : ""}`,
+    against: (table, seatSide, pair, players) => `Table ${table}, ${seatSide && `${seatSide}, `}against ${pair}${players ? ` (${players})` : ""}`,
     state: (state, awaited) => ({ held: "held by the director", to_play: "to play", complete: "played, complete", waits: `played, waits for ${plural(awaited, "table", "tables")}` }[state]),
   },
 
@@ -252,10 +267,11 @@ export const texts = {
 
   traveller: {
     caption: (board) => `Traveller of board ${board}`,
-    heads: ["Table", "NS", "EW", "Contract", "NS +", "EW +", "MP NS", "MP EW"],
+    heads: ["Table", "NS", "EW", "Contract", "NS +", "EW +", "NS %", "EW %", "MP NS", "MP EW"],
     empty: "There is no result that you may see yet.",
     ruling: "ruling",
-    note: (top) => `Matchpoints: two for each result beaten, one for each equalled, among those shown; the top is ${top}.`,
+    note: (top) => `Matchpoints: two for each result beaten, one for each equalled, among those shown; the top is ${top}. The percentages are of the top.`,
+    first: "This result is the first: percentages and matchpoints come with the next one.",
   },
 
   play: {
@@ -275,10 +291,10 @@ export const texts = {
   ranking: {
     title: "Ranking",
     explained: "Over the boards that you may see: it counts nothing else.",
-    caption: "Ranking of the pairs",
+    winners: { one: "One winner: pairs change sides, so all of them stand in one list.", two: "Two winners: no pair changes its side, so there is a list for each direction." },
+    caption: (listSide) => (listSide ? `Ranking of the ${side[listSide]} pairs` : "Ranking of the pairs"),
     heads: ["Place", "Pair", "Percent", "Earned", "Tops"],
-    none: "–",
-    csvHeads: ["place", "pair", "players", "percent", "earned", "tops"],
+    csvHeads: ["place", "pair", "players", "percent", "earned", "tops", "direction"],
   },
 
   find: {
@@ -298,8 +314,7 @@ export const texts = {
     removeKind: (kind) => `Remove the condition: ${kind}`,
     search: "Find",
     found: "Found",
-    count: (count, more) => (count === 0 ? "No board." : `${plural(count, "board", "boards")}${more ? ", and there are more" : ""}.`),
-    more: "Those after them",
+    count: (count) => (count === 0 ? "No board." : `${plural(count, "board", "boards")}.`),
     badBounds: (kind, [least, most]) => `${kind}: the bounds are whole numbers from ${least} to ${most}.`,
     kind: { vul: "Vulnerability", dealer: "Dealer", level: "Level of a contract", strain: "Strain of a contract", doubled: "Doubling of a contract", made: "Contract made or set", score: "Score for North-South", dd: "Double-dummy tricks" },
     field: { vul: "Vulnerable", by: "Player", strain: "Strain", doubled: "Doubling", made: "Outcome", min: "From", max: "To" },
@@ -316,6 +331,7 @@ export const texts = {
     strain: "Strain",
     by: "Declarer",
     vulnerable: (name) => `${name}, vulnerable`,
+    vulnerableMark: "vul",
     doubled: "Doubling",
     doublings: ["–", "X", "XX"],
     doublingsInWords: doublings,
@@ -328,7 +344,7 @@ export const texts = {
     playFault: ({ word, why }) => ({ unknown: `“${word}” is no card.`, twice: `“${word}” stands there twice.` }[why]),
     part: { level: "the level", strain: "the strain", by: "the declarer", over: "the tricks" },
     missing: (parts) => `Still to tell: ${parts.join(", ")}.`,
-    scores: (score) => (score === 0 ? "scores 0" : score > 0 ? `scores ${score} for North-South` : `scores ${-score} for East-West`),
+    scores: scoresInWords,
   },
 
   scorer: {
@@ -345,23 +361,40 @@ export const texts = {
     cellTitle: (table, board) => `Table ${table}, board ${board}`,
     isLive: "This table has a result on the board. A director can correct it.",
     next: (board) => `Next: board ${board}`,
+    nextTable: (table, board) => `Next table: table ${table}, board ${board}`,
+    ruled: (ns, ew) => `A ruling: ${ns} % for North-South, ${ew} % for East-West.`,
+    percent: (ns, ew) => `${ns} % for North-South, ${ew} % for East-West`,
+    firstResult: "the first result on this board",
+    percentUnseen: "As it was confirmed here. The server shows percentages to those alone who may see the board.",
     backToTable: (table) => `All boards of table ${table}`,
     stepTitle: { enter: "Enter the result", confirm: "Confirm the result" },
+    stepSide: { enter: "Usually North-South enter:", confirm: "The form of the side that didn't enter, usually East-West:" },
     stepExplained: {
       enter: "What one side says. It counts once the other side has confirmed it.",
-      confirm: "Hand it to the other side, who types the result again without looking at what was entered.",
+      confirm: "It is empty. Hand it to the other side, who types the result again without looking at what was entered.",
     },
+    whyTwice: "Why twice: a slip that one side types, the other doesn't type too. Where the two differ nothing counts.",
     stepButton: { enter: "Enter", confirm: "Confirm" },
     toStep: { enter: "Enter it again", confirm: "It is entered already: confirm it" },
     entered: (table, board) => `Entered for table ${table}, board ${board}. Now the other side confirms it.`,
-    confirmed: (table, board) => `Confirmed: table ${table} has a result on board ${board}.`,
+    confirmed: (table, board, result) => `Confirmed: table ${table} has a result on board ${board}, ${resultInWords(result)}.`,
+  },
+
+  room: {
+    title: "The room",
+    caption: "The boards of each table, the present round first; each opens what a director does with it",
+    table: "Table",
+    round: (round, isNow) => `Round ${round}${isNow ? ", now" : ""}`,
+    mark: { awaited: "…", late: "!", result: "✓", ruled: "%", held: "H" },
+    state: { awaited: "awaited", late: "late", result: "has a result", ruled: "ruled", held: "the board is held" },
+    noneAwaited: "No result is awaited of the rounds so far.",
+    awaitedCell: (round, table, board) => `Round ${round}: table ${table}, board ${board}`,
   },
 
   director: {
     title: "Director",
     round: "Round and phase",
-    awaited: (count) => `${plural(count, "result is", "results are")} awaited of the rounds so far.`,
-    cell: (table, board) => `table ${table}, board ${board}`,
+    awaited: (count) => `${plural(count, "result is", "results are")} awaited of the rounds so far${count > 1 ? ", the oldest first" : ""}:`,
     nextRound: "Next round",
     nextRoundSure: (count) => (count ? `${plural(count, "result is", "results are")} still awaited. Begin the next round?` : "Begin the next round?"),
     nextRoundDone: "The next round has begun.",
@@ -399,6 +432,7 @@ export const texts = {
     unseatSure: (name) => `Take the seat of ${name} away?`,
     unseated: (name) => `${name} has no seat any more.`,
     seatTitle: "Give a seat",
+    seatNote: "A pair is named by the place where it begins. Where it sits the other way round later, North sits East and South West, and back.",
     user: "User",
     pair: "Pair",
     place: "Place",
@@ -410,11 +444,21 @@ export const texts = {
     ruled: (ns, ew, code) => `A ruling: ${ns} % for North-South, ${ew} % for East-West, reason ${code}.`,
     back: "The director's desk",
     correct: "Correct the result",
-    correctNote: "What is told here takes the place of the result, its play too.",
+    correctNote: "The form begins with what stands, its play too, and what is told here takes its place.",
+    correctRulingNote: "What is told here takes the place of the ruling.",
+    unchanged: "This is what stands already: change something of it first.",
+    playGoes: (count) => `The play of ${plural(count, "card", "cards")} goes with this correction.`,
+    beginAgain: "Begin again with what stands",
     correctButton: "Correct",
     corrected: "The result is corrected.",
     rule: "Rule",
     ruleNote: "The ruling takes the place of a result, an entry and a play.",
+    ruleSure: (ns, ew, code) => `Give ${ns} % to North-South and ${ew} % to East-West, for reason ${code}?`,
+    goes: {
+      entry: "There is no result; what is entered and not confirmed goes.",
+      ruling: (ns, ew) => `What goes: the ruling of ${ns} % for North-South and ${ew} % for East-West.`,
+      result: (result, score, cards) => `What goes: ${resultInWords(result)}, which ${scoresInWords(score)}${cards ? `, and its play of ${plural(cards, "card", "cards")}` : ""}.`,
+    },
     forNs: "Percent for North-South",
     forEw: "Percent for East-West",
     reason: "Reason, 1 to 99",
@@ -429,15 +473,33 @@ export const texts = {
 
   audit: {
     title: "Audit",
-    explained: "Which commands were accepted, in their order. It tells no result, card, percentage or reason.",
-    caption: "Accepted commands",
+    explained: "Which commands were accepted, the newest first. It tells no result, card, percentage or reason, and no time.",
+    caption: (first, last) => `Accepted commands ${last} to ${first}`,
+    shown: (first, last, version) => (last === 0 ? "" : `${last} to ${first} of ${version}`),
     heads: ["No.", "By", "What", "About"],
-    earlier: "Earlier",
-    later: "Later",
     newest: "Newest",
+    newer: "Newer",
+    older: "Older",
+    oldest: "Oldest",
     empty: "Nothing was accepted yet.",
     solver: "the solver",
-    word: { Solved: "solved", Analysed: "analysed", NextRound: "next round", AddUser: "add user", AddInheritance: "add inheritance", DeleteInheritance: "delete inheritance" },
+    word: {
+      Enter: "entered a result", Confirm: "confirmed the result", Correct: "corrected the result", Rule: "gave a ruling", Void: "made the result void",
+      Hold: "held the board", Release: "released the board", Seat: "gave a seat to the user", Unseat: "took the seat of the user",
+      NextRound: "began the next round", Close: "ended play", Finalise: "made the results final",
+      Embargo: "put the session under embargo", Lift: "lifted the embargo",
+      AddUser: "added the user", Assign: "gave the user a role", Deassign: "took a role from the user",
+      AddInheritance: "put a role above another", DeleteInheritance: "deleted that a role is above another",
+      Solved: "found the double-dummy table", Analysed: "found what the cards cost",
+    },
+    about: {
+      cell: (table, board) => `table ${table}, board ${board}`,
+      board: (board) => `board ${board}`,
+      role: (name, role) => `${name}: ${role}`,
+      inheritance: (senior, junior) => `${senior} above ${junior}`,
+      name: (name) => name,
+    },
+    pairs: (ns, ew) => `, ${ns} – ${ew}`,
   },
 
   accounts: {
@@ -480,17 +542,42 @@ export const texts = {
 
   papers: {
     title: "Papers",
-    explained: "To print, or for a spreadsheet: the boards that you may see.",
+    explained: "To print, or for a spreadsheet: the boards that you may see, and guide cards.",
     kindLegend: "What",
-    kind: { ranking: "Ranking", results: "My results", travellers: "Travellers", records: "Hand records" },
+    kind: { ranking: "Ranking", results: "My results", travellers: "Travellers", records: "Hand records", score_cards: "Score cards", pair_cards: "Guide cards for pairs", table_cards: "Guide cards for tables" },
     print: "Print",
     csv: "Download as CSV",
     noBoards: "There is no board that you may see yet.",
-    noResults: "There is no result of yours that you may see yet.",
-    resultsCaption: (pair) => `Results of ${pair}`,
-    resultHeads: ["Board", "Against", "Contract", "Score", "MP", "Percent"],
-    tricks: ([spades, hearts, diamonds, clubs, noTrump]) => `NT ${noTrump}, S ${spades}, H ${hearts}, D ${diamonds}, C ${clubs}`,
+    asking: (here, all) => `Asking the server: ${here} of ${plural(all, "answer is", "answers are")} here.`,
     recordHeads: ["board", "dealer", "vulnerable", "deal"],
     travellerHeads: ["board", "table", "ns", "ew", "contract", "level", "strain", "doubled", "declarer", "score_ns", "mp_ns", "mp_ew", "ruling_ns", "ruling_ew"],
+  },
+
+  scoreCard: {
+    caption: (pair, players) => `Score card of ${[pair, players.join(" and ")].filter(Boolean).join(", ")}`,
+    heads: ["Board", "Against", "Contract", "Score", "Percent", "So far", "MP"],
+    empty: "There is no result of this pair that you may see yet.",
+    first: "A result that is the first on its board has no percentage yet.",
+    csvHeads: ["pair", "players", "round", "board", "against", "opponents", "contract", "score", "mp", "percent", "percent_so_far"],
+  },
+
+  guide: {
+    pair: (pair) => `Pair ${pair}`,
+    number: (number) => ` (number ${number})`,
+    table: (table) => `Table ${table}`,
+    pairCaption: (pair) => `What ${pair} plays in each round`,
+    tableCaption: (table) => `What is played at table ${table} in each round`,
+    pairHeads: ["Round", "Table", "Direction", "Against", "Boards"],
+    tableHeads: ["Round", "North-South", "East-West", "Boards"],
+    boards: (boards) => (boards.length === 1 ? String(boards[0]) : `${boards[0]}–${boards.at(-1)}`),
+    alsoAt: (tables) => `, also at table${tables.length > 1 ? "s" : ""} ${tables.join(", ")}`,
+    sitsOut: "sits out",
+    nobody: "nobody plays here",
+    turned: {
+      NS: "Where the pair sits East-West, North sits East and South West.",
+      EW: "Where the pair sits North-South, East sits North and West South.",
+    },
+    pairCsvHeads: ["pair", "players", "round", "table", "direction", "against", "first_board", "last_board"],
+    tableCsvHeads: ["table", "round", "ns", "ew", "first_board", "last_board", "also_at"],
   },
 };

@@ -1,6 +1,7 @@
 """The director's and the administrator's desks, the audit, and the end of the session."""
 from page_checks import THREE_NO_TRUMP, check, holds, part, type_result
 from page_devices import until
+from page_scorer import in_view
 
 
 @part
@@ -22,19 +23,35 @@ def director(dora, anna, carla, server):
     holds("and shown again", anna.shows("North", ".diagram"))
 
 
+def ruling_numbers(window):
+    return window.script("return ['ns', 'ew', 'reason'].map((part) => document.getElementById(`rule-${part}`).value)")
+
+
 @part
 def ruling(dora, carla, server):
     dora.go("director/2/5")
+    until("the form is there", lambda: dora.find("rule-ns"))
+    check("a ruling's form is empty", ["", "", ""], ruling_numbers(dora))
     for name, value in (("rule-ns", "60"), ("rule-ew", "101"), ("rule-reason", "7")):
         dora.type(name, value)
     dora.press("rule-button")
     holds("101 percent is refused in words", dora.shows("0 to 100 percent", "#refusal"))
     dora.type("rule-ew", "40")
     dora.press("rule-button")
+    wanted = "Give 60 % to North-South and 40 % to East-West, for reason 7? There is no result; what is entered and not confirmed goes."
+    holds("the page asks once more, and says what it replaces", dora.shows(wanted, "#rule-button-question"))
+    dora.type("rule-reason", "8")
+    check("another number isn't what was asked about", None, dora.find("rule-button-sure"))
+    dora.type("rule-reason", "7")
+    dora.press("rule-button")
+    check("nothing is ruled yet", [], server.reply("dora", {"ask": "traveller", "board": 5})["traveller"]["rows"])
+    dora.press("rule-button-sure")
     holds("the ruling is given", dora.shows("The ruling is given", "#done"))
+    check("and its numbers are off the form", ["", "", ""], ruling_numbers(dora))
     check("the server has it", [60, 40], server.reply("carla", {"ask": "traveller", "board": 5})["traveller"]["rows"][0]["ruling"])
     carla.go("board/5/2")
-    holds("the pair sees it", carla.shows("60 %", "table.traveller"))
+    until("the traveller is there", lambda: carla.rows("table.traveller"))
+    check("the pair sees it", ["ruling", "60", "40"], carla.rows("table.traveller")[0][3:6])
     code = server.reply("carla", {"ask": "reason", "table": 2, "board": 5})["reason"]["code"]
     holds("and its reason", carla.shows(f"has the code {code}"))
 
@@ -43,9 +60,16 @@ def ruling(dora, carla, server):
 def correct_and_void(dora, server):
     dora.go("director/2/4")
     until("the form is there", lambda: dora.find("correct-level-1"))
-    type_result(dora, "correct", {**THREE_NO_TRUMP, "tricks": 8})
+    begun = [dora.chosen(f"correct-{part}") for part in ("level", "strain", "by", "doubled", "over")]
+    check("a correction begins with what stands", ["3", "N", "W", "1", "-2"], begun)
+    dora.width(1000, 600)
+    dora.press("correct-over--1")
     dora.press("correct-button")
     holds("the result is corrected", dora.shows("The result is corrected", "#done"))
+    holds("which is in view", in_view(dora, "#done p"))
+    dora.width(1000, 900)
+    cards = server.reply("dora", {"ask": "play", "table": 2, "board": 4})["play"]["cards"]
+    check("the server has the play still", ["S7", "SK", "S9", "SA"], cards)
     row = server.reply("dora", {"ask": "traveller", "board": 4})["traveller"]["rows"][0]
     check("the server has the correction", (8, 200), (row["result"]["tricks"], row["score"]))
     holds("it is shown", dora.shows("scores 200 for North-South", "#cell-now"))
@@ -53,6 +77,7 @@ def correct_and_void(dora, server):
     dora.press("void-cancel")
     check("what is cancelled isn't done", [2], server.reply("dora", {"ask": "status"})["status"]["live"][3])
     dora.press("void")
+    holds("making void says what goes", dora.shows("3 no trump doubled by West, 1 undertrick, 8 tricks", "#void-question"))
     dora.press("void-sure")
     holds("the result is void", dora.shows("The result is void", "#done"))
     check("the server has none", [], server.reply("dora", {"ask": "status"})["status"]["live"][3])
@@ -69,17 +94,39 @@ def spoiled(sam, server):
     holds("and the page does in words", sam.shows(f"{answer[8:-1]} sits at this table and was shown something of the board", "#refusal"))
 
 
+def about_in_words(target):
+    """A table and a board, a board or a name, as docs/PROTOCOL.md has them in an audit."""
+    if "/" in target:
+        return "table {}, board {}".format(*target.split("/"))
+    return f"board {target}" if target.isdigit() else target
+
+
 @part
 def audit(dora, server):
+    more = {"do": [{"cmd": word, "board": 24} for word in ("Hold", "Release")] * 32}
+    receipts = server.ask("dora", *[more] * 4)
+    holds("there are more than two pages of commands", receipts[-1]["version"] > 200)
     dora.go("audit")
     rows = until("the audit is there", lambda: dora.rows("table.audit"))
     version = server.reply("dora", {"ask": "status"})["version"]
     reply = server.reply("dora", {"audit": {"from": max(1, version - 99), "limit": 100}})["audit"]
     first = {str(number): (user, about) for number, user, _, about in reply}
     same = [row for row in rows if row[0] in first]
-    wanted = [(first[row[0]][0] or "the solver", first[row[0]][1]) for row in same]
-    check("the audit's rows are the server's", wanted, [(row[1], row[3]) for row in same])
+    wanted = [(first[row[0]][0] or "the solver", about_in_words(first[row[0]][1])) for row in same]
+    check("the audit's rows are the server's", wanted, [(row[1], row[3].split(", NS")[0]) for row in same])
     holds("and there are many", len(same) > 50)
+    numbers = [int(row[0]) for row in rows]
+    check("the newest stands first", sorted(numbers, reverse=True), numbers)
+    dora.press("audit-older")
+    below = str(numbers[-1] - 1)
+    until("the older page is there", lambda: dora.rows("table.audit") and dora.rows("table.audit")[0][0] == below)
+    dora.press("audit-oldest" if dora.find("audit-oldest") else "audit-older")
+    until("the oldest page is there", lambda: dora.rows("table.audit") and dora.rows("table.audit")[-1][0] == "1")
+    _, _, word, about = server.reply("dora", {"audit": {"from": 1, "limit": 1}})["audit"][0]
+    wanted = {"Enter": ["sam", "entered a result", "table 1, board 1, NS1 – EW1"],
+              "Solved": ["the solver", "found the double-dummy table", f"board {about}"]}[word]
+    check("the first row says what the first command was", ["1", *wanted], dora.rows("table.audit")[-1])
+    check("there is nothing older", None, dora.find("audit-older"))
 
 
 @part
@@ -182,5 +229,8 @@ def end_of_play(dora, anna, server):
     holds("the results are final", dora.shows("The results are final", "#done"))
     check("the server has them final", "Final", server.reply("dora", {"ask": "status"})["status"]["phase"])
     dora.go("director/1/1")
+    for name, value in (("rule-ns", "60"), ("rule-ew", "40"), ("rule-reason", "1")):
+        dora.type(name, value)
     dora.press("rule-button")
+    dora.press("rule-button-sure")
     holds("afterwards a ruling is refused in words", dora.shows("can't be done in the present phase", "#refusal"))

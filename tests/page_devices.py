@@ -50,19 +50,19 @@ class Server:
     """The program with the example session, or one of its own, at one port."""
 
     def __init__(self, program, workers):
-        self.words = [program, "serve", "--deals", EXAMPLES / "club.pbn", "--displays", "4", "--workers", str(workers)]
-        self.session = EXAMPLES / "session.json"
+        self.words = [program, "serve", "--displays", "4", "--workers", str(workers)]
+        self.session, self.deals = EXAMPLES / "session.json", EXAMPLES / "club.pbn"
         self.port = free_port()
         self.process = None
 
-    def keep_session(self, path):
-        """From its next start on, the session of this file."""
-        self.session = path
+    def keep_session(self, path, deals=EXAMPLES / "club.pbn"):
+        """From its next start on, the session and the deals of these files."""
+        self.session, self.deals = path, deals
 
     def start(self):
         def is_up():
             if self.process is None or self.process.poll() is not None:
-                words = [*self.words, "--session", self.session, "--port", str(self.port)]
+                words = [*self.words, "--session", self.session, "--deals", self.deals, "--port", str(self.port)]
                 self.process = subprocess.Popen(words, stdin=subprocess.DEVNULL, stdout=subprocess.DEVNULL, stderr=subprocess.DEVNULL)
                 time.sleep(0.1)
             return listens(self.port)
@@ -132,8 +132,9 @@ class Hostile:
 
 def hostile_answer(message):
     bad = Hostile.MARKUP
-    status = {"held": [3], "live": [[1, 3], [], []], "marks": ["N none", bad, "S ew"], "per_set": 1, "phase": bad, "round": 1, "rounds": 3,
-              "seats": [[bad, "NS1", "N"], ["n1", "NS1", "S"], ['"><b>x</b>', "EW1", bad]], "tables": 3}
+    rows = [[1, 1, 1, "NS1", "EW1"], [1, 2, 2, "NS2", "EW2"], [2, 1, 2, "NS1", "EW3"], [1, 3, 3, bad, bad], [bad] * 5]
+    status = {"held": [3], "live": [[1, 3], [], []], "marks": ["N none", bad, "S ew"], "movement": rows, "per_set": 1, "phase": bad, "round": 1,
+              "rounds": 3, "seats": [[bad, "NS1", "N"], ["n1", "NS1", "S"], ['"><b>x</b>', "EW1", bad]], "tables": 3}
     if "hello" in message:
         return {"hello": bad}
     if "do" in message:

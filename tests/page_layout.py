@@ -1,4 +1,6 @@
 """How the page is laid out, and whether it can be used by the keyboard, by a thumb, by a screen reader and on paper."""
+import base64
+import re
 import time
 
 from page_checks import check, holds, part
@@ -26,17 +28,19 @@ for (const id of new Set(ids)) if (ids.filter((other) => other === id).length > 
 return found;
 """
 
-# The contrast of WCAG 2: of each text that is seen, against the first ground behind it that isn't transparent.
+# The contrast of WCAG 2: of each text that is seen, against the grounds behind it down to the first that nothing shines through.
 CONTRAST = """
 const numbers = (text) => text.match(/[\\d.]+/g).map(Number);
 const linear = (part) => part <= 0.03928 ? part / 12.92 : ((part + 0.055) / 1.055) ** 2.4;
 const light = ([r, g, b]) => 0.2126 * linear(r / 255) + 0.7152 * linear(g / 255) + 0.0722 * linear(b / 255);
 const ground = (each) => {
-    for (let at = each; at; at = at.parentElement) {
-        const found = numbers(getComputedStyle(at).backgroundColor);
-        if (found.length < 4 || found[3] > 0.9) return found;
+    const layers = [];
+    for (let at = each; at && (layers[0]?.[3] ?? 0) < 1; at = at.parentElement) {
+        const [r, g, b, opacity = 1] = numbers(getComputedStyle(at).backgroundColor);
+        layers.unshift([r, g, b, opacity]);
     }
-    return [255, 255, 255];
+    const over = (under, [r, g, b, opacity]) => [r, g, b].map((part, index) => part * opacity + under[index] * (1 - opacity));
+    return layers.reduce(over, [255, 255, 255]);
 };
 const faint = [];
 for (const each of document.querySelectorAll("body *")) {
@@ -51,15 +55,15 @@ return [...new Set(faint)];
 
 SMALL = """
 const small = (each) => each.getBoundingClientRect().height < 43.5 || each.getBoundingClientRect().width < 36;
-return [...document.querySelectorAll("button, nav a, .tile, select, .board-list a, .table-grid a")]
+return [...document.querySelectorAll("button, nav a, .tile, select, .board-list a, .table-grid a, .room a, .awaited a, .boards a")]
     .filter((each) => each.getClientRects().length && small(each)).map((each) => each.id || each.className);
 """
 
 
 @part
 def laid_out(window, routes):
-    """At 360 pixels and on a desk: nothing is wider than the window, all has a name, and is seen and met by a thumb."""
-    for pixels in (360, 1000):
+    """On two phones, a tablet and a desk: nothing is wider than the window, all has a name, and is seen and met by a thumb."""
+    for pixels in (320, 390, 820, 1366):
         window.width(pixels)
         for route in routes:
             window.go(route)
@@ -68,7 +72,7 @@ def laid_out(window, routes):
             check(f"{name}: no wider than the window", pixels, window.script("return Math.max(document.documentElement.scrollWidth, innerWidth)"))
             check(f"{name}: fields, buttons, tables and landmarks have names", [], window.script(NAMES))
             check(f"{name}: each text is seen against its ground", [], window.script(CONTRAST))
-            if pixels == 360:
+            if pixels < 600:
                 check(f"{name}: a thumb meets what is to be pressed", [], window.script(SMALL))
 
 
@@ -93,13 +97,75 @@ def keyboard_player(page):
     check("a screen reader finds the landmarks", set(), {"banner", "navigation", "main", "heading", "status"} - roles)
 
 
+# What a narrow window cuts off within a table, though the page is no wider: the last cell of a row that is to be seen without scrolling.
+CUT = """
+const [selector, last] = arguments;
+return [...document.querySelectorAll(`${selector} tr`)].map((row) => [row.cells[last], row.closest(".scrolls")])
+    .filter(([cell, region]) => cell && cell.getBoundingClientRect().right > region.getBoundingClientRect().right + 0.5)
+    .map(([cell]) => cell.textContent);
+"""
+
+
+def play_fits(page, route):
+    """A board with a play, on phones."""
+    for pixels in (320, 360, 375, 390):
+        page.width(pixels)
+        page.go(route)
+        until("the play is there", lambda: page.rows("table.play"))
+        check(f"a board with a play is no wider than {pixels} pixels", pixels, page.script("return document.documentElement.scrollWidth"))
+        check(f"West isn't cut at {pixels} pixels", [], page.script(CUT, "table.play", 4))
+
+
+@part
+def narrow(director, player):
+    """On a phone: a board with a play and its percentages, and the own results."""
+    play_fits(director, "board/13/5")
+    check("each row's percentages are seen at 390 pixels", [], director.script(CUT, "table.traveller", 7))
+    director.width(1000)
+    player.width(390)
+    player.go("papers")
+    player.press("paper-results")
+    until("the card is there", lambda: player.rows("table.score-card"))
+    check("and those of the own results", [], player.script(CUT, "table.score-card", 5))
+    player.width(1000)
+
+
+# Words that stand in more than one line.
+BROKEN = """
+const found = [];
+const walker = document.createTreeWalker(document.querySelector(".paper"), NodeFilter.SHOW_TEXT);
+while (walker.nextNode()) {
+    for (const word of walker.currentNode.data.matchAll(/\\S+/gu)) {
+        const range = document.createRange();
+        range.setStart(walker.currentNode, word.index);
+        range.setEnd(walker.currentNode, word.index + word[0].length);
+        const lines = new Set([...range.getClientRects()].filter((box) => box.width > 0).map((box) => Math.round(box.top)));
+        if (lines.size > 1) found.push(word[0]);
+    }
+}
+return found;
+"""
+
+
+def pages_of(window):
+    """How many pages of A4 the browser prints."""
+    size = {"paperWidth": 210 / 25.4, "paperHeight": 297 / 25.4, "preferCSSPageSize": True}
+    printed = base64.b64decode(window.here().execute_cdp_cmd("Page.printToPDF", size)["data"])
+    return len(re.findall(rb"/Type\s*/Page\b", printed))
+
+
 @part
 def on_paper(window):
     window.go("papers")
-    for kind in ("travellers", "records"):
+    for kind, count in (("pair_cards", 16), ("table_cards", 8), ("travellers", 24), ("records", 24)):
         window.press(f"paper-{kind}")
-        until(f"{kind} are there", lambda: len(window.here().find_elements("css selector", f".paper-{kind} .sheet")) == 24)
+        until(f"{kind} are there", lambda: len(window.here().find_elements("css selector", f".paper-{kind} .sheet")) == count)
+    until("all of it is there", lambda: window.find("print"))
+    check("24 records are printed on four pages", 4, pages_of(window))
     window.here().execute_cdp_cmd("Emulation.setEmulatedMedia", {"media": "print"})
+    window.width(688)  # the 182 mm of A4 within its margins
+    check("no word of a record is broken", [], window.script(BROKEN))
+    window.width(1000)
     seen = window.script("return ['#top', '#foot', '.no-print', '.paper'].map((each) => document.querySelector(each).getClientRects().length > 0)")
     check("paper has the records alone", [False, False, False, True], seen)
     window.here().execute_cdp_cmd("Emulation.setEmulatedMedia", {"media": ""})

@@ -4,6 +4,7 @@ import time
 
 from page_checks import FIVE_CLUBS, check, holds, part, type_result
 from page_devices import Browser, Hostile, until
+from page_layout import play_fits
 
 
 @part
@@ -48,7 +49,7 @@ def played_numbers(page, nginx):
     wanted = [[names[place], *(str(Hostile.TRICKS[place][index]) for index in (4, 0, 1, 2, 3))] for place in "NSEW"]
     check("the double-dummy table has its declarers and strains", wanted, page.rows("table.analysis"))
     rows = page.rows("table.traveller")
-    wanted = [["200", "0", "2"], ["0", "", "2", "0"], ["60 %", "40 %"]]
+    wanted = [["200", "0.00", "100.00", "0", "2"], ["0", "", "100.00", "0.00", "2", "0"], ["60", "40", "", ""]]
     check("the traveller has what was set, passed out and ruled", wanted, [rows[0][5:], rows[1][4:], rows[2][4:]])
     cells = page.script("""return [...document.querySelectorAll("table.play tbody tr")].map((row) => [...row.cells].slice(1).map((cell) => {
         const card = cell.querySelector(".card");
@@ -61,9 +62,16 @@ def played_numbers(page, nginx):
            [None, ["D4", "", ""], None, None]], cells)
     total = sum(Hostile.COSTS)
     holds("and told together", page.shows(f"cost their side {total} tricks together"))
+    play_fits(page, "board/2/1")
+    page.width(1000)
     page.press("letters")
     letters = page.script("return [...document.querySelectorAll('.hand-N dt')].map((suit) => suit.innerText.trim()[0])")
     check("suits can be read as letters", ["S", "H", "D", "C"], letters)
+    page.here().refresh()
+    until("the page is there again", lambda: page.find("name"))
+    page.sign_in("n1", "x")
+    holds("after a reload too", until("the board is there", lambda: page.rows("table.analysis")) and page.script(
+        "return document.body.classList.contains('letters') && document.getElementById('letters').checked"))
     page.press("letters")
     page.press("sign-out")
 
@@ -75,12 +83,14 @@ def hostile_texts(page, nginx):
         page.here().refresh()
         until("the page is there", lambda: page.find("name"))
         page.sign_in("n1", "x")
+        if route == "papers":
+            page.press("paper-pair_cards")
         time.sleep(0.4)
         made = page.script("""const isMade = (each) => ["IMG", "SCRIPT", "IFRAME", "OBJECT"].includes(each.tagName) ||
             [...each.attributes].some(({name}) => name.startsWith("on"));
             return [...document.querySelectorAll("main *, header *")].filter(isMade).length""")
         check(f"{route}: no text became an element or a listener", 0, made)
-        if route in ("session", "ranking", "accounts", "audit"):
+        if route in ("session", "ranking", "accounts", "audit", "papers"):
             holds(f"{route}: such a text is shown as it is", page.shows(Hostile.MARKUP))
     page.press("sign-out")
     for elsewhere in ("//evil.example/session", "wss://evil.example/session", "https:evil"):

@@ -1,6 +1,6 @@
 #!/usr/bin/env python3
 """Plays the example session on the page, in a real browser, and says what it found, a line a check; in the end one of the second
-edition.
+edition, a Howell, and 128 boards.
 
     /usr/bin/python3 tests/page_session.py crates/bridge_server/out/bridge_server [workers, else 1 [seconds, else 900]]
 
@@ -21,8 +21,17 @@ from page_checks import FAILED, FIVE_CLUBS, PASSED, OutOfTime, THREE_NO_TRUMP, c
 from page_desks import administrator, audit, correct_and_void, director, end_of_play, ruling, seats, spoiled
 from page_devices import Browser, Hostile, Keys, Nginx, Server, until
 from page_edition import second_edition
-from page_layout import keyboard_player, laid_out, on_paper
+from page_layout import keyboard_player, laid_out, narrow, on_paper
+from page_movements import howell
+from page_papers import many_boards
+from page_schemes import schemes, seen_in_the_dark
+from page_scorer import on_a_phone, others_desks, percentage, scrolled_sideways
 from page_servers import all_displays_taken, connections, hostile_texts, over_tls, played_numbers, restart
+
+
+def by_direction(ranking):
+    """The rows of a ranking as the page has those of a Mitchell: a list for each direction, each in the order of the reply."""
+    return [row for side in ("NS", "EW") for row in ranking if row[0].startswith(side)]
 
 
 def percent(earned, tops):
@@ -37,9 +46,14 @@ def sign_in(page, server):
     page.type("token", "anna-exampl")
     page.press("sign-in-button")
     holds("a wrong token is refused in words", page.shows("aren't known", "#refusal"))
-    page.sign_in("anna")
+    page.type("name", " Anna ")
+    page.type("token", "anna-example ")
+    page.press("sign-in-button")
+    holds("blanks are cut, and a name's capitals are told", page.shows("the name is anna", "#done"))
+    until("anna is signed in", lambda: page.find("as-of"))
     holds("round and rounds are those of the status", page.shows(f"Round {status['round']} of {status['rounds']}"))
     holds("the own seat is told", page.shows("You sit in NS1, North."))
+    holds("nothing counts yet, which is told first", page.shows("No result counts for your pair yet.", "#own-rank"))
     rows = page.rows("table.tables")
     check("each table of the round is there", [str(table) for table in range(1, status["tables"] + 1)], [row[0] for row in rows])
     names = {pair: " · ".join(name for name, at, _ in status["seats"] if at == pair) for _, pair, _ in status["seats"]}
@@ -124,7 +138,9 @@ def confirm(sam, anna, carla, server):
     check("the server's row is the result", [(1, FIVE_CLUBS, 400)], [(row["table"], row["result"], row["score"]) for row in traveller])
     until("the traveller is there", lambda: anna.rows("table.traveller"))
     row = anna.rows("table.traveller")[0]
-    check("the traveller has the row", ["1", "NS1", "EW1", "400", "", "0", "0"], row[:3] + row[4:])
+    check("the traveller has the row with its players, and no percentage yet",
+          ["1", "NS1 anna · ben", "EW1 rosa · stig", "400", "", "–", "–", "–", "–"], row[:3] + row[4:])
+    holds("the first result isn't told to be a bottom", anna.shows("This result is the first"))
     holds("its contract is 5 clubs by South, just made", "5♣ S =" in row[3].replace("\n", "") or row[3].startswith("5♣"))
     waits = "double-dummy table of board 1: denied until the board is complete; table 3"
     holds("the double-dummy table waits, with a rule of its own", anna.shows(waits))
@@ -139,7 +155,17 @@ def confirm(sam, anna, carla, server):
 def play_and_costs(sam, anna, server):
     """A result with four cards of its play; they are those of the deal, East to lead."""
     sam.go("scorer/2/4")
+    sam.press("enter-level-5")
+    sam.press("enter-button")
+    holds("what is missing is told", sam.shows("Still to tell: the strain, the declarer, the tricks", "#refusal"))
+    below = sam.script("return ['enter-over-0', 'enter-over--1'].map((id) => document.getElementById(id).getBoundingClientRect().left)")
+    sam.press("enter-strain-N")
+    check("and goes once the form is filled on", "", sam.text("#refusal"))
     type_result(sam, "enter", THREE_NO_TRUMP)
+    check("one down stands below just made, whatever the level", [below[0]] * 3, [*below[1:], *sam.script(
+        "return ['enter-over-0', 'enter-over--1'].map((id) => document.getElementById(id).getBoundingClientRect().left)")])
+    check("who is vulnerable is written on the tiles", ["N vul", "E vul", "S vul", "W vul"], sam.script(
+        "return [...document.querySelectorAll('[for^=enter-by]')].map((tile) => tile.textContent)"))
     sam.press("enter-play-summary")
     sam.type("enter-play", "S7 SK S9 SX")
     sam.press("enter-button")
@@ -157,6 +183,11 @@ def play_and_costs(sam, anna, server):
     lead_and_follow(server)
     sam.go("scorer/1/4")
     holds("no result comes before its round", sam.shows("Table 1, board 4"))
+    until("the form is there", lambda: sam.find("enter-play-part"))
+    check("the play part was closed with its board", False, sam.script("return document.getElementById('enter-play-part').open"))
+    names = server.reply("sam", {"ask": "status"})["status"]["seats"]
+    wanted = [" ".join([pair, " · ".join(name for name, at, _ in names if at == pair)]) for pair in ("NS1", "EW8")]
+    check("whose pairs are shown", f"{' – '.join(wanted)} · round 2", sam.text("#cell-pairs"))
     type_result(sam, "enter", "pass")
     sam.press("enter-button")
     refused = server.reply("sam", {"do": [{"cmd": "Enter", "table": 1, "board": 4, "result": "pass"}]})["answers"]
@@ -209,15 +240,17 @@ def ranking(dora, anna, server, downloads):
         until("the ranking is there", lambda: window.rows("table.ranking"))
 
         def agrees():
-            rows = server.reply(name, {"ask": "ranking"})["ranking"]
+            rows = by_direction(server.reply(name, {"ask": "ranking"})["ranking"])
             wanted = [[pair, percent(earned, tops) if tops else "–"] for pair, earned, tops in rows]
             return [[row[1].split()[0], row[2]] for row in window.rows("table.ranking")] == wanted
         what = f"the ranking that {name} sees is the server's for {name}"
         try:
             holds(what, until("the ranking agrees", agrees))
         except AssertionError:
-            check(what, server.reply(name, {"ask": "ranking"})["ranking"], window.rows("table.ranking"))
-    rows = server.reply("dora", {"ask": "ranking"})["ranking"]
+            check(what, by_direction(server.reply(name, {"ask": "ranking"})["ranking"]), window.rows("table.ranking"))
+        holds("it has two lists, and says so", window.shows("Two winners", ".winners"))
+        check("each of eight pairs", [8, 8], [len(window.rows(f"table.ranking-{side}")) for side in ("NS", "EW")])
+    rows = by_direction(server.reply("dora", {"ask": "ranking"})["ranking"])
     check("two thirds of the tops are 66.67 percent", "66.67 %", next(percent(earned, tops) for pair, earned, tops in rows if pair == "NS5"))
     dora.press("csv-ranking")
     path = until("the file is there", lambda: next(iter(pathlib.Path(downloads).glob("ranking*.csv")), None))
@@ -225,6 +258,77 @@ def ranking(dora, anna, server, downloads):
     lines = [line.split(",") for line in path.read_text(encoding="utf-8-sig").splitlines()[1:]]
     wanted = [[pair, percent(earned, tops)[:-2] if tops else ""] for pair, earned, tops in rows]
     check("the spreadsheet has the pairs and percents", wanted, [[line[1], line[3]] for line in lines])
+
+
+@part
+def score_card(anna, server):
+    """A player's own card: a row for each board that she was shown and has played, and in the end the percentage of the ranking."""
+    anna.go("papers")
+    anna.press("paper-results")
+    until("the card is there", lambda: anna.find("print") and anna.rows("table.score-card"))
+    rows = anna.rows("table.score-card")
+    boards = [board for board in server.reply("anna", {"ask": "list"})["list"]["boards"]
+              if any(row["ns"] == "NS1" for row in server.reply("anna", {"ask": "traveller", "board": board})["traveller"]["rows"])]
+    check("the card has the own boards", boards, [int(row[0]) for row in rows])
+    check("with who was met", ["EW1 rosa · stig"] * 3, [row[1] for row in rows[:3]])
+    earned, tops = next(row[1:] for row in server.reply("anna", {"ask": "ranking"})["ranking"] if row[0] == "NS1")
+    check("its last percentage is the ranking's", percent(earned, tops)[:-2], rows[-1][5])
+
+
+@part
+def own_rank(anna, server):
+    """A player's first view: the own percentage, total and place among the pairs of her direction that have one. Table 8 plays
+    her first boards too, so that there is something to compare with."""
+    more = [{"cmd": word, "table": 8, "board": board, "result": {"by": "N", "doubled": 0, "level": 3, "strain": "N", "tricks": tricks}}
+            for board, tricks in ((1, 10), (2, 8), (3, 9)) for word in ("Enter", "Confirm")]
+    check("another table gives results on her boards", ["ok"] * 6, server.reply("sam", {"do": more})["answers"])
+    anna.go("session")
+    until("the rank is there", lambda: anna.rows("table.tables") and "Percent" in anna.text("#own-rank"))
+    ranked = [row for row in server.reply("anna", {"ask": "ranking"})["ranking"] if row[0].startswith("NS") and row[2]]
+    earned, tops = next(row[1:] for row in ranked if row[0] == "NS1")
+    better = sum(other[1] * tops > earned * other[2] for other in ranked)
+    shared = "=" if sum(other[1] * tops == earned * other[2] for other in ranked) > 1 else ""
+    units = [f"{each / 100:.2f}".rstrip("0").rstrip(".") for each in (earned, tops)]
+    wanted = [percent(earned, tops), " of ".join(units), f"{better + 1}{shared} of {len(ranked)} North-South"]
+    check("a player's first view has percentage, total and place", wanted,
+          anna.script("return [...document.querySelectorAll('#own-rank dd')].map((each) => each.textContent)"))
+    anna.width(390, 844)
+    holds("without scrolling on a phone", anna.script("return document.getElementById('own-rank').getBoundingClientRect().bottom < innerHeight"))
+    anna.width(1000)
+
+
+def cells(status):
+    """Table and board of each cell of the rounds so far, by round and then by table."""
+    return [(number, table, board) for number in range(1, status["round"] + 1) for table in range(1, 9)
+            for board in range(3 * ((table + number - 2) % 8) + 1, 3 * ((table + number - 2) % 8) + 4)]
+
+
+@part
+def room(dora, server):
+    """The director's first view, in round 2: each cell as the status and the travellers have it."""
+    dora.go("session")
+    dora.go("director")
+    status = server.reply("dora", {"ask": "status"})["status"]
+    asked = [{"ask": "traveller", "board": board} for board in range(1, 25)]
+    ruled = {(row["table"], reply["traveller"]["board"]) for reply in server.ask("dora", *asked)
+             for row in reply["traveller"]["rows"] if "ruling" in row}
+
+    def state(number, table, board):
+        if table in status["live"][board - 1]:
+            return "ruled" if (table, board) in ruled else "has a result"
+        return "awaited" if number == status["round"] else "late"
+    wanted = {f"room-{table}-{board}": state(number, table, board) for number, table, board in cells(status)}
+    check("there are all kinds of them", {"awaited", "late", "has a result", "ruled"}, set(wanted.values()))
+
+    def shown():
+        return dict(dora.script("return [...document.querySelectorAll('.room a')].map((each) => [each.id, each.querySelector('.unseen').textContent.slice(2)])"))
+    until("the room is whole", lambda: shown() == wanted or time.sleep(0.2))
+    check("each cell of the rounds so far has its mark", wanted, shown())
+    awaited = [f"awaited-{table}-{board}" for number, table, board in cells(status) if table not in status["live"][board - 1]]
+    check("all that is awaited is listed, the oldest first", awaited,
+          dora.script("return [...document.querySelectorAll('ul.awaited a')].map((each) => each.id)"))
+    dora.press("room-2-5")
+    holds("a tap opens it", dora.shows("Table 2, board 5", "#heading"))
 
 
 @part
@@ -244,6 +348,8 @@ def find_boards(dora, server):
         return dora.script("return [...document.querySelectorAll('[id^=found-]:not(#found-count)')].map((link) => Number(link.id.slice(6)))")
     until("the boards are listed", lambda: found() == reply["boards"] or time.sleep(0.2))
     check("the boards are those of the reply", reply["boards"], found())
+    holds("and are in view", until("the list is in view", lambda: dora.script(
+        "return document.querySelector('.board-list').getBoundingClientRect().top < innerHeight")))
     dora.choose("new-kind", "level")
     dora.press("add-condition")
     dora.type("condition-2-max", "8")
@@ -288,19 +394,29 @@ def play(server, nginx, downloads, has_workers):
     keyboard_scorer(sam)
     confirm(sam, anna, carla, server)
     play_and_costs(sam, anna, server)
+    on_a_phone(sam, server)
     director(dora, anna, carla, server)
     ruling(dora, carla, server)
     correct_and_void(dora, server)
     spoiled(sam, server)
+    percentage(dora, server)
+    scrolled_sideways(anna, server)
     ranking(dora, anna, server, downloads)
+    own_rank(anna, server)
+    room(dora, server)
     find_boards(dora, server)
     analysis(dora, server, has_workers)
     on_paper(dora)
+    score_card(anna, server)
+    narrow(dora, anna)
     audit(dora, server)
     keyboard_player(anna)
     laid_out(anna, ("session", "boards", "board/1/1", "board/4", "ranking", "find", "papers"))
     laid_out(dora, ("scorer", "scorer/3", "scorer/3/11", "director", "director/1/1", "accounts", "audit"))
-    vera.press("sign-out")
+    schemes(dora, "scorer/3/13", "enter", ("session", "director/1/1", "ranking"))
+    seen_in_the_dark(dora, ("scorer/3", "scorer/1/1", "director", "accounts", "audit", "papers", "find", "board/1/1"))
+    seen_in_the_dark(anna, ("session", "boards", "board/1/1", "board/4"))
+    others_desks(vera)
     administrator(vera, nginx, server)
     all_displays_taken(vera, server)
     connections(server)
@@ -315,6 +431,8 @@ def play(server, nginx, downloads, has_workers):
     check("no hostile text reached a console", [], console([vera]))
     over_tls(nginx, server)
     second_edition(address, server, downloads)
+    howell(address, server, downloads)
+    many_boards(address, server, downloads)
 
 
 def stop_in_time(signal_number, frame):

@@ -1,7 +1,7 @@
 // The movement and what follows from a status.
 import assert from "node:assert/strict";
 import { test } from "node:test";
-import { movementOf, rowsOfBoard } from "../movement.js";
+import { mitchellOf, rowsOfBoard } from "../movement.js";
 import { awaitedCells, awaitedTables, boardStateOf, cellsOfTable, isComplete } from "../public_facts.js";
 import { marksOf, playersOf, publicFacts, seatOf, tableOfPair } from "../public_facts.js";
 
@@ -25,14 +25,14 @@ test("the movement is the Mitchell that docs/SESSION.md tells of", () => {
   for (let tables = 3; tables <= 16; tables += 1) {
     const most = tables % 2 ? tables : tables - 1;
     for (let rounds = 1; rounds <= most; rounds += 1) {
-      assert.deepEqual(movementOf(tables, rounds), movedAbout(tables, rounds), `${tables} tables, ${rounds} rounds`);
+      assert.deepEqual(mitchellOf(tables, rounds), movedAbout(tables, rounds), `${tables} tables, ${rounds} rounds`);
     }
   }
 });
 
 test("nobody meets an opponent or a set twice", () => {
   for (const [tables, rounds] of [[3, 3], [8, 7], [16, 15]]) {
-    const rows = movementOf(tables, rounds);
+    const rows = mitchellOf(tables, rounds);
     for (const side of ["ns", "ew"]) {
       assert.equal(
         new Set(rows.map((row) => `${row[side]} ${row.set}`)).size,

@@ -22,7 +22,7 @@ test("no text becomes markup or code", () => {
 });
 
 test("nothing is loaded from elsewhere", () => {
-  for (const name of [...files, "index.html", "styles/base.css", "styles/views.css", "styles/print.css"]) {
+  for (const name of [...files, "index.html", "styles/base.css", "styles/views.css", "styles/schemes.css", "styles/print.css"]) {
     assert.doesNotMatch(textOf(name).replaceAll("http://www.w3.org/2000/svg", ""), /https?:\/\/|@import|url\(/u, name);
   }
 });

@@ -1,15 +1,16 @@
 // A board: its hands, traveller, double-dummy table, and the play at a table. Each part is asked for by itself, and each
 // may be denied by itself.
 
-import { button, element, link, table, tiles } from "../dom.js";
+import { button, element, link, tiles } from "../dom.js";
 import { ask } from "../messages.js";
 import { isHeld, marksOf, seatOf, tableOfPair } from "../public_facts.js";
 import { rowsOfBoard } from "../movement.js";
 import { addressOf } from "../routes.js";
 import { texts } from "../texts.js";
+import { analysisView } from "./analysis.js";
 import { answerView } from "./denial.js";
 import { handsView } from "./hands.js";
-import { heading, notThere, section, strainMark } from "./marks.js";
+import { heading, notThere, section } from "./marks.js";
 import { playView } from "./play.js";
 import { travellerView } from "./traveller.js";
 
@@ -38,7 +39,7 @@ export function boardView(page, { board, table: chosen }) {
     section(texts.board.hands, answerView(page, ask.board(board), handsView)),
     !denied && hands && section(
       texts.board.traveller,
-      answerView(page, ask.traveller(board), (traveller) => travellerView(traveller, pair)),
+      answerView(page, ask.traveller(board), (traveller) => travellerView(facts, traveller, pair)),
     ),
     !denied && hands && section(texts.board.analysis, answerView(page, ask.analysis(board), analysisView)),
     !denied && hands && playSection(page, board, chosen, pair ? tableOfPair(facts, pair, board) : 0),
@@ -54,24 +55,6 @@ function turns(facts, board) {
     to(board - 1, texts.board.previous(board - 1), "previous-board"),
     to(board + 1, texts.board.next(board + 1), "next-board"),
   );
-}
-
-/** @param {import("../messages.js").Analysis} analysis */
-function analysisView(analysis) {
-  if (analysis.tricks === null) return element("p", {}, texts.board.pending);
-  const order = [4, 0, 1, 2, 3];
-  const heads = [
-    texts.board.declarer,
-    ...["N", "S", "H", "D", "C"].map((strain) => element("th", { scope: "col" }, strainMark(strain))),
-  ];
-  const rows = ["N", "S", "E", "W"].map((place) => [
-    texts.place[place],
-    ...order.map((index) => analysis.tricks[place][index]),
-  ]);
-  return [
-    table(texts.board.analysisCaption, heads, rows, { class: "analysis" }),
-    element("p", { class: "note" }, texts.board.analysisNote),
-  ];
 }
 
 function playSection(page, board, chosen, own) {

@@ -1,7 +1,7 @@
 // A player's own boards, the present round first, each with its state.
 
 import { element, link } from "../dom.js";
-import { boardsOf } from "../movement.js";
+import { boardsOf, isIn, isTurned, opponentsIn, sideIn } from "../movement.js";
 import { awaitedTables, boardStateOf, playersOf, seatOf } from "../public_facts.js";
 import { addressOf } from "../routes.js";
 import { texts } from "../texts.js";
@@ -13,7 +13,7 @@ export function boardsView(page) {
   const { facts, user } = page.state;
   const seat = seatOf(facts, user);
   if (!seat) return [heading(texts.boards.title), element("p", {}, texts.session.noSeat)];
-  const rows = facts.rows.filter((row) => row.ns === seat.pair || row.ew === seat.pair);
+  const rows = facts.rows.filter((row) => isIn(row, seat.pair));
   const now = rows.filter((row) => row.round === facts.round);
   const others = rows.filter((row) => row.round !== facts.round);
   return [
@@ -24,11 +24,12 @@ export function boardsView(page) {
 }
 
 function roundView(facts, row, pair) {
-  const against = row.ns === pair ? row.ew : row.ns;
+  const against = opponentsIn(row, pair);
+  const side = isTurned(facts.rows, pair) ? texts.side[sideIn(row, pair)] : "";
   const players = playersOf(facts, against).join(", ");
   const title = texts.boards.round(row.round, row.round === facts.round && facts.phase === "Running");
   return section(title,
-    element("p", {}, texts.boards.against(row.table, against, players)),
+    element("p", {}, texts.boards.against(row.table, side, against, players)),
     element(
       "ul",
       { class: "board-list" },

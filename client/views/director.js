@@ -1,23 +1,25 @@
-// The director's desk: the round, held boards, seats, and what belongs to a table's result.
+// The director's desk: the room, the round, held boards, seats, and what belongs to a table's result.
 
-import { button, choice, element, link } from "../dom.js";
+import { button, choice, element } from "../dom.js";
 import { ask, command } from "../messages.js";
+import { rowsOfBoard } from "../movement.js";
 import { awaitedCells } from "../public_facts.js";
-import { addressOf } from "../routes.js";
 import { texts } from "../texts.js";
 import { cellDeskView } from "./director_cell.js";
 import { seatsSection } from "./director_seats.js";
 import { heading, section } from "./marks.js";
+import { roomNeeds, roomSection } from "./room.js";
 
 export function directorNeeds(state, { table, board }) {
-  return board ? [ask.traveller(board), ask.play(table, board), ask.reason(table, board)] : [ask.accounts()];
+  if (board) return [ask.traveller(board), ask.play(table, board), ask.reason(table, board)];
+  return [ask.accounts(), ...roomNeeds(state)];
 }
 
 export function directorView(page, { table, board }) {
   if (table && board) return cellDeskView(page, table, board);
   return [
     heading(texts.director.title),
-    roundSection(page), resultSection(page), heldSection(page),
+    roomSection(page), roundSection(page), resultSection(page), heldSection(page),
     page.state.facts.edition === 2 && embargoSection(page),
     seatsSection(page),
   ];
@@ -28,18 +30,6 @@ function roundSection(page) {
   const awaited = awaitedCells(facts);
   const isRunning = facts.phase === "Running";
   return section(texts.director.round,
-    element("p", {}, texts.session.roundOf(facts.round, facts.rounds), " · ", texts.phase[facts.phase]),
-    awaited.length > 0 && element("p", { id: "awaited" }, texts.director.awaited(awaited.length)),
-    awaited.length > 0 && awaited.length <= 24 && element("ul", { class: "awaited" }, awaited.map((cell) =>
-      element(
-        "li",
-        {},
-        link(
-          addressOf("director", cell.table, cell.board),
-          texts.director.cell(cell.table, cell.board),
-          { id: `awaited-${cell.table}-${cell.board}` },
-        ),
-      ))),
     element("div", { class: "actions" },
       isRunning && facts.round < facts.rounds && page.twoStep(
         "next-round",
@@ -65,10 +55,8 @@ function resultSection(page) {
   const { facts } = page.state;
   const form = page.forms.cell;
   const numbers = (most) => Array.from({ length: most }, (_, index) => [index + 1, String(index + 1)]);
-  const tables = facts.rows.filter(
-    (row) => Math.ceil(form.board / facts.per_set) === row.set,
-  ).map((row) => row.table).sort((one, other) => one - other);
-  // with a pair absent there may be a board that no table plays
+  const tables = rowsOfBoard(facts.rows, form.board, facts.per_set).map((row) => row.table);
+  // there may be a board that no table plays
   if (!tables.includes(form.table)) form.table = tables[0] ?? 0;
   return section(texts.director.result,
     element("p", {}, texts.director.resultExplained),

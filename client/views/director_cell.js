@@ -3,19 +3,33 @@
 import { readPlay } from "../cards.js";
 import { button, element, field, link } from "../dom.js";
 import { ask, command } from "../messages.js";
-import { isLive, isScheduled, marksOf } from "../public_facts.js";
-import { resultOf } from "../results.js";
+import { isLive, isScheduled, marksOf, rowOf } from "../public_facts.js";
+import { draftOf, emptyDraft, isSameDraft, resultOf } from "../results.js";
 import { addressOf } from "../routes.js";
 import { texts } from "../texts.js";
-import { heading, notThere, pairMark, resultMark, section } from "./marks.js";
+import { answerView } from "./denial.js";
+import { heading, notThere, pairMark, resultMark, section, waiting } from "./marks.js";
 import { missingText, resultForm } from "./result_form.js";
+
+/**
+ * What a table has on a board: undefined until the server has told it, null where it has nothing.
+ * @typedef {import("../messages.js").TravellerRow & {cards: string[]}} Standing
+ * @returns {Standing|null|undefined}
+ */
+function standingOf(page, table, board) {
+  const [traveller, play] = [page.answer(ask.traveller(board))?.value, page.answer(ask.play(table, board))];
+  if (!traveller || !play || play.error) return undefined;
+  const row = traveller.rows.find((each) => each.table === table);
+  return row ? { ...row, cards: play.value?.cards ?? [] } : null;
+}
 
 export function cellDeskView(page, table, board) {
   const { facts } = page.state;
   if (!isScheduled(facts, table, board)) return notThere(texts.scorer.cellTitle(table, board), "NoSuchCell");
-  const row = page.answer(ask.traveller(board))?.value?.rows.find((each) => each.table === table);
-  const round = facts.rows.find((each) => each.table === table && each.set === Math.ceil(board / facts.per_set));
+  const standing = standingOf(page, table, board);
+  const round = rowOf(facts, table, board);
   const { dealer, vulnerability } = marksOf(facts, board);
+  const [isKnown, live] = [standing !== undefined, isLive(facts, table, board)];
   return [
     heading(texts.scorer.cellTitle(table, board)),
     element(
@@ -28,10 +42,10 @@ export function cellDeskView(page, table, board) {
       texts.director.inRound(round.round),
     ),
     element("p", { class: "marks" }, texts.marks(dealer, vulnerability)),
-    section(texts.director.now, nowView(page, row, table, board)),
-    isLive(facts, table, board) && correctSection(page, table, board, vulnerability),
-    ruleSection(page, table, board),
-    isLive(facts, table, board) && voidSection(page, table, board),
+    section(texts.director.now, isKnown ? nowView(page, standing, table, board) : untoldView(page, table, board)),
+    isKnown && live && correctSection(page, standing, table, board, vulnerability),
+    isKnown && ruleSection(page, standing, table, board),
+    isKnown && live && voidSection(page, standing, table, board),
     element(
       "p",
       {},
@@ -42,88 +56,122 @@ export function cellDeskView(page, table, board) {
   ];
 }
 
-function nowView(page, row, table, board) {
-  if (!row) return element("p", { id: "cell-now" }, texts.director.noResult);
-  if (row.ruling) {
+/** Nothing is corrected, ruled or made void before it is told what that would replace. */
+const untoldView = (page, table, board) => answerView(page, ask.traveller(board), () => answerView(page, ask.play(table, board), waiting));
+
+function nowView(page, standing, table, board) {
+  if (!standing) return element("p", { id: "cell-now" }, texts.director.noResult);
+  if (standing.ruling) {
     const code = page.answer(ask.reason(table, board))?.value?.code;
-    return element("p", { id: "cell-now" }, texts.director.ruled(row.ruling[0], row.ruling[1], code ?? 0));
+    return element("p", { id: "cell-now" }, texts.director.ruled(standing.ruling[0], standing.ruling[1], code ?? 0));
   }
-  const cards = page.answer(ask.play(table, board))?.value?.cards ?? [];
   return element(
     "p",
     { id: "cell-now" },
-    resultMark(row.result),
+    resultMark(standing.result),
     " · ",
-    texts.form.scores(row.score),
-    cards.length > 0 && ` · ${texts.form.playCards(cards.length)}`,
+    texts.form.scores(standing.score),
+    standing.cards.length > 0 && ` · ${texts.form.playCards(standing.cards.length)}`,
   );
 }
 
-function correctSection(page, table, board, vulnerability) {
+/** What goes where a ruling is given or a result made void. */
+function goesText(standing) {
+  if (!standing) return texts.director.goes.entry;
+  if (standing.ruling) return texts.director.goes.ruling(...standing.ruling);
+  return texts.director.goes.result(standing.result, standing.score, standing.cards.length);
+}
+
+/** The form begins with what stands, so that what isn't changed in it stays. */
+function correctSection(page, standing, table, board, vulnerability) {
   const { user } = page.state;
-  const draft = page.drafts.read(user, "correct", table, board);
+  const first = standing?.result ? draftOf(standing.result, standing.cards) : emptyDraft();
+  const draft = page.drafts.read(user, "correct", table, board, first);
+  const isChanged = !isSameDraft(draft, first);
   const onChange = (next) => {
     page.drafts.write(user, "correct", table, board, next);
     page.draw();
   };
+  const forget = () => page.drafts.remove(user, "correct", table, board);
   const send = () => {
     const result = resultOf(draft);
     const { cards, fault } = readPlay(draft.play);
-    if (!result) return page.refuse(missingText(draft));
+    if (!result) return page.refuseUntilChanged(missingText(draft));
     if (fault && !draft.passedOut) return page.refuse(texts.form.playFault(fault));
-    const done = () => page.drafts.remove(user, "correct", table, board);
-    return page.perform(
-      [command.correct(table, board, result, draft.passedOut ? [] : cards)],
-      texts.director.corrected,
-      done,
-    );
+    if (!isChanged) return page.refuse(texts.director.unchanged);
+    return page.perform([command.correct(table, board, result, draft.passedOut ? [] : cards)], texts.director.corrected, forget);
   };
+  const beginAgain = () => {
+    forget();
+    page.draw();
+  };
+  const lost = standing && (draft.passedOut || draft.play.trim() === "") ? standing.cards.length : 0;
   return section(texts.director.correct,
-    element("p", { class: "note" }, texts.director.correctNote),
+    element("p", { class: "note" }, standing?.result ? texts.director.correctNote : texts.director.correctRulingNote),
     resultForm("correct", draft, onChange, { vulnerability, hasPlay: true }),
-    button(
-      "correct-button",
-      texts.director.correctButton,
-      send,
-      { class: "main", "aria-disabled": resultOf(draft) && !page.isBusy ? null : "true" },
-    ));
+    lost > 0 && element("p", { class: "note fault", id: "correct-lost" }, texts.director.playGoes(lost)),
+    element("p", { class: "actions" },
+      button(
+        "correct-button",
+        texts.director.correctButton,
+        send,
+        { class: "main", "aria-disabled": resultOf(draft) && isChanged && !page.isBusy ? null : "true" },
+      ),
+      isChanged && button("correct-again", texts.director.beginAgain, beginAgain, { class: "quiet" })));
 }
 
-function ruleSection(page, table, board) {
-  const form = page.forms.rule;
-  const number = (id, label, part, most) => field(
-    id,
+const emptyRuling = () => ({ ns: "", ew: "", reason: "" });
+
+const isFrom = (text, least, most) => /^\d{1,3}$/u.test(text) && Number(text) >= least && Number(text) <= most;
+
+/** The numbers belong to the cell for which they are typed. */
+function ruleSection(page, standing, table, board) {
+  const cell = `${table}/${board}`;
+  const form = page.forms.rule.get(cell) ?? emptyRuling();
+  const number = (part, label, least, most) => field(
+    `rule-${part}`,
     label,
     {
       type: "number",
       inputmode: "numeric",
-      min: part === "reason" ? 1 : 0,
+      min: least,
       max: most,
       value: form[part],
-      onInput: (event) => { form[part] = event.target.value; },
+      onInput: (event) => {
+        form[part] = event.target.value;
+        page.forms.rule.set(cell, form);
+        page.disarm();
+      },
     },
   );
-  const send = () => {
-    const parts = [form.ns, form.ew, form.reason];
-    if (parts.some((text) => !/^\d{1,3}$/u.test(text) || Number(text) > 255)) return page.refuse(texts.refusal("BadRuling"));
-    return page.perform([command.rule(table, board, ...parts.map(Number))], texts.director.ruledDone);
+  const isReady = () => {
+    const isRuling = isFrom(form.ns, 0, 100) && isFrom(form.ew, 0, 100) && isFrom(form.reason, 1, 99);
+    if (!isRuling) page.refuse(texts.refusal("BadRuling"));
+    return isRuling;
   };
+  const numbers = () => [form.ns, form.ew, form.reason].map(Number);
+  const give = () => page.perform(
+    [command.rule(table, board, ...numbers())],
+    texts.director.ruledDone,
+    () => page.forms.rule.delete(cell),
+  );
+  const sure = `${texts.director.ruleSure(...numbers())} ${goesText(standing)}`;
   return section(texts.director.rule,
     element("p", { class: "note" }, texts.director.ruleNote),
     element("div", { class: "fields" },
-      number("rule-ns", texts.director.forNs, "ns", 100),
-      number("rule-ew", texts.director.forEw, "ew", 100),
-      number("rule-reason", texts.director.reason, "reason", 99),
-      button("rule-button", texts.director.ruleButton, send)));
+      number("ns", texts.director.forNs, 0, 100),
+      number("ew", texts.director.forEw, 0, 100),
+      number("reason", texts.director.reason, 1, 99)),
+    page.twoStep("rule-button", texts.director.ruleButton, sure, give, texts.director.ruleButton, isReady));
 }
 
-function voidSection(page, table, board) {
+function voidSection(page, standing, table, board) {
   return section(texts.director.void,
     element("p", { class: "note" }, texts.director.voidNote),
     page.twoStep(
       "void",
       texts.director.voidButton,
-      texts.director.voidSure,
+      `${texts.director.voidSure} ${goesText(standing)}`,
       () => page.perform([command.void(table, board)], texts.director.voided),
     ));
 }

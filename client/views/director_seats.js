@@ -2,6 +2,7 @@
 
 import { button, choice, element, field } from "../dom.js";
 import { ask, command } from "../messages.js";
+import { isTurned, namedSideOf } from "../movement.js";
 import { playersOf } from "../public_facts.js";
 import { texts } from "../texts.js";
 import { section } from "./marks.js";
@@ -17,6 +18,7 @@ export function seatsSection(page) {
       element("ul", { class: "rows" }, facts.seats.map((seat) => seatItem(page, seat))),
     ),
     element("h3", {}, texts.director.seatTitle),
+    facts.pairs.some((pair) => isTurned(facts.rows, pair)) && element("p", { class: "note", id: "seat-note" }, texts.director.seatNote),
     seatForm(page),
   );
 }
@@ -34,7 +36,8 @@ function seatItem(page, [name, pair, place]) {
 function seatForm(page) {
   const { facts } = page.state;
   const form = page.forms.seat;
-  const places = form.pair.startsWith("NS") ? ["N", "S"] : ["E", "W"];
+  if (!facts.pairs.includes(form.pair)) form.pair = facts.pairs[0] ?? "";
+  const places = namedSideOf(form.pair) === "NS" ? ["N", "S"] : ["E", "W"];
   if (!places.includes(form.place)) form.place = places[0];
   const set = (part) => (value) => {
     form[part] = value;
@@ -43,7 +46,7 @@ function seatForm(page) {
   const note = (event) => {
     form.name = event.target.value;
   };
-  const pairs = pairsOf(facts).map((pair) => [pair, [pair, ...playersOf(facts, pair)].join(" ")]);
+  const pairs = facts.pairs.map((pair) => [pair, [pair, ...playersOf(facts, pair)].join(" ")]);
   return element(
     "div",
     { class: "fields" },
@@ -54,11 +57,6 @@ function seatForm(page) {
     button("seat", texts.director.seat, () => giveSeat(page)),
   );
 }
-
-/** The pairs that a user can sit in: all of the section but one that is absent. */
-const pairsOf = ({ tables, absent }) =>
-  ["NS", "EW"].flatMap((side) => Array.from({ length: tables }, (_, index) => `${side}${index + 1}`))
-    .filter((pair) => pair !== absent);
 
 /** Users without a seat, to choose from. */
 function unseated(page) {

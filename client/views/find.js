@@ -2,25 +2,23 @@
 
 import { button, choice, element, field, link } from "../dom.js";
 import { badCondition, boundsOf, conditionKinds, filterOf, mostConditions, newCondition } from "../filters.js";
-import { ask } from "../messages.js";
 import { marksOf } from "../public_facts.js";
 import { addressOf } from "../routes.js";
 import { texts } from "../texts.js";
-import { answerView } from "./denial.js";
+import { listNeeds, listView } from "./listed.js";
 import { heading, section } from "./marks.js";
 
-const queryOf = ({ asked, from }) => ask.list(filterOf(asked.conditions, asked.joiner), from);
+const askedOf = ({ asked }) => filterOf(asked.conditions, asked.joiner);
 
-export const findNeeds = (state, route, page) => [queryOf(page.forms.find)];
+export const findNeeds = (state, route, page) => listNeeds(page, askedOf(page.forms.find));
 
 export function findView(page) {
   const form = page.forms.find;
-  const query = queryOf(form);
   return [
     heading(texts.find.title),
     element("p", {}, texts.find.explained),
     section(texts.find.conditions, conditionsView(page, form), addView(page, form), actions(page, form)),
-    section(texts.find.found, answerView(page, query, (list) => foundView(page, list, form))),
+    element("div", { id: "found" }, section(texts.find.found, listView(page, askedOf(form), (boards) => foundView(page, boards)))),
   ];
 }
 
@@ -104,13 +102,12 @@ function actions(page, form) {
       return page.refuse(texts.find.badBounds(texts.find.kind[kind], boundsOf[kind]));
     }
     form.asked = structuredClone({ conditions: form.conditions, joiner: form.joiner });
-    form.from = 1;
-    return page.lookAgain();
+    return page.lookAgain().then(() => page.bringIntoView("found"));
   };
   return element("p", { class: "actions" }, button("search", texts.find.search, search, { class: "main" }));
 }
 
-function foundView(page, list, form) {
+function foundView(page, boards) {
   const { facts } = page.state;
   const item = (board) => {
     const { dealer, vulnerability } = marksOf(facts, board);
@@ -124,10 +121,8 @@ function foundView(page, list, form) {
       ),
     );
   };
-  const last = list.boards.at(-1);
   return [
-    element("p", { id: "found-count", role: "status" }, texts.find.count(list.boards.length, list.more)),
-    element("ul", { class: "board-list" }, list.boards.map(item)),
-    list.more && button("more", texts.find.more, () => { form.from = last + 1; page.lookAgain(); }, { class: "quiet" }),
+    element("p", { id: "found-count", role: "status" }, texts.find.count(boards.length)),
+    element("ul", { class: "board-list" }, boards.map(item)),
   ];
 }

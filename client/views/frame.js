@@ -5,14 +5,24 @@ import { seatOf } from "../public_facts.js";
 import { addressOf } from "../routes.js";
 import { texts } from "../texts.js";
 
+const deskRights = { scorer: ["score"], director: ["direct"], accounts: ["direct", "administer"], audit: ["direct", "administer"] };
+
+/**
+ * Whether a view is drawn for the user. A desk is for whoever has one of its permissions; which the user has may still be unknown.
+ * @returns {"drawn"|"unknown"|"notYours"}
+ */
+export function drawnFor({ permissions }, view) {
+  if (!deskRights[view]) return "drawn";
+  if (permissions === null || permissions === undefined) return "unknown";
+  return deskRights[view].some((right) => permissions[right]) ? "drawn" : "notYours";
+}
+
 /** The views that are of use to the user, in the order of their links. */
 export function viewsOf({ facts, user, permissions }) {
   if (!facts) return [];
   return [
     "session", ...(seatOf(facts, user) ? ["boards"] : []), "ranking", "find", "papers",
-    ...(permissions?.score ? ["scorer"] : []),
-    ...(permissions?.direct ? ["director"] : []),
-    ...(permissions?.direct || permissions?.administer ? ["accounts", "audit"] : []),
+    ...Object.keys(deskRights).filter((view) => drawnFor({ permissions }, view) === "drawn"),
   ];
 }
 
@@ -45,7 +55,11 @@ export function headView(page) {
 export function footView(page) {
   const { state } = page;
   return element("div", { class: "bar" },
-    state.facts && element("p", { id: "as-of", "data-version": state.version }, texts.frame.asOf(state.version)),
+    state.facts && page.heardAt && element(
+      "p",
+      { id: "as-of", "data-version": state.version },
+      texts.frame.asOf(page.heardAt),
+    ),
     element("p", {}, element("label", { for: "letters", class: "check" },
       element(
         "input",

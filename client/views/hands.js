@@ -6,8 +6,11 @@ import { isVulnerable } from "../scoring.js";
 import { texts } from "../texts.js";
 import { strainMark, unseen } from "./marks.js";
 
-/** @param {import("../messages.js").Board} board */
-export function handsView(board) {
+/**
+ * @param {import("../messages.js").Board} board
+ * @param {...any} corner what stands in the free corner of a hand record
+ */
+export function handsView(board, ...corner) {
   const hands = handsOf(board.deal);
   if (!hands) return element("p", { class: "error" }, texts.error("BadDeal"));
   return element(
@@ -15,13 +18,14 @@ export function handsView(board) {
     { class: "diagram" },
     places.map((place) => handView(place, hands[place], board)),
     compass(board),
+    corner,
   );
 }
 
 function handView(place, hand, board) {
   return element("section", { class: `hand hand-${place}`, "aria-label": texts.place[place], "data-place": place },
     element("h3", {}, texts.place[place], " ", element("span", { class: "points" }, texts.points(pointsOf(hand))),
-      board.dealer === place && element("span", { class: "dealer" }, texts.dealer)),
+      board.dealer === place && [" ", element("span", { class: "dealer" }, texts.dealer)]),
     element(
       "dl",
       {},

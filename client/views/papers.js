@@ -1,33 +1,47 @@
-// What goes on paper, or into a spreadsheet: the ranking, travellers and hand records of the boards that the user may see.
+// What goes on paper, or into a spreadsheet: the ranking, score cards, travellers and hand records of the boards that the user
+// may see, and guide cards.
 
-import { button, element, table, tiles } from "../dom.js";
+import { button, element, tiles } from "../dom.js";
 import { csvText, download } from "../csv.js";
+import { linesOfPairs, linesOfTables } from "../guide_cards.js";
 import { ask } from "../messages.js";
-import { percentText, topOf } from "../percentages.js";
 import { seatOf } from "../public_facts.js";
+import { scoreCardOf } from "../score_cards.js";
 import { texts } from "../texts.js";
+import { analysisFields, analysisHeads, makesView } from "./analysis.js";
 import { answerView } from "./denial.js";
+import { pairCards, tableCards } from "./guide_cards.js";
 import { handsView } from "./hands.js";
-import { heading, resultMark } from "./marks.js";
-import { rankingCsv, rankingTable } from "./ranking.js";
+import { boardsSoFar, listNeeds, listView, wholeList } from "./listed.js";
+import { heading } from "./marks.js";
+import { rankingCsv, rankingTables } from "./ranking.js";
+import { scoreCardLines, scoreCardView } from "./score_card.js";
 import { travellerLines, travellerView } from "./traveller.js";
 
-const kindsOf = (pair) => ["ranking", ...(pair ? ["results"] : []), "travellers", "records"];
+const kindsOf = (pair) =>
+  ["ranking", ...(pair ? ["results"] : []), "travellers", "records", "score_cards", "pair_cards", "table_cards"];
 const pairOf = ({ facts, user }) => seatOf(facts, user)?.pair ?? null;
 
-/** The boards are asked for once they are listed. */
+/** Which queries of a board a paper is made of. */
+const aboutBoard = {
+  results: [ask.traveller],
+  travellers: [ask.traveller],
+  records: [ask.board, ask.analysis],
+  score_cards: [ask.traveller],
+};
+
+/** Guide cards follow from the status alone; for most others the boards are asked for once they are listed. */
 export function papersNeeds(state, route, page) {
   const { kind } = page.forms.papers;
   if (kind === "ranking") return [ask.ranking()];
-  const boards = page.answer(ask.list(null))?.value?.boards ?? [];
-  const about = { results: [ask.traveller], travellers: [ask.traveller], records: [ask.board, ask.analysis] }[kind];
-  return [ask.list(null), ...boards.flatMap((board) => about.map((query) => query(board)))];
+  if (!aboutBoard[kind]) return [];
+  const aboutBoards = boardsSoFar(page, null).flatMap((board) => aboutBoard[kind].map((query) => query(board)));
+  return [...listNeeds(page, null), ...aboutBoards];
 }
 
 export function papersView(page) {
   const form = page.forms.papers;
   const choose = (kind) => { form.kind = kind; page.lookAgain(); };
-  const text = csvOf(page, form.kind);
   return [
     heading(texts.papers.title),
     element("div", { class: "no-print" },
@@ -39,14 +53,7 @@ export function papersView(page) {
         form.kind,
         choose,
       ),
-      element("p", { class: "actions" },
-        button("print", texts.papers.print, () => globalThis.print(), { class: "main" }),
-        text !== null && button(
-          "csv",
-          texts.papers.csv,
-          () => download(`${form.kind}.csv`, text),
-          { class: "quiet" },
-        ))),
+      actions(page, form.kind)),
     element(
       "div",
       { class: `paper paper-${form.kind}` },
@@ -56,96 +63,78 @@ export function papersView(page) {
   ];
 }
 
+/** Nothing is printed or saved before all of it is here: a part would look like the whole. */
+function actions(page, kind) {
+  const asked = papersNeeds(page.state, page.route, page);
+  const here = asked.filter((query) => page.answer(query)).length;
+  if (here < asked.length) return element("p", { class: "waiting", id: "papers-asking" }, texts.papers.asking(here, asked.length));
+  const save = () => download(`${kind}.csv`, csvOf(page, kind));
+  return element("p", { class: "actions" },
+    button("print", texts.papers.print, () => globalThis.print(), { class: "main" }),
+    isTold(page, kind) && button("csv", texts.papers.csv, save, { class: "quiet" }));
+}
+
+const sheet = (...content) => element("section", { class: "sheet" }, ...content);
+
 function paper(page, kind) {
   const { facts } = page.state;
   const pair = pairOf(page.state);
-  if (kind === "ranking") return answerView(page, ask.ranking(), (ranking) => rankingTable(facts, ranking, pair));
-  return answerView(page, ask.list(null), ({ boards }) => {
+  if (kind === "ranking") return answerView(page, ask.ranking(), (ranking) => rankingTables(facts, ranking, pair));
+  if (kind === "pair_cards") return pairCards(facts, pair);
+  if (kind === "table_cards") return tableCards(facts);
+  return listView(page, null, (boards) => {
     if (boards.length === 0) return element("p", {}, texts.papers.noBoards);
-    if (kind === "results") return resultsView(ownResults(page, boards, pair), pair);
     if (kind === "records") return boards.map((board) => recordView(page, board));
-    return boards.map((board) => element(
-      "section",
-      { class: "sheet" },
-      answerView(page, ask.traveller(board), (traveller) => travellerView(traveller, pair)),
-    ));
+    if (kind === "travellers") return boards.map((board) => travellerOf(page, board, pair));
+    const travellers = travellersOf(page, boards);
+    return pairsOfCards(facts, kind, pair).map((each) => sheet(scoreCardView(facts, scoreCardOf(facts, travellers, each), each)));
   });
 }
 
-/** The rows of the travellers that are the pair's own, with what they earned. */
-function ownResults(page, boards, pair) {
-  return boards.flatMap((board) => {
-    const rows = page.answer(ask.traveller(board))?.value?.rows ?? [];
-    const row = rows.find((each) => each.ns === pair || each.ew === pair);
-    return row ? [ownResult(board, row, topOf(rows), row.ns === pair)] : [];
-  });
-}
+const pairsOfCards = (facts, kind, ownPair) => (kind === "results" ? [ownPair] : facts.pairs);
 
-function ownResult(board, row, top, isNorthSouth) {
-  const against = isNorthSouth ? row.ew : row.ns;
-  if (row.ruling) {
-    const percent = String(row.ruling[isNorthSouth ? 0 : 1]);
-    return { board, against, result: null, score: null, points: null, percent };
-  }
-  const points = isNorthSouth ? row.points : top - row.points;
-  return {
-    board,
-    against,
-    result: row.result,
-    score: isNorthSouth ? row.score : -row.score || 0,
-    points,
-    percent: percentText(points, top),
-  };
-}
+/** The travellers of some boards, but for those that are denied. */
+const travellersOf = (page, boards) => boards.map((board) => page.answer(ask.traveller(board))?.value).filter(Boolean);
 
-function resultsView(results, pair) {
-  if (results.length === 0) return element("p", {}, texts.papers.noResults);
-  const rows = results.map(({ board, against, result, score, points, percent }) =>
-    [
-      String(board),
-      against,
-      result ? resultMark(result) : texts.traveller.ruling,
-      score === null ? "" : String(score).replace("-", "−"),
-      points ?? "",
-      percent && `${percent} %`,
-    ]);
-  return table(texts.papers.resultsCaption(pair), texts.papers.resultHeads, rows, { class: "results" });
+function travellerOf(page, board, pair) {
+  return sheet(answerView(page, ask.traveller(board), (traveller) => travellerView(page.state.facts, traveller, pair)));
 }
 
 function recordView(page, board) {
-  return element("section", { class: "sheet" }, element("h3", {}, texts.board.title(board)),
-    answerView(page, ask.board(board), handsView),
-    answerView(page, ask.analysis(board), (analysis) => makesView(analysis)));
-}
-
-function makesView(analysis) {
-  if (analysis.tricks === null) return element("p", { class: "note" }, texts.board.pending);
-  return element(
-    "p",
-    { class: "makes" },
-    ["N", "S", "E", "W"].map((place) => `${place}: ${texts.papers.tricks(analysis.tricks[place])}   `),
+  const makes = () => answerView(page, ask.analysis(board), makesView);
+  return sheet(
+    element("h3", {}, texts.board.title(board)),
+    answerView(page, ask.board(board), (value) => handsView(value, element("div", { class: "corner" }, makes()))),
   );
 }
 
-/** @returns {string|null} null where there is nothing to write yet */
+/** Whether what a paper is made of was told, and not denied. */
+function isTold(page, kind) {
+  if (kind === "ranking") return Boolean(page.answer(ask.ranking())?.value);
+  return !aboutBoard[kind] || wholeList(page, null) !== null;
+}
+
+/** A paper for a spreadsheet, where what it is made of was told. */
 function csvOf(page, kind) {
-  if (kind === "ranking") {
-    const ranking = page.answer(ask.ranking())?.value;
-    return ranking ? rankingCsv(page.state.facts, ranking) : null;
-  }
-  const boards = page.answer(ask.list(null))?.value?.boards;
-  if (!boards) return null;
-  if (kind === "results") {
-    const lines = ownResults(page, boards, pairOf(page.state)).map(({ board, against, result, score, points, percent }) =>
-      [board, against, result ? texts.resultInWords(result) : texts.traveller.ruling, score, points, percent]);
-    return csvText([texts.papers.resultHeads, ...lines]);
-  }
-  if (kind === "records") {
-    const known = boards.map((board) => page.answer(ask.board(board))?.value).filter(Boolean);
-    return csvText([texts.papers.recordHeads, ...known.map(({ number, dealer, vul, deal }) => [number, dealer, vul, deal])]);
-  }
-  return csvText([
-    texts.papers.travellerHeads,
-    ...boards.map((board) => page.answer(ask.traveller(board))?.value).filter(Boolean).flatMap(travellerLines),
-  ]);
+  const { facts } = page.state;
+  if (kind === "ranking") return rankingCsv(facts, page.answer(ask.ranking()).value);
+  if (kind === "pair_cards") return csvText([texts.guide.pairCsvHeads, ...linesOfPairs(facts)]);
+  if (kind === "table_cards") return csvText([texts.guide.tableCsvHeads, ...linesOfTables(facts)]);
+  const boards = wholeList(page, null);
+  if (kind === "records") return recordsCsv(page, boards);
+  const travellers = travellersOf(page, boards);
+  if (kind === "travellers") return csvText([texts.papers.travellerHeads, ...travellers.flatMap(travellerLines)]);
+  const lines = pairsOfCards(facts, kind, pairOf(page.state)).flatMap((pair) =>
+    scoreCardLines(facts, scoreCardOf(facts, travellers, pair), pair));
+  return csvText([texts.scoreCard.csvHeads, ...lines]);
+}
+
+function recordsCsv(page, boards) {
+  const lines = boards.flatMap((board) => {
+    const value = page.answer(ask.board(board))?.value;
+    if (!value) return [];
+    const { number, dealer, vul, deal } = value;
+    return [[number, dealer, vul, deal, ...analysisFields(page.answer(ask.analysis(board))?.value?.tricks)]];
+  });
+  return csvText([[...texts.papers.recordHeads, ...analysisHeads], ...lines]);
 }

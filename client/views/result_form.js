@@ -1,6 +1,6 @@
 // A result by few taps: contract, declarer, doubled and tricks, or passed out.
 
-import { element, tiles } from "../dom.js";
+import { element, tileRows, tiles } from "../dom.js";
 import { changed, missingParts, oversOf, resultOf } from "../results.js";
 import { isVulnerable, overText, scoreOf } from "../scoring.js";
 import { readPlay } from "../cards.js";
@@ -32,11 +32,11 @@ export function resultForm(name, draft, onChange, { vulnerability, hasPlay }) {
 
 function contractTiles(name, draft, set, vulnerability) {
   const strain = (value) => [value, strainMark(value), texts.strain[value]];
-  const declarer = (place) => [
-    place,
-    place,
-    isVulnerable(place, vulnerability) ? texts.form.vulnerable(texts.place[place]) : texts.place[place],
-  ];
+  const declarer = (place) => {
+    if (!isVulnerable(place, vulnerability)) return [place, place, texts.place[place]];
+    const mark = element("small", { class: "vulnerable-mark" }, texts.form.vulnerableMark);
+    return [place, [place, " ", mark], texts.form.vulnerable(texts.place[place])];
+  };
   return [
     tiles(
       `${name}-level`,
@@ -73,14 +73,15 @@ function contractTiles(name, draft, set, vulnerability) {
   ];
 }
 
+/** What was made stands above what was set, so that each number of tricks has its place whatever the level. */
 function tricksTiles(name, draft, set) {
   if (draft.level === null) return element("p", { class: "note" }, texts.form.levelFirst);
   const { made, set: under } = oversOf(draft.level);
   const option = (over) => [over, overText(over), texts.overInWords(over, draft.level + 6 + over)];
-  return tiles(
+  return tileRows(
     `${name}-over`,
     texts.form.tricks(draft.level + 6),
-    [...made, ...under].map(option),
+    [made, under].map((overs) => overs.map(option)),
     draft.over,
     set("over"),
     { class: "tiles columns-7" },
@@ -101,8 +102,8 @@ function playField(name, draft, onChange) {
   };
   return element(
     "details",
-    { id: `${name}-play-part`, open: draft.play !== "" },
-    element("summary", { id: `${name}-play-summary` }, texts.form.play),
+    { id: `${name}-play-part` },
+    element("summary", { id: `${name}-play-summary` }, texts.form.play, cards.length > 0 && `: ${counted}`),
     element(
       "div",
       { class: "field" },

@@ -2,15 +2,20 @@
 
 import { readPlay } from "../cards.js";
 import { button, element, link } from "../dom.js";
-import { command } from "../messages.js";
-import { cellsOfTable, isLive, isScheduled, marksOf } from "../public_facts.js";
+import { ask, command } from "../messages.js";
+import { percentText, topOf } from "../percentages.js";
+import { cellsOfTable, isLive, isScheduled, marksOf, nextCellElsewhere, rowOf, tablesToScore } from "../public_facts.js";
 import { resultOf } from "../results.js";
 import { addressOf } from "../routes.js";
+import { scoreOf } from "../scoring.js";
 import { texts } from "../texts.js";
-import { heading, pairMark, section, stateMark } from "./marks.js";
+import { heading, pairMark, resultMark, stateMark, section } from "./marks.js";
 import { missingText, resultForm } from "./result_form.js";
 
-export const scorerNeeds = () => [];
+/** Of a result that is there, what it is worth: the server shows it to whoever may see the board. */
+export function scorerNeeds({ facts }, { table, board }) {
+  return isScheduled(facts, table, board) && isLive(facts, table, board) ? [ask.traveller(board)] : [];
+}
 
 export function scorerView(page, { table, board }) {
   const { facts } = page.state;
@@ -22,16 +27,15 @@ export function scorerView(page, { table, board }) {
 
 function chooseTable(page) {
   const { facts } = page.state;
-  const rows = facts.rows.filter((row) => row.round === facts.round);
-  return [element("p", {}, texts.scorer.explained), element("ul", { class: "table-grid" }, rows.map((row) => {
-    const left = cellsOfTable(facts, row.table).filter((cell) => !cell.live).length;
+  return [element("p", {}, texts.scorer.explained), element("ul", { class: "table-grid" }, tablesToScore(facts).map((table) => {
+    const left = cellsOfTable(facts, table).filter((cell) => !cell.live).length;
     return element(
       "li",
       {},
       link(
-        addressOf("scorer", row.table),
-        [element("b", {}, texts.scorer.table(row.table)), element("span", {}, texts.scorer.left(left))],
-        { id: `table-${row.table}` },
+        addressOf("scorer", table),
+        [element("b", {}, texts.scorer.table(table)), element("span", {}, texts.scorer.left(left))],
+        { id: `table-${table}` },
       ),
     );
   }))];
@@ -64,34 +68,65 @@ function cellItem(page, user, cell) {
 
 function cellDesk(page, table, board) {
   const { facts, user } = page.state;
-  const row = cellsOfTable(facts, table).find((cell) => cell.board === board) ?? facts.rows.find(
-    (each) => each.table === table,
-  );
-  const live = isLive(facts, table, board);
+  const row = rowOf(facts, table, board);
+  const live = isLive(facts, table, board) || isConfirmedSince(page, table, board);
+  if (!live) page.forms.confirmed?.delete(`${table}/${board}`); // what was confirmed here isn't there any more
   const step = page.drafts.isEntered(user, table, board) ? "confirm" : "enter";
   const { dealer, vulnerability } = marksOf(facts, board);
   return [
     heading(texts.scorer.cellTitle(table, board)),
-    element("p", {}, pairMark(facts, row.ns), " – ", pairMark(facts, row.ew)),
+    element("p", { id: "cell-pairs" }, pairMark(facts, row.ns), " – ", pairMark(facts, row.ew), " · ", texts.director.inRound(row.round)),
     element("p", { class: "marks" }, texts.marks(dealer, vulnerability)),
-    live ? liveView(facts, table) : stepView(page, table, board, step, vulnerability),
+    live ? liveView(page, table, board, vulnerability) : stepView(page, row, board, step, vulnerability),
     element("p", {}, link(addressOf("scorer", table), texts.scorer.backToTable(table), { id: "back-to-table" })),
   ];
 }
 
-function liveView(facts, table) {
+/** Whether this tab confirmed a result that the status, being older, doesn't tell yet. */
+const isConfirmedSince = ({ state, forms }, table, board) => state.version < state.known && forms.confirmed.has(`${table}/${board}`);
+
+function liveView(page, table, board, vulnerability) {
+  const { facts } = page.state;
   const next = cellsOfTable(facts, table).find((cell) => !cell.live);
-  return [element("p", { class: "verdict verdict-holds", id: "cell-live" }, texts.scorer.isLive),
-    next && element(
+  const elsewhere = nextCellElsewhere(facts, table);
+  const to = (cell, text, id) => cell && link(addressOf("scorer", cell.table, cell.board), text, { id, class: "turn" });
+  return [
+    element("p", { class: "verdict verdict-holds", id: "cell-live" }, texts.scorer.isLive),
+    outcomeView(page, table, board, vulnerability),
+    element(
       "p",
-      {},
-      link(addressOf("scorer", table, next.board), texts.scorer.next(next.board), { id: "next-cell", class: "turn" }),
-    )];
+      { class: "turns" },
+      next && to(next, texts.scorer.next(next.board), "next-cell"),
+      elsewhere && to(elsewhere, texts.scorer.nextTable(elsewhere.table, elsewhere.board), "next-table"),
+    ),
+  ];
 }
 
+/** What the table has, by the server's row where it shows one, and else as it was confirmed in this tab. */
+function outcomeView(page, table, board, vulnerability) {
+  const answer = page.answer(ask.traveller(board));
+  const rows = answer?.value?.rows ?? [];
+  const row = rows.find((each) => each.table === table);
+  if (row?.ruling) return element("p", { class: "preview", id: "cell-outcome" }, texts.scorer.ruled(...row.ruling));
+  const result = row?.result ?? page.forms.confirmed.get(`${table}/${board}`);
+  if (!result) return null;
+  return [
+    element("p", { class: "preview", id: "cell-outcome" },
+      resultMark(result),
+      " ",
+      element("b", { class: "preview-score" }, texts.form.scores(row?.score ?? scoreOf(result, vulnerability))),
+      row && ` · ${worthText(row, topOf(rows))}`),
+    answer?.denied && element("p", { class: "note", id: "cell-unseen" }, texts.scorer.percentUnseen),
+  ];
+}
+
+const worthText = ({ points }, top) => (top
+  ? texts.scorer.percent(percentText(points, top), percentText(top - points, top)) : texts.scorer.firstResult);
+
 /** Who confirms begins with an empty form, so that the result is typed twice. */
-function stepView(page, table, board, step, vulnerability) {
-  const { user } = page.state;
+function stepView(page, row, board, step, vulnerability) {
+  const { facts, user } = page.state;
+  const { table } = row;
   const draft = page.drafts.read(user, step, table, board);
   const onChange = (next) => {
     page.drafts.write(user, step, table, board, next);
@@ -99,8 +134,11 @@ function stepView(page, table, board, step, vulnerability) {
   };
   const send = () => (step === "enter" ? enter(page, table, board, draft) : confirm(page, table, board, draft));
   const other = step === "enter" ? "confirm" : "enter";
-  return section(texts.scorer.stepTitle[step],
+  const side = step === "enter" ? row.ns : row.ew;
+  return element("section", { class: `panel step-${step}` }, element("h2", {}, texts.scorer.stepTitle[step]),
+    element("p", { id: "step-side" }, texts.scorer.stepSide[step], " ", pairMark(facts, side)),
     element("p", {}, texts.scorer.stepExplained[step]),
+    element("p", { class: "note", id: "why-twice" }, texts.scorer.whyTwice),
     resultForm(step, draft, onChange, { vulnerability, hasPlay: step === "enter" }),
     element("p", { class: "actions" },
       button(
@@ -118,25 +156,32 @@ function stepView(page, table, board, step, vulnerability) {
 function enter(page, table, board, draft) {
   const result = resultOf(draft);
   const { cards, fault } = readPlay(draft.play);
-  if (!result) return page.refuse(missingText(draft));
+  if (!result) return page.refuseUntilChanged(missingText(draft));
   if (fault && !draft.passedOut) return page.refuse(texts.form.playFault(fault));
   const play = draft.passedOut ? [] : cards;
   const { user } = page.state;
   return page.perform(
     [command.enter(table, board, result, play)],
     texts.scorer.entered(table, board),
-    () => page.drafts.setEntered(user, table, board, true),
+    () => {
+      page.drafts.setEntered(user, table, board, true);
+      page.showFromTop();
+    },
   );
 }
 
 /** A confirmed result is the server's: its drafts go. */
 function confirm(page, table, board, draft) {
   const result = resultOf(draft);
-  if (!result) return page.refuse(missingText(draft));
+  if (!result) return page.refuseUntilChanged(missingText(draft));
   const { user } = page.state;
   return page.perform(
     [command.confirm(table, board, result)],
-    texts.scorer.confirmed(table, board),
-    () => page.forget(user, table, board),
+    texts.scorer.confirmed(table, board, result),
+    () => {
+      page.forget(user, table, board);
+      page.forms.confirmed.set(`${table}/${board}`, result);
+      page.showFromTop();
+    },
   );
 }

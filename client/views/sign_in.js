@@ -9,7 +9,7 @@ export function signInView(page) {
   const { signIn } = page.forms;
   const submit = (event) => {
     event.preventDefault();
-    page.signIn(signIn.name.trim(), signIn.token);
+    page.signIn(signIn.name, signIn.token);
   };
   return [
     heading(texts.signIn.title),

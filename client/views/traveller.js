@@ -1,50 +1,45 @@
-// A board's traveller: a row for each result that the user may see, with its score and matchpoints.
+// A board's traveller: a row for each result that the user may see, with its score, percentage and matchpoints.
 
 import { element, table } from "../dom.js";
 import { percentText, topOf } from "../percentages.js";
 import { scoreOfSide } from "../scoring.js";
 import { texts } from "../texts.js";
-import { resultMark } from "./marks.js";
+import { pairMark, resultMark } from "./marks.js";
 
-/** @param {{rows: import("../messages.js").TravellerRow[], board: number}} traveller @param {string|null} ownPair */
-export function travellerView(traveller, ownPair) {
+/**
+ * @param {import("../public_facts.js").Facts} facts
+ * @param {{rows: import("../messages.js").TravellerRow[], board: number}} traveller
+ * @param {string|null} ownPair
+ */
+export function travellerView(facts, traveller, ownPair) {
   if (traveller.rows.length === 0) return element("p", {}, texts.traveller.empty);
   const top = topOf(traveller.rows);
   return [
     table(
       texts.traveller.caption(traveller.board),
       texts.traveller.heads,
-      traveller.rows.map((row) => rowView(row, top, ownPair)),
+      traveller.rows.map((row) => rowView(facts, row, top, ownPair)),
       { class: "traveller" },
     ),
-    element("p", { class: "note" }, texts.traveller.note(top)),
+    element("p", { class: "note" }, top ? texts.traveller.note(top) : texts.traveller.first),
   ];
 }
 
-function rowView(row, top, ownPair) {
+function rowView(facts, row, top, ownPair) {
   const own = row.ns === ownPair || row.ew === ownPair;
   const head = element("th", { scope: "row", class: own ? "own" : null, "data-table": row.table }, row.table);
+  const place = [head, pairMark(facts, row.ns), pairMark(facts, row.ew)];
   if (row.ruling) {
-    const [ns, ew] = row.ruling;
-    return [
-      head,
-      row.ns,
-      row.ew,
-      element("td", { colspan: 3, class: "ruling" }, texts.traveller.ruling),
-      `${ns} %`,
-      `${ew} %`,
-    ];
+    return [...place, element("td", { colspan: 3, class: "ruling" }, texts.traveller.ruling), ...row.ruling, "", ""];
   }
-  const points = (own_) => element("td", { class: "number", title: top ? `${percentText(own_, top)} %` : null }, own_);
+  const points = [row.points, top - row.points];
   return [
-    head,
-    row.ns,
-    row.ew,
+    ...place,
     resultMark(row.result),
     scoreOfSide(row.score, "NS"),
     scoreOfSide(row.score, "EW"),
-    points(row.points),
-    points(top - row.points),
+    ...points.map((each) => (top ? percentText(each, top) : texts.noTop)),
+    ...points.map((each) => (top ? each : texts.noTop)),
   ];
 }
 
