@@ -55,6 +55,20 @@ def new_file(folder):
     return pathlib.Path(folder, f"{new_file.count}.journal")
 
 
+def system_time(folder):
+    """Microseconds of processor time of what a batch asks of the system, made by Python: three writes of a page and a sync, a short one and a sync."""
+    descriptor = os.open(pathlib.Path(folder, "system"), os.O_CREAT | os.O_WRONLY)
+    begun, many = time.process_time(), 500
+    for place in range(many):
+        for page in range(3):
+            os.pwrite(descriptor, bytes(4120), 4120 * (3 * place + page))
+        os.fdatasync(descriptor)
+        os.pwrite(descriptor, bytes(24), 0)
+        os.fdatasync(descriptor)
+    os.close(descriptor)
+    return 1e6 * (time.process_time() - begun) / many
+
+
 def sync_time(folder):
     """Microseconds of a write of 4,096 bytes and its sync in this folder: the median, and the 99th of a hundred."""
     took = []
@@ -124,8 +138,13 @@ def filled(folder, count):
         pass
     insert = "INSERT INTO entry (number, publication, actor, command) VALUES (?, ?, ?, ?)"
     given = zip(range(1, count + 1), book_time.commands())
-    change(journal, *((insert, (number, number, f"user {name}", text_of(command))) for number, (name, command) in given))
+    change(journal, *((insert, (number, number, f"user {name}", text_of(as_kept(command)))) for number, (name, command) in given))
     return journal
+
+
+def as_kept(command):
+    """The command as the server writes it: where a play may be told and none is, it is empty."""
+    return {"play": [], **command} if command["cmd"] in ("Enter", "Correct") else command
 
 
 def starts(folder, count):
@@ -175,6 +194,7 @@ def main():
             print(f"receipts a second of batches of {size}: {without:.0f} without a journal, {kept:.0f} with one, "
                   f"that is {1e3 / kept - 1e3 / without:.2f} ms a batch more", flush=True)
         without, kept = ([statistics.median(column) for column in zip(*rounds)] for rounds in in_turns(confirms, folder))
+        print(f"as many writes and syncs by themselves: {system_time(folder):.0f} microseconds of processor time", flush=True)
         for word, one, other in zip(("an Enter", "a Confirm"), without, kept):
             print(f"processor time of {word}: {one:.0f} microseconds without a journal, {other:.0f} with one: {other / one:.2f} times", flush=True)
         without, kept = ([statistics.median(column) for column in zip(*rounds)] for rounds in in_turns(queries, folder))
