@@ -7,8 +7,9 @@ Starts the program with one display and no worker, for two connections, first wi
 memory refused, for N from 1 until a run asks less often. On the first connection a director signs in, has board 1 held and released in
 turn by one batch of 64 commands, and asks for the board; on the second one a director signs in and asks again. That is done twice: in a
 session where nothing is entered, from the start of the program; and where 254 commands are, from the batch on, so that the journal
-outgrows its first room, which is for 256 entries, in the midst of it. And once more with the journal in a new file (`--journal`), from
-the start of the program. What each must do:
+outgrows its first room, which is for 256 entries, in the midst of it. And three times more with the journal in a file (`--journal`): in
+a new one, from the start of the program; in one that has six commands, from the start; and in a new one, where 254 commands are entered
+before the batch, from that on. Several runs go on at once, each with files and a port of its own. What each must do:
 
 - Before it listens, and where the display's thread has no room to begin: end with status 4. Nothing is half open.
 - Later: that connection ends, or one message is answered {"error":"OutOfMemory"}, or the command that found no room is answered
@@ -20,6 +21,8 @@ the start of the program. What each must do:
 
 It needs a C compiler, as refuse_growths.py does.
 """
+import concurrent.futures
+import itertools
 import json
 import os
 import pathlib
@@ -41,7 +44,9 @@ KEPT, TRIED = "kept.journal", "tried.journal"
 HELLO = {"hello": "d", "token": "abc"}
 # how many commands a file has before the start, or None where there is no file; and how many are entered before the batch: even
 # numbers, after which board 1 isn't held
-SESSIONS = ((None, 0), (None, 254), (0, 0))
+SESSIONS = ((None, 0), (None, 254), (0, 0), (6, 0), (0, 254))
+# how many runs go on at once: most of a run is spent waiting, for the disk or for the program's start
+AT_ONCE = 2 * (os.cpu_count() or 2)
 ASK = {"ask": "analysis", "board": 1}
 NO_MEMORY, NOT_KEPT = {"error": "OutOfMemory"}, {"error": "NotKept"}
 HANDSHAKE = ("GET / HTTP/1.1\r\nHost: 127.0.0.1\r\nUpgrade: websocket\r\nConnection: Upgrade\r\n"
@@ -54,10 +59,19 @@ def batches(count):
     return [{"do": commands[k:k + COMMANDS]} for k in range(0, count, COMMANDS)]
 
 
+# below the ports that the system gives to clients, so that no run's port is another's or a client's
+PORTS = itertools.cycle(range(20_000, 32_000))
+
+
 def free_port():
-    with socket.socket() as listener:
-        listener.bind(("127.0.0.1", 0))
-        return listener.getsockname()[1]
+    for port in PORTS:
+        with socket.socket() as listener:
+            listener.setsockopt(socket.SOL_SOCKET, socket.SO_REUSEADDR, 1)
+            try:
+                listener.bind(("127.0.0.1", port))
+                return port
+            except OSError:
+                pass
 
 
 def exactly(stream, count):
@@ -135,21 +149,21 @@ def prepare(program, room, kept):
 
 
 def run(program, room, kept, entered, n):
-    """What the two clients are told, the status, what is written, and how often memory was asked for."""
-    env = {**os.environ, "LD_PRELOAD": f"{room}/refusing.so", "ASKED_TO": f"{room}/asked", "REFUSED_AT": str(n)}
-    batch, counted, before = batches(COMMANDS)[0], None, []
-    if entered:
-        counted, before = pathlib.Path(room, "counted"), [HELLO, *batches(entered)]
-        counted.unlink(missing_ok=True)
-        env["COUNTED_AFTER"] = str(counted)
-    for end in ("", "-wal"):
-        pathlib.Path(f"{room}/{TRIED}{end}").unlink(missing_ok=True)
-        if os.path.exists(f"{room}/{KEPT}{end}"):
-            shutil.copyfile(f"{room}/{KEPT}{end}", f"{room}/{TRIED}{end}")
-    process, port = start(program, room, [] if kept is None else ["--journal", f"{room}/{TRIED}"], env)
-    told = [connection(process, port, [HELLO, batch, ASK], before, counted), connection(process, port, [HELLO, ASK])]
-    out, err = process.communicate(timeout=20)
-    return told, process.returncode, out + err, int(pathlib.Path(f"{room}/asked").read_text())
+    """What the two clients are told, the status, what is written, how often memory was asked for, and how many rows a file has then."""
+    with tempfile.TemporaryDirectory(dir=room) as own:
+        env = {**os.environ, "LD_PRELOAD": f"{room}/refusing.so", "ASKED_TO": f"{own}/asked", "REFUSED_AT": str(n)}
+        batch, counted, before = batches(COMMANDS)[0], None, []
+        if entered:
+            counted, before = pathlib.Path(own, "counted"), [HELLO, *batches(entered)]
+            env["COUNTED_AFTER"] = str(counted)
+        for end in ("", "-wal"):
+            if os.path.exists(f"{room}/{KEPT}{end}"):
+                shutil.copyfile(f"{room}/{KEPT}{end}", f"{own}/{TRIED}{end}")
+        process, port = start(program, room, [] if kept is None else ["--journal", f"{own}/{TRIED}"], env)
+        told = [connection(process, port, [HELLO, batch, ASK], before, counted), connection(process, port, [HELLO, ASK])]
+        out, err = process.communicate(timeout=60)
+        asked = int(pathlib.Path(f"{own}/asked").read_text())
+        return told, process.returncode, out + err, asked, None if kept is None else len(rows_of(f"{own}/{TRIED}"))
 
 
 def standing(receipt, entered):
@@ -228,7 +242,7 @@ def main():
 
 def refuse_each(program, room, kept, by_client):
     """Each request in turn, where a file has so many commands, if there is one, and so many more were entered before."""
-    ample, status, said, asked = run(program, room, kept, by_client, 0)
+    ample, status, said, asked, _rows = run(program, room, kept, by_client, 0)
     entered = by_client + (kept or 0)
     after = entered + COMMANDS
     wanted = b"" if kept is not None else NOTHING_IS_KEPT
@@ -237,14 +251,15 @@ def refuse_each(program, room, kept, by_client):
     assert (ample, status, said) == ([[{"hello": "d"}, receipt, shown], [{"hello": "d"}, shown]], 0, wanted), (ample, status, said)
     assert asked > 0, "the program asked for no memory through this allocator: nothing is tried"
     kinds = {}
-    for n in range(1, asked + 1):
-        told, status, said, _ = run(program, room, kept, by_client, n)
+    with concurrent.futures.ThreadPoolExecutor(AT_ONCE) as pool:
+        runs = pool.map(lambda n: run(program, room, kept, by_client, n), range(1, asked + 1))
+    for n, (told, status, said, _asked, rows) in enumerate(runs, 1):
         try:
             # a start that finds no memory may end before it says that nothing is kept, or find none for saying so
             assert said in (wanted, b""), (status, said)
             kind, stands = outcome(ample, told, status, entered, by_client > 0)
             if kept is not None:
-                assert len(rows_of(f"{room}/{TRIED}")) in stands, (len(rows_of(f"{room}/{TRIED}")), "rows of the file, and not", stands)
+                assert rows in stands, (rows, "rows of the file, and not", stands)
         except AssertionError as fault:
             raise SystemExit(f"with {kept} commands in a file and {by_client} more, and request {n} of {asked} refused: {fault}")
         kinds.setdefault(kind, []).append(n)
