@@ -30,6 +30,7 @@ CHECKS = (
     ("tests/movement_lists.py",),
     ("tests/links.py",),
     ("tests/document_sizes.py",),
+    ("tests/decisions_index.py", "--check"),
     ("tests/house_map.py", "--check"),
 )
 NODE = 20

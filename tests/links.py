@@ -10,7 +10,7 @@ The pages are README.md, docs/*.md, examples/README.md, client/README.md and eac
   `specs/..`, `src/..`, `texts/..` and `figures/..` in the page of a crate, below that crate;
 - a page of a crate must be there for each line of crates.txt.
 
-Passed over are patterns (`*`, `..`, NAME, CRATE), what a build leaves (`out/`), and in docs/DECISIONS.md the paths that are named:
+Passed over are patterns (`*`, `..`, NAME, CRATE), what a build leaves (`out/`), and in docs/decisions the paths that are named:
 it tells what stood there when something was decided. Each fault is a line; the last line is `N passed, M failed`, and the status is 1
 where one failed.
 """
@@ -24,7 +24,7 @@ LINK = re.compile(r"\]\(([^()\s]+)\)")
 NAMED = re.compile(r"(?<![\w./-])((?:crates|docs|tests|benches|examples)/[\w./*-]+)")
 OWN = re.compile(r"`((?:specs|src|texts|figures|must-fail)/[\w./*-]*)`")
 PASSED_OVER = re.compile(r"\*|\.\.|NAME|CRATE|(?:^|/)out(?:/|$)")
-HISTORY = ROOT / "docs/DECISIONS.md"
+HISTORY = ROOT / "docs/decisions"
 
 
 def pages():
@@ -67,7 +67,7 @@ def named_by(page):
     text = text_of(page)
     for link in LINK.findall(text):
         yield link, is_linked(page, link)
-    if page != HISTORY:
+    if page.parent != HISTORY:
         for path in NAMED.findall(LINK.sub("](", text)):
             yield path, is_there(ROOT, path)
     if page.parent.parent == ROOT / "crates":
