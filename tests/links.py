@@ -3,9 +3,11 @@
 
     tests/links.py
 
-The pages are README.md, docs/*.md, examples/README.md, client/README.md and each README.md below crates/. Of each page
+The pages are those of the top, all below docs/, client/, examples/, benches/ and tests/, each README.md of a crate and of a folder in it, and
+NOTICE. Of each page
 
 - a relative link must lead to a file or a folder, and where it names a chapter (`#..`) to a heading of that page;
+- a module that client's page names, as `denials.js`, must be there;
 - a path that is named, as `crates/cards/specs/Play.antt`, `docs/POLICY.md` or `tests/links.py`, must be there, and so must
   `specs/..`, `src/..`, `texts/..` and `figures/..` in the page of a crate, below that crate;
 - a page of a crate must be there for each line of crates.txt.
@@ -21,17 +23,17 @@ import sys
 
 ROOT = pathlib.Path(__file__).resolve().parent.parent
 LINK = re.compile(r"\]\(([^()\s]+)\)")
-NAMED = re.compile(r"(?<![\w./-])((?:crates|docs|tests|benches|examples)/[\w./*-]+)")
+NAMED = re.compile(r"(?<![\w./-])((?:crates|docs|tests|benches|examples|client)/[\w./*-]+)")
+MODULE = re.compile(r"`([\w/]+\.(?:js|py|css|html))`")
 OWN = re.compile(r"`((?:specs|src|texts|figures|must-fail)/[\w./*-]*)`")
 PASSED_OVER = re.compile(r"\*|\.\.|NAME|CRATE|(?:^|/)out(?:/|$)")
 HISTORY = ROOT / "docs/decisions"
 
 
 def pages():
-    yield ROOT / "README.md"
-    yield from sorted((ROOT / "docs").glob("*.md"))
-    yield ROOT / "examples/README.md"
-    yield ROOT / "client/README.md"
+    yield ROOT / "NOTICE"
+    for folder in ("", "docs", "client", "examples", "benches", "tests"):
+        yield from sorted((ROOT / folder).glob("*.md" if not folder else "**/*.md"))
     yield from sorted((ROOT / "crates").glob("*/README.md"))
     yield from sorted((ROOT / "crates").glob("*/*/README.md"))
 
@@ -70,6 +72,9 @@ def named_by(page):
     if page.parent != HISTORY:
         for path in NAMED.findall(LINK.sub("](", text)):
             yield path, is_there(ROOT, path)
+    if page.parent == ROOT / "client":
+        for path in MODULE.findall(text):
+            yield path, is_there(page.parent, path) or is_there(ROOT, path)
     if page.parent.parent == ROOT / "crates":
         for path in OWN.findall(text):
             yield path, is_there(page.parent, path)
