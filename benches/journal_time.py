@@ -9,12 +9,12 @@ director enters and confirms results, each in a batch of its own, or holds and r
 five rounds of each. Processor time is the system's (Linux's schedstat) of the program's whole.
 """
 import json
+import multiprocessing
 import os
 import pathlib
 import statistics
 import sys
 import tempfile
-import threading
 import time
 
 ROOT = pathlib.Path(__file__).resolve().parent.parent
@@ -110,18 +110,21 @@ def confirms(folder, kept):
         return [1e6 * statistics.mean(took[word]) for word in ("Enter", "Confirm")]
 
 
+def enter_batches(at, ends):
+    """Enters batches one after another, a hundred a second. It is a process of its own: threads of one Python wait for one another."""
+    writer = signed_in(at)
+    while not ends.is_set():
+        writer.ask(holds(2))
+        time.sleep(0.01)
+
+
 def queries(folder, kept):
     """Microseconds of a query while another client's batches are entered one after another: the median, and the 99th of a hundred."""
     with server(new_file(folder) if kept else None) as at:
-        writer, reader, ends, took = signed_in(at), signed_in(at), threading.Event(), []
-
-        def write():
-            while not ends.is_set():
-                writer.ask(holds(2))
-                time.sleep(0.01)
-
-        writing = threading.Thread(target=write)
+        ends = multiprocessing.Event()
+        writing = multiprocessing.Process(target=enter_batches, args=(at, ends))
         writing.start()
+        reader, took = signed_in(at), []
         until = time.perf_counter() + SECONDS
         while (begun := time.perf_counter()) < until:
             reader.ask('{"ask":"board","board":1}')
