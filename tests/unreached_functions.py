@@ -12,7 +12,7 @@ import sys
 
 ROOT = pathlib.Path(__file__).resolve().parent.parent
 CRATES = ROOT / "crates"
-PROGRAMS = ("bridge_server", "pbn_boards", "deal_tables")
+PROGRAMS = ("bridge_server", "pbn_boards", "deal_tables", "par_tables")
 # what only tests and stored runs stand on
 TESTING = ("test_devices",)
 
