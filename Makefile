@@ -7,7 +7,7 @@ PORT ?= 8080
 JOURNAL ?= out/serve.journal
 PAGE_PORT ?= 8000
 
-.PHONY: demo quick serve demo-page test test-page
+.PHONY: demo quick serve demo-page test test-fast test-page
 
 # Proves and builds all that the program stands on, answers the two example scripts, and says what was seen. The gate counts
 # what this proved on the same machine.
@@ -42,7 +42,11 @@ $(PROGRAM):
 test:
 	python3 tests/all_checks.py "$(RT) ci" --built
 
+# The checks that need no program, and after a gate the short ones of built programs: no browser, no socket, two minutes at most.
+test-fast:
+	python3 tests/all_checks.py --fast
+
 # The page's own tests: its plain functions, and a session in real browsers (client/README.md says what they need).
 test-page: $(PROGRAM)
 	node --test client/tests/
-	/usr/bin/python3 tests/page_session.py $(PROGRAM)
+	/usr/bin/python3 tests/browser/page_session.py $(PROGRAM)

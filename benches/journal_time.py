@@ -18,7 +18,7 @@ import tempfile
 import time
 
 ROOT = pathlib.Path(__file__).resolve().parent.parent
-sys.path[:0] = [str(ROOT / "tests"), str(ROOT / "benches")]
+sys.path[:0] = [*(str(ROOT / "tests" / folder) for folder in ("drivers", "journals", "runs")), str(ROOT / "benches")]
 import book_time  # noqa: E402
 from journal_files import change, log_of  # noqa: E402
 from raw_client import Client, Server  # noqa: E402

@@ -3,7 +3,7 @@
 
     python3 benches/more_boards.py crates/bridge_server/out/bridge_server
 
-The largest sessions of tests/write_query_runs.py: 16 tables, 256 users, and 4 or 8 boards in a set. Every board but the last has been ruled at each
+The largest sessions of tests/runs/write_section_runs.py: 16 tables, 256 users, and 4 or 8 boards in a set. Every board but the last has been ruled at each
 of its tables. A message's cost is what valgrind's callgrind counts more where it stands 64 times more in the script, a sixty-fourth of it; a Confirm
 is one of a batch that enters a result and confirms it. It needs valgrind.
 """
@@ -14,8 +14,9 @@ import sys
 import tempfile
 
 ROOT = pathlib.Path(__file__).resolve().parent.parent
-sys.path.insert(0, str(ROOT / "tests"))
-from write_query_runs import NEXT, largest_run, rule  # noqa: E402
+sys.path[:0] = [str(ROOT / "tests" / folder) for folder in ("runs",)]
+from write_query_runs import NEXT, rule  # noqa: E402
+from write_section_runs import largest_run  # noqa: E402
 from write_stored_runs import FOUR_SPADES, confirm, do, enter, text_of  # noqa: E402
 
 PROGRAM = sys.argv[1] if len(sys.argv) > 1 else "crates/bridge_server/out/bridge_server"

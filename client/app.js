@@ -1,21 +1,27 @@
 // The page: its views by address, what the user does, and how often the server is asked.
 
+import { firstCard, takeCard } from "./card_address.js";
 import { Connection, ConnectionFault } from "./connection.js";
-import { button, element, fragmentOf, replaceContent } from "./dom.js";
+import { button, element, fragmentOf, patchContent, replaceContent } from "./dom.js";
 import { Drafts } from "./drafts.js";
 import { newForms } from "./forms.js";
+import { forgetAccount, keepAccount, readAccount } from "./kept_account.js";
 import { keepLetters, readLetters } from "./letters.js";
 import { Notices } from "./notices.js";
-import { pauseOf } from "./pauses.js";
-import { addressOf, routeOf, serverAddress, serverPathOf } from "./routes.js";
+import { pauseInDoubt, pauseOf } from "./pauses.js";
+import { personText } from "./people.js";
+import { draftOf } from "./results.js";
+import { RoundClock, leftText } from "./round_clock.js";
+import { addressOf, routeOf, serverAddress } from "./routes.js";
 import { keepScrolled } from "./scrolled.js";
 import { signInAs } from "./signing_in.js";
 import { Store } from "./store.js";
 import { texts } from "./texts.js";
 import { statusDeniedView, viewNeeds, viewNodes } from "./views.js";
-import { footView, headView, offlineView, restartView } from "./views/frame.js";
+import { footView, headView, isDesk, offlineView, restartView } from "./views/frame.js";
 import { signInView } from "./views/sign_in.js";
 
+const toldBackFor = 15_000;
 const part = (id) => document.getElementById(id);
 
 function storageOfTab() {
@@ -26,18 +32,27 @@ function storageOfTab() {
   }
 }
 
-class Page {
+export class Page {
   route = routeOf(location.hash);
   drafts = new Drafts(storageOfTab());
-  forms = newForms();
   notices = new Notices({ refusal: part("refusal"), done: part("done"), putAway: part("put-away") });
+  clock = new RoundClock(storageOfTab(), {
+    onTick: () => this.#drawClock(),
+    onOver: (round) => {
+      if (this.state.user !== null) this.notices.tell("", texts.clock.over(round));
+      this.draw();
+    },
+  });
   opened = new Set();
-  serverPath = serverPathOf(location.search);
   isBusy = false;
   isSlow = false;
   offlineFor = 0;
+  backAfter = 0;
+  #awaySince = null;
   hasLetters = readLetters(storageOfTab());
   heardAt = null;
+  #account = null;
+  #waitingCard = undefined;
   #armed = null;
   #openDetails = new Set();
   #failures = 0;
@@ -47,7 +62,13 @@ class Page {
   #isStale = false;
   #isPressed = false;
   #isFromTop = false;
-  #store = this.#newStore();
+  #store;
+
+  /** It goes on with what was typed before it was loaded (begin.js). */
+  constructor(forms, serverPath) {
+    Object.assign(this, { forms, serverPath });
+    this.#store = this.#newStore();
+  }
 
   get state() {
     return this.#store.state;
@@ -70,8 +91,12 @@ class Page {
     });
     for (const released of ["pointerup", "pointercancel"]) document.addEventListener(released, () => this.#released());
     document.body.classList.toggle("letters", this.hasLetters);
+    for (const details of part("content").querySelectorAll("details[open]")) this.#openDetails.add(details.id);
+    const [first, later, kept] = [firstCard(), takeCard(), readAccount(storageOfTab())];
+    const card = later === undefined ? first : later;
     this.draw();
-    part("name")?.focus();
+    if (card !== undefined) this.#signInByCard(card);
+    else if (kept) this.#signInAgain(kept);
   }
 
   #newStore() {
@@ -79,7 +104,11 @@ class Page {
       serverAddress(location, this.serverPath),
       { onSlow: (isSlow) => this.#setSlow(isSlow) },
     );
-    return new Store(connection, { needs: () => viewNeeds(this), onChange: () => this.#stateChanged() });
+    return new Store(connection, {
+      needs: () => viewNeeds(this),
+      onChange: () => this.#stateChanged(),
+      onRestart: () => this.#entriesLost(),
+    });
   }
 
   setServerPath(path) {
@@ -89,57 +118,114 @@ class Page {
 
   // ---- what the user does
 
+  /** @returns {Promise<boolean>} false where the server couldn't be reached */
   async signIn(name, token) {
-    if (this.isBusy) return;
+    if (this.isBusy) return true;
     if (!name.trim() || !token.trim()) {
       this.refuse(texts.signIn.badNameOrToken);
-      return;
+      return true;
     }
+    clearTimeout(this.#timer);
     const known = await this.#whileBusy(() => signInAs(this.#store, name, token));
-    if (known === undefined) return;
+    if (known === undefined) return false;
+    const { stays } = this.forms.signIn;
     this.forms.signIn.token = "";
     this.draw();
     if (known === null) {
       this.refuse(texts.signIn.notKnown);
-      return;
+      return true;
     }
     this.forms = newForms();
     this.#failures = 0;
-    if (known !== name.trim()) this.notices.tell("", texts.signIn.nameIs(known));
+    this.#account = known;
+    if (known.name !== name.trim()) this.notices.tell("", texts.signIn.nameIs(known.name));
+    if (stays) this.staySignedIn(true);
     this.drawAnew();
     this.#poll();
+    return true;
+  }
+
+  /** Whoever was signed in before has passed the device on. */
+  #signInByCard(card) {
+    if (this.isBusy) {
+      this.#waitingCard = card;
+      return;
+    }
+    if (this.state.user !== null) this.signOut();
+    forgetAccount(storageOfTab());
+    if (card) this.signIn(card.name, card.token);
+    else this.refuse(texts.signIn.badCard);
+  }
+
+  /** After a reload, by what was kept: as long as the server can't be reached, again and again. */
+  async #signInAgain({ name, token }) {
+    const wasReached = await this.signIn(name, token);
+    if (this.state.user !== null) return;
+    if (wasReached) {
+      forgetAccount(storageOfTab());
+      return;
+    }
+    this.#failures += 1;
+    this.#timer = setTimeout(() => this.#signInAgain({ name, token }), pauseOf(this.#failures, document.hidden, Math.random()));
+  }
+
+  get staysSignedIn() {
+    return readAccount(storageOfTab()) !== null;
+  }
+
+  /** Keeps name and token in the tab's storage, or doesn't keep them any more. */
+  staySignedIn(stays) {
+    if (!stays) forgetAccount(storageOfTab());
+    else if (!keepAccount(storageOfTab(), this.#account)) this.refuse(texts.signIn.staysNot);
+    this.draw();
   }
 
   signOut = () => {
     clearTimeout(this.#timer);
     this.#store.signOut();
+    this.#account = null;
+    forgetAccount(storageOfTab());
     this.forms = newForms();
+    this.clock.stop();
     this.opened.clear();
     this.#openDetails.clear();
     this.#armed = null;
     history.replaceState(null, "", location.pathname + location.search);
-    Object.assign(this, { offlineFor: 0, isSlow: false, route: routeOf(location.hash) });
+    this.#awaySince = null;
+    Object.assign(this, { offlineFor: 0, backAfter: 0, isSlow: false, route: routeOf(location.hash) });
     this.notices.tell("", texts.signIn.signedOut);
     this.drawAnew();
   };
 
-  /** Sends commands, and says in words what came of them; `then` is called where the first one was accepted. */
-  async perform(commands, done, then = () => {}) {
+  /**
+   * Sends commands, and says in words what came of them; `then` is called where the first one was accepted, and there `done` is said.
+   * @param {string|((answers: string[]) => string)} done
+   * @param {(answers: string[]) => string} explain says why not all of them were
+   */
+  async perform(commands, done, then = () => {}, explain = (answers) => this.#refusalOf(answers)) {
     if (this.isBusy) return;
     const receipt = await this.#whileBusy(() => this.#store.perform(commands));
     if (!receipt) return;
     const answers = receipt.answers ?? [];
     if (answers[0] === "ok") then();
-    const refused = answers.find((answer) => answer !== "ok");
+    const isRefused = answers.some((answer) => answer !== "ok");
     if (receipt.error) this.notices.tell(texts.error(receipt.error), "");
-    else if (refused) this.notices.tell(texts.refusal(refused), answers[0] === "ok" ? done : "");
-    else this.notices.tell("", done);
+    else this.notices.tell(isRefused ? explain(answers) : "", typeof done === "function" ? done(answers) : answers[0] === "ok" ? done : "");
     this.#stateChanged();
     this.#poll();
   }
 
+  #refusalOf(answers) {
+    return texts.refusal(answers.find((answer) => answer !== "ok"), (name) => personText(this.state.facts, name));
+  }
+
   refuse(text) {
     this.notices.tell(text, "");
+  }
+
+  /** The page's own address without its view, as it stands on a card. */
+  get ownAddress() {
+    return location.origin + location.pathname + location.search;
   }
 
   forget(user, table, board) {
@@ -162,6 +248,21 @@ class Page {
     this.hasLetters = hasLetters;
     document.body.classList.toggle("letters", hasLetters);
     keepLetters(storageOfTab(), hasLetters);
+  }
+
+  startClock(round, minutes) {
+    this.clock.start(round, minutes);
+    this.draw();
+  }
+
+  stopClock() {
+    this.clock.stop();
+    this.draw();
+  }
+
+  /** Whether a part of the page that can be opened is. */
+  isOpen(id) {
+    return this.#openDetails.has(id);
   }
 
   toggle(key) {
@@ -239,17 +340,44 @@ class Page {
 
   #pollLater() {
     clearTimeout(this.#timer);
-    this.#timer = setTimeout(() => this.#poll(), pauseOf(this.#failures, document.hidden, Math.random()));
+    const pause = pauseOf(this.#failures, document.hidden, Math.random(), isDesk(this.route.view));
+    this.#timer = setTimeout(() => this.#poll(), this.#store.isInDoubt ? pauseInDoubt : pause);
   }
 
   #reached() {
-    this.#failures = 0;
     this.heardAt = new Date();
-    replaceContent(part("foot"), footView(this));
-    if (this.offlineFor) {
-      this.offlineFor = 0;
-      this.#stateChanged();
+    patchContent(part("foot"), fragmentOf(footView(this)));
+    if (this.#store.isInDoubt) return;
+    this.#failures = 0;
+    if (!this.offlineFor) return;
+    this.#tellBack();
+    this.offlineFor = 0;
+    if (part("refusal").textContent === texts.fault.notSent) this.refuse("");
+    this.#drawStrips();
+  }
+
+  /** The server is back with what it had, which is said for a while; without it, something else is said. */
+  #tellBack() {
+    const seconds = Math.max(1, Math.round((Date.now() - this.#awaySince) / 1000));
+    this.#awaySince = null;
+    if (this.state.wasRestarted) return;
+    this.backAfter = seconds;
+    setTimeout(() => {
+      this.backAfter = 0;
+      this.#drawStrips();
+    }, toldBackFor);
+  }
+
+  /** What was entered or confirmed from this tab is marked, and what was confirmed stands in the form again. */
+  #entriesLost() {
+    const { user } = this.state;
+    this.drafts.loseEntries(user);
+    for (const [cell, result] of this.forms.confirmed) {
+      const [table, board] = cell.split("/").map(Number);
+      this.drafts.write(user, "enter", table, board, draftOf(result, []));
+      this.drafts.setLost(user, table, board);
     }
+    this.forms.confirmed.clear();
   }
 
   #missed(fault) {
@@ -261,7 +389,9 @@ class Page {
       return;
     }
     this.#failures += 1;
-    this.offlineFor = Math.ceil(pauseOf(this.#failures, document.hidden, 1) / 1000);
+    this.#awaySince ??= Date.now();
+    this.backAfter = 0;
+    this.offlineFor = Math.ceil(pauseOf(this.#failures, document.hidden, 1, false) / 1000);
     this.#drawStrips();
   }
 
@@ -280,12 +410,20 @@ class Page {
     } finally {
       this.isBusy = false;
       this.#stateChanged();
+      const card = this.#waitingCard;
+      this.#waitingCard = undefined;
+      if (card !== undefined) setTimeout(() => this.#signInByCard(card), 0);
     }
   }
 
   // ---- drawing
 
   #routeChanged() {
+    const card = takeCard();
+    if (card !== undefined) {
+      this.#signInByCard(card);
+      return;
+    }
     this.route = routeOf(location.hash);
     this.#armed = null;
     this.#openDetails.clear();
@@ -296,6 +434,7 @@ class Page {
 
   /** What the server answered is drawn at once, but not over an open list of choices, nor under a finger that is down. */
   #stateChanged() {
+    if (this.state.facts?.phase === "Final") forgetAccount(storageOfTab());
     if (this.#isPressed || document.activeElement?.tagName === "SELECT") this.#isStale = true;
     else if (this.#isFromTop) this.drawAnew();
     else this.draw();
@@ -317,18 +456,21 @@ class Page {
     this.#drawStrips();
   }
 
-  draw() {
+  /** @param {(container: Element, content: DocumentFragment) => void} put how the view that is there becomes the one that is drawn */
+  draw(put = patchContent) {
     this.#isStale = false;
-    replaceContent(part("top"), headView(this));
+    patchContent(part("top"), fragmentOf(headView(this)));
     const hadFocus = part("content").contains(document.activeElement) && document.activeElement !== part("content");
     const scrollAgain = keepScrolled(part("content"));
     const content = fragmentOf(this.#content());
     // what was open is open before it is put in, so that who types in it stays there
-    for (const details of content.querySelectorAll("details[id]")) details.open = this.#openDetails.has(details.id);
-    replaceContent(part("content"), content);
+    /** @type {NodeListOf<HTMLDetailsElement>} */
+    const parts = content.querySelectorAll("details[id]");
+    for (const details of parts) details.open = this.#openDetails.has(details.id);
+    put(part("content"), content);
     scrollAgain();
     if (hadFocus && document.activeElement === document.body) part("heading")?.focus({ preventScroll: true });
-    replaceContent(part("foot"), footView(this));
+    patchContent(part("foot"), fragmentOf(footView(this)));
     this.#drawStrips();
     this.#announce();
   }
@@ -340,16 +482,22 @@ class Page {
 
   drawAnew() {
     this.#isFromTop = false;
-    this.draw();
+    this.draw(replaceContent);
     scrollTo(0, 0);
     part("heading")?.focus({ preventScroll: true });
-    document.title = `${part("heading")?.textContent ?? ""} – ${texts.title}`;
+    document.title = texts.windowTitle(part("heading")?.textContent ?? "");
   }
 
   #content() {
     if (this.state.user === null) return signInView(this);
     if (this.state.statusDenied) return statusDeniedView(this);
     return viewNodes(this);
+  }
+
+  /** The clock alone, each moment that it runs. */
+  #drawClock() {
+    const [left, shown] = [this.clock.leftIn(this.state.facts?.round), part("clock-left")];
+    if (shown && left !== null && shown.textContent !== leftText(left)) shown.textContent = leftText(left);
   }
 
   #drawStrips() {
@@ -367,10 +515,9 @@ class Page {
   }
 
   #noteDetails(details) {
-    if (!details.id) return;
+    if (!details.id || details.open === this.isOpen(details.id)) return;
     if (details.open) this.#openDetails.add(details.id);
     else this.#openDetails.delete(details.id);
+    this.draw();
   }
 }
-
-new Page().start();

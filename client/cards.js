@@ -1,13 +1,16 @@
 // Hands, and plays of cards.
 
+/** @typedef {import("./messages.js").Place} Place */
+
 /** The order in which suits are written in a hand, and places around the table. */
 export const suits = ["S", "H", "D", "C"];
-export const strains = ["C", "D", "H", "S", "N"];
+/** @type {Place[]} */
 export const places = ["N", "E", "S", "W"];
 const ranks = "AKQJT98765432";
 const symbols = { "♠": "S", "♥": "H", "♦": "D", "♣": "C", "♤": "S", "♡": "H", "♢": "D", "♧": "C" };
 
 export const nextPlace = (place, steps = 1) => places[(places.indexOf(place) + steps) % 4];
+/** @returns {import("./movement.js").Side} */
 export const sideOf = (place) => (place === "N" || place === "S" ? "NS" : "EW");
 
 /**
@@ -16,7 +19,7 @@ export const sideOf = (place) => (place === "N" || place === "S" ? "NS" : "EW");
  */
 export function handsOf(deal) {
   const hands = deal.slice(2).split(" ").map((hand) => hand.split("."));
-  const first = places.indexOf(deal[0]);
+  const first = places.findIndex((place) => place === deal[0]);
   if (first < 0 || deal[1] !== ":" || hands.length !== 4 || hands.some((hand) => hand.length !== 4)) return null;
   const entries = hands.map((hand, index) =>
     [places[(first + index) % 4], Object.fromEntries(suits.map((suit, number) => [suit, hand[number]]))]);
@@ -30,7 +33,7 @@ export function pointsOf(hand) {
 
 /**
  * Cards as a scorer types them: "S2 D2 c2 SA", "♠10", with blanks, commas or line ends between them.
- * @returns {{cards: string[], fault: {word: string, why: "unknown"|"twice"|"tooMany"}|null}}
+ * @returns {{cards: string[], fault: {word: string, why: "unknown"|"twice"}|null}}
  */
 export function readPlay(text) {
   const words = text.split(/[\s,;]+/u).filter((word) => word !== "");

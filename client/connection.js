@@ -27,7 +27,7 @@ export class Connection {
 
   /**
    * @param {string} address
-   * @param {object} [options]
+   * @param {object} options
    * @param {(address: string) => WebSocket} [options.makeSocket] for tests
    * @param {Partial<typeof usualTimes>} [options.times] in milliseconds
    * @param {(isSlow: boolean) => void} [options.onSlow] told when the handshake takes long, since all displays are taken

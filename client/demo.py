@@ -83,7 +83,7 @@ async def serve(reader, writer, port):
 def say(port):
     print(f"The page is at http://127.0.0.1:{port}/ until you press Ctrl-C. Who signs in:")
     for name, what in (("anna", "plays North in NS1"), ("rosa", "plays East in EW1"), ("carla", "plays North in NS2"), ("vera", "watches"),
-                       ("sam", "enters and confirms results"), ("dora", "directs"), ("ada", "administers")):
+                       ("sam", "enters and confirms results"), ("dora", "directs, and adds players"), ("ada", "administers")):
         print(f"    {name:6} with the token {name + '-example':14} {what}")
     print("Open it in two windows, as sam and as anna: enter and confirm board 1 at table 1, and see it open for anna.", flush=True)
 

@@ -80,8 +80,10 @@ function secretRules(facts, pair, roles, { kind, board, table }) {
  */
 export function possibleRoles(seat, edition = 1) {
   const one = { contestant: true, spectator: true, director: true, administrator: true, commentator: edition === 2 };
+  /** @type {any[]} */
+  const none = [{}];
   const all = Object.keys(one).reduce((made, role) => made.flatMap((roles) =>
-    (one[role] ? [true, false] : [false]).map((has) => ({ ...roles, [role]: has }))), [{}]);
+    (one[role] ? [true, false] : [false]).map((has) => ({ ...roles, [role]: has }))), none);
   const isKeptApart = (roles) => roles.director || roles.administrator || roles.commentator;
   return all.filter((roles) => (roles.contestant ? !isKeptApart(roles) : !seat));
 }
@@ -99,7 +101,7 @@ export function checkDenial(facts, name, query, denied) {
   const seat = seatOf(facts, name);
   const fact = factOf(query);
   const agrees = possibleRoles(seat, facts.edition).map((roles) => isSame(denialOf(facts, seat?.pair ?? null, roles, fact), denied));
-  const evidence = evidenceOf(facts, seat, fact, denied);
+  const evidence = evidenceOf(facts, seat, denied);
   if (!agrees.includes(true)) return { verdict: "contradicted", evidence };
   if (denied.rule === 3) return { verdict: "unseen", evidence };
   return { verdict: agrees.includes(false) ? "roles" : "holds", evidence };
@@ -110,7 +112,7 @@ function isSame(found, denied) {
 }
 
 /** The public facts on which a rule rests: a word of `texts.evidence` each, with its values. */
-function evidenceOf(facts, seat, fact, denied) {
+function evidenceOf(facts, seat, denied) {
   const { board, table } = denied;
   const own = seat ? tableOfPair(facts, seat.pair, board) : 0;
   const sits = own ? [

@@ -2,48 +2,155 @@
 
 const listeners = { onClick: "click", onInput: "input", onChange: "change", onSubmit: "submit", onToggle: "toggle" };
 
+/** @typedef {Node|string|number|null|undefined|false|any[]} Content what can stand in an element; of a list what is in it */
+/** @typedef {Event & {target: HTMLInputElement}} FieldEvent what happens at a field */
+
 /**
  * @param {string} tag
- * @param {Record<string, string|number|boolean|null|undefined|((event: Event) => void)>} [attributes]
- * @param {...(Node|string|number|null|undefined|false|any[])} children
+ * @param {Record<string, string|number|boolean|null|undefined|((event: FieldEvent) => void)>} [attributes]
+ * @param {...Content} children
  */
 export function element(tag, attributes = {}, ...children) {
   const made = document.createElement(tag);
   for (const [name, value] of Object.entries(attributes ?? {})) setAttribute(made, name, value);
-  made.append(...nodesOf(children));
+  put(made, children);
   return made;
 }
 
 function setAttribute(made, name, value) {
   if (value === null || value === undefined || value === false) return;
-  if (typeof value === "function") made.addEventListener(listeners[name], value);
+  if (typeof value === "function") listen(made, listeners[name], value);
   else if (name === "value") made.value = value;
   else made.setAttribute(name, value === true ? "" : String(value));
 }
 
-function nodesOf(children) {
-  return children.flat(Infinity).filter((child) => child !== null && child !== undefined && child !== false)
-    .map((child) => (child instanceof Node ? child : document.createTextNode(String(child))));
+/** What each element does on which event; another listener takes its place without the browser's being told. */
+const heard = new WeakMap();
+
+function listen(made, type, listener) {
+  if (!heard.has(made)) heard.set(made, {});
+  const there = heard.get(made);
+  if (there[type]) {
+    there[type].listener = listener;
+    return;
+  }
+  const entry = { listener, hear: (event) => entry.listener(event) };
+  there[type] = entry;
+  made.addEventListener(type, entry.hear);
+}
+
+function put(made, child) {
+  if (child === null || child === undefined || child === false) return;
+  if (Array.isArray(child)) for (const each of child) put(made, each);
+  else made.append(child instanceof Node ? child : document.createTextNode(String(child)));
 }
 
 /** Elements and texts that stand in no place yet. */
 export function fragmentOf(...children) {
   const made = document.createDocumentFragment();
-  made.append(...nodesOf(children));
+  put(made, children);
   return made;
 }
 
 /** Puts new content into an element; who was at a field or a button stays there, found by its id. */
 export function replaceContent(container, ...children) {
-  const active = container.contains(document.activeElement) ? document.activeElement : null;
+  const active = container.contains(document.activeElement) ? /** @type {HTMLInputElement} */ (document.activeElement) : null;
   const selection = active && "selectionStart" in active ? [active.selectionStart, active.selectionEnd] : null;
-  container.replaceChildren(...nodesOf(children));
-  const again = active?.id ? document.getElementById(active.id) : null;
+  container.replaceChildren(fragmentOf(children));
+  const again = active?.id ? /** @type {HTMLInputElement|null} */ (document.getElementById(active.id)) : null;
   if (!again) return;
   again.focus({ preventScroll: true });
   if (selection && selection[0] !== null && again.tagName !== "SELECT") restoreSelection(again, selection);
 }
 
+/**
+ * Makes of what is in a container what new content says, and leaves alone what is the same: so its reader stays where she is, and a
+ * browser draws what has changed. Elements are the same by their ids, and those without one by their order.
+ * @param {Node} fresh an element or a fragment, of which nothing is used afterwards
+ */
+export function patchContent(container, fresh) {
+  let [next, node] = [firstIn(container), firstIn(fresh)];
+  while (next !== null && node !== null && idOf(next) === idOf(node) && isAlike(next, node)) {
+    const [after, later] = [next.nextSibling, node.nextSibling];
+    patchNode(next, node);
+    [next, node] = [after, later];
+  }
+  if (next !== null || node !== null) patchRest(container, next, node);
+}
+
+const firstIn = (container) => container.childNodes[0] ?? null;
+
+/** From a node on and its siblings: what isn't where it was is found by its id, and what isn't there any more goes. */
+function patchRest(container, from, fresh) {
+  /** @type {Map<string, ChildNode>} */
+  const byId = new Map();
+  for (const node of siblingsOf(from)) if (idOf(node)) byId.set(idOf(node), node);
+  let next = from;
+  for (const node of siblingsOf(fresh)) {
+    const found = idOf(node) ? byId.get(idOf(node)) ?? null : firstWithoutId(next);
+    if (found === null || !isAlike(found, node)) {
+      container.insertBefore(node, next);
+      continue;
+    }
+    if (found === next) next = next.nextSibling;
+    else container.insertBefore(found, next);
+    patchNode(found, node);
+  }
+  for (const node of siblingsOf(next)) container.removeChild(node);
+}
+
+function siblingsOf(first) {
+  const found = [];
+  for (let node = first; node !== null; node = node.nextSibling) found.push(node);
+  return found;
+}
+
+// a text has none
+const idOf = (node) => node.id;
+
+function firstWithoutId(node) {
+  return node !== null && !node.id ? node : null;
+}
+
+const isAlike = (one, other) => one.nodeName === other.nodeName && one.type === other.type;
+
+/** What was typed or chosen stands in properties, which attributes only begin. */
+const properties = { INPUT: ["value", "checked"], TEXTAREA: ["value"], SELECT: ["value"] };
+
+function patchNode(node, fresh) {
+  if (!("setAttribute" in node)) {
+    if (node.textContent !== fresh.textContent) node.textContent = fresh.textContent;
+    return;
+  }
+  patchAttributes(node, fresh);
+  patchListeners(node, fresh);
+  patchContent(node, fresh);
+  for (const property of properties[node.nodeName] ?? []) {
+    if (node[property] !== fresh[property]) node[property] = fresh[property];
+  }
+}
+
+function patchAttributes(node, fresh) {
+  const names = fresh.getAttributeNames();
+  for (const name of names) {
+    const value = fresh.getAttribute(name);
+    if (node.getAttribute(name) !== value) node.setAttribute(name, value);
+  }
+  if (node.attributes.length === names.length) return;
+  for (const name of node.getAttributeNames()) if (fresh.getAttribute(name) === null) node.removeAttribute(name);
+}
+
+function patchListeners(node, fresh) {
+  const [before, now] = [heard.get(node) ?? {}, heard.get(fresh) ?? {}];
+  for (const type of Object.keys(before)) {
+    if (now[type]) continue;
+    node.removeEventListener(type, before[type].hear);
+    delete before[type];
+  }
+  for (const type of Object.keys(now)) listen(node, type, now[type].listener);
+}
+
+/** @param {HTMLInputElement} field @param {number[]} selection */
 function restoreSelection(field, [from, to]) {
   try {
     field.setSelectionRange(from, to);
@@ -58,6 +165,14 @@ export const button = (id, label, onClick, more = {}) => element(
   label,
 );
 export const link = (href, label, more = {}) => element("a", { href, ...more }, label);
+
+/** The heading of a view, to which the focus goes when the view is opened. */
+export const heading = (text, ...more) => element(
+  "div",
+  { class: "heading" },
+  element("h1", { id: "heading", tabindex: "-1" }, text),
+  ...more,
+);
 
 /** A field with its label, and a note below it. */
 export function field(id, label, attributes, note = null) {
@@ -84,7 +199,7 @@ export function choice(id, label, options, chosen, onChange, more = {}) {
 export function table(caption, heads, rows, more = {}) {
   const head = heads.map((text) => (text instanceof Node ? text : element("th", { scope: "col" }, text)));
   const body = rows.map((cells) => element("tr", {}, cells.map((cell, index) =>
-    cell instanceof Node && ["TD", "TH"].includes(cell.tagName) ? cell : element(
+    cell instanceof Node && ["TD", "TH"].includes(cell.nodeName) ? cell : element(
       index ? "td" : "th",
       index ? {} : { scope: "row" },
       cell,

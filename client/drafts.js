@@ -37,6 +37,30 @@ export class Drafts {
     this.#set(nameOf(user, "entered", table, board), isEntered ? true : null);
   }
 
+  /** Whether what was entered or confirmed from this tab was lost by a start of the server. */
+  isLost(user, table, board) {
+    return this.#get(nameOf(user, "entered", table, board)) === lost;
+  }
+
+  setLost(user, table, board) {
+    this.#set(nameOf(user, "entered", table, board), lost);
+  }
+
+  /** The server was started again without what was entered: all that a user entered from this tab and didn't confirm is lost. */
+  loseEntries(user) {
+    for (const name of this.#names()) {
+      if (name.startsWith(nameOf(user, "entered", "")) && this.#get(name) === true) this.#set(name, lost);
+    }
+  }
+
+  #names() {
+    try {
+      return [...new Set([...this.#kept.keys(), ...Object.keys(this.#storage ?? {})])];
+    } catch {
+      return [...this.#kept.keys()];
+    }
+  }
+
   #get(name) {
     if (this.#kept.has(name)) return this.#kept.get(name);
     try {
@@ -57,4 +81,5 @@ export class Drafts {
   }
 }
 
-const nameOf = (user, step, table, board) => `tevyhora/${user}/${step}/${table}/${board}`;
+const lost = "lost";
+const nameOf = (...parts) => ["tevyhora", ...parts].join("/");

@@ -2,14 +2,17 @@
 // server has judged it.
 
 export const newForms = () => ({
-  signIn: { name: "", token: "" },
+  signIn: { name: "", token: "", stays: false },
   cell: { board: 1, table: 1 },
   confirmed: new Map(),
   hold: { board: 1 },
+  clock: { minutes: null },
   seat: { name: "", pair: "NS1", place: "N" },
   rule: new Map(),
   assign: new Map(),
   inheritance: { senior: "Director", junior: "Scorer" },
+  rename: { name: "", shown: "" },
+  walkIn: { shown: "", pair: "", place: "", made: null },
   newUser: { name: "", role: "", digest: "", made: null },
   audit: { before: null },
   find: { conditions: [], joiner: "and", newKind: "vul", asked: { conditions: [], joiner: "and" } },

@@ -1,7 +1,7 @@
 // Guide cards: where a pair goes in each round, and what comes to a table.
 
 import { boardsOf, isIn, opponentsIn, sideIn } from "./movement.js";
-import { playersOf } from "./public_facts.js";
+import { playersText } from "./people.js";
 
 /** @typedef {import("./public_facts.js").Facts} Facts */
 
@@ -54,11 +54,11 @@ export function cardOfTable(facts, table) {
 /** What all cards of pairs say, for a spreadsheet: a line for each pair in each round. */
 export function linesOfPairs(facts) {
   return facts.pairs.flatMap((pair) => cardOfPair(facts, pair).map(({ round, table, side, against, boards }) =>
-    [pair, playersOf(facts, pair).join(" "), round, table || "", side, against, boards.at(0), boards.at(-1)]));
+    [pair, playersText(facts, pair), round, table || "", side, against, playersText(facts, against), boards.at(0), boards.at(-1)]));
 }
 
 /** What all cards of tables say, for a spreadsheet: a line for each table in each round. */
 export function linesOfTables(facts) {
   return tablesOf(facts).flatMap((table) => cardOfTable(facts, table).map(({ round, ns, ew, boards, others }) =>
-    [table, round, ns, ew, boards.at(0), boards.at(-1), others.join(" ")]));
+    [table, round, ns, playersText(facts, ns), ew, playersText(facts, ew), boards.at(0), boards.at(-1), others.join(" ")]));
 }

@@ -11,6 +11,7 @@
  * What every member may see.
  * @typedef {object} Status
  * @property {string} [absent] the pair that isn't there, where one isn't
+ * @property {string} [date] the session's, as "2026-11-27", where it has one
  * @property {2} [edition] in the second edition alone, as is the next
  * @property {boolean} [embargo] whether the session is under embargo
  * @property {number[]} held the boards that the director holds
@@ -18,12 +19,15 @@
  * @property {string[]} marks for each board its dealer and who is vulnerable, as "E ns"
  * @property {[number, number, number, string, string][]} [movement] round, table, set, North-South pair and East-West pair of each
  *   row, where it isn't the plain Mitchell
+ * @property {[string, string][]} [names] the name for signing in and the name to show of each user who has one to show
  * @property {number} per_set
  * @property {"Running"|"Closed"|"Final"} phase
+ * @property {string[]} [reasons] what the numbers of rulings' reasons mean, from 1 on, where the session says it
  * @property {number} round
  * @property {number} rounds
  * @property {[string, string, Place][]} seats a user's name, pair and place
  * @property {number} tables
+ * @property {string} [title] the session's, where it has one
  */
 
 /** @typedef {{deal: string, dealer: Place, number: number, vul: Vulnerability}} Board */
@@ -38,6 +42,7 @@
  * @property {[number, number]} [ruling] the percentages of a ruling
  */
 /** @typedef {{board: number, tricks: Record<Place, number[]>|null}} Analysis in spades, hearts, diamonds, clubs, no trump */
+/** @typedef {{board: number, result: Result|null, score: number|null}} Par for North-South; null until it is solved */
 /** @typedef {{answers: string[], first: number, last: number, version: number}} Receipt */
 /** @typedef {{inherits: [string, string][], users: [string, string[]][]}} Accounts */
 /** @typedef {[number, string|null, string, string]} AuditRow number, user (null: the solver), word, what it is about */
@@ -54,6 +59,7 @@ export const ask = {
   board: (board) => ({ ask: "board", board }),
   traveller: (board) => ({ ask: "traveller", board }),
   analysis: (board) => ({ ask: "analysis", board }),
+  par: (board) => ({ ask: "par", board }),
   play: (table, board) => ({ ask: "play", table, board }),
   costs: (table, board) => ({ ask: "costs", table, board }),
   reason: (table, board) => ({ ask: "reason", table, board }),
@@ -86,6 +92,7 @@ export const command = {
   embargo: bare("Embargo"),
   lift: bare("Lift"),
   addUser: (name, digest) => ({ cmd: "AddUser", name, digest }),
+  rename: (name, shown) => ({ cmd: "Rename", name, shown }),
   assign: withRole("Assign"),
   deassign: withRole("Deassign"),
   addInheritance: withPair("AddInheritance"),
@@ -102,7 +109,7 @@ export const permissionProbe = () => ({
 
 /** @param {Receipt|{error: string}} receipt the answer to `permissionProbe` */
 export function permissionsOf(receipt) {
-  const answers = receipt.answers ?? [];
+  const answers = "answers" in receipt ? receipt.answers : [];
   const permitted = (index) => answers[index] !== undefined && answers[index] !== "NotPermitted";
   return { score: permitted(0), direct: permitted(1), administer: permitted(2) };
 }

@@ -107,7 +107,7 @@ const across = { N: "E", S: "W", E: "N", W: "S" };
 /** Where a player sits in a row: whoever begins North sits East where the pair sits the other way round, and South West. */
 export const placeIn = (row, pair, place) => (sideIn(row, pair) === sideOf(place) ? place : across[place]);
 
-export const setOf = (board, perSet) => Math.ceil(board / perSet);
+const setOf = (board, perSet) => Math.ceil(board / perSet);
 
 /** @returns {number[]} the boards of a set */
 export function boardsOf(set, perSet) {

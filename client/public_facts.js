@@ -9,7 +9,8 @@ import { boardsOf, changesSides, isIn, pairsOf, placeIn, rowOfCell, rowOfPair, r
 export function publicFacts(status) {
   const rows = rowsOf(status);
   const boards = Array.from({ length: setsOf(status) * status.per_set }, (_, index) => index + 1);
-  return { edition: 1, embargo: false, ...status, rows, boards, pairs: pairsOf(status, rows), changesSides: changesSides(rows) };
+  const shown = new Map((status.names ?? []).filter(Array.isArray));
+  return { edition: 1, embargo: false, ...status, rows, boards, pairs: pairsOf(status, rows), changesSides: changesSides(rows), shown };
 }
 
 /** @typedef {ReturnType<typeof publicFacts>} Facts */
@@ -38,7 +39,7 @@ export function seatOf(facts, name) {
   return seat ? { pair: seat[1], place: seat[2] } : null;
 }
 
-/** The names of those who sit in a pair, in the order of the accounts. */
+/** The names by which those who sit in a pair sign in, in the order of the accounts. */
 export const playersOf = (facts, pair) => facts.seats.filter((seat) => seat[1] === pair).map(([name]) => name);
 
 /** The row in which a table plays a board, in whatever round. */
@@ -109,6 +110,10 @@ export function nextCellElsewhere(facts, table) {
   const [next] = awaitedCells(facts).filter((cell) => cell.table !== table).sort((one, other) => distance(one) - distance(other));
   return next && cellsOfTable(facts, next.table).find((cell) => !cell.live);
 }
+
+/** On how many boards a pair has a result so far. */
+export const boardsPlayed = (facts, pair) => facts.rows.filter((row) => isIn(row, pair))
+  .flatMap((row) => boardsOf(row.set, facts.per_set).filter((board) => isLive(facts, row.table, board))).length;
 
 /** Where a user who has a seat plays in the present round: the table and the own place there, or null where the pair sits out. */
 export function seatNow(facts, { pair, place }) {

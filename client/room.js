@@ -21,6 +21,7 @@ export function roomOf(facts, isRuled) {
   return { rounds, tables: tables.map((table) => ({ table, rounds: rounds.map((round) => cellsOf(table, round)) })) };
 }
 
+/** @returns {RoomCell} */
 function cellOf(facts, { table, round }, board, isRuled) {
   const awaited = round < facts.round || facts.phase !== "Running" ? "late" : "awaited";
   const state = isLive(facts, table, board) ? (isRuled(table, board) ? "ruled" : "result") : awaited;

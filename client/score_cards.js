@@ -15,6 +15,7 @@ import { rowOf } from "./public_facts.js";
  * @property {number|null} points the matchpoints; null where there is a ruling, or no other result to compare with
  * @property {string} percent "" where there is nothing to compare with
  * @property {string} soFar the percentage of this board and those before it, "" as long as there is none
+ * @property {{earned: number, tops: number}} total the matchpoints of this board and those before it, and their tops, in hundredths
  */
 
 /**
@@ -32,7 +33,7 @@ export function scoreCardOf(facts, travellers, pair) {
   return lines.map(({ earned: more, top, ...line }) => {
     earned += more;
     tops += 100 * top;
-    return { ...line, soFar: percentText(earned, tops) };
+    return { ...line, soFar: percentText(earned, tops), total: { earned, tops } };
   });
 }
 

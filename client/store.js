@@ -30,17 +30,25 @@ export class Store {
   #connection;
   #needs;
   #onChange;
+  #onRestart;
   #olderReplies = 0;
   #refreshing = null;
 
   /**
    * @param {{ask: (message: object) => Promise<object>, signIn: Function, signOut: Function}} connection
-   * @param {{needs: () => object[], onChange: () => void}} page the queries that the present view shows, and what to do
+   * @param {{needs: () => object[], onChange: () => void, onRestart?: () => void}} page the queries that the present view shows, and
+   *   what to do where something is new, and where the server was started again without what it had
    */
-  constructor(connection, { needs, onChange }) {
+  constructor(connection, { needs, onChange, onRestart = () => {} }) {
     this.#connection = connection;
     this.#needs = needs;
     this.#onChange = onChange;
+    this.#onRestart = onRestart;
+  }
+
+  /** Whether the last answer was older than what is known: the next ones tell whether the server began anew. */
+  get isInDoubt() {
+    return this.#olderReplies > 0;
   }
 
   /** @returns {Promise<boolean>} false where name and token aren't known */
@@ -115,6 +123,7 @@ export class Store {
     this.#olderReplies = 0;
     Object.assign(this.state, { version: -1, known: 0, wasRestarted: true });
     this.state.answers.clear();
+    this.#onRestart();
     this.#onChange();
   }
 

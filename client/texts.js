@@ -12,7 +12,15 @@ const overInWords = (over, tricks) => {
   return over > 0 ? `${plural(over, "overtrick", "overtricks")}, ${tricks} tricks` : `${plural(-over, "undertrick", "undertricks")}, ${plural(tricks, "trick", "tricks")}`;
 };
 
+const longDate = new Intl.DateTimeFormat("en-GB", { dateStyle: "long", timeZone: "UTC" });
+const dateInWords = (date) => (Number.isNaN(Date.parse(date)) ? date : longDate.format(new Date(date)));
+
+// A text of the session's own may be written in either direction: what stands around it keeps its place.
+export const apart = (text) => `\u2068${text}\u2069`;
+
 const clock = new Intl.DateTimeFormat("en-GB", { hour: "2-digit", minute: "2-digit" });
+
+const reasonInWords = (code, meaning) => (meaning ? `${code}, ${apart(meaning)}` : code);
 
 const doublings = ["undoubled", "doubled", "redoubled"];
 
@@ -20,6 +28,12 @@ const resultInWords = (result) => result === "pass" ? "passed out"
   : `${result.level} ${strain[result.strain]}${result.doubled ? ` ${doublings[result.doubled]}` : ""} by ${place[result.by]}, ${overInWords(result.tricks - result.level - 6, result.tricks)}`;
 
 const scoresInWords = (score) => (score === 0 ? "scores 0" : score > 0 ? `scores ${score} for North-South` : `scores ${-score} for East-West`);
+
+const roleNames = {
+  Member: "Member", Spectator: "Spectator", Contestant: "Contestant", Scorer: "Scorer", Director: "Director", Administrator: "Administrator",
+  Commentator: "Commentator",
+};
+const roleInWords = (role) => (Object.hasOwn(roleNames, role) ? roleNames[role] : role);
 
 const separated = {
   S1: "Director and Contestant", S2: "Scorer and Contestant", S3: "Administrator and Contestant", S4: "Commentator and Contestant",
@@ -37,7 +51,7 @@ const refusals = {
   NotLive: () => "This table has no result on the board.",
   NothingEntered: () => "Nothing is entered here that could be confirmed. Enter the result first.",
   Mismatch: () => "What you typed differs from what was entered. Compare it with the other side; nothing has changed.",
-  Spoiled: (name) => `${name} sits at this table and was shown something of the board before. No result can be entered; a director can rule.`,
+  Spoiled: (name, personOf) => `${personOf(name)} sits at this table and was shown something of the board before. No result can be entered; a director can rule.`,
   BadRuling: () => "A ruling gives each side 0 to 100 percent, for a reason of 1 to 99.",
   AlreadyHeld: () => "The board is held already.",
   NotHeld: () => "The board isn't held.",
@@ -81,7 +95,12 @@ const errors = {
 
 export const texts = {
   title: "Tevyhora",
+  windowTitle: (heading) => `${heading} – Tevyhora`,
+  role: roleInWords,
+  percent: (value) => `${value} %`,
   waiting: "Asking the server …",
+  occasion: (title, date) => [title, date && dateInWords(date)].filter(Boolean).join(", "),
+  against: "against",
   passedOut: "passed out",
   strain, place, side, phase, overInWords, resultInWords,
   strainLetter: { S: "S", H: "H", D: "D", C: "C", N: "NT" },
@@ -95,22 +114,28 @@ export const texts = {
   sure: "Yes, do it",
   cancel: "Cancel",
   error: (name) => errors[name] ?? `The server answered ${name}.`,
-  /** @param {string} answer as "Spoiled(n1)" */
-  refusal: (answer) => {
+  /**
+   * @param {string} answer as "Spoiled(n1)"
+   * @param {(name: string) => string} personOf how a user is named
+   */
+  refusal: (answer, personOf = (name) => name) => {
     const [, name, argument] = /^(\w+)(?:\((.*)\))?$/u.exec(answer) ?? [null, answer, ""];
-    return Object.hasOwn(refusals, name) ? refusals[name](argument ?? "") : `The server refused: ${answer}.`;
+    return Object.hasOwn(refusals, name) ? refusals[name](argument ?? "", personOf) : `The server refused: ${answer}.`;
   },
   fault: {
     notSent: "There is no connection to the server. Nothing was sent, and what you typed is kept: try again once the connection is back.",
     unanswered: "The connection broke before an answer came, so it may have been taken or not. Look at what the page shows once the connection is back, before you send it again.",
     notKnown: "The server doesn't know this name with this token any more. Sign in again.",
+    notLoaded: "A part of this page couldn't be loaded. Load it again once there is a connection.",
   },
 
   frame: {
+    skip: "Skip to the content",
     nav: "Views",
-    signedInAs: (name) => `Signed in as ${name}`,
+    signedInAs: "Signed in as",
     signOut: "Sign out",
     putAway: "Put away",
+    loadAgain: "Load again",
     notYours: "This view is for other roles than yours.",
     view: { session: "Session", boards: "My boards", ranking: "Ranking", find: "Find boards", papers: "Papers", scorer: "Scorer", director: "Director", accounts: "Accounts", audit: "Audit" },
     asOf: (time) => `As of ${clock.format(time)}.`,
@@ -119,7 +144,9 @@ export const texts = {
     tryNow: "Try now",
     slow: "All places at the server are taken. Waiting for one …",
     embargo: "The session is under embargo: until it is lifted, nobody but directors sees a board.",
-    restarted: "The server was started again without what was entered before: results, rulings, seats. Tell the director.",
+    restarted: "The server was started again without what was entered before: results, rulings, seats. What you entered or confirmed in this tab is marked, and what you typed is kept: enter it again.",
+    restartedElsewhere: "The server was started again without what was entered before. Whoever enters the results sees it too.",
+    back: (seconds) => `The server was out of reach for ${plural(seconds, "second", "seconds")} and is back. All that it had accepted before is still there.`,
     understood: "Understood",
   },
 
@@ -128,7 +155,11 @@ export const texts = {
     explained: "Your name and your token come from the director of this session.",
     name: "Name",
     token: "Token",
-    tokenNote: "Kept in this tab alone, until it is closed, reloaded or signed out.",
+    tokenNote: "As it stands on your card; the dashes may be left out. It is kept in this page's memory alone, unless you stay signed in.",
+    stays: "Stay signed in on this device until the session ends",
+    staysNote: "Then the token is in this tab's storage too, and a reload signs in again. Signing out removes it, and so do final results; it goes with the tab.",
+    staysNot: "This browser lets the page keep nothing, so a reload asks for the token again.",
+    badCard: "The card's address can't be read: type the name and the token that stand on the card.",
     button: "Sign in",
     busy: "Signing in …",
     notKnown: "This name and this token aren't known here. Capitals count in both.",
@@ -242,7 +273,7 @@ export const texts = {
     title: "My boards",
     explained: "A board opens once the result at your own table is confirmed.",
     round: (round, isNow) => `Round ${round}${isNow ? ", now" : ""}`,
-    against: (table, seatSide, pair, players) => `Table ${table}, ${seatSide && `${seatSide}, `}against ${pair}${players ? ` (${players})` : ""}`,
+    against: (table, seatSide) => `Table ${table}, ${seatSide && `${seatSide}, `}against`,
     state: (state, awaited) => ({ held: "held by the director", to_play: "to play", complete: "played, complete", waits: `played, waits for ${plural(awaited, "table", "tables")}` }[state]),
   },
 
@@ -262,7 +293,7 @@ export const texts = {
     chooseTable: "Table",
     atTable: (table, isOwn) => `Table ${table}${isOwn ? ", yours" : ""}`,
     closePlay: "Close the play",
-    reason: (code) => `The ruling's reason has the code ${code}, on the club's list.`,
+    reason: (code, meaning) => (meaning ? `The ruling's reason: ${apart(meaning)} (number ${code} on the session's list).` : `The ruling's reason has the code ${code}, on the club's list.`),
   },
 
   traveller: {
@@ -272,6 +303,12 @@ export const texts = {
     ruling: "ruling",
     note: (top) => `Matchpoints: two for each result beaten, one for each equalled, among those shown; the top is ${top}. The percentages are of the top.`,
     first: "This result is the first: percentages and matchpoints come with the next one.",
+  },
+
+  par: {
+    label: "Par:",
+    worth: (score) => (score === 0 ? "" : `, ${Math.abs(score)} for ${side[score > 0 ? "NS" : "EW"]}`),
+    csvHeads: ["par", "par_score_ns"],
   },
 
   play: {
@@ -290,11 +327,11 @@ export const texts = {
 
   ranking: {
     title: "Ranking",
-    explained: "Over the boards that you may see: it counts nothing else.",
+    explained: "Over the boards that you may see: it counts nothing else. Played are the boards on which the pair has a result.",
     winners: { one: "One winner: pairs change sides, so all of them stand in one list.", two: "Two winners: no pair changes its side, so there is a list for each direction." },
     caption: (listSide) => (listSide ? `Ranking of the ${side[listSide]} pairs` : "Ranking of the pairs"),
-    heads: ["Place", "Pair", "Percent", "Earned", "Tops"],
-    csvHeads: ["place", "pair", "players", "percent", "earned", "tops", "direction"],
+    heads: ["Place", "Pair", "Percent", "Earned", "Tops", "Played"],
+    csvHeads: ["place", "pair", "players", "percent", "earned", "tops", "direction", "played"],
   },
 
   find: {
@@ -339,9 +376,30 @@ export const texts = {
     levelFirst: "Tricks: choose the level first.",
     play: "The play, card by card (may be left out)",
     playLabel: "Cards as they were played",
-    playNote: "A suit and a rank each, as S2 D2 C2 SA, with blanks between.",
+    playNote: "Tap the cards, or type a suit and a rank each, as S2 D2 C2 SA; or paste a play from PBN or LIN.",
     playCards: (count) => plural(count, "card", "cards"),
-    playFault: ({ word, why }) => ({ unknown: `“${word}” is no card.`, twice: `“${word}” stands there twice.` }[why]),
+    playFault: ({ word, why }) => ({
+      unknown: `“${word}” is no card.`,
+      twice: `“${word}” stands there twice.`,
+      contract: "Tell the strain and the declarer first: they say who plays to each trick.",
+      leader: `In what is pasted ${place[word]} led, who doesn't sit to the left of the declarer.`,
+      several: "Several boards are pasted: paste one alone.",
+      order: `“${word}” stands after a player who hasn't played to this trick.`,
+    }[why]),
+    playFirst: "Choose the strain and the declarer, and the cards are here to be tapped.",
+    playDone: "All 52 cards are there.",
+    turn: (trick, next, led) => `Trick ${trick}: ${place[next]} ${led ? "plays" : "leads"}.`,
+    toTrick: "On the table:",
+    cardsOf: (suit) => `Cards: ${suit}`,
+    cardName: (suit, rank) => `${rank} of ${suit}`,
+    takeBack: "Take back",
+    soFar: (won, left) => `The declarer has ${plural(won, "trick", "tricks")}; ${left} ${left === 1 ? "is" : "are"} left.`,
+    claim: "A claim: the rest to the declarer",
+    noClaim: "no claim",
+    claimed: (count, of) => `${count} of ${of}`,
+    claimNote: "The cards so far are noted with the result.",
+    revoked: (who, trick, earlier) => `${place[who]} follows in trick ${trick} what was not followed in trick ${earlier}: was a card left out?`,
+    contradicts: (won) => `By these cards the declarer has ${plural(won, "trick", "tricks")}, and the result says another number.`,
     part: { level: "the level", strain: "the strain", by: "the declarer", over: "the tricks" },
     missing: (parts) => `Still to tell: ${parts.join(", ")}.`,
     scores: scoresInWords,
@@ -357,6 +415,8 @@ export const texts = {
     round: (round, isNow) => `Round ${round}${isNow ? ", now" : ", still to give"}`,
     hasResult: "has a result",
     toConfirm: "entered, to confirm",
+    lost: "lost by the server, to enter again",
+    lostExplained: "What was entered here was lost when the server was started again. It still stands in the form: enter it again, and the other side confirms it.",
     toEnter: "to enter",
     cellTitle: (table, board) => `Table ${table}, board ${board}`,
     isLive: "This table has a result on the board. A director can correct it.",
@@ -389,6 +449,17 @@ export const texts = {
     state: { awaited: "awaited", late: "late", result: "has a result", ruled: "ruled", held: "the board is held" },
     noneAwaited: "No result is awaited of the rounds so far.",
     awaitedCell: (round, table, board) => `Round ${round}: table ${table}, board ${board}`,
+  },
+
+  clock: {
+    title: "Clock",
+    explained: "For this page alone: nobody else sees it, and it sends nothing.",
+    minutes: (round) => `Minutes for round ${round}`,
+    badMinutes: (most) => `A round's clock has 1 to ${most} whole minutes.`,
+    start: "Start the clock",
+    stop: "Stop the clock",
+    ofRound: (round, ends, isOver) => (isOver ? `since round ${round} was to end, at ${clock.format(ends)}` : `left of round ${round}, which ends at ${clock.format(ends)}`),
+    over: (round) => `The time of round ${round} is over.`,
   },
 
   director: {
@@ -441,7 +512,7 @@ export const texts = {
     inRound: (round) => `round ${round}`,
     now: "Now",
     noResult: "This table has no result on the board.",
-    ruled: (ns, ew, code) => `A ruling: ${ns} % for North-South, ${ew} % for East-West, reason ${code}.`,
+    ruled: (ns, ew, code, meaning) => `A ruling: ${ns} % for North-South, ${ew} % for East-West, reason ${reasonInWords(code, meaning)}.`,
     back: "The director's desk",
     correct: "Correct the result",
     correctNote: "The form begins with what stands, its play too, and what is told here takes its place.",
@@ -453,7 +524,7 @@ export const texts = {
     corrected: "The result is corrected.",
     rule: "Rule",
     ruleNote: "The ruling takes the place of a result, an entry and a play.",
-    ruleSure: (ns, ew, code) => `Give ${ns} % to North-South and ${ew} % to East-West, for reason ${code}?`,
+    ruleSure: (ns, ew, code, meaning) => `Give ${ns} % to North-South and ${ew} % to East-West, for reason ${reasonInWords(code, meaning)}?`,
     goes: {
       entry: "There is no result; what is entered and not confirmed goes.",
       ruling: (ns, ew) => `What goes: the ruling of ${ns} % for North-South and ${ew} % for East-West.`,
@@ -462,6 +533,8 @@ export const texts = {
     forNs: "Percent for North-South",
     forEw: "Percent for East-West",
     reason: "Reason, 1 to 99",
+    reasonOfList: "Reason",
+    noReason: "choose one",
     ruleButton: "Rule",
     ruledDone: "The ruling is given.",
     void: "Make it void",
@@ -488,15 +561,15 @@ export const texts = {
       Hold: "held the board", Release: "released the board", Seat: "gave a seat to the user", Unseat: "took the seat of the user",
       NextRound: "began the next round", Close: "ended play", Finalise: "made the results final",
       Embargo: "put the session under embargo", Lift: "lifted the embargo",
-      AddUser: "added the user", Assign: "gave the user a role", Deassign: "took a role from the user",
+      AddUser: "added the user", Rename: "gave a name to show to the user", Assign: "gave the user a role", Deassign: "took a role from the user",
       AddInheritance: "put a role above another", DeleteInheritance: "deleted that a role is above another",
       Solved: "found the double-dummy table", Analysed: "found what the cards cost",
     },
     about: {
       cell: (table, board) => `table ${table}, board ${board}`,
       board: (board) => `board ${board}`,
-      role: (name, role) => `${name}: ${role}`,
-      inheritance: (senior, junior) => `${senior} above ${junior}`,
+      role: (name, role) => `${name}: ${roleInWords(role)}`,
+      inheritance: (senior, junior) => `${roleInWords(senior)} above ${roleInWords(junior)}`,
       name: (name) => name,
     },
     pairs: (ns, ew) => `, ${ns} – ${ew}`,
@@ -509,21 +582,26 @@ export const texts = {
     assign: "Assign",
     assignShort: "Assign a role",
     assignTo: (name) => `Assign a role to ${name}`,
-    assigned: (role, name) => `${name} has the role ${role}.`,
-    roleButton: (role, name) => `${role}: take it from ${name}`,
-    deassignSure: (role, name) => `Take the role ${role} from ${name}?`,
-    deassigned: (role, name) => `${name} hasn't the role ${role} any more.`,
+    assigned: (role, name) => `${name} has the role ${roleInWords(role)}.`,
+    roleButton: (role, name) => `${roleInWords(role)}: take it from ${name}`,
+    roleToTake: (role) => `${roleInWords(role)} ×`,
+    deassignSure: (role, name) => `Take the role ${roleInWords(role)} from ${name}?`,
+    deassigned: (role, name) => `${name} hasn't the role ${roleInWords(role)} any more.`,
     inheritance: "Inheritance of roles",
     inheritanceNote: "Whoever is authorized for the senior role is authorized for the junior one.",
-    inherits: (senior, junior) => `${senior} is above ${junior}`,
+    inherits: (senior, junior) => `${roleInWords(senior)} is above ${roleInWords(junior)}`,
     senior: "Senior role",
     junior: "Junior role",
     addPair: "Add",
-    pairAdded: (senior, junior) => `${senior} is above ${junior} now.`,
+    pairAdded: (senior, junior) => `${roleInWords(senior)} is above ${roleInWords(junior)} now.`,
     delete: "Delete",
-    deletePair: (senior, junior) => `Delete ${senior} above ${junior}`,
-    deletePairSure: (senior, junior) => `Delete that ${senior} is above ${junior}?`,
-    pairDeleted: (senior, junior) => `${senior} isn't above ${junior} any more.`,
+    deletePair: (senior, junior) => `Delete ${roleInWords(senior)} above ${roleInWords(junior)}`,
+    deletePairSure: (senior, junior) => `Delete that ${roleInWords(senior)} is above ${roleInWords(junior)}?`,
+    pairDeleted: (senior, junior) => `${roleInWords(senior)} isn't above ${roleInWords(junior)} any more.`,
+    rename: "A name to show",
+    renameNote: "By which a user is shown in place of the name for signing in. An empty one takes it away.",
+    renameButton: "Give the name",
+    renamed: (name, shown) => (shown ? `${name} is shown as ${apart(shown)}.` : `${name} is shown by the name for signing in.`),
     newUser: "New user",
     newUserExplained: "The browser makes a random token and sends its SHA-256 alone to the server.",
     notSecure: "This page didn't come over HTTPS, so the browser offers no SHA-256 and can't make a token here. Open the page over HTTPS, or paste a digest that was made elsewhere.",
@@ -540,6 +618,24 @@ export const texts = {
     forgetToken: "I have written it down",
   },
 
+  walkIn: {
+    title: "A substitute, or a new player",
+    explained: "One form for the account, the contestant's role and the seat. The browser makes a name for signing in and a random token, and sends the token's SHA-256 alone to the server.",
+    explainedWithoutSeat: "One form for the account and the contestant's role; a director gives the seat. The browser makes a name for signing in and a random token, and sends the token's SHA-256 alone to the server.",
+    notSecure: "This page didn't come over HTTPS, so the browser offers no SHA-256 and can't make a token here. Open the page over HTTPS.",
+    shown: "Name to show",
+    badShown: "A name to show has 1 to 64 bytes, and nothing in it that can't be seen or turns the direction of writing.",
+    leaves: (person) => `${person} sits there now and loses the seat.`,
+    button: "Add the player",
+    seated: (shown, name, pair) => `${shown} is added as ${name}, and sits in ${pair}.`,
+    added: (shown, name) => `${shown} is added as ${name}, without a seat.`,
+    step: { add: "The account", rename: "The name to show", assign: "The role", unseat: "The seat that was to be free", seat: "The seat" },
+    refused: (step, why) => `${step}: ${why}`,
+    seat: "Seat",
+    address: "Address",
+    print: "Print the card",
+  },
+
   papers: {
     title: "Papers",
     explained: "To print, or for a spreadsheet: the boards that you may see, and guide cards.",
@@ -550,15 +646,15 @@ export const texts = {
     noBoards: "There is no board that you may see yet.",
     asking: (here, all) => `Asking the server: ${here} of ${plural(all, "answer is", "answers are")} here.`,
     recordHeads: ["board", "dealer", "vulnerable", "deal"],
-    travellerHeads: ["board", "table", "ns", "ew", "contract", "level", "strain", "doubled", "declarer", "score_ns", "mp_ns", "mp_ew", "ruling_ns", "ruling_ew"],
+    travellerHeads: ["board", "table", "ns", "ew", "contract", "level", "strain", "doubled", "declarer", "score_ns", "mp_ns", "mp_ew", "ruling_ns", "ruling_ew", "ns_players", "ew_players"],
   },
 
   scoreCard: {
-    caption: (pair, players) => `Score card of ${[pair, players.join(" and ")].filter(Boolean).join(", ")}`,
-    heads: ["Board", "Against", "Contract", "Score", "Percent", "So far", "MP"],
+    caption: (pair) => `Score card of ${pair}`,
+    heads: ["Board", "Against", "Contract", "Score", "Percent", "So far", "MP", "Total"],
     empty: "There is no result of this pair that you may see yet.",
     first: "A result that is the first on its board has no percentage yet.",
-    csvHeads: ["pair", "players", "round", "board", "against", "opponents", "contract", "score", "mp", "percent", "percent_so_far"],
+    csvHeads: ["pair", "players", "round", "board", "against", "opponents", "contract", "score", "mp", "percent", "percent_so_far", "mp_so_far", "tops_so_far"],
   },
 
   guide: {
@@ -577,7 +673,7 @@ export const texts = {
       NS: "Where the pair sits East-West, North sits East and South West.",
       EW: "Where the pair sits North-South, East sits North and West South.",
     },
-    pairCsvHeads: ["pair", "players", "round", "table", "direction", "against", "first_board", "last_board"],
-    tableCsvHeads: ["table", "round", "ns", "ew", "first_board", "last_board", "also_at"],
+    pairCsvHeads: ["pair", "players", "round", "table", "direction", "against", "opponents", "first_board", "last_board"],
+    tableCsvHeads: ["table", "round", "ns", "ns_players", "ew", "ew_players", "first_board", "last_board", "also_at"],
   },
 };

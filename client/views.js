@@ -1,6 +1,6 @@
 // Which view stands at which address, and what each asks for.
 
-import { element, link } from "./dom.js";
+import { element, heading, link } from "./dom.js";
 import { ask } from "./messages.js";
 import { addressOf } from "./routes.js";
 import { accountsNeeds, accountsView } from "./views/accounts.js";
@@ -11,7 +11,7 @@ import { denialView } from "./views/denial.js";
 import { directorNeeds, directorView } from "./views/director.js";
 import { findNeeds, findView } from "./views/find.js";
 import { drawnFor, embargoView } from "./views/frame.js";
-import { heading, waiting } from "./views/marks.js";
+import { waiting } from "./views/marks.js";
 import { papersNeeds, papersView } from "./views/papers.js";
 import { rankingNeeds, rankingView } from "./views/ranking.js";
 import { scorerNeeds, scorerView } from "./views/scorer.js";

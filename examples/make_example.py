@@ -13,7 +13,7 @@ import pathlib
 TABLES, ROUNDS, PER_SET = 8, 7, 3
 BOARDS = TABLES * PER_SET
 SUITS, RANKS = "SHDC", "AKQJT98765432"
-STAFF = [("ada", "Administrator"), ("dora", "Director"), ("sam", "Scorer"), ("vera", "Spectator")]
+STAFF = [("ada", ["Administrator"]), ("dora", ["Director", "Administrator"]), ("sam", ["Scorer"]), ("vera", ["Spectator"])]
 NORTH_SOUTH = "anna ben carla dirk emma finn greta hugo ines jan klara leo mona nils olga paul".split()
 EAST_WEST = "rosa stig tilda ulf wanda yves zoe adam berta cyril della ernst frida gert hanna ivan".split()
 
@@ -130,8 +130,8 @@ def score_of(result, board):
 
 # The users of a session of so many tables, and the session.
 def users(tables):
-    for name, role in STAFF:
-        yield {"digest": digest_of(name), "name": name, "roles": [role]}
+    for name, roles in STAFF:
+        yield {"digest": digest_of(name), "name": name, "roles": roles}
     for names, side, places in ((NORTH_SOUTH, "NS", "NS"), (EAST_WEST, "EW", "EW")):
         for i, name in enumerate(names[: 2 * tables]):
             yield {

@@ -1,14 +1,19 @@
 #!/usr/bin/env python3
-"""Runs the gate, and then the cheap checks that stand beside it (docs/GATE.md).
+"""Runs the gate, and then the checks that stand beside it (docs/GATE.md), a line each with its time.
 
-    tests/all_checks.py                     # the cheap checks alone
+    tests/all_checks.py                     # the checks that need no program
     tests/all_checks.py "rt ci"             # the gate before them
     tests/all_checks.py "rt ci" --built     # and the checks of built programs after them: `make test`
+    tests/all_checks.py --fast              # those that need no program, and beside them those of built programs that need neither a
+                                            # browser nor a socket and are short: `make test-fast`
 
-The last line is `N passed, M failed`, the gate's own numbers and one for each check; the status is 1 where something failed.
-The tests of the page's functions need Node.js 20 or later, and are not run where there is none. What the checks of built programs
-need is in README.md, "Checking it"; where it is missing, they fail.
+What needs no program runs side by side, and so does all of `--fast`; the other checks run one after another, since some look at time. What
+a check says stands in out/checks/, and here where it failed. The last line is `N passed, M failed`, the gate's own numbers and one for
+each check; the status is 1 where something failed. The tests of the page's functions need Node.js 20 or later, and those of the page's
+types Debian's node-typescript: they are not run where it is missing. What the checks of built programs need is in README.md, "Checking it";
+where it is missing, they fail.
 """
+import concurrent.futures
 import os
 import pathlib
 import re
@@ -16,60 +21,75 @@ import shutil
 import subprocess
 import sys
 import tempfile
+import time
 
 ROOT = pathlib.Path(__file__).resolve().parent.parent
-CHECKS = (
-    ("tests/protocol_examples.py", "--check"),
-    ("tests/protocol_types.py",),
-    ("tests/public_names.py",),
-    ("tests/unreached_functions.py",),
-    ("tests/headline_definitions.py", "--check"),
-    ("tests/definitions_index.py", "--check"),
-    ("tests/session_doctor.py", "--check"),
-    ("tests/model_runs.py",),
-    ("tests/movement_lists.py",),
-    ("tests/links.py",),
-    ("tests/document_sizes.py",),
-    ("tests/decisions_index.py", "--check"),
-    ("tests/house_map.py", "--check"),
-)
+LOGS = ROOT / "out/checks"
+PYTHON = sys.executable
+# Debian's own Python, which has Debian's packages
+DEBIAN_PYTHON = "/usr/bin/python3"
 NODE = 20
-# named one by one, since versions of Node.js differ in how they read a folder
+CHECKS = (
+    ("tests/models/model_runs.py",),
+    ("tests/runs/protocol_examples.py", "--check"),
+    ("tests/pages/protocol_types.py",),
+    ("tests/pages/public_names.py",),
+    ("tests/pages/unreached_functions.py",),
+    ("tests/pages/headline_definitions.py", "--check"),
+    ("tests/pages/definitions_index.py", "--check"),
+    ("tests/models/session_check.py",),
+    ("tests/models/movement_lists.py",),
+    ("tests/pages/quoted_code.py",),
+    ("tests/pages/links.py",),
+    ("tests/pages/document_sizes.py",),
+    ("tests/pages/decisions_index.py", "--check"),
+    ("tests/pages/house_map.py", "--check"),
+    ("tests/pages/client_exports.py",),
+)
+# the page's functions, file by file, since versions of Node.js differ in how they read a folder
 PAGE = ("--test", *sorted(str(path.relative_to(ROOT)) for path in ROOT.glob("client/tests/*.test.js")))
+PAGE_TYPES = ("-p", "client")
 SERVER = "crates/bridge_server/out/bridge_server"
 BOARDS = "crates/pbn_boards/out/pbn_boards"
 TABLES = "crates/deal_tables/out/deal_tables"
 STORED_RUNS = "crates/bridge_server_stored_runs/out/bridge_server_stored_runs"
-# Debian's own Python, which has Debian's packages
-DEBIAN_PYTHON = "/usr/bin/python3"
-BUILT = (
-    (sys.executable, ("examples/say_answers.py", "examples/one_board.script", "--by", SERVER)),
-    (sys.executable, ("examples/say_answers.py", "examples/first_round.script", "--by", SERVER)),
-    (sys.executable, ("examples/say_answers.py", "examples/howell.script", "--by", SERVER)),
-    (sys.executable, ("tests/pbn_prefixes.py", BOARDS)),
-    (sys.executable, ("tests/refuse_growths.py", BOARDS, "crates/pbn_boards/data/accepted.pbn", "1")),
-    (sys.executable, ("tests/refuse_growths.py", BOARDS, "crates/pbn_boards/data/255_boards.pbn", "255")),
-    (sys.executable, ("tests/refuse_growths.py", STORED_RUNS, "solver")),
-    (sys.executable, ("tests/refuse_growths.py", "crates/rules_tests/out/rules_tests_tests", "loses_no_more")),
-    (sys.executable, ("tests/refuse_growths.py", "crates/rules_tests/out/rules_tests_tests", "under_every_memory")),
-    (sys.executable, ("tests/refuse_growths.py", "crates/session_object/out/session_object_tests", "under_every_memory")),
-    (sys.executable, ("tests/refuse_growths.py", SERVER, "examples/howell.script")),
-    (sys.executable, ("tests/refuse_connection_growths.py", STORED_RUNS)),
-    (sys.executable, ("tests/refuse_serving_growths.py", SERVER)),
-    (sys.executable, ("tests/hold_ups.py", SERVER)),
-    (sys.executable, ("tests/conformance.py", SERVER)),
-    (sys.executable, ("tests/failing_devices.py", SERVER)),
-    (sys.executable, ("tests/failing_calls.py", SERVER)),
-    (sys.executable, ("tests/journal_starts.py", SERVER)),
-    (sys.executable, ("tests/journal_logs.py", SERVER)),
-    (sys.executable, ("tests/journal_disks.py", SERVER)),
-    (DEBIAN_PYTHON, ("tests/journal_kills.py", SERVER)),
-    (DEBIAN_PYTHON, ("tests/load.py", SERVER)),
-    (DEBIAN_PYTHON, ("tests/fuzz_texts.py", SERVER)),
-    (sys.executable, ("tests/fuzz_movements.py", SERVER)),
-    (DEBIAN_PYTHON, ("tests/websocket_client.py", SERVER)),
-    (DEBIAN_PYTHON, ("tests/many_clients.py", SERVER)),
-    (DEBIAN_PYTHON, ("tests/page_session.py", SERVER)),
+RULES = "crates/rules_tests/out/rules_tests_tests"
+OBJECTS = "crates/session_object/out/session_object_tests"
+# of built programs: neither a browser nor a socket, and seconds each
+SHORT = (
+    (PYTHON, ("examples/say_answers.py", "examples/one_board.script", "--by", SERVER)),
+    (PYTHON, ("examples/say_answers.py", "examples/first_round.script", "--by", SERVER)),
+    (PYTHON, ("examples/say_answers.py", "examples/howell.script", "--by", SERVER)),
+    (PYTHON, ("tests/models/session_check.py", SERVER)),
+    (PYTHON, ("tests/drivers/prepare.py", SERVER)),
+    (PYTHON, ("tests/drivers/pbn_prefixes.py", BOARDS)),
+    (PYTHON, ("tests/memory/refuse_growths.py", BOARDS, "crates/pbn_boards/data/accepted.pbn", "1")),
+    (PYTHON, ("tests/memory/refuse_growths.py", RULES, "loses_no_more")),
+    (PYTHON, ("tests/memory/refuse_growths.py", RULES, "under_every_memory")),
+    (PYTHON, ("tests/memory/refuse_growths.py", OBJECTS, "under_every_memory")),
+    (PYTHON, ("tests/memory/refuse_growths.py", SERVER, "examples/howell.script")),
+    (PYTHON, ("tests/memory/refuse_preparing.py", SERVER)),
+    (PYTHON, ("tests/drivers/failing_devices.py", SERVER)),
+    (PYTHON, ("tests/drivers/fuzz_movements.py", SERVER)),
+)
+LONG = (
+    (PYTHON, ("tests/memory/refuse_growths.py", BOARDS, "crates/pbn_boards/data/255_boards.pbn", "255")),
+    (PYTHON, ("tests/memory/refuse_growths.py", STORED_RUNS, "solver")),
+    (PYTHON, ("tests/memory/refuse_connection_growths.py", STORED_RUNS)),
+    (PYTHON, ("tests/memory/refuse_serving_growths.py", SERVER)),
+    (PYTHON, ("tests/drivers/hold_ups.py", SERVER)),
+    (PYTHON, ("tests/drivers/conformance.py", SERVER)),
+    (PYTHON, ("tests/drivers/failing_calls.py", SERVER)),
+    (PYTHON, ("tests/journals/journal_starts.py", SERVER)),
+    (PYTHON, ("tests/journals/journal_logs.py", SERVER)),
+    (PYTHON, ("tests/journals/journal_disks.py", SERVER)),
+    (DEBIAN_PYTHON, ("tests/journals/journal_kills.py", SERVER)),
+    (DEBIAN_PYTHON, ("tests/drivers/load.py", SERVER)),
+    (DEBIAN_PYTHON, ("tests/drivers/fuzz_texts.py", SERVER)),
+    (DEBIAN_PYTHON, ("tests/drivers/websocket_client.py", SERVER)),
+    (DEBIAN_PYTHON, ("tests/drivers/many_clients.py", SERVER)),
+    (DEBIAN_PYTHON, ("tests/browser/page_session.py", SERVER)),
+    (DEBIAN_PYTHON, ("tests/browser/evening.py", SERVER)),
 )
 
 
@@ -86,15 +106,53 @@ def run_gate(words):
     return passed, failed
 
 
+# a check as its line names it: many files of one folder are named by the folder
+def name_of(program, words):
+    if words is PAGE:
+        return "node --test client/tests/"
+    return " ".join(words) if program in (PYTHON, DEBIAN_PYTHON) else " ".join((program, *words))
+
+
+def log_of(name):
+    return LOGS / (re.sub(r"[^\w.]+", "_", name.replace(str(ROOT), ""))[:120] + ".log")
+
+
+# whether a check passed, and its time; all that it says goes into its log
 def run_check(program, words):
     environment = os.environ | {"PYTHONDONTWRITEBYTECODE": "1"}
-    try:
-        passed = subprocess.run([program, *words], cwd=ROOT, env=environment, check=False).returncode == 0
-    except FileNotFoundError as missing:
-        print(missing)
-        passed = False
-    print(f"{'ok     ' if passed else 'FAILED '} {' '.join(words)}", flush=True)
-    return passed
+    began = time.monotonic()
+    with log_of(name_of(program, words)).open("w", encoding="utf-8") as log:
+        try:
+            status = subprocess.run([program, *words], cwd=ROOT, env=environment, stdout=log, stderr=subprocess.STDOUT, check=False).returncode
+        except FileNotFoundError as missing:
+            log.write(f"{missing}\n")
+            status = 1
+    return status == 0, time.monotonic() - began
+
+
+def tell(program, words, passed, seconds):
+    name = name_of(program, words)
+    said = log_of(name).read_text(encoding="utf-8", errors="replace")
+    if not passed:
+        print(said, end="" if said.endswith("\n") else "\n")
+    counted = re.findall(r"^\d+ passed, \d+ failed$", said, re.MULTILINE)
+    print(f"{'ok    ' if passed else 'FAILED'} {seconds:7.1f} s  {name}{': ' + counted[-1] if counted else ''}", flush=True)
+
+
+def run_side_by_side(checks):
+    with concurrent.futures.ThreadPoolExecutor(os.cpu_count()) as pool:
+        running = {pool.submit(run_check, *check): check for check in checks}
+        for done in concurrent.futures.as_completed(running):
+            tell(*running[done], *done.result())
+            yield done.result()[0]
+
+
+def run_in_turn(checks):
+    for check in checks:
+        print(f".. {name_of(*check)}", end="\r" if sys.stdout.isatty() else "\n", flush=True)
+        found = run_check(*check)
+        tell(*check, *found)
+        yield found[0]
 
 
 def has_node():
@@ -105,42 +163,44 @@ def has_node():
     return bool(number) and int(number[1]) >= NODE
 
 
+def cheap_checks():
+    yield from ((PYTHON, words) for words in CHECKS)
+    for is_here, check, needed in ((has_node(), ("node", PAGE), f"Node.js {NODE}"), (shutil.which("tsc"), ("tsc", PAGE_TYPES), "tsc")):
+        if is_here:
+            yield check
+        else:
+            print(f"not run, since there is no {needed} here: {name_of(*check)}")
+
+
 # lines of `deal_tables` that show its growths: a deal and a play, and endings
 LINES = (("special", 1, 2), ("plays", 2, 3)), (("endings", 0, 3),)
 
 
-# the checks of built programs, two of which read a stored run's script, one of each edition, and two some lines of figures
-def built_checks(folder):
-    refused = []
+# two checks read a stored run's script, one of each edition, and two some lines of figures
+def checks_of_lines(folder):
     for word, pieces in zip(("numbers", "endings"), LINES):
         lines = pathlib.Path(folder, f"{word}.lines")
         texts = [(ROOT / f"crates/deal_tables/figures/{name}.txt").read_text(encoding="utf-8").splitlines()[first:last] for name, first, last in pieces]
         lines.write_text("".join(line.split("\t")[0] + "\n" for text in texts for line in text), encoding="utf-8")
-        refused.append((sys.executable, ("tests/refuse_growths.py", TABLES, str(lines), word)))
+        yield PYTHON, ("tests/memory/refuse_growths.py", TABLES, str(lines), word)
     for part in ("desk", "embargo"):
         script = pathlib.Path(folder, part)
         with script.open("w", encoding="utf-8") as file:
-            subprocess.run([sys.executable, "tests/stored_runs.py", part], cwd=ROOT, stdout=file, check=True)
-        refused.append((sys.executable, ("tests/refuse_growths.py", SERVER, str(script))))
-    return [*refused, *BUILT]
+            subprocess.run([PYTHON, "tests/runs/stored_runs.py", part], cwd=ROOT, stdout=file, check=True)
+        yield PYTHON, ("tests/memory/refuse_growths.py", SERVER, str(script))
 
 
 def main():
-    words = [word for word in sys.argv[1:] if word != "--built"]
+    options = {word for word in sys.argv[1:] if word.startswith("--")}
+    words = [word for word in sys.argv[1:] if word not in options]
+    LOGS.mkdir(parents=True, exist_ok=True)
     passed, failed = run_gate(words[0].split()) if words else (0, 0)
-    checks = [(sys.executable, check) for check in CHECKS]
-    if has_node():
-        checks.append(("node", PAGE))
-    else:
-        print(f"not run, since there is no Node.js {NODE} here: {' '.join(PAGE)}")
-    with tempfile.TemporaryDirectory() as folder:
-        if "--built" in sys.argv[1:]:
-            checks += built_checks(folder)
-        for program, check in checks:
-            if run_check(program, check):
-                passed += 1
-            else:
-                failed += 1
+    checks = [*cheap_checks(), *(SHORT if "--fast" in options else ())]
+    found = list(run_side_by_side(checks))
+    if "--built" in options:
+        with tempfile.TemporaryDirectory() as folder:
+            found += run_in_turn([*SHORT, *checks_of_lines(folder), *LONG])
+    passed, failed = passed + found.count(True), failed + found.count(False)
     print(f"{passed} passed, {failed} failed")
     return 1 if failed else 0
 

@@ -93,7 +93,7 @@ test("every command of the protocol has words, and what isn't as it says is show
   const begins = protocol.indexOf("| Command | What it is about |");
   const part = protocol.slice(begins, protocol.indexOf("\n\n", begins)).split("\n").map((line) => line.split("|")[1] ?? "").join(" ");
   const words = [...part.matchAll(/`(\w+)`/gu)].map(([, word]) => word);
-  assert.equal(words.length, 21);
+  assert.ok(words.length >= 21);
   for (const word of words) assert.ok(Object.hasOwn(texts.audit.word, word), word);
   for (const [word, target] of [["Enter", "<b>"], ["Hold", "x"], ["Assign", "a:b:c"], ["AddInheritance", "a"], ["constructor", "1/2"]]) {
     assert.deepEqual(aboutOf(word, target), { text: "name", values: [target] }, word);

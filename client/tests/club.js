@@ -12,6 +12,10 @@ const dealt = `N:${suit}... .${suit}.. ..${suit}. ...${suit}`;
 /** Passed out, or as many tricks in a contract of a level: what it scores doesn't matter, but that more tricks score more. */
 const played = (row, board) => ({ by: "N", doubled: 0, level: 1, strain: "N", tricks: 7 + ((row.table + board) % 6) });
 
+/** Five hearts doubled by East, two down; on each third board passed out. */
+const parOf = (board) => (board % 3 === 0 ? { result: "pass", score: 0 }
+  : { result: { by: "E", doubled: 1, level: 5, strain: "H", tricks: 9 }, score: 300 });
+
 /** The traveller of a board of which some tables have a result. */
 export function travellerOf(facts, board) {
   const rows = rowsOfBoard(facts.rows, board, facts.per_set).filter((row) => facts.live[board - 1].includes(row.table));
@@ -54,6 +58,7 @@ export function serverOf(facts, change = (reply) => reply) {
       return { deal: dealt, dealer, number: board, vul };
     },
     analysis: ({ board }) => ({ board, tricks: tricks(board) }),
+    par: ({ board }) => ({ board, ...parOf(board) }),
   };
   const asked = [];
   return {

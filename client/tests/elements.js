@@ -1,21 +1,42 @@
 // As much of a document as the views need to make their elements of: enough to read what they say, not to show it.
 
+import { RoundClock } from "../round_clock.js";
+
 class FakeNode {
   childNodes = [];
   attributes = {};
   listeners = {};
 
+  parent = null;
+
   constructor(tagName, text = "") {
     this.tagName = tagName.toUpperCase();
+    this.nodeName = this.tagName;
     this.text = text;
   }
 
   append(...nodes) {
-    this.childNodes.push(...nodes);
+    for (const node of nodes) this.insertBefore(node, null);
   }
 
   replaceChildren(...nodes) {
-    this.childNodes = nodes;
+    this.childNodes = [];
+    this.append(...nodes);
+  }
+
+  insertBefore(node, next) {
+    node.parent?.removeChild(node);
+    node.parent = this;
+    this.childNodes.splice(next === null ? this.childNodes.length : this.childNodes.indexOf(next), 0, node);
+  }
+
+  removeChild(node) {
+    this.childNodes.splice(this.childNodes.indexOf(node), 1);
+    node.parent = null;
+  }
+
+  get nextSibling() {
+    return this.parent.childNodes[this.parent.childNodes.indexOf(this) + 1] ?? null;
   }
 
   contains(node) {
@@ -30,22 +51,49 @@ class FakeNode {
     return this.attributes.id ?? "";
   }
 
+  get textContent() {
+    return this.text + this.childNodes.map((node) => node.textContent).join("");
+  }
+
+  set textContent(text) {
+    this.text = text;
+  }
+}
+
+class FakeElement extends FakeNode {
+  get type() {
+    return this.attributes.type;
+  }
+
   setAttribute(name, value) {
     this.attributes[name] = value;
+  }
+
+  getAttribute(name) {
+    return this.attributes[name] ?? null;
+  }
+
+  getAttributeNames() {
+    return Object.keys(this.attributes);
+  }
+
+  removeAttribute(name) {
+    delete this.attributes[name];
   }
 
   addEventListener(name, listener) {
     this.listeners[name] = listener;
   }
 
-  get textContent() {
-    return this.text + this.childNodes.map((node) => node.textContent).join("");
+  removeEventListener(name) {
+    delete this.listeners[name];
   }
 }
 
 globalThis.Node = FakeNode;
 globalThis.document = {
-  createElement: (tagName) => new FakeNode(tagName),
+  createElement: (tagName) => new FakeElement(tagName),
+  createDocumentFragment: () => new FakeNode(""),
   createTextNode: (text) => new FakeNode("", text),
   activeElement: null,
   getElementById: () => null,
@@ -54,7 +102,7 @@ globalThis.document = {
 const isThere = (node) => node !== null && node !== undefined && node !== false;
 const listOf = (made) => [made].flat(Infinity).filter(isThere);
 
-export const nodeOf = (tagName) => new FakeNode(tagName);
+export const nodeOf = (tagName) => new FakeElement(tagName);
 
 /** All elements of a view for which something holds, in their order. */
 export const all = (made, holds) =>
@@ -71,8 +119,10 @@ export const rowsOf = (made) => byTag(byTag(made, "tbody"), "tr").map((row) => r
 /** A page as the views know it, of a user. */
 export const pageOf = (facts, user, more = {}) => ({
   state: { facts, user, version: 0 },
-  drafts: { read: () => null, isEntered: () => false },
+  drafts: { read: () => null, isEntered: () => false, isLost: () => false },
   forms: {},
+  clock: new RoundClock(null),
   answer: () => null,
+  isOpen: () => false,
   ...more,
 });

@@ -71,7 +71,7 @@ test("each card agrees with the others: at a table sit those whose cards send th
 test("the papers have a card for each pair, with its players, and how they turn", () => {
   const sheets = cards(five, "pair_cards");
   assert.deepEqual(sheets.map((sheet) => textOf(byTag(sheet, "h3"))), [
-    "Pair NS1 (number 1)", "Pair NS2 (number 2) carla · dirk", "Pair NS3 (number 3)", "Pair NS4 (number 4)", "Pair NS5 (number 5)",
+    "Pair NS1 (number 1)", "Pair NS2 (number 2) carla – dirk", "Pair NS3 (number 3)", "Pair NS4 (number 4)", "Pair NS5 (number 5)",
     "Pair EW1 (number 6)", "Pair EW2 (number 7)", "Pair EW3 (number 8)", "Pair EW4 (number 9)", "Pair EW5 (number 10)",
   ]);
   assert.deepEqual(rowsOf(sheets[1]).slice(0, 2), [["1", "2", "North-South", "EW2", "25–27"], ["2", "1", "East-West", "NS1", "4–6"]]);
@@ -86,11 +86,11 @@ test("the papers have a card for each table, and say who sits out", () => {
   const sheets = cards(withoutEw3(), "table_cards");
   assert.deepEqual(sheets.map((sheet) => textOf(byTag(sheet, "h3"))), ["Table 1", "Table 2", "Table 3"]);
   assert.deepEqual(rowsOf(sheets[0]), [
-    ["1", "NS1", "EW1", "1, also at table 2"],
+    ["1", "n1 (NS1)", "e1 (EW1)", "1, also at table 2"],
     ["2", texts.guide.nobody],
-    ["3", "NS1", "EW2", "4"],
-    ["4", "NS3", "NS1", "5"],
-    ["5", "NS1", "NS2", "3"],
+    ["3", "n1 (NS1)", "EW2", "4"],
+    ["4", "NS3", "n1 (NS1)", "5"],
+    ["5", "n1 (NS1)", "NS2", "3"],
   ]);
   const own = byId(papersView(papers(withoutEw3(), "pair_cards", "n1")), "card-NS1");
   assert.deepEqual(rowsOf(own)[1], ["2", texts.guide.sitsOut]);
@@ -110,8 +110,8 @@ test("a spreadsheet has a line for each pair or table in each round, with a fiel
   assert.deepEqual([pairs.length, tables.length], [90, 45]);
   for (const line of pairs) assert.equal(line.length, texts.guide.pairCsvHeads.length);
   for (const line of tables) assert.equal(line.length, texts.guide.tableCsvHeads.length);
-  assert.deepEqual(pairs[10], ["NS2", "carla dirk", 2, 1, "EW", "NS1", 4, 6]);
-  assert.deepEqual(tables[9], [2, 1, "NS2", "EW2", 25, 27, ""]);
-  assert.deepEqual(linesOfTables(howell())[0], [1, 1, "NS1", "EW1", 1, 1, "2 3"]);
-  assert.deepEqual(linesOfPairs(withoutEw3())[1], ["NS1", "n1", 2, "", "", "", undefined, undefined]);
+  assert.deepEqual(pairs[10], ["NS2", "carla – dirk", 2, 1, "EW", "NS1", "", 4, 6]);
+  assert.deepEqual(tables[9], [2, 1, "NS2", "carla – dirk", "EW2", "", 25, 27, ""]);
+  assert.deepEqual(linesOfTables(howell())[0], [1, 1, "NS1", "n1", "EW1", "e1", 1, 1, "2 3"]);
+  assert.deepEqual(linesOfPairs(withoutEw3())[1], ["NS1", "n1", 2, "", "", "", "", undefined, undefined]);
 });

@@ -6,6 +6,7 @@ import { badCondition, filterOf, newCondition } from "../filters.js";
 import { pauseOf } from "../pauses.js";
 import { percentText, placesOf, topOf, unitsText } from "../percentages.js";
 import { isServerPath, routeOf, serverAddress, serverPathOf } from "../routes.js";
+import { mitchell } from "./movements.js";
 import { canDigest, digestOf, isDigest, newToken } from "../tokens.js";
 
 test("percentages have two digits, a half rounded up", () => {
@@ -82,8 +83,11 @@ test("pauses grow while the server can't be reached, and are long while nobody l
   assert.equal(pauseOf(0, true, 0.5), 60_000);
   assert.deepEqual(
     [1, 2, 3, 4, 7, 100].map((failures) => pauseOf(failures, false, 0.5)),
-    [1_000, 2_000, 4_000, 8_000, 60_000, 60_000],
+    [1_500, 1_500, 1_500, 1_500, 1_500, 5_000],
   );
+  assert.deepEqual([1, 2, 3, 4, 7, 100].map((failures) => pauseOf(failures, true, 0.5)), [1_000, 2_000, 4_000, 8_000, 60_000, 60_000]);
+  for (const failures of [0, 1, 30]) assert.ok(pauseOf(failures, false, 1, true) < 2_000, "within two seconds, whatever chance says");
+  assert.equal(pauseOf(0, true, 0.5, true), 60_000, "a desk that nobody looks at");
   assert.deepEqual([0, 1].map((chance) => pauseOf(0, false, chance)), [6_400, 9_600]);
 });
 
@@ -115,7 +119,7 @@ test("a token is random, and its digest is the SHA-256 of its bytes", async () =
   assert.equal(await digestOf("abc", globalThis), "ba7816bf8f01cfea414140de5dae2223b00361a396177a9cb410ff61f20015ad");
   const tokens = new Set(Array.from({ length: 50 }, () => newToken()));
   assert.equal(tokens.size, 50);
-  for (const token of tokens) assert.match(token, /^[\w-]{20}$/u);
+  for (const token of tokens) assert.match(token, /^[a-z0-9-]{24}$/u);
   assert.ok(isDigest("a".repeat(64)) && !isDigest("a".repeat(63)) && !isDigest("A".repeat(64)));
   assert.equal(canDigest({ isSecureContext: false, crypto: { subtle: {} } }), false);
   assert.equal(canDigest({ isSecureContext: true, crypto: {} }), false);
@@ -125,7 +129,7 @@ test("a traveller's lines have a field for each head", async () => {
   const { travellerLines } = await import("../views/traveller.js");
   const { texts } = await import("../texts.js");
   const played = { by: "S", doubled: 1, level: 4, strain: "H", tricks: 9 };
-  const lines = travellerLines({
+  const lines = travellerLines(mitchell(3, 3, { seats: [["n1", "NS1", "N"], ["s1", "NS1", "S"]], names: [["s1", "Bo, Jr."]] }), {
     board: 2,
     rows: [
       { table: 1, ns: "NS1", ew: "EW3", points: 0, score: -200, result: played },
@@ -134,7 +138,7 @@ test("a traveller's lines have a field for each head", async () => {
     ],
   });
   for (const line of lines) assert.equal(line.length, texts.papers.travellerHeads.length);
-  assert.deepEqual(lines[0], [2, 1, "NS1", "EW3", "4HX S", 4, "H", "X", "S", -200, 0, 2, "", ""]);
+  assert.deepEqual(lines[0], [2, 1, "NS1", "EW3", "4HX S", 4, "H", "X", "S", -200, 0, 2, "", "", "n1 – Bo, Jr.", ""]);
   assert.deepEqual(lines[1].slice(4, 12), ["passed out", "", "", "", "", 0, 2, 0]);
-  assert.deepEqual(lines[2].slice(-2), [60, 40]);
+  assert.deepEqual(lines[2].slice(-4), [60, 40, "", ""]);
 });

@@ -36,7 +36,7 @@ test("the page and the papers say above the lists how many winners there are, an
   const single = rankingTables(howell(), one, "NS1");
   assert.match(textOf(byClass(single, "winners")), /^One winner: pairs change sides/u);
   assert.deepEqual(byTag(single, "caption").map(textOf), ["Ranking of the pairs"]);
-  assert.deepEqual(rowsOf(single).map(([place, pair]) => `${place} ${pair.slice(0, 3)}`), ["1= NS2", "1= EW3", "3 EW1", "4 EW2", "5 NS3", "6 NS1"]);
+  assert.deepEqual(rowsOf(single).map(([place, pair]) => `${place} ${/\b(NS|EW)\d/u.exec(pair)[0]}`), ["1= NS2", "1= EW3", "3 EW1", "4 EW2", "5 NS3", "6 NS1"]);
   const both = rankingTables(mitchell(3, 3), two, "NS1");
   assert.match(textOf(byClass(both, "winners")), /^Two winners: no pair changes its side/u);
   assert.deepEqual(byTag(both, "caption").map(textOf), ["Ranking of the North-South pairs", "Ranking of the East-West pairs"]);
@@ -53,10 +53,20 @@ test("the paper has the same lists as the page", () => {
   assert.match(textOf(byClass(paper(mitchell(3, 3), two), "winners")), /^Two winners/u);
 });
 
-test("a spreadsheet has the lists one after the other, with the direction last", () => {
+test("each pair has the boards that it has played so far beside it, on either side", () => {
+  // In round 1 table 1 plays set 1 of two boards and table 2 set 2; in round 2 table 1 plays set 2: NS1 against EW1 and then EW3.
+  const live = [[1], [1], [1, 2], [2], [], []];
+  const facts = mitchell(3, 3, { round: 2, per_set: 2, live, marks: live.map(() => "N none") });
+  const played = (made) => Object.fromEntries(rowsOf(made).map((row) => [row[1], row.at(-1)]));
+  assert.deepEqual(played(rankingTables(facts, two, "NS1")), { NS1: "3", NS2: "2", NS3: "0", EW1: "2", EW2: "2", EW3: "1" });
+  assert.deepEqual(rankingCsv(facts, two).trimEnd().split("\r\n").slice(1).map((line) => line.split(",")).map((line) => [line[1], line.at(-1)]),
+    [["NS3", "0"], ["NS1", "3"], ["NS2", "2"], ["EW2", "2"], ["EW1", "2"], ["EW3", "1"]]);
+});
+
+test("a spreadsheet has the lists one after the other, with the direction behind", () => {
   const lines = (facts, ranking) => rankingCsv(facts, ranking).trimEnd().split("\r\n").slice(1);
   assert.deepEqual(lines(mitchell(3, 3, { seats: [["n1", "NS3", "N"]] }), two).slice(0, 4), [
-    "1,NS3,n1,70.00,7,10,NS", "2,NS1,,20.00,2,10,NS", ",NS2,,,0,0,NS", "1,EW2,,90.00,9,10,EW",
+    "1,NS3,n1,70.00,7,10,NS,0", "2,NS1,,20.00,2,10,NS,0", ",NS2,,,0,0,NS,0", "1,EW2,,90.00,9,10,EW,0",
   ]);
-  assert.deepEqual(lines(howell(), one).slice(0, 2), ["1,NS2,,65.00,13,20,", "1,EW3,,65.00,13,20,"]);
+  assert.deepEqual(lines(howell(), one).slice(0, 2), ["1,NS2,,65.00,13,20,,0", "1,EW3,,65.00,13,20,,0"]);
 });

@@ -57,7 +57,7 @@ test("as long as no traveller has come, a ruling is a result like another", () =
 
 test("travellers are asked for of the boards that have a result, and of no other", () => {
   assert.deepEqual(directorNeeds({ facts }, {}), [ask.accounts(), ask.traveller(1), ask.traveller(2)]);
-  assert.deepEqual(directorNeeds({ facts }, { table: 1, board: 3 }), [ask.traveller(3), ask.play(1, 3), ask.reason(1, 3)]);
+  assert.deepEqual(directorNeeds({ facts }, { table: 1, board: 3 }), [ask.traveller(3), ask.play(1, 3), ask.reason(1, 3), ask.board(3)]);
 });
 
 test("all that is awaited is listed, however much it is, the oldest first", () => {

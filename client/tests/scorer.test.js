@@ -115,3 +115,30 @@ test("the play part is closed until it is opened by hand, and says how many card
   assert.match(textOf(byId(formOf("S7 SK"), "enter-play-summary")), /: 2 cards$/u);
   assert.doesNotMatch(textOf(byId(formOf(""), "enter-play-summary")), /\d/u);
 });
+
+test("entries that the server lost are marked, in the list and at the board, until they are entered again", () => {
+  const { page, view, press, typed } = desk(mitchell(3, 3));
+  const listed = () => textOf(byId(scorerView(page, { table: 1, board: 0 }), "cell-1-1"));
+  typed("enter");
+  press("enter-button");
+  assert.match(listed(), /entered, to confirm$/u);
+  page.drafts.loseEntries("vera");
+  assert.match(listed(), /entered, to confirm$/u, "another user's are lost");
+  page.drafts.loseEntries("sam");
+  assert.match(listed(), /lost by the server, to enter again$/u);
+  assert.match(textOf(byId(view(), "cell-lost")), /lost when the server was started again/u);
+  assert.equal(byClass(view(), "preview")[0].attributes["data-score"], "400", "what was typed still stands in the form");
+  press("enter-button");
+  assert.match(listed(), /entered, to confirm$/u);
+  assert.equal(byId(view(), "cell-lost"), undefined);
+});
+
+test("what is kept in the tab's storage is lost too", () => {
+  const storage = { "tevyhora/sam/entered/1/1": "true", "tevyhora/sam/enter/1/1": "{}", "tevyhora/sam2/entered/1/1": "true" };
+  const kept = Object.create({ getItem: (name) => storage[name] ?? null, setItem: (name, value) => { storage[name] = value; }, removeItem: (name) => { delete storage[name]; } });
+  Object.assign(kept, storage);
+  const drafts = new Drafts(kept);
+  drafts.loseEntries("sam");
+  assert.deepEqual([drafts.isLost("sam", 1, 1), drafts.isEntered("sam", 1, 1), drafts.isEntered("sam2", 1, 1)], [true, false, true]);
+  assert.equal(storage["tevyhora/sam/entered/1/1"], '"lost"');
+});

@@ -80,6 +80,24 @@ test("a lower version for a moment changes nothing, and one that stays is a serv
   assert.equal(store.answerOf(ask.board(1)).version, 0);
 });
 
+test("an older answer is in doubt until the next ones, and a server that began anew is told once", async () => {
+  const server = playedServer();
+  server.version = 9;
+  const told = { restarts: 0 };
+  const store = new Store(server, { needs: () => [], onChange: () => {}, onRestart: () => { told.restarts += 1; } });
+  await store.signIn("k", "token");
+  assert.equal(store.isInDoubt, false);
+  server.version = 8;
+  await store.refresh();
+  assert.equal(store.isInDoubt, true);
+  server.version = 9;
+  await store.refresh();
+  assert.deepEqual([store.isInDoubt, told.restarts], [false, 0]);
+  server.version = 8;
+  for (let count = 0; count < 5; count += 1) await store.refresh();
+  assert.deepEqual([store.isInDoubt, told.restarts, store.state.version], [false, 1, 8]);
+});
+
 test("what a receipt told isn't asked for in an older version", async () => {
   const server = playedServer();
   const { store } = storeOf(server, () => []);

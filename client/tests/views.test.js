@@ -11,7 +11,7 @@ import { scorerView } from "../views/scorer.js";
 import { seatsSection } from "../views/director_seats.js";
 import { sessionView } from "../views/session.js";
 
-const drafts = { read: emptyDraft, isEntered: () => false };
+const drafts = { read: emptyDraft, isEntered: () => false, isLost: () => false };
 const desk = (facts, table, board = 0) => scorerView(pageOf(facts, "k", { drafts }), { table, board });
 const pairsOf = (made) => byClass(byId(made, "cell-pairs"), "pair").map(textOf);
 
@@ -21,8 +21,8 @@ test("a scorer who looks at a later board is shown that round's pairs", () => {
   assert.deepEqual(pairsOf(desk(facts, 2, 3)), ["NS2", "EW1"], "round 2");
   assert.deepEqual(pairsOf(desk(facts, 2, 1)), ["NS2", "EW3"], "round 5");
   assert.match(textOf(byId(desk(facts, 2, 1), "cell-pairs")), / · round 5$/u);
-  assert.deepEqual(pairsOf(desk(howell(), 2, 2)), ["EW1 e1", "EW2"], "a Howell's round 4");
-  assert.deepEqual(pairsOf(desk(howell({ round: 5 }), 1, 2)), ["EW3", "NS1 n1"], "a round that is over");
+  assert.deepEqual(pairsOf(desk(howell(), 2, 2)), ["e1 (EW1)", "EW2"], "a Howell's round 4");
+  assert.deepEqual(pairsOf(desk(howell({ round: 5 }), 1, 2)), ["EW3", "n1 (NS1)"], "a round that is over");
 });
 
 test("a scorer finds the tables that play, and those that owe a result", () => {
@@ -41,7 +41,7 @@ test("a player whose pair changes its side is told where it sits now", () => {
 
 test("a player's boards are told with the side where the pair changes it", () => {
   const against = (facts, user) => byTag(byClass(boardsView(pageOf(facts, user)), "panel"), "p").map(textOf);
-  assert.deepEqual(against(howell(), "n1").slice(0, 2), ["Table 1, North-South, against EW1 (e1)", "Table 1, East-West, against EW3"]);
+  assert.deepEqual(against(howell(), "n1").slice(0, 2), ["Table 1, North-South, against e1 (EW1)", "Table 1, East-West, against EW3"]);
   assert.deepEqual(against(mitchell(3, 2, { seats: [["n1", "NS1", "N"]] }), "n1"), ["Table 1, against EW1", "Table 1, against EW3"]);
 });
 
@@ -75,5 +75,5 @@ test("a director chooses among the tables that play a board", () => {
   assert.equal(forms.cell.table, 2);
   assert.deepEqual(optionsOf(directorView(director(howell(), forms), {}), "cell-board"), [1, 2, 3, 4, 5]);
   const cell = directorView({ ...director(howell(), forms), drafts }, { table: 2, board: 2 });
-  assert.equal(textOf(byTag(cell, "p")[0]), "EW1 e1 – EW2 · round 4");
+  assert.equal(textOf(byTag(cell, "p")[0]), "e1 (EW1) against EW2 · round 4");
 });

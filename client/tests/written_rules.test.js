@@ -35,7 +35,40 @@ test("the page's policy is the strict one", () => {
   assert.doesNotMatch(policy, /unsafe|\*|data:|blob:/u);
 });
 
-test("a token is kept nowhere", () => {
+test("what reads a card's address runs first, and waits for no other module", () => {
+  const scripts = [...textOf("index.html").matchAll(/<script[^>]*src="([^"]*)"/gu)].map(([, name]) => name);
+  assert.deepEqual(scripts, ["card_address.js", "begin.js"]);
+  assert.ok(textOf("index.html").indexOf("card_address.js") < textOf("index.html").indexOf("modulepreload"), "it is asked for first");
+  assert.doesNotMatch(textOf("card_address.js"), /\bimport\b(?!\()\s*[{"*]/u);
+});
+
+/** The modules that a module needs, itself among them. */
+function neededBy(name, found = new Set()) {
+  if (found.has(name)) return found;
+  found.add(name);
+  for (const [, path] of textOf(name).matchAll(/^(?:import|export)\b[^;]*?\bfrom "([^"]+)";/gmu)) {
+    neededBy(new URL(path, new URL(name, "page:///")).pathname.slice(1), found);
+  }
+  return found;
+}
+
+/** The modules that the page names by its links of a kind, or by its scripts. */
+const namedBy = (kind) => [...textOf("index.html").matchAll(new RegExp(`<(?:script|link)[^>]*${kind}="([^"]*)"`, "gu"))].map(([, name]) => name);
+
+test("what draws the form for signing in is asked for at once, and all the rest as soon as it is drawn", () => {
+  const [scripts, first, later] = ['type="module" src', 'rel="modulepreload" href', 'rel="later" href'].map(namedBy);
+  const begins = [...neededBy("begin.js"), ...neededBy("card_address.js")];
+  assert.deepEqual([...scripts, ...first].sort(), begins.sort());
+  assert.deepEqual(later.sort(), [...neededBy("app.js")].filter((name) => !begins.includes(name)).sort());
+  assert.deepEqual([...scripts, ...first, ...later].sort(), [...files].sort(), "and no module is there that nobody needs");
+});
+
+test("the form for signing in is drawn by few modules", () => {
+  const bytes = [...neededBy("begin.js"), ...neededBy("card_address.js"), "index.html"].map((name) => textOf(name).length).reduce((one, other) => one + other);
+  assert.ok(bytes < 70_000, `${bytes} bytes`);
+});
+
+test("a browser keeps nothing but in the tab's own storage", () => {
   for (const name of files) assert.doesNotMatch(textOf(name), /localStorage|document\.cookie|indexedDB/u, name);
   for (const name of files.filter((each) => each !== "app.js" && each !== "drafts.js")) {
     assert.doesNotMatch(textOf(name), /sessionStorage/u, name);

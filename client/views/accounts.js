@@ -1,11 +1,14 @@
 // The administrator's desk: users and their roles, inheritance, and new users with a token.
 
-import { button, choice, element, field } from "../dom.js";
+import { button, choice, element, field, heading } from "../dom.js";
 import { ask, command, rolesOf } from "../messages.js";
+import { personText } from "../people.js";
 import { texts } from "../texts.js";
+import { canBeShown } from "../walk_ins.js";
 import { canDigest, digestOf, isDigest, newToken } from "../tokens.js";
 import { answerView } from "./denial.js";
-import { heading, section } from "./marks.js";
+import { accountMark, section } from "./marks.js";
+import { walkInSection } from "./walk_in.js";
 
 export const accountsNeeds = () => [ask.accounts()];
 
@@ -13,6 +16,8 @@ export function accountsView(page) {
   return [
     heading(texts.accounts.title),
     answerView(page, ask.accounts(), (accounts) => [usersSection(page, accounts), inheritanceSection(page, accounts)]),
+    walkInSection(page),
+    page.state.permissions?.administer && page.state.facts.edition === 2 && renameSection(page),
     page.state.permissions?.administer && newUserSection(page),
   ];
 }
@@ -25,12 +30,13 @@ function usersSection(page, accounts) {
 }
 
 function userItem(page, name, assigned) {
-  if (!page.state.permissions?.administer) return element("li", {}, element("b", {}, name), " ", assigned.join(", "));
-  const free = rolesOf(page.state.facts.edition).filter((role) => !assigned.includes(role));
+  const { facts } = page.state;
+  if (!page.state.permissions?.administer) return element("li", {}, element("b", {}, accountMark(facts, name)), " ", assigned.join(", "));
+  const free = rolesOf(facts.edition).filter((role) => !assigned.includes(role));
   return element(
     "li",
     {},
-    element("b", { class: "user-name" }, name),
+    element("b", { class: "user-name" }, accountMark(facts, name)),
     assigned.map((role) => roleButton(page, name, role)),
     free.length > 0 && assignPart(page, name, free),
   );
@@ -38,8 +44,9 @@ function userItem(page, name, assigned) {
 
 function roleButton(page, name, role) {
   const { roleButton: label, deassignSure, deassigned } = texts.accounts;
-  const take = () => page.perform([command.deassign(name, role)], deassigned(role, name));
-  return page.twoStep(`deassign-${name}-${role}`, label(role, name), deassignSure(role, name), take, `${role} ×`);
+  const person = personText(page.state.facts, name);
+  const take = () => page.perform([command.deassign(name, role)], deassigned(role, person));
+  return page.twoStep(`deassign-${name}-${role}`, label(role, person), deassignSure(role, person), take, texts.accounts.roleToTake(role));
 }
 
 function assignPart(page, name, free) {
@@ -48,16 +55,19 @@ function assignPart(page, name, free) {
     page.forms.assign.set(name, role);
     page.draw();
   };
-  const assign = () => page.perform([command.assign(name, chosen)], texts.accounts.assigned(chosen, name));
-  const spoken = texts.accounts.assignTo(name);
+  const person = personText(page.state.facts, name);
+  const assign = () => page.perform([command.assign(name, chosen)], texts.accounts.assigned(chosen, person));
+  const spoken = texts.accounts.assignTo(person);
+  const id = `assign-part-${name}`;
   return element(
     "details",
-    { id: `assign-part-${name}` },
+    { id },
     element("summary", { id: `assign-summary-${name}`, "aria-label": spoken }, texts.accounts.assignShort),
-    element(
+    // for each user of a session, so none is drawn that is closed
+    page.isOpen(id) && element(
       "div",
       { class: "fields" },
-      choice(`assign-role-${name}`, texts.accounts.role, free.map((role) => [role, role]), chosen, choose),
+      choice(`assign-role-${name}`, texts.accounts.role, free.map((role) => [role, texts.role(role)]), chosen, choose),
       button(`assign-${name}`, texts.accounts.assign, assign),
     ),
   );
@@ -87,7 +97,7 @@ function inheritanceItem(page, [senior, junior], mayChange) {
 
 function newInheritance(page) {
   const form = page.forms.inheritance;
-  const options = rolesOf(page.state.facts.edition).map((role) => [role, role]);
+  const options = rolesOf(page.state.facts.edition).map((role) => [role, texts.role(role)]);
   const set = (part) => (role) => {
     form[part] = role;
     page.draw();
@@ -101,6 +111,27 @@ function newInheritance(page) {
     choice("junior", texts.accounts.junior, options, form.junior, set("junior")),
     button("add-pair", texts.accounts.addPair, add),
   );
+}
+
+/** The name by which a user is shown: given, changed, or taken away by an empty one. */
+function renameSection(page) {
+  const form = page.forms.rename;
+  const users = page.answer(ask.accounts())?.value?.users ?? [];
+  const note = (part) => (event) => {
+    form[part] = event.target.value;
+  };
+  const give = () => {
+    const [name, shown] = [form.name.trim(), form.shown.trim()];
+    if (shown !== "" && !canBeShown(shown)) return page.refuse(texts.walkIn.badShown);
+    return page.perform([command.rename(name, shown)], texts.accounts.renamed(name, shown), () => Object.assign(form, { name: "", shown: "" }));
+  };
+  return section(texts.accounts.rename,
+    element("p", { class: "note" }, texts.accounts.renameNote),
+    element("datalist", { id: "all-names" }, users.map(([name]) => element("option", { value: name }))),
+    element("div", { class: "fields" },
+      field("rename-name", texts.director.user, { value: form.name, list: "all-names", onInput: note("name") }),
+      field("rename-shown", texts.walkIn.shown, { value: form.shown, maxlength: 64, autocapitalize: "words", onInput: note("shown") }),
+      button("rename", texts.accounts.renameButton, give)));
 }
 
 function newUserSection(page) {
@@ -118,7 +149,7 @@ function newUserSection(page) {
       choice(
         "new-role",
         texts.accounts.role,
-        [["", texts.accounts.noRole], ...rolesOf(page.state.facts.edition).map((role) => [role, role])],
+        [["", texts.accounts.noRole], ...rolesOf(page.state.facts.edition).map((role) => [role, texts.role(role)])],
         form.role,
         (value) => { form.role = value; page.draw(); },
       ),

@@ -1,16 +1,18 @@
 // The audit: which commands were accepted, by whom, the newest first.
 
 import { aboutOf, pageOfAudit } from "../audit_rows.js";
-import { button, element, link, table } from "../dom.js";
+import { button, element, heading, link, table } from "../dom.js";
 import { csvText, download } from "../csv.js";
 import { ask } from "../messages.js";
+import { fileNameOf } from "../occasion.js";
+import { personText } from "../people.js";
 import { rowOf } from "../public_facts.js";
 import { addressOf } from "../routes.js";
 import { texts } from "../texts.js";
 import { answerView } from "./denial.js";
-import { heading, section } from "./marks.js";
+import { accountMark, section } from "./marks.js";
 
-export const rowsOfPage = 100;
+const rowsOfPage = 100;
 
 const pageNow = ({ version }, { audit }) => pageOfAudit(version, audit.before, rowsOfPage);
 const queryOf = ({ first, last }) => ask.audit(first, Math.max(1, last - first + 1));
@@ -34,7 +36,7 @@ function turns(page, { first, last, newer, older }, rows) {
     page.forms.audit.before = before;
     page.lookAgain();
   };
-  const save = () => download("audit.csv", csvText([texts.audit.heads, ...rows]));
+  const save = () => download(fileNameOf(page.state.facts, "audit"), csvText([texts.audit.heads, ...rows]));
   return element(
     "p",
     { class: "actions no-print" },
@@ -47,20 +49,25 @@ function turns(page, { first, last, newer, older }, rows) {
   );
 }
 
-/** @param {import("../messages.js").AuditRow[]} rows */
+/** @param {any} page @param {import("../messages.js").AuditRow[]} rows @param {{first: number, last: number}} shown */
 function auditTable(page, rows, { first, last }) {
   if (rows.length === 0) return element("p", {}, texts.audit.empty);
   const cells = [...rows].reverse().map(([number, user, word, target]) =>
-    [number, user ?? texts.audit.solver, wordText(word), aboutView(page, aboutOf(word, target))]);
+    [number, user === null ? texts.audit.solver : accountMark(page.state.facts, user), wordText(word), aboutView(page, aboutOf(word, target))]);
   return table(texts.audit.caption(first, last), texts.audit.heads, cells, { class: "audit" });
 }
 
 const wordText = (word) => (Object.hasOwn(texts.audit.word, word) ? texts.audit.word[word] : word);
 
-/** With the pairs of a table and a board; and who may look into a result goes there from its row. */
+/**
+ * With the pairs of a table and a board; and who may look into a result goes there from its row.
+ * @param {any} page
+ * @param {import("../audit_rows.js").About} about
+ */
 function aboutView(page, { text, values, cell }) {
   const { facts, permissions } = page.state;
-  const said = texts.audit.about[text](...values);
+  const isPerson = text === "name" || text === "role";
+  const said = texts.audit.about[text](...values.map((value, index) => (isPerson && index === 0 ? personText(facts, value) : value)));
   const row = cell && rowOf(facts, cell.table, cell.board);
   if (!row) return said;
   const about = permissions?.direct ? link(addressOf("director", cell.table, cell.board), said) : said;

@@ -1,8 +1,9 @@
 // A board: its hands, traveller, double-dummy table, and the play at a table. Each part is asked for by itself, and each
 // may be denied by itself.
 
-import { button, element, link, tiles } from "../dom.js";
+import { button, element, heading, link, tiles } from "../dom.js";
 import { ask } from "../messages.js";
+import { reasonOf } from "../occasion.js";
 import { isHeld, marksOf, seatOf, tableOfPair } from "../public_facts.js";
 import { rowsOfBoard } from "../movement.js";
 import { addressOf } from "../routes.js";
@@ -10,13 +11,14 @@ import { texts } from "../texts.js";
 import { analysisView } from "./analysis.js";
 import { answerView } from "./denial.js";
 import { handsView } from "./hands.js";
-import { heading, notThere, section } from "./marks.js";
+import { notThere, section } from "./marks.js";
+import { parNeeds, parView } from "./par.js";
 import { playView } from "./play.js";
 import { travellerView } from "./traveller.js";
 
 export function boardNeeds({ facts }, { board, table: chosen }) {
   if (!facts || !facts.boards.includes(board)) return [];
-  const about = [ask.board(board), ask.traveller(board), ask.analysis(board)];
+  const about = [ask.board(board), ask.traveller(board), ask.analysis(board), ...parNeeds(facts, board)];
   return chosen ? [...about, ask.play(chosen, board), ask.costs(chosen, board), ask.reason(chosen, board)] : about;
 }
 
@@ -40,6 +42,7 @@ export function boardView(page, { board, table: chosen }) {
     !denied && hands && section(
       texts.board.traveller,
       answerView(page, ask.traveller(board), (traveller) => travellerView(facts, traveller, pair)),
+      parView(page, board),
     ),
     !denied && hands && section(texts.board.analysis, answerView(page, ask.analysis(board), analysisView)),
     !denied && hands && playSection(page, board, chosen, pair ? tableOfPair(facts, pair, board) : 0),
@@ -72,6 +75,7 @@ function playSection(page, board, chosen, own) {
 }
 
 function playOfTable(page, board, chosen) {
+  const { facts } = page.state;
   const row = page.answer(ask.traveller(board))?.value?.rows.find((each) => each.table === chosen);
   const costs = page.answer(ask.costs(chosen, board));
   const hasPlay = page.answer(ask.play(chosen, board))?.value?.cards?.length > 0;
@@ -81,7 +85,7 @@ function playOfTable(page, board, chosen) {
     row?.ruling && answerView(
       page,
       ask.reason(chosen, board),
-      ({ code }) => element("p", { class: "reason" }, texts.board.reason(code)),
+      ({ code }) => element("p", { class: "reason" }, texts.board.reason(code, reasonOf(facts, code))),
     ),
   ];
 }

@@ -1,11 +1,11 @@
 // A player's own boards, the present round first, each with its state.
 
-import { element, link } from "../dom.js";
+import { element, heading, link } from "../dom.js";
 import { boardsOf, isIn, isTurned, opponentsIn, sideIn } from "../movement.js";
-import { awaitedTables, boardStateOf, playersOf, seatOf } from "../public_facts.js";
+import { awaitedTables, boardStateOf, seatOf } from "../public_facts.js";
 import { addressOf } from "../routes.js";
 import { texts } from "../texts.js";
-import { heading, section, stateMark } from "./marks.js";
+import { pairMark, section, stateMark } from "./marks.js";
 
 export const boardsNeeds = () => [];
 
@@ -26,10 +26,9 @@ export function boardsView(page) {
 function roundView(facts, row, pair) {
   const against = opponentsIn(row, pair);
   const side = isTurned(facts.rows, pair) ? texts.side[sideIn(row, pair)] : "";
-  const players = playersOf(facts, against).join(", ");
   const title = texts.boards.round(row.round, row.round === facts.round && facts.phase === "Running");
   return section(title,
-    element("p", {}, texts.boards.against(row.table, side, against, players)),
+    element("p", {}, texts.boards.against(row.table, side), " ", pairMark(facts, against)),
     element(
       "ul",
       { class: "board-list" },

@@ -65,7 +65,7 @@ function evidence(page, query, denied, version) {
 
 /**
  * What a query is answered: `show` draws the value; a denial, an error and an answer that isn't here yet are drawn here.
- * @param {(value: object) => Node|Node[]} show
+ * @param {(value: any) => import("../dom.js").Content} show
  */
 export function answerView(page, query, show) {
   const answer = page.answer(query);

@@ -1,17 +1,19 @@
 // The director's desk: the room, the round, held boards, seats, and what belongs to a table's result.
 
-import { button, choice, element } from "../dom.js";
+import { button, choice, element, heading } from "../dom.js";
 import { ask, command } from "../messages.js";
 import { rowsOfBoard } from "../movement.js";
 import { awaitedCells } from "../public_facts.js";
 import { texts } from "../texts.js";
 import { cellDeskView } from "./director_cell.js";
 import { seatsSection } from "./director_seats.js";
-import { heading, section } from "./marks.js";
+import { section } from "./marks.js";
 import { roomNeeds, roomSection } from "./room.js";
+import { clockSection } from "./round_clock.js";
+import { walkInSection } from "./walk_in.js";
 
 export function directorNeeds(state, { table, board }) {
-  if (board) return [ask.traveller(board), ask.play(table, board), ask.reason(table, board)];
+  if (board) return [ask.traveller(board), ask.play(table, board), ask.reason(table, board), ask.board(board)];
   return [ask.accounts(), ...roomNeeds(state)];
 }
 
@@ -19,9 +21,10 @@ export function directorView(page, { table, board }) {
   if (table && board) return cellDeskView(page, table, board);
   return [
     heading(texts.director.title),
-    roomSection(page), roundSection(page), resultSection(page), heldSection(page),
+    roomSection(page), clockSection(page), roundSection(page), resultSection(page), heldSection(page),
     page.state.facts.edition === 2 && embargoSection(page),
     seatsSection(page),
+    walkInSection(page),
   ];
 }
 

@@ -1,14 +1,16 @@
 // What a director does with a table's result on a board: correct, rule, make void.
 
-import { readPlay } from "../cards.js";
-import { button, element, field, link } from "../dom.js";
+import { handsOf } from "../cards.js";
+import { button, choice, element, field, heading, link } from "../dom.js";
 import { ask, command } from "../messages.js";
+import { playOf } from "../plays.js";
+import { reasonOf } from "../occasion.js";
 import { isLive, isScheduled, marksOf, rowOf } from "../public_facts.js";
 import { draftOf, emptyDraft, isSameDraft, resultOf } from "../results.js";
 import { addressOf } from "../routes.js";
 import { texts } from "../texts.js";
 import { answerView } from "./denial.js";
-import { heading, notThere, pairMark, resultMark, section, waiting } from "./marks.js";
+import { notThere, pairMark, resultMark, section, waiting } from "./marks.js";
 import { missingText, resultForm } from "./result_form.js";
 
 /**
@@ -36,7 +38,7 @@ export function cellDeskView(page, table, board) {
       "p",
       {},
       pairMark(facts, round.ns),
-      " – ",
+      ` ${texts.against} `,
       pairMark(facts, round.ew),
       " · ",
       texts.director.inRound(round.round),
@@ -63,7 +65,7 @@ function nowView(page, standing, table, board) {
   if (!standing) return element("p", { id: "cell-now" }, texts.director.noResult);
   if (standing.ruling) {
     const code = page.answer(ask.reason(table, board))?.value?.code;
-    return element("p", { id: "cell-now" }, texts.director.ruled(standing.ruling[0], standing.ruling[1], code ?? 0));
+    return element("p", { id: "cell-now" }, texts.director.ruled(standing.ruling[0], standing.ruling[1], code ?? 0, reasonOf(page.state.facts, code)));
   }
   return element(
     "p",
@@ -82,6 +84,12 @@ function goesText(standing) {
   return texts.director.goes.result(standing.result, standing.score, standing.cards.length);
 }
 
+/** A director sees the hands, so the page knows who can have which card. */
+function handsTold(page, board) {
+  const deal = page.answer(ask.board(board))?.value?.deal;
+  return typeof deal === "string" ? handsOf(deal) : null;
+}
+
 /** The form begins with what stands, so that what isn't changed in it stays. */
 function correctSection(page, standing, table, board, vulnerability) {
   const { user } = page.state;
@@ -95,7 +103,7 @@ function correctSection(page, standing, table, board, vulnerability) {
   const forget = () => page.drafts.remove(user, "correct", table, board);
   const send = () => {
     const result = resultOf(draft);
-    const { cards, fault } = readPlay(draft.play);
+    const { cards, fault } = playOf(draft.play, draft);
     if (!result) return page.refuseUntilChanged(missingText(draft));
     if (fault && !draft.passedOut) return page.refuse(texts.form.playFault(fault));
     if (!isChanged) return page.refuse(texts.director.unchanged);
@@ -108,7 +116,9 @@ function correctSection(page, standing, table, board, vulnerability) {
   const lost = standing && (draft.passedOut || draft.play.trim() === "") ? standing.cards.length : 0;
   return section(texts.director.correct,
     element("p", { class: "note" }, standing?.result ? texts.director.correctNote : texts.director.correctRulingNote),
-    resultForm("correct", draft, onChange, { vulnerability, hasPlay: true }),
+    resultForm("correct", draft, onChange, {
+      vulnerability, hasPlay: true, isPlayOpen: page.isOpen("correct-play-part"), hands: handsTold(page, board),
+    }),
     lost > 0 && element("p", { class: "note fault", id: "correct-lost" }, texts.director.playGoes(lost)),
     element("p", { class: "actions" },
       button(
@@ -144,6 +154,19 @@ function ruleSection(page, standing, table, board) {
       },
     },
   );
+  const reasons = page.state.facts.reasons ?? [];
+  // a session that says what its reasons mean has them chosen by what they mean
+  const reasonChoice = () => choice(
+    "rule-reason",
+    texts.director.reasonOfList,
+    [["", texts.director.noReason], ...reasons.map((meaning, index) => [index + 1, `${index + 1}: ${meaning}`])],
+    form.reason,
+    (value) => {
+      form.reason = value;
+      page.forms.rule.set(cell, form);
+      page.disarm();
+    },
+  );
   const isReady = () => {
     const isRuling = isFrom(form.ns, 0, 100) && isFrom(form.ew, 0, 100) && isFrom(form.reason, 1, 99);
     if (!isRuling) page.refuse(texts.refusal("BadRuling"));
@@ -155,13 +178,13 @@ function ruleSection(page, standing, table, board) {
     texts.director.ruledDone,
     () => page.forms.rule.delete(cell),
   );
-  const sure = `${texts.director.ruleSure(...numbers())} ${goesText(standing)}`;
+  const sure = `${texts.director.ruleSure(...numbers(), reasonOf(page.state.facts, numbers()[2]))} ${goesText(standing)}`;
   return section(texts.director.rule,
     element("p", { class: "note" }, texts.director.ruleNote),
     element("div", { class: "fields" },
       number("ns", texts.director.forNs, 0, 100),
       number("ew", texts.director.forEw, 0, 100),
-      number("reason", texts.director.reason, 1, 99)),
+      reasons.length ? reasonChoice() : number("reason", texts.director.reason, 1, 99)),
     page.twoStep("rule-button", texts.director.ruleButton, sure, give, texts.director.ruleButton, isReady));
 }
 

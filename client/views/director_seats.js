@@ -3,9 +3,9 @@
 import { button, choice, element, field } from "../dom.js";
 import { ask, command } from "../messages.js";
 import { isTurned, namedSideOf } from "../movement.js";
-import { playersOf } from "../public_facts.js";
+import { hasShownName, nameOf, pairText, personText } from "../people.js";
 import { texts } from "../texts.js";
-import { section } from "./marks.js";
+import { accountMark, section } from "./marks.js";
 
 export function seatsSection(page) {
   const { facts } = page.state;
@@ -15,7 +15,8 @@ export function seatsSection(page) {
       "details",
       { id: "seats-list" },
       element("summary", { id: "seats-summary" }, texts.director.seatsCount(facts.seats.length)),
-      element("ul", { class: "rows" }, facts.seats.map((seat) => seatItem(page, seat))),
+      // a list that is closed isn't drawn
+      page.isOpen("seats-list") && element("ul", { class: "rows" }, facts.seats.map((seat) => seatItem(page, seat))),
     ),
     element("h3", {}, texts.director.seatTitle),
     facts.pairs.some((pair) => isTurned(facts.rows, pair)) && element("p", { class: "note", id: "seat-note" }, texts.director.seatNote),
@@ -24,12 +25,14 @@ export function seatsSection(page) {
 }
 
 function seatItem(page, [name, pair, place]) {
-  const take = () => page.perform([command.unseat(name)], texts.director.unseated(name));
+  const { facts } = page.state;
+  const person = personText(facts, name);
+  const take = () => page.perform([command.unseat(name)], texts.director.unseated(person));
   return element(
     "li",
     {},
-    element("span", {}, `${pair} ${place} `, element("b", {}, name)),
-    page.twoStep(`unseat-${name}`, texts.director.unseat(name), texts.director.unseatSure(name), take),
+    element("span", {}, `${pair} ${place} `, element("b", {}, accountMark(facts, name))),
+    page.twoStep(`unseat-${name}`, texts.director.unseat(person), texts.director.unseatSure(person), take),
   );
 }
 
@@ -46,11 +49,12 @@ function seatForm(page) {
   const note = (event) => {
     form.name = event.target.value;
   };
-  const pairs = facts.pairs.map((pair) => [pair, [pair, ...playersOf(facts, pair)].join(" ")]);
+  const pairs = facts.pairs.map((pair) => [pair, pairText(facts, pair)]);
   return element(
     "div",
     { class: "fields" },
-    element("datalist", { id: "user-names" }, unseated(page).map((name) => element("option", { value: name }))),
+    element("datalist", { id: "user-names" }, unseated(page).map((name) =>
+      element("option", { value: name, label: hasShownName(facts, name) ? nameOf(facts, name) : null }))),
     field("seat-name", texts.director.user, { value: form.name, list: "user-names", onInput: note }),
     choice("seat-pair", texts.director.pair, pairs, form.pair, set("pair")),
     choice("seat-place", texts.director.place, places.map((place) => [place, texts.place[place]]), form.place, set("place")),
@@ -67,7 +71,7 @@ function unseated(page) {
 function giveSeat(page) {
   const form = page.forms.seat;
   const name = form.name.trim();
-  return page.perform([command.seat(name, form.pair, form.place)], texts.director.seated(name, form.pair), () => {
+  return page.perform([command.seat(name, form.pair, form.place)], texts.director.seated(personText(page.state.facts, name), form.pair), () => {
     form.name = "";
   });
 }

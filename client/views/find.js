@@ -1,12 +1,12 @@
 // The boards that the user may see and for which chosen conditions hold.
 
-import { button, choice, element, field, link } from "../dom.js";
+import { button, choice, element, field, heading, link } from "../dom.js";
 import { badCondition, boundsOf, conditionKinds, filterOf, mostConditions, newCondition } from "../filters.js";
 import { marksOf } from "../public_facts.js";
 import { addressOf } from "../routes.js";
 import { texts } from "../texts.js";
 import { listNeeds, listView } from "./listed.js";
-import { heading, section } from "./marks.js";
+import { section } from "./marks.js";
 
 const askedOf = ({ asked }) => filterOf(asked.conditions, asked.joiner);
 

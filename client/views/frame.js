@@ -4,6 +4,8 @@ import { button, element, link } from "../dom.js";
 import { seatOf } from "../public_facts.js";
 import { addressOf } from "../routes.js";
 import { texts } from "../texts.js";
+import { accountMark } from "./marks.js";
+import { staysView } from "./sign_in.js";
 
 const deskRights = { scorer: ["score"], director: ["direct"], accounts: ["direct", "administer"], audit: ["direct", "administer"] };
 
@@ -36,7 +38,7 @@ export function headView(page) {
     state.user && element(
       "p",
       { class: "who" },
-      element("span", {}, texts.frame.signedInAs(state.user)),
+      element("span", {}, texts.frame.signedInAs, " ", accountMark(state.facts, state.user)),
       " ",
       button("sign-out", texts.frame.signOut, page.signOut, { class: "quiet" }),
     ),
@@ -60,6 +62,9 @@ export function footView(page) {
       { id: "as-of", "data-version": state.version },
       texts.frame.asOf(page.heardAt),
     ),
+    state.facts && state.facts.phase !== "Final" && element("p", {},
+      staysView("stays-on", page.staysSignedIn, (stays) => page.staySignedIn(stays)),
+      element("span", { id: "stays-note", class: "unseen" }, texts.signIn.staysNote)),
     element("p", {}, element("label", { for: "letters", class: "check" },
       element(
         "input",
@@ -81,18 +86,22 @@ export const embargoView = (page) => page.state.facts.embargo && element(
   texts.frame.embargo,
 );
 
+/** Whether a view is one where something is changed. */
+export const isDesk = (view) => Object.hasOwn(deskRights, view);
+
 export function offlineView(page) {
   if (page.isSlow) return element("p", {}, texts.frame.slow);
-  if (!page.offlineFor) return null;
+  if (!page.offlineFor) return page.backAfter > 0 && element("p", { class: "back" }, texts.frame.back(page.backAfter));
   const again = button("try-now", texts.frame.tryNow, page.tryNow);
   return element("p", {}, texts.frame.offline(page.offlineFor), " ", again);
 }
 
 export function restartView(page) {
-  return page.state.wasRestarted && element(
+  const { permissions, wasRestarted } = page.state;
+  return wasRestarted && element(
     "p",
     { class: "restarted" },
-    texts.frame.restarted,
+    permissions?.score || permissions?.direct ? texts.frame.restarted : texts.frame.restartedElsewhere,
     " ",
     button("understood", texts.frame.understood, page.understood),
   );

@@ -36,7 +36,7 @@ export function wholeList(page, filter) {
 
 /**
  * What a list is answered, once it is whole; a denial, an error and that it isn't whole yet are drawn here.
- * @param {(boards: number[]) => Node|Node[]} show
+ * @param {(boards: number[]) => import("../dom.js").Content} show
  */
 export function listView(page, filter, show) {
   const parts = partsOf(page, filter);

@@ -1,7 +1,8 @@
 // Suits, contracts, pairs and states as they are drawn: a symbol for who sees it, a letter for who wants letters, and a
 // word for who listens.
 
-import { element } from "../dom.js";
+import { element, heading } from "../dom.js";
+import { hasShownName, nameOf } from "../people.js";
 import { tricksText } from "../scoring.js";
 import { playersOf } from "../public_facts.js";
 import { texts } from "../texts.js";
@@ -39,27 +40,40 @@ export function resultMark(result) {
 /** A card: its suit's mark and its rank. */
 export const cardMark = (card) => element("span", { class: "card" }, strainMark(card[0]), texts.rank(card[1]));
 
-/** A pair with the names of its players. */
-export function pairMark(facts, pair) {
-  const players = playersOf(facts, pair).join(" · ");
-  return element(
-    "span",
-    { class: "pair" },
-    element("b", {}, pair),
-    players && " ",
-    players && element("span", { class: "players" }, players),
-  );
+/** A person's name, cut where there is no room for all of it, and then whole under the pointer. */
+export function personMark(facts, user) {
+  const name = nameOf(facts, user);
+  return element("bdi", { class: "person", title: hasShownName(facts, user) ? name : null }, name);
 }
 
-export const stateMark = (state, text) => element("span", { class: `state state-${state}` }, text);
+/** The same at a desk where the name for signing in counts: it stands behind. */
+export function accountMark(facts, user) {
+  if (!hasShownName(facts, user)) return user;
+  return [personMark(facts, user), " ", element("span", { class: "sign-in-name" }, `(${user})`)];
+}
 
-/** The heading of a view, to which the focus goes when the view is opened. */
-export const heading = (text, ...more) => element(
-  "div",
-  { class: "heading" },
-  element("h1", { id: "heading", tabindex: "-1" }, text),
-  ...more,
-);
+/** The players of a pair by their names, or null where nobody sits in it. */
+export function playersMark(facts, pair) {
+  const players = playersOf(facts, pair).map((user, index) => [index > 0 && " – ", personMark(facts, user)]);
+  return players.length ? element("span", { class: "players" }, players) : null;
+}
+
+/** The same with the pair behind: "Anna Müller – Ben Roth (NS1)". */
+export function pairMark(facts, pair) {
+  const [players, mark] = [playersMark(facts, pair), element("b", {}, pair)];
+  return element("span", { class: "pair" }, players ? [players, " (", mark, ")"] : mark);
+}
+
+/** The session's title and date, where it has them: above what goes on paper. */
+export function occasionView({ title, date }) {
+  const text = texts.occasion(title, date);
+  return text !== "" && element("p", { class: "occasion" }, element("bdi", {}, text));
+}
+
+/** The same at the head of each card of a paper that is cut, or handed out card by card: printed, and not on the screen. */
+export const occasionOfCard = (facts) => element("div", { class: "on-paper" }, occasionView(facts));
+
+export const stateMark = (state, text) => element("span", { class: `state state-${state}` }, text);
 
 export const section = (title, ...children) => element(
   "section",

@@ -1,10 +1,11 @@
 // What goes on paper, or into a spreadsheet: the ranking, score cards, travellers and hand records of the boards that the user
 // may see, and guide cards.
 
-import { button, element, tiles } from "../dom.js";
+import { button, element, heading, tiles } from "../dom.js";
 import { csvText, download } from "../csv.js";
 import { linesOfPairs, linesOfTables } from "../guide_cards.js";
 import { ask } from "../messages.js";
+import { fileNameOf } from "../occasion.js";
 import { seatOf } from "../public_facts.js";
 import { scoreCardOf } from "../score_cards.js";
 import { texts } from "../texts.js";
@@ -13,7 +14,8 @@ import { answerView } from "./denial.js";
 import { pairCards, tableCards } from "./guide_cards.js";
 import { handsView } from "./hands.js";
 import { boardsSoFar, listNeeds, listView, wholeList } from "./listed.js";
-import { heading } from "./marks.js";
+import { occasionOfCard, occasionView } from "./marks.js";
+import { parFields, parHeads, parNeeds, parView } from "./par.js";
 import { rankingCsv, rankingTables } from "./ranking.js";
 import { scoreCardLines, scoreCardView } from "./score_card.js";
 import { travellerLines, travellerView } from "./traveller.js";
@@ -24,10 +26,10 @@ const pairOf = ({ facts, user }) => seatOf(facts, user)?.pair ?? null;
 
 /** Which queries of a board a paper is made of. */
 const aboutBoard = {
-  results: [ask.traveller],
-  travellers: [ask.traveller],
-  records: [ask.board, ask.analysis],
-  score_cards: [ask.traveller],
+  results: (facts, board) => [ask.traveller(board)],
+  travellers: (facts, board) => [ask.traveller(board), ...parNeeds(facts, board)],
+  records: (facts, board) => [ask.board(board), ask.analysis(board), ...parNeeds(facts, board)],
+  score_cards: (facts, board) => [ask.traveller(board)],
 };
 
 /** Guide cards follow from the status alone; for most others the boards are asked for once they are listed. */
@@ -35,7 +37,7 @@ export function papersNeeds(state, route, page) {
   const { kind } = page.forms.papers;
   if (kind === "ranking") return [ask.ranking()];
   if (!aboutBoard[kind]) return [];
-  const aboutBoards = boardsSoFar(page, null).flatMap((board) => aboutBoard[kind].map((query) => query(board)));
+  const aboutBoards = boardsSoFar(page, null).flatMap((board) => aboutBoard[kind](state.facts, board));
   return [...listNeeds(page, null), ...aboutBoards];
 }
 
@@ -57,6 +59,7 @@ export function papersView(page) {
     element(
       "div",
       { class: `paper paper-${form.kind}` },
+      occasionView(page.state.facts),
       element("h2", {}, texts.papers.kind[form.kind]),
       paper(page, form.kind),
     ),
@@ -68,7 +71,7 @@ function actions(page, kind) {
   const asked = papersNeeds(page.state, page.route, page);
   const here = asked.filter((query) => page.answer(query)).length;
   if (here < asked.length) return element("p", { class: "waiting", id: "papers-asking" }, texts.papers.asking(here, asked.length));
-  const save = () => download(`${kind}.csv`, csvOf(page, kind));
+  const save = () => download(fileNameOf(page.state.facts, kind), csvOf(page, kind));
   return element("p", { class: "actions" },
     button("print", texts.papers.print, () => globalThis.print(), { class: "main" }),
     isTold(page, kind) && button("csv", texts.papers.csv, save, { class: "quiet" }));
@@ -87,7 +90,8 @@ function paper(page, kind) {
     if (kind === "records") return boards.map((board) => recordView(page, board));
     if (kind === "travellers") return boards.map((board) => travellerOf(page, board, pair));
     const travellers = travellersOf(page, boards);
-    return pairsOfCards(facts, kind, pair).map((each) => sheet(scoreCardView(facts, scoreCardOf(facts, travellers, each), each)));
+    return pairsOfCards(facts, kind, pair).map((each) =>
+      sheet(occasionOfCard(facts), scoreCardView(facts, scoreCardOf(facts, travellers, each), each)));
   });
 }
 
@@ -97,14 +101,17 @@ const pairsOfCards = (facts, kind, ownPair) => (kind === "results" ? [ownPair] :
 const travellersOf = (page, boards) => boards.map((board) => page.answer(ask.traveller(board))?.value).filter(Boolean);
 
 function travellerOf(page, board, pair) {
-  return sheet(answerView(page, ask.traveller(board), (traveller) => travellerView(page.state.facts, traveller, pair)));
+  return sheet(
+    answerView(page, ask.traveller(board), (traveller) => travellerView(page.state.facts, traveller, pair)),
+    parView(page, board),
+  );
 }
 
 function recordView(page, board) {
   const makes = () => answerView(page, ask.analysis(board), makesView);
   return sheet(
     element("h3", {}, texts.board.title(board)),
-    answerView(page, ask.board(board), (value) => handsView(value, element("div", { class: "corner" }, makes()))),
+    answerView(page, ask.board(board), (value) => handsView(value, element("div", { class: "corner" }, makes(), parView(page, board)))),
   );
 }
 
@@ -123,7 +130,7 @@ function csvOf(page, kind) {
   const boards = wholeList(page, null);
   if (kind === "records") return recordsCsv(page, boards);
   const travellers = travellersOf(page, boards);
-  if (kind === "travellers") return csvText([texts.papers.travellerHeads, ...travellers.flatMap(travellerLines)]);
+  if (kind === "travellers") return csvText([texts.papers.travellerHeads, ...travellers.flatMap((traveller) => travellerLines(facts, traveller))]);
   const lines = pairsOfCards(facts, kind, pairOf(page.state)).flatMap((pair) =>
     scoreCardLines(facts, scoreCardOf(facts, travellers, pair), pair));
   return csvText([texts.scoreCard.csvHeads, ...lines]);
@@ -134,7 +141,7 @@ function recordsCsv(page, boards) {
     const value = page.answer(ask.board(board))?.value;
     if (!value) return [];
     const { number, dealer, vul, deal } = value;
-    return [[number, dealer, vul, deal, ...analysisFields(page.answer(ask.analysis(board))?.value?.tricks)]];
+    return [[number, dealer, vul, deal, ...analysisFields(page.answer(ask.analysis(board))?.value?.tricks), ...parFields(page, board)]];
   });
-  return csvText([[...texts.papers.recordHeads, ...analysisHeads], ...lines]);
+  return csvText([[...texts.papers.recordHeads, ...analysisHeads, ...parHeads(page.state.facts)], ...lines]);
 }

@@ -1,14 +1,16 @@
 // The ranking over the boards that the user may see.
 
-import { button, element, table } from "../dom.js";
+import { button, element, heading, table } from "../dom.js";
 import { csvText, download } from "../csv.js";
 import { ask } from "../messages.js";
 import { numberOfPair, sideOfPair } from "../movement.js";
+import { fileNameOf } from "../occasion.js";
+import { playersText } from "../people.js";
 import { percentText, placesOf, unitsText } from "../percentages.js";
-import { playersOf, seatOf } from "../public_facts.js";
+import { boardsPlayed, seatOf } from "../public_facts.js";
 import { texts } from "../texts.js";
 import { answerView } from "./denial.js";
-import { heading, pairMark, section } from "./marks.js";
+import { occasionView, pairMark, section } from "./marks.js";
 
 export const rankingNeeds = () => [ask.ranking()];
 
@@ -16,13 +18,14 @@ export function rankingView(page) {
   const ranking = page.answer(ask.ranking())?.value;
   return [
     heading(texts.ranking.title),
+    occasionView(page.state.facts),
     element("p", {}, texts.ranking.explained),
     ranking && element("p", { class: "actions no-print" },
       button("print-ranking", texts.papers.print, () => globalThis.print(), { class: "quiet" }),
       button(
         "csv-ranking",
         texts.papers.csv,
-        () => download("ranking.csv", rankingCsv(page.state.facts, ranking)),
+        () => download(fileNameOf(page.state.facts, "ranking"), rankingCsv(page.state.facts, ranking)),
         { class: "quiet" },
       )),
     section(
@@ -43,7 +46,9 @@ export function rankingView(page) {
  */
 export function rankingLists(facts, ranking) {
   if (facts.changesSides) return [{ side: null, ranking }];
-  return ["NS", "EW"].map((side) => ({ side, ranking: ranking.filter(([pair]) => sideOfPair(facts.rows, pair) === side) }));
+  /** @type {import("../movement.js").Side[]} */
+  const sides = ["NS", "EW"];
+  return sides.map((side) => ({ side, ranking: ranking.filter(([pair]) => sideOfPair(facts.rows, pair) === side) }));
 }
 
 /**
@@ -83,15 +88,16 @@ function rankingTable(facts, { side, ranking }, ownPair) {
     return [
       head,
       [pairMark(facts, pair), !side && element("span", { class: "number" }, texts.guide.number(numberOfPair(facts.tables, pair)))],
-      tops ? `${percentText(earned, tops)} %` : texts.noTop,
+      tops ? texts.percent(percentText(earned, tops)) : texts.noTop,
       unitsText(earned),
       unitsText(tops),
+      boardsPlayed(facts, pair),
     ];
   });
   return table(texts.ranking.caption(side), texts.ranking.heads, rows, { class: side ? `ranking ranking-${side}` : "ranking" });
 }
 
-/** A place is one of the pair's own list, which the last field names. */
+/** A place is one of the pair's own list, which the field of the direction names. */
 export function rankingCsv(facts, ranking) {
   const lines = rankingLists(facts, ranking).flatMap((list) => {
     const places = placesOf(list.ranking);
@@ -99,11 +105,12 @@ export function rankingCsv(facts, ranking) {
       [
         places[index].place,
         pair,
-        playersOf(facts, pair).join(" "),
+        playersText(facts, pair),
         percentText(earned, tops),
         unitsText(earned),
         unitsText(tops),
         list.side,
+        boardsPlayed(facts, pair),
       ]);
   });
   return csvText([texts.ranking.csvHeads, ...lines]);

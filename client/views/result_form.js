@@ -3,17 +3,17 @@
 import { element, tileRows, tiles } from "../dom.js";
 import { changed, missingParts, oversOf, resultOf } from "../results.js";
 import { isVulnerable, overText, scoreOf } from "../scoring.js";
-import { readPlay } from "../cards.js";
 import { texts } from "../texts.js";
+import { playPart } from "./play_form.js";
 import { resultMark, strainMark } from "./marks.js";
 
 /**
  * @param {string} name of the form, for the ids of its fields
  * @param {import("../results.js").Draft} draft
  * @param {(draft: import("../results.js").Draft) => void} onChange
- * @param {{vulnerability: string, hasPlay: boolean}} options
+ * @param {{vulnerability: string, hasPlay: boolean, isPlayOpen?: boolean, hands?: object|null}} options
  */
-export function resultForm(name, draft, onChange, { vulnerability, hasPlay }) {
+export function resultForm(name, draft, onChange, { vulnerability, hasPlay, isPlayOpen = false, hands = null }) {
   const set = (part) => (value) => onChange(changed(draft, part, value));
   const ended = [["played", texts.form.played], ["passed", texts.passedOut]];
   return element("div", { class: "result-form" },
@@ -26,7 +26,7 @@ export function resultForm(name, draft, onChange, { vulnerability, hasPlay }) {
     ),
     !draft.passedOut && contractTiles(name, draft, set, vulnerability),
     !draft.passedOut && tricksTiles(name, draft, set),
-    hasPlay && !draft.passedOut && playField(name, draft, onChange),
+    hasPlay && !draft.passedOut && playPart(name, draft, onChange, { isOpen: isPlayOpen, hands }),
     preview(draft, vulnerability));
 }
 
@@ -85,36 +85,6 @@ function tricksTiles(name, draft, set) {
     draft.over,
     set("over"),
     { class: "tiles columns-7" },
-  );
-}
-
-function playField(name, draft, onChange) {
-  const { cards, fault } = readPlay(draft.play);
-  const counted = cards.length ? texts.form.playCards(cards.length) : texts.form.playNote;
-  const attributes = {
-    id: `${name}-play`,
-    rows: 3,
-    value: draft.play,
-    spellcheck: "false",
-    autocapitalize: "characters",
-    "aria-describedby": `${name}-play-note`,
-    onInput: (event) => onChange({ ...draft, play: event.target.value }),
-  };
-  return element(
-    "details",
-    { id: `${name}-play-part` },
-    element("summary", { id: `${name}-play-summary` }, texts.form.play, cards.length > 0 && `: ${counted}`),
-    element(
-      "div",
-      { class: "field" },
-      element("label", { for: `${name}-play` }, texts.form.playLabel),
-      element("textarea", attributes),
-      element(
-        "p",
-        { id: `${name}-play-note`, class: fault ? "note fault" : "note" },
-        fault ? texts.form.playFault(fault) : counted,
-      ),
-    ),
   );
 }
 

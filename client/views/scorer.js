@@ -1,15 +1,15 @@
 // The scorer's desk: a table, a board, and its result, typed by one side and confirmed by the other.
 
-import { readPlay } from "../cards.js";
-import { button, element, link } from "../dom.js";
+import { button, element, heading, link } from "../dom.js";
 import { ask, command } from "../messages.js";
+import { playOf } from "../plays.js";
 import { percentText, topOf } from "../percentages.js";
 import { cellsOfTable, isLive, isScheduled, marksOf, nextCellElsewhere, rowOf, tablesToScore } from "../public_facts.js";
 import { resultOf } from "../results.js";
 import { addressOf } from "../routes.js";
 import { scoreOf } from "../scoring.js";
 import { texts } from "../texts.js";
-import { heading, pairMark, resultMark, stateMark, section } from "./marks.js";
+import { pairMark, resultMark, stateMark, section } from "./marks.js";
 import { missingText, resultForm } from "./result_form.js";
 
 /** Of a result that is there, what it is worth: the server shows it to whoever may see the board. */
@@ -48,7 +48,7 @@ function boardsOfTable(page, table) {
   return rounds.map((round) => {
     const row = facts.rows.find((each) => each.round === round && each.table === table);
     return section(texts.scorer.round(round, round === facts.round),
-      element("p", {}, pairMark(facts, row.ns), " – ", pairMark(facts, row.ew)),
+      element("p", {}, pairMark(facts, row.ns), ` ${texts.against} `, pairMark(facts, row.ew)),
       element(
         "ul",
         { class: "board-list" },
@@ -59,8 +59,9 @@ function boardsOfTable(page, table) {
 
 function cellItem(page, user, cell) {
   const isEntered = page.drafts.isEntered(user, cell.table, cell.board);
-  const state = cell.live ? "complete" : isEntered ? "waits" : "to_play";
-  const text = cell.live ? texts.scorer.hasResult : isEntered ? texts.scorer.toConfirm : texts.scorer.toEnter;
+  const isLost = page.drafts.isLost(user, cell.table, cell.board);
+  const [state, text] = cell.live ? ["complete", texts.scorer.hasResult] : isEntered ? ["waits", texts.scorer.toConfirm]
+    : isLost ? ["held", texts.scorer.lost] : ["to_play", texts.scorer.toEnter];
   return element("li", {}, link(addressOf("scorer", cell.table, cell.board),
     [element("b", {}, texts.board.title(cell.board)), stateMark(state, text)],
     { id: `cell-${cell.table}-${cell.board}` }));
@@ -75,7 +76,7 @@ function cellDesk(page, table, board) {
   const { dealer, vulnerability } = marksOf(facts, board);
   return [
     heading(texts.scorer.cellTitle(table, board)),
-    element("p", { id: "cell-pairs" }, pairMark(facts, row.ns), " – ", pairMark(facts, row.ew), " · ", texts.director.inRound(row.round)),
+    element("p", { id: "cell-pairs" }, pairMark(facts, row.ns), ` ${texts.against} `, pairMark(facts, row.ew), " · ", texts.director.inRound(row.round)),
     element("p", { class: "marks" }, texts.marks(dealer, vulnerability)),
     live ? liveView(page, table, board, vulnerability) : stepView(page, row, board, step, vulnerability),
     element("p", {}, link(addressOf("scorer", table), texts.scorer.backToTable(table), { id: "back-to-table" })),
@@ -138,8 +139,9 @@ function stepView(page, row, board, step, vulnerability) {
   return element("section", { class: `panel step-${step}` }, element("h2", {}, texts.scorer.stepTitle[step]),
     element("p", { id: "step-side" }, texts.scorer.stepSide[step], " ", pairMark(facts, side)),
     element("p", {}, texts.scorer.stepExplained[step]),
+    page.drafts.isLost(user, table, board) && element("p", { class: "note fault", id: "cell-lost" }, texts.scorer.lostExplained),
     element("p", { class: "note", id: "why-twice" }, texts.scorer.whyTwice),
-    resultForm(step, draft, onChange, { vulnerability, hasPlay: step === "enter" }),
+    resultForm(step, draft, onChange, { vulnerability, hasPlay: step === "enter", isPlayOpen: page.isOpen("enter-play-part") }),
     element("p", { class: "actions" },
       button(
         `${step}-button`,
@@ -155,7 +157,7 @@ function stepView(page, row, board, step, vulnerability) {
 
 function enter(page, table, board, draft) {
   const result = resultOf(draft);
-  const { cards, fault } = readPlay(draft.play);
+  const { cards, fault } = playOf(draft.play, draft);
   if (!result) return page.refuseUntilChanged(missingText(draft));
   if (fault && !draft.passedOut) return page.refuse(texts.form.playFault(fault));
   const play = draft.passedOut ? [] : cards;

@@ -1,6 +1,6 @@
 // The session: round and phase, how a player stands, who plays whom where, and how far each board is.
 
-import { element, link, table } from "../dom.js";
+import { element, heading, link, table } from "../dom.js";
 import { awaitedTables, isComplete, isHeld, isLive, roundOf, seatNow, seatOf } from "../public_facts.js";
 import { isIn, isTurned, rowsOfBoard } from "../movement.js";
 import { ask } from "../messages.js";
@@ -8,7 +8,7 @@ import { percentText, unitsText } from "../percentages.js";
 import { addressOf } from "../routes.js";
 import { texts } from "../texts.js";
 import { answerView } from "./denial.js";
-import { heading, pairMark, section, stateMark } from "./marks.js";
+import { occasionView, pairMark, section, stateMark } from "./marks.js";
 import { rankOf } from "./ranking.js";
 
 /** Whoever plays sees how the own pair stands. */
@@ -19,6 +19,7 @@ export function sessionView(page) {
   const seat = seatOf(facts, user);
   return [
     heading(texts.session.title),
+    occasionView(facts),
     element(
       "p",
       { class: "lead-text" },
@@ -48,7 +49,7 @@ function rankView(rank) {
   if (!rank) return element("p", { id: "own-rank" }, texts.session.noRank);
   const { earned, tops, place, shared, of, side } = rank;
   const parts = [
-    ["percent", `${percentText(earned, tops)} %`],
+    ["percent", texts.percent(percentText(earned, tops))],
     ["total", texts.session.ofTops(unitsText(earned), unitsText(tops))],
     ["place", texts.session.placeOf(`${place}${shared ? "=" : ""}`, of, side)],
   ];

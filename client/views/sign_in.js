@@ -1,9 +1,8 @@
-// Signing in: a name and a token. The token is in the field until the server has judged it, then in the connection alone.
+// Signing in: a name and a token. The token is in the field until the server has judged it.
 
-import { element, field } from "../dom.js";
+import { element, field, heading } from "../dom.js";
 import { isServerPath } from "../routes.js";
 import { texts } from "../texts.js";
-import { heading } from "./marks.js";
 
 export function signInView(page) {
   const { signIn } = page.forms;
@@ -37,6 +36,8 @@ export function signInView(page) {
         },
         texts.signIn.tokenNote,
       ),
+      staysView("stays", signIn.stays, (stays) => { signIn.stays = stays; }),
+      element("p", { id: "stays-note", class: "note" }, texts.signIn.staysNote),
       element(
         "button",
         { id: "sign-in-button", class: "main", "aria-disabled": page.isBusy ? "true" : null },
@@ -45,6 +46,12 @@ export function signInView(page) {
     settings(page),
   ];
 }
+
+/** Whether a reload is to sign in again. */
+export const staysView = (id, checked, onChange) => element("label", { for: id, class: "check" },
+  element("input", { type: "checkbox", id, checked, onChange: (event) => onChange(event.target.checked), "aria-describedby": "stays-note" }),
+  " ",
+  texts.signIn.stays);
 
 /** The server's path on the page's own host: no other host can be asked, by the page's Content-Security-Policy too. */
 function settings(page) {

@@ -1,6 +1,7 @@
 // A board's traveller: a row for each result that the user may see, with its score, percentage and matchpoints.
 
 import { element, table } from "../dom.js";
+import { playersText } from "../people.js";
 import { percentText, topOf } from "../percentages.js";
 import { scoreOfSide } from "../scoring.js";
 import { texts } from "../texts.js";
@@ -44,12 +45,13 @@ function rowView(facts, row, top, ownPair) {
 }
 
 /** The rows of a traveller for a spreadsheet. */
-export function travellerLines({ board, rows }) {
+export function travellerLines(facts, { board, rows }) {
   const top = topOf(rows);
   return rows.map(({ table: number, ns, ew, ruling, result, score, points }) => {
     const [cell, empty] = [[board, number, ns, ew], Array(7).fill("")];
-    if (ruling) return [...cell, texts.traveller.ruling, ...empty, ...ruling];
-    return [...cell, ...outcomeFields(result), score, points, top - points, "", ""];
+    const players = [ns, ew].map((pair) => playersText(facts, pair));
+    if (ruling) return [...cell, texts.traveller.ruling, ...empty, ...ruling, ...players];
+    return [...cell, ...outcomeFields(result), score, points, top - points, "", "", ...players];
   });
 }
 

@@ -5,7 +5,7 @@ use Rattle.clap.specs.Words.{Text}
 use Rattle.script_lines.specs.Writing.{WritesPart}
 use Rattle.server_words.specs.Words.{AsksFor}
 use Rattle.server_words.specs.declared.words.Words.{Words}
-use Rattle.server_words.specs.declared.words.Words.TheVariants.{Script, Serve, Audit, Copy}
+use Rattle.server_words.specs.declared.words.Words.TheVariants.{Script, Serve, Audit, Copy, Check, Prepare}
 use Rattle.server_words.specs.declared.words.Serving.{Serving}
 use Rattle.server_words.specs.declared.words.SessionSource.{SessionSource}
 use Rattle.server_words.specs.declared.words.SessionSource.TheVariants.{Files, Journal as Kept}
@@ -42,15 +42,17 @@ abbrev pub IsKeptSource : SessionSource → Type 0
 IsKeptSource (Files files) = ⊥
 IsKeptSource (Kept path files) = Unit {0}
 
--- what is asked for is of a journal
+-- what is asked for is of a journal, or a folder that is prepared
 abbrev pub NamesJournal : Words → Type 0
 NamesJournal Script = ⊥
 NamesJournal (Serve serving) = IsKeptSource serving.source
 NamesJournal (Audit path) = Unit {0}
 NamesJournal (Copy copy) = Unit {0}
+NamesJournal (Check checking) = ⊥
+NamesJournal (Prepare preparing) = Unit {0}
 
 -- own: what is said by words with a status that is neither 1 nor 2. It is nothing; or, where a session of files is served
--- without a journal, that it is kept nowhere, and nothing else; or, with 3, why nothing comes of a journal
+-- without a journal, that it is kept nowhere, and nothing else; or, with 3, why nothing comes of a journal or of a folder
 abbrev pub IsSaidOnErrors : List Text → ℕ → Option (List ℕ) → Option (List ℕ) → Type 0
 IsSaidOnErrors words status before after =
     Appends before after []

@@ -7,22 +7,27 @@ ghost use Rattle.program.specs.declared.fault.Fault.{Fault};
 ghost use Rattle.program.specs.declared.fault.Fault.TheVariants.{Input, Output};
 ghost use Rattle.program.specs.Writes.{IsDone, EndsWith};
 ghost use Rattle.server_words.specs.Words.{AsksFor, IsMistaken};
-ghost use Rattle.server_words.specs.declared.words.Words.TheVariants.{Script, Serve, Audit, Copy};
+ghost use Rattle.server_words.specs.declared.words.Words.TheVariants.{Script, Serve, Audit, Copy, Check, Prepare};
 ghost use Rattle.server_words.specs.declared.words.Serving.{Serving};
 ghost use Rattle.server_words.specs.declared.words.JournalCopy.{JournalCopy};
+ghost use Rattle.server_words.specs.declared.words.Preparing.{Preparing};
+ghost use Rattle.server_words.specs.declared.words.Checking.{Checking};
 ghost use Rattle.program.specs.Status.{IsStatus, status_of};
 ghost use Rattle.script_lines.specs.Writing.{WritesPart};
 ghost use Rattle.kept_sessions.specs.Audited.{TellsJournal};
 ghost use Rattle.bridge_server.specs.Said.{IsSaidOnErrors, IsToldUnkept};
 
 use crate::auditing::status_of_audit;
+use crate::checking::status_of_check;
 use crate::copying::status_of_copy;
 use crate::serving::status_of_serving;
+use crate::session_folder::status_of_preparing;
 use journal_store::JournalFiles;
 use program::status_of_script;
 use server_words::{Words, called_with, read_words, status_of_words};
 use std::io::{self, BufReader, Read, Write};
 use std::net::Net;
+use std::random::RandomSource;
 use std::rt::{Files, Runtime};
 use std::sync::Wait;
 use std::thread::Threads;
@@ -30,7 +35,7 @@ use std::time::Clock;
 
 /// Runs the program with these words, its name first, and answers the status with which it ends.
 pub(crate) fn run_words<
-    R: Files + Net + Clock + Wait + Threads + JournalFiles + AllocGlobal + Sync,
+    R: Files + Net + Clock + Wait + Threads + JournalFiles + RandomSource + AllocGlobal + Sync,
     I: Read,
     W: Write,
     E: Write,
@@ -75,19 +80,25 @@ where
         ⊎ ((text : List ℕ) × TellsJournal text × WritesPart (W.contents writer.old) (W.contents writer.new) text) }
     ensures copied { (copy : JournalCopy) → AsksFor (map string_bytes words.now) (Copy copy) →
         Appends (W.contents writer.old) (W.contents writer.new) [] }
+    ensures checked { (checking : Checking) → AsksFor (map string_bytes words.now) (Check checking) → result ≢ 2 →
+        Appends (E.contents errors.old) (E.contents errors.new) [] }
+    ensures prepared { (preparing : Preparing) → AsksFor (map string_bytes words.now) (Prepare preparing) →
+        Appends (W.contents writer.old) (W.contents writer.new) [] }
 {
     match read_words(rt.alloc(), words) {
         Ok(Words::Script) => status_of_script(rt.alloc(), reader, writer, errors),
         Ok(Words::Serve(serving)) => status_of_serving(rt, &serving, errors),
         Ok(Words::Audit(path)) => status_of_audit(rt, path, writer, errors),
         Ok(Words::Copy(copy)) => status_of_copy(rt, &copy, errors),
+        Ok(Words::Check(checking)) => status_of_check(rt, &checking, writer),
+        Ok(Words::Prepare(preparing)) => status_of_preparing(rt, &preparing, errors),
         Err(error) => status_of_words(rt.alloc(), &error, writer, errors),
     }
 }
 
 /// Hands over the words that the program was called with, and its standard streams but the one for errors.
 pub(crate) fn run_program<
-    R: Runtime + Net + Wait + Threads + JournalFiles + AllocGlobal + Sync,
+    R: Runtime + Net + Wait + Threads + JournalFiles + RandomSource + AllocGlobal + Sync,
     E: Write,
 >(rt: &R, errors: &mut E) -> u8
 where

@@ -161,6 +161,7 @@ held_after state entry board other from to = by_hindrance (hindrance_of state en
     by_command (command.Analysed cell costs) not_it = refl
     by_command command.Embargo not_it = refl
     by_command command.Lift not_it = refl
+    by_command (command.Rename name shown) not_it = refl
 
     by_hindrance : (found : Option Refusal) → has_number (if is_some found then state else effect state
         entry.command).public.held board ≡ has_number state.public.held board
@@ -426,6 +427,7 @@ about_no_embargo (command.Solved own table) board about is = absurd cc
 about_no_embargo (command.Analysed cell costs) board about is = absurd cc
 about_no_embargo command.Embargo board about is = absurd (no_board board about)
 about_no_embargo command.Lift board about is = absurd (no_board board about)
+about_no_embargo (command.Rename name shown) board about is = absurd cc
 
 -- an entry changes what all boards count by what its own board counts
 pub counted_after : (count : Earning → ℕ) (state : SessionState) (entry : Entry) (class : Option UserClass)

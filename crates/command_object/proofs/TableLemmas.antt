@@ -25,7 +25,7 @@ use Rattle.session_roles.specs.declared.edition.Edition.TheVariants.{First, Seco
 use Rattle.json_fields.specs.Form.{words, HasFormOf, AreEach}
 use Rattle.json_fields.specs.Field.{text, text_at}
 use Rattle.json_fields.specs.Message.{table, board}
-use Rattle.json_fields.specs.User.{user_name, pair, place, digest}
+use Rattle.json_fields.specs.User.{user_name, new_shown, pair, place, digest}
 use Rattle.command_object.specs.Command.{
   added_commands,
   commands,
@@ -44,7 +44,7 @@ use Rattle.command_object.specs.Result.{outcome}
 use Rattle.command_object.specs.Play.{play}
 use Rattle.json_fields.proofs.FormLemmas.{Agrees, form_agrees, with_agrees, numbered_agrees, called_agrees}
 use Rattle.json_fields.proofs.TableLemmas.{AllAgree, are_apart, is_word, by_word_read, by_word_reads}
-use Rattle.json_fields.proofs.UserLemmas.{pair_agrees, place_agrees, digest_agrees, role_read, role_reads}
+use Rattle.json_fields.proofs.UserLemmas.{new_shown_agrees, pair_agrees, place_agrees, digest_agrees, role_read, role_reads}
 use Rattle.command_object.proofs.MemberLemmas.{outcome_agrees, play_agrees}
 
 -- ---- what each form of the table says is what it is
@@ -57,7 +57,16 @@ role_called_agrees edition name = record {
 
 added_agree : (edition : Edition) → AllAgree (added_commands edition)
 added_agree First = tt
-added_agree Second = (form_agrees _ _, (form_agrees _ _, tt))
+added_agree Second = (
+  (form_agrees _ _),
+  (
+    (form_agrees _ _),
+    (
+      (with_agrees _ new_shown (with_agrees _ user_name (form_agrees _ _) (called_agrees _)) new_shown_agrees),
+      tt,
+    ),
+  ),
+)
 
 pub commands_agree : (edition : Edition) → AllAgree (commands edition)
 commands_agree edition = (

@@ -14,7 +14,7 @@ use Rattle.session_commands.specs.declared.command.Command.TheVariants.{
 }
 use Rattle.session_commands.specs.declared.command.Command.TheVariants.{Seat, Unseat, NextRound, Close, Finalise}
 use Rattle.session_commands.specs.declared.command.Command.TheVariants.{AddUser, Assign, Deassign, AddInheritance}
-use Rattle.session_commands.specs.declared.command.Command.TheVariants.{DeleteInheritance, Embargo, Lift}
+use Rattle.session_commands.specs.declared.command.Command.TheVariants.{DeleteInheritance, Embargo, Lift, Rename}
 use Rattle.session_roles.specs.declared.edition.Edition.{Edition}
 use Rattle.session_roles.specs.declared.edition.Edition.TheVariants.{First, Second}
 use Rattle.session_roles.specs.declared.role.Role.{Role}
@@ -23,7 +23,7 @@ use Rattle.json_fields.specs.Field.{text, text_at, numbered}
 use Rattle.json_fields.specs.Message.{table, board}
 use Rattle.command_object.specs.Result.{outcome}
 use Rattle.command_object.specs.Play.{play}
-use Rattle.json_fields.specs.User.{user_name, digest, role_named, IsRole, pair, place}
+use Rattle.json_fields.specs.User.{user_name, new_shown, digest, role_named, IsRole, pair, place}
 
 -- a ruling: a percentage for each side, and the number of its reason
 abbrev pub north_south : Member ℕ
@@ -61,7 +61,11 @@ cell table board = record { table = table; board = board }
 -- the commands that an edition has beside those of the first
 abbrev pub added_commands : Edition → List (Form Command)
 added_commands First = []
-added_commands Second = form (codes "Embargo") Embargo ∷ form (codes "Lift") Lift ∷ []
+added_commands Second =
+    form (codes "Embargo") Embargo
+    ∷ form (codes "Lift") Lift
+    ∷ (form (codes "Rename") Rename with user_name with new_shown)
+    ∷ []
 
 -- each command of an edition: its word and its members, of which `play` may be left out
 abbrev pub commands : Edition → List (Form Command)

@@ -13,8 +13,8 @@ use crate::commands::Commands;
 use crate::play::read_play;
 use crate::result::result_of;
 use json_fields::{
-    RequestFault, has_only, is_one_of, name_at, read_board, read_digest, read_pair, read_place,
-    read_table, role_named, small_number_at, text_at,
+    RequestFault, has_only, is_one_of, name_at, read_board, read_digest, read_new_shown, read_pair,
+    read_place, read_table, role_named, small_number_at, text_at,
 };
 use movement::Cell;
 use scoring::Outcome;
@@ -58,7 +58,7 @@ fn is_added_word(word: &str, edition: Edition) -> bool
 {
     match edition {
         Edition::First => false,
-        Edition::Second => is_one_of(word, &["Embargo", "Lift"]),
+        Edition::Second => is_one_of(word, &["Embargo", "Lift", "Rename"]),
     }
 }
 
@@ -368,6 +368,17 @@ fn lift_of(value: &Value) -> Option<Command>
     Some(Command::Lift)
 }
 
+fn rename_of(value: &Value) -> Option<Command>
+    ensures { result ≡ command_called Second (codes "Rename") (view value.now) }
+{
+    if !has_only(value, &["cmd", "name", "shown"]) {
+        return None;
+    }
+    let name = user_name_of(value)?;
+    let shown = read_new_shown(value)?;
+    Some(Command::Rename { name, shown })
+}
+
 // The command of a word. Memory is taken for a play alone.
 fn command_called(
     alloc: Global,
@@ -446,6 +457,7 @@ fn second_command(word: &str, value: &Value) -> Option<Command>
     match word {
         "Embargo" => embargo_of(value),
         "Lift" => lift_of(value),
+        "Rename" => rename_of(value),
         _ => None,
     }
 }

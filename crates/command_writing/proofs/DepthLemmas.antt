@@ -61,6 +61,7 @@ command_depth (command.Analysed at costs) =
     omega (arith, answer_depth (answer_for_play costs), play_depth costs.play)
 command_depth command.Embargo = omega arith
 command_depth command.Lift = omega arith
+command_depth (command.Rename name shown) = omega arith
 
 -- ---- its numbers are whole
 
@@ -102,3 +103,4 @@ command_whole (command.Solved number deal) = refl
 command_whole (command.Analysed at costs) = rw (answer_whole (answer_for_play costs), texts_whole costs.play) refl
 command_whole command.Embargo = refl
 command_whole command.Lift = refl
+command_whole (command.Rename name shown) = refl

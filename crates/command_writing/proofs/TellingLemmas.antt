@@ -184,6 +184,7 @@ sent_or_not (command.Solved number deal) is = inr (inr (inl (number, deal, is.0,
 sent_or_not (command.Analysed cell played) is = inr (inr (inr (cell, played, is, refl)))
 sent_or_not command.Embargo is = inl tt
 sent_or_not command.Lift is = inl tt
+sent_or_not (command.Rename name shown) is = inl tt
 
 -- ---- none of these is read as a client's
 

@@ -161,3 +161,4 @@ read_back (command.Solved number deal) is sent = absurd sent
 read_back (command.Analysed at played) is sent = absurd sent
 read_back command.Embargo is sent = refl
 read_back command.Lift is sent = refl
+read_back (command.Rename name shown) is sent = rw (short name is.0, is.1) refl

@@ -86,3 +86,6 @@ command_data (command.Solved board table) = solved_data board table
 command_data (command.Analysed cell costs) = analysed_data cell costs
 command_data command.Embargo = object (word_data (codes "Embargo") no_members)
 command_data command.Lift = object (word_data (codes "Lift") no_members)
+command_data (command.Rename name shown) =
+    object (word_data (codes "Rename") (member (codes "name") (string name)
+    (member (codes "shown") (string shown) no_members)))

@@ -1,6 +1,7 @@
--- Commands that there are: their numbers, names, outcomes and deals are such as their types keep.
-use Rattle.std.specs.Prelude.{◌≡◌, ◌<◌, ◌≤◌, ℕ, List, length}
+-- Commands that there are: their numbers, names, names to show, outcomes and deals are such as their types keep.
+use Rattle.std.specs.Prelude.{◌≡◌, ◌<◌, ◌≤◌, ℕ, true, List, length}
 use Rattle.hex.specs.Hex.{IsBytes}
+use Rattle.user_names.specs.ShownName.{is_shown_or_none}
 use Rattle.user_names.specs.declared.name.TheConstants.Name.{MOST}
 use Rattle.cards.specs.declared.card.Card.{Card}
 use Rattle.cards.specs.Hands.{IsDeal}
@@ -57,6 +58,7 @@ IsWritable (command.Analysed cell costs) =
     IsWritableCell cell × IsDeal costs.deal × IsContract costs.contract × IsWritablePlay costs.play
 IsWritable command.Embargo = Unit {0}
 IsWritable command.Lift = Unit {0}
+IsWritable (command.Rename name shown) = IsName name × (is_shown_or_none shown ≡ true)
 
 -- a command that a client can send: it isn't the solver's, and pairs are numbered from 1
 abbrev pub IsSendable : Command → Type 0

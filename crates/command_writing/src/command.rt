@@ -1,6 +1,7 @@
 //! The commands, each by the members that it has.
 
-ghost use Rattle.std.specs.Prelude.{◌≡◌, ◌∷◌, [], IfOk, codes};
+ghost use Rattle.std.specs.Prelude.{◌≡◌, ◌∷◌, [], true, IfOk, codes};
+ghost use Rattle.user_names.specs.ShownName.{is_shown_or_none};
 ghost use Rattle.hex.specs.Hex.{encode_lower};
 ghost use Rattle.serde_json.specs.Data.{string, object, member, no_members};
 ghost use Rattle.serde_json.specs.View.{view};
@@ -25,7 +26,7 @@ use session_commands::Command;
 use session_roles::Role;
 use std::alloc::{AllocError, Global};
 use table_terms::{Pair, Place};
-use user_names::{Digest, Name};
+use user_names::{Digest, Name, ShownName};
 
 /// A command as an object.
 pub fn command_value(alloc: Global, command: &Command) -> Result<Value, AllocError>
@@ -71,6 +72,7 @@ pub fn command_value(alloc: Global, command: &Command) -> Result<Value, AllocErr
         Command::Analysed { cell, costs } => analysed_value(alloc, *cell, costs),
         Command::Embargo => alone(alloc, "Embargo"),
         Command::Lift => alone(alloc, "Lift"),
+        Command::Rename { name, shown } => renamed(alloc, name, shown),
     }
 }
 
@@ -204,6 +206,17 @@ fn assigned(alloc: Global, word: &str, name: &Name, role: Role) -> Result<Value,
         .object()
 }
 
+fn renamed(alloc: Global, name: &Name, shown: &ShownName) -> Result<Value, AllocError>
+    ensures writable { IsWritable (command.Rename name.now shown.now) }
+    ensures value { IfOk result (λ value. view value ≡ command_data (command.Rename name.now shown.now)) }
+{
+    ObjectWriter::new(alloc)
+        .member("cmd", Value::try_from_str(alloc, "Rename"))
+        .member("name", name_value(alloc, name))
+        .member("shown", shown_value(alloc, shown))
+        .object()
+}
+
 fn inherited(alloc: Global, word: &str, senior: Role, junior: Role) -> Result<Value, AllocError>
     ensures { IfOk result (λ value. view value ≡ object (word_data word.now
         (member (codes "junior") (string (role_name junior))
@@ -221,6 +234,13 @@ fn name_value(alloc: Global, name: &Name) -> Result<Value, AllocError>
     ensures value { IfOk result (λ value. view value ≡ string name.now) }
 {
     Value::try_from_str(alloc, name.as_str())
+}
+
+fn shown_value(alloc: Global, shown: &ShownName) -> Result<Value, AllocError>
+    ensures shown { is_shown_or_none shown.now ≡ true }
+    ensures value { IfOk result (λ value. view value ≡ string shown.now) }
+{
+    Value::try_from_str(alloc, shown.as_str())
 }
 
 fn role_value(alloc: Global, role: Role) -> Result<Value, AllocError>

@@ -9,6 +9,7 @@ abbrev pub no_session : SessionState
 no_session = record {
   roles = record { accounts = []; pairs = []; edition = First };
   digests = [];
+  names = [];
   seats = [];
   public = record {
     movement = record {
@@ -33,4 +34,5 @@ no_session = record {
   cells = [];
   deals = [];
   tables = [];
+  notices = record { title = None; date = None; reasons = [] };
 }

@@ -60,6 +60,7 @@ told_whole entry (command.Solved board table) is = absurd (cc)
 told_whole entry (command.Analysed cell costs) is = absurd (cc)
 told_whole entry command.Embargo is = refl
 told_whole entry command.Lift is = refl
+told_whole entry (command.Rename name shown) is = refl
 
 -- with the actor that was read
 with_actor : (entry : Entry) (actor : Actor) (read : Result KeptEntry TextFault) → entry.actor ≡ actor
@@ -139,6 +140,8 @@ command_told actor command.Embargo d read is readable same solves analyses gives
     sent_told actor command.Embargo d read is readable same gives
 command_told actor command.Lift d read is readable same solves analyses gives =
     sent_told actor command.Lift d read is readable same gives
+command_told actor (command.Rename name shown) d read is readable same solves analyses gives =
+    sent_told actor (command.Rename name shown) d read is readable same gives
 
 pub entry_told : (entry : Entry) (actor : Actor) (d : Data) (read : Result KeptEntry TextFault) → entry.actor ≡ actor
     → IsKeepable entry → IsReadable entry.actor entry.command → command_data entry.command ≡ d

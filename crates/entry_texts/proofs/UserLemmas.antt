@@ -27,7 +27,7 @@ use Rattle.session_roles.specs.declared.edition.Edition.TheVariants.{Second}
 use Rattle.json_fields.specs.Form.{Member, Form, form, ◌with◌, applied, formed, by_word, has_only}
 use Rattle.json_fields.specs.Field.{text_at}
 use Rattle.json_fields.specs.Message.{table, board}
-use Rattle.json_fields.specs.User.{user_name, pair, place, digest}
+use Rattle.json_fields.specs.User.{user_name, new_shown, pair, place, digest}
 use Rattle.command_object.specs.Command.{commands, command_called, command_of}
 use Rattle.command_object.specs.Command.{north_south, east_west, reason, role, senior, junior}
 use Rattle.command_object.specs.Result.{outcome}
@@ -124,7 +124,11 @@ users = (
                                     form_makes _ _ _ refl,
                                     (
                                       form_makes _ _ _ refl,
-                                      tt,
+                                      (
+                                        with_makes _ _ new_shown
+                                            (with_makes _ _ user_name (form_makes _ _ _ (λ a b. refl))),
+                                        tt,
+                                      ),
                                     ),
                                   ),
                                 ),

@@ -6,7 +6,7 @@ use session_commands::{Actor, Entry};
 use std::alloc::Global;
 
 /// Commands as docs/PROTOCOL.md shows them, without spaces and with their members in the order of their names.
-static SENT: [&str; 22] = [
+static SENT: [&str; 24] = [
     r#"{"board":1,"cmd":"Enter","play":["S2","D2","C2","SA"],"result":{"by":"N","doubled":0,"level":4,"strain":"S","tricks":10},"table":1}"#,
     r#"{"board":1,"cmd":"Confirm","result":{"by":"N","doubled":0,"level":4,"strain":"S","tricks":10},"table":1}"#,
     r#"{"board":2,"cmd":"Confirm","result":"pass","table":2}"#,
@@ -28,6 +28,8 @@ static SENT: [&str; 22] = [
     r#"{"cmd":"Assign","name":"d","role":"Contestant"}"#,
     r#"{"cmd":"Embargo"}"#,
     r#"{"cmd":"Lift"}"#,
+    r#"{"cmd":"Rename","name":"n2","shown":"Anna Müller"}"#,
+    r#"{"cmd":"Rename","name":"n2","shown":""}"#,
     r#"{"cmd":"Assign","name":"s","role":"Commentator"}"#,
 ];
 

@@ -42,6 +42,9 @@ use Rattle.json_fields.specs.Form.{
   read_if_there,
   IsIfThere,
   if_there,
+  read_or_else,
+  IsOrElse,
+  or_else,
   applied,
   form,
   ◌with◌,
@@ -59,6 +62,8 @@ use Rattle.json_fields.specs.Field.{
   small,
   numbered,
   short_name,
+  passing,
+  tested,
   named,
   at_most,
   limited,
@@ -124,6 +129,19 @@ if_there_reads m agrees None None is = refl
 if_there_reads m agrees None (Some x) is = absurd is
 if_there_reads m agrees (Some d) None is = absurd is
 if_there_reads m agrees (Some d) (Some x) is = ap (option_map (λ y. Some y)) (agrees.reads (Some d) x is)
+
+or_else_read : {A : Type 0} (other : A) (m : Member A) → Agrees m → (o : Option Data) (x : A) →
+    read_or_else other m.value o ≡ Some x → IsOrElse other m.Is o x
+or_else_read other m agrees None x h = same_Some other x h
+or_else_read other m agrees (Some d) x h = agrees.read (Some d) x h
+
+or_else_reads : {A : Type 0} (other : A) (m : Member A) → Agrees m → (o : Option Data) (x : A) →
+    IsOrElse other m.Is o x → read_or_else other m.value o ≡ Some x
+or_else_reads other m agrees None x is = ap Some is
+or_else_reads other m agrees (Some d) x is = agrees.reads (Some d) x is
+
+pub or_else_agrees : {A : Type 0} (other : A) (m : Member A) → Agrees m → Agrees (or_else other m)
+or_else_agrees other m agrees = record { read = or_else_read other m agrees; reads = or_else_reads other m agrees }
 
 pub if_there_agrees : {A : Type 0} (m : Member A) → Agrees m → Agrees (if_there m)
 if_there_agrees m agrees = record { read = if_there_read m agrees; reads = if_there_reads m agrees }
@@ -297,6 +315,20 @@ pub called_agrees : (name : List ℕ) → Agrees (called name)
 called_agrees name = record {
   read = λ o bytes h. let both = name_read (text o) bytes h in record { is = both.0; short = both.1 };
   reads = λ o bytes is. name_reads (text o) bytes is.is is.short;
+}
+
+pub passing_read : (test : List ℕ → Bool) (o : Option (List ℕ)) (bytes : List ℕ) → passing test o ≡ Some bytes
+    → (o ≡ Some bytes) × (test bytes ≡ true)
+passing_read test None bytes h = absurd (cc)
+passing_read test (Some other) bytes h =
+    let both = kept (test other) (Some other) bytes h in
+    let same : other ≡ bytes = cc (both.1) in
+    (ap Some same, subst (λ t. test t ≡ true) same both.0)
+
+pub tested_agrees : (name : List ℕ) (test : List ℕ → Bool) → Agrees (tested name test)
+tested_agrees name test = record {
+  read = λ o bytes h. let both = passing_read test (text o) bytes h in record { is = both.0; passes = both.1 };
+  reads = λ o bytes is. ap (passing test) is.is ∙ ap (λ b. cond b (Some bytes) None) is.passes;
 }
 
 pub written_agrees : (name : List ℕ) → Agrees (written name)

@@ -11,6 +11,7 @@ use Rattle.std.proofs.Common.{
   ◌≤◌,
   ◌^◌,
   List,
+  [],
   ◌∷◌,
   ◌++◌,
   map,
@@ -63,9 +64,14 @@ use Rattle.session_roles.specs.declared.role.Role.TheVariants.{
   Commentator,
 }
 use Rattle.session_roles.specs.Role.{roles_of, is_role_of, role_name}
+use Rattle.user_names.specs.MemberNumber.{is_member_number}
+use Rattle.user_names.specs.ShownName.{is_shown_name, is_shown_or_none}
 use Rattle.user_names.specs.declared.digest.Digest.{Digest}
-use Rattle.json_fields.specs.Field.{text, number, called}
+use Rattle.json_fields.specs.Field.{text, number, called, tested}
 use Rattle.json_fields.specs.User.{
+  shown_name,
+  new_shown,
+  member_number,
   stood_for,
   digest_named,
   digest,
@@ -81,7 +87,27 @@ use Rattle.json_fields.specs.User.{
   place,
 }
 use Rattle.json_fields.proofs.LetterLemmas.{place_found, place_reads, find_nothing, found_passes}
-use Rattle.json_fields.proofs.FormLemmas.{Agrees, kept, named_agrees, listed_agrees, if_there_agrees}
+use Rattle.json_fields.proofs.FormLemmas.{
+  Agrees,
+  kept,
+  named_agrees,
+  listed_agrees,
+  tested_agrees,
+  if_there_agrees,
+  or_else_agrees,
+}
+
+-- ---- names to show, and numbers
+
+pub shown_agrees : Agrees shown_name
+shown_agrees = or_else_agrees [] (tested (codes "shown") is_shown_name) (tested_agrees (codes "shown") is_shown_name)
+
+pub new_shown_agrees : Agrees new_shown
+new_shown_agrees = tested_agrees (codes "shown") is_shown_or_none
+
+pub member_number_agrees : Agrees member_number
+member_number_agrees =
+    if_there_agrees (tested (codes "number") is_member_number) (tested_agrees (codes "number") is_member_number)
 
 -- ---- digests
 

@@ -4,6 +4,9 @@ use Rattle.std.specs.Prelude.{
   ℕ,
   ◌<◌,
   ◌≤◌,
+  true,
+  Bool,
+  ◌&&◌,
   List,
   length,
   nat_lt,
@@ -17,6 +20,7 @@ use Rattle.std.specs.Prelude.{
 use Rattle.serde_json.specs.Data.{Data, Items}
 use Rattle.serde_json.specs.Find.{get, as_str, as_number, as_u64, as_array}
 use Rattle.user_names.specs.declared.name.TheConstants.Name.{MOST}
+use Rattle.user_names.specs.ShownText.{is_shown_text}
 use Rattle.json_fields.specs.Form.{Member, each, AreEach}
 
 -- a whole number: a token without point and exponent, other than `-0`, from 0 to 2 ^ 64 - 1
@@ -86,6 +90,30 @@ pub record SaysName (o : Option Data) (name : List ℕ) : Type 0 where
 -- a member of this name that is a name itself
 abbrev pub called : List ℕ → Member (List ℕ)
 called name = record { name = name; value = λ o. short_name (text o); Is = SaysName }
+
+-- ---- texts that pass a test
+
+-- a text that passes
+abbrev pub passing : (List ℕ → Bool) → Option (List ℕ) → Option (List ℕ)
+passing test None = None
+passing test (Some bytes) = if test bytes then Some bytes else None
+
+-- what stands there is this text, and it passes
+pub record SaysPassing (test : List ℕ → Bool) (o : Option Data) (bytes : List ℕ) : Type 0 where
+  pub is : text o ≡ Some bytes
+  pub passes : test bytes ≡ true
+
+-- a member of this name that is a text which passes a test
+abbrev pub tested : List ℕ → (List ℕ → Bool) → Member (List ℕ)
+tested name test = record { name = name; value = λ o. passing test (text o); Is = SaysPassing test }
+
+-- a text that may be shown, of so many bytes at most
+unfoldable pub is_shown_within : ℕ → List ℕ → Bool
+is_shown_within most bytes = nat_le (length bytes) most && is_shown_text bytes
+
+-- a member of this name that is such a text
+abbrev pub shown_within : List ℕ → ℕ → Member (List ℕ)
+shown_within name most = tested name (is_shown_within most)
 
 -- ---- texts that name something
 

@@ -46,6 +46,19 @@ IsIfThere Is (Some d) (Some x) = Is (Some d) x
 abbrev pub if_there : {A : Type 0} → Member A → Member (Option A)
 if_there m = record { name = m.name; value = read_if_there m.value; Is = IsIfThere m.Is }
 
+-- what is read of a member that may be missing and then is another value
+abbrev pub read_or_else : {A : Type 0} → A → (Option Data → Option A) → Option Data → Option A
+read_or_else other read None = Some other
+read_or_else other read (Some d) = read (Some d)
+
+abbrev pub IsOrElse : {A : Type 0} → A → (Option Data → A → Type 0) → Option Data → A → Type 0
+IsOrElse other Is None x = other ≡ x
+IsOrElse other Is (Some d) x = Is (Some d) x
+
+-- a member that may be missing, and is another value then
+abbrev pub or_else : {A : Type 0} → A → Member A → Member A
+or_else other m = record { name = m.name; value = read_or_else other m.value; Is = IsOrElse other m.Is }
+
 -- a form: its word, the names of its members, the value that they make, and when they make a value
 pub record Form (A : Type 0) : Type 1 where
   pub word : List ℕ

@@ -34,13 +34,27 @@ use Rattle.session_roles.specs.declared.edition.Edition.{Edition}
 use Rattle.session_roles.specs.declared.role.Role.{Role}
 use Rattle.session_roles.specs.Role.{roles_of, is_role_of, role_name}
 use Rattle.user_names.specs.declared.digest.Digest.{Digest}
-use Rattle.json_fields.specs.Form.{Member, if_there}
-use Rattle.json_fields.specs.Field.{text, called, named, listed}
+use Rattle.user_names.specs.MemberNumber.{is_member_number}
+use Rattle.user_names.specs.ShownName.{is_shown_name, is_shown_or_none}
+use Rattle.json_fields.specs.Form.{Member, if_there, or_else}
+use Rattle.json_fields.specs.Field.{text, called, tested, named, listed}
 use Rattle.json_fields.specs.Letter.{place_named}
 
 -- the name of a user
 abbrev pub user_name : Member (List ℕ)
 user_name = called (codes "name")
+
+-- the name by which a user is shown, and the empty text where none is given
+abbrev pub shown_name : Member (List ℕ)
+shown_name = or_else [] (tested (codes "shown") is_shown_name)
+
+-- a new name by which a user is shown; the empty text takes away the one that there is
+abbrev pub new_shown : Member (List ℕ)
+new_shown = tested (codes "shown") is_shown_or_none
+
+-- the number that a user has as a member of a club or a federation, where it is given
+abbrev pub member_number : Member (Option (List ℕ))
+member_number = if_there (tested (codes "number") is_member_number)
 
 -- ---- digests: 64 hexadecimal digits, capital or small
 

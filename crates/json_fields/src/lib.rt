@@ -34,5 +34,8 @@ pub use message::{read_board, read_declarer, read_since, read_strain, read_table
 pub use object_writer::ObjectWriter;
 pub use request_fault::RequestFault;
 pub use text_value::string_value;
-pub use user::{pair_said, read_absent, read_digest, read_pair, read_place, read_role, role_named};
+pub use user::{
+    pair_said, read_absent, read_digest, read_new_shown, read_number, read_pair, read_place,
+    read_role, read_shown, role_named,
+};
 pub use word::is_one_of;

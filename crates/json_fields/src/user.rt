@@ -3,7 +3,7 @@
 ghost use Rattle.std.specs.Prelude.{◌≡◌, Some};
 ghost use Rattle.serde_json.specs.Find.{get};
 ghost use Rattle.serde_json.specs.View.{view};
-ghost use Rattle.json_fields.specs.User.{digest_named, digest, role_named, role_of, pair_named, pair_said, pair, absent, place};
+ghost use Rattle.json_fields.specs.User.{shown_name, new_shown, member_number, digest_named, digest, role_named, role_of, pair_named, pair_said, pair, absent, place};
 
 use crate::field::text_at;
 use crate::letter::place_named;
@@ -11,7 +11,46 @@ use hex::FromHex;
 use serde_json::Value;
 use session_roles::{Edition, Role};
 use table_terms::{Pair, Place};
-use user_names::Digest;
+use user_names::{Digest, MemberNumber, ShownName};
+
+/// The name to show in the member `shown`, and none where it is missing.
+pub fn read_shown(value: &Value) -> Option<ShownName>
+    ensures { result ≡ shown_name.value (get shown_name.name (view value.now)) }
+{
+    match value.get("shown") {
+        None => Some(ShownName::none()),
+        Some(member) => match member.as_str() {
+            Some(text) => ShownName::new(text).ok(),
+            None => None,
+        },
+    }
+}
+
+/// The name to show, or none, in the member `shown`.
+pub fn read_new_shown(value: &Value) -> Option<ShownName>
+    ensures { result ≡ new_shown.value (get new_shown.name (view value.now)) }
+{
+    match text_at(value, "shown") {
+        Some(text) => ShownName::or_none(text).ok(),
+        None => None,
+    }
+}
+
+/// The number in the member `number`, where there is one.
+pub fn read_number(value: &Value) -> Option<Option<MemberNumber>>
+    ensures { result ≡ member_number.value (get member_number.name (view value.now)) }
+{
+    match value.get("number") {
+        None => Some(None),
+        Some(member) => match member.as_str() {
+            Some(text) => match MemberNumber::new(text) {
+                Ok(number) => Some(Some(number)),
+                Err(_) => None,
+            },
+            None => None,
+        },
+    }
+}
 
 fn digest_named(digits: &str) -> Option<Digest>
     ensures { result ≡ digest_named digits.now }

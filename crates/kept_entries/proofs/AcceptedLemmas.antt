@@ -112,6 +112,8 @@ free_readable state (User giver) command.Embargo is = tt
 free_readable state Solver command.Embargo is = absurd (not_own is.permitted)
 free_readable state (User giver) command.Lift is = tt
 free_readable state Solver command.Lift is = absurd (not_own is.permitted)
+free_readable state (User giver) (command.Rename name shown) is = tt
+free_readable state Solver (command.Rename name shown) is = absurd (not_own is.permitted)
 
 pub entry_readable : (opening : SessionState) (before : List Entry) (entry : Entry) → MayFollow opening before entry
     → IsReadable entry.actor entry.command

@@ -47,7 +47,10 @@ pub fn session_of_files<R: Files + AllocGlobal>(
     ensures fault { IfErr result (λ fault. is_of_a_journal fault ≡ false) }
 {
     match texts_of_files(rt, object_path, boards_path) {
-        Ok(texts) => session_of_texts(rt.alloc(), texts.object.as_slice(), texts.boards.as_slice()),
+        Ok(texts) => {
+            let boards = texts.boards.as_slice();
+            session_of_texts(rt.alloc(), texts.object.as_slice(), boards)
+        }
         Err(fault) => Err(fault),
     }
 }

@@ -9,7 +9,7 @@ use Rattle.query_filter.specs.declared.trick_table.TrickTable.{TrickTable}
 use Rattle.par.specs.declared.par.Par.{Par}
 use Rattle.par.specs.Auction.{best_bid, better_bid, bid_out, choice, is_more_for, others_choose, par_of, passed_out}
 use Rattle.par.specs.Bid.{all_bids}
-use Rattle.par.specs.Laws.{is_answered, GainsNothing, StandsAsPar}
+use Rattle.par.specs.Laws.{bid_answered, GainsNothing, StandsAsPar}
 use Rattle.par.proofs.ChoiceLemmas.{
   no_more_trans,
   left_bid_no_more,
@@ -52,7 +52,7 @@ has_best table vulnerability (suc higher) player some = (_, refl)
 -- the next bid: the best bid is the better of it and the best of those above
 next_best : (table : TrickTable) (vulnerability : Vulnerability) (higher : ℕ) (player : Place) (best : Par) →
     best_bid table vulnerability (suc higher) player ≡ Some best →
-    best ≡ better_bid player (best_bid table vulnerability higher player) (is_answered table vulnerability higher player)
+    best ≡ better_bid player (best_bid table vulnerability higher player) (bid_answered table vulnerability higher player)
 unfolding best_bid
 next_best table vulnerability higher player best is = cc
 
@@ -66,17 +66,17 @@ best_gains : (table : TrickTable) (vulnerability : Vulnerability) (left : ℕ) (
     best_bid table vulnerability left player ≡ Some best → GainsNothing table vulnerability left player best
 best_gains table vulnerability zero player best is higher below = absurd (omega arith)
 best_gains table vulnerability (suc left) player best is higher below =
-    let P : Par → Type 0 = λ p. is_more_for (side_of player) (is_answered table vulnerability higher player) p ≡ false in
+    let P : Par → Type 0 = λ p. is_more_for (side_of player) (bid_answered table vulnerability higher player) p ≡ false in
     let better = better_bid player (best_bid table vulnerability left player)
-    (is_answered table vulnerability left player) in
+    (bid_answered table vulnerability left player) in
     let at : P better = elim (cases_lt higher left) [
       | inl less ↦ let (above, held) = has_best table vulnerability left player (omega arith) in
-          no_more_trans (side_of player) better above (is_answered table vulnerability higher player)
-          (higher_no_more player (best_bid table vulnerability left player) (is_answered table vulnerability left player) above held)
+          no_more_trans (side_of player) better above (bid_answered table vulnerability higher player)
+          (higher_no_more player (best_bid table vulnerability left player) (bid_answered table vulnerability left player) above held)
           (best_gains table vulnerability left player above held higher less)
       | inr more ↦ let same : left ≡ higher = omega arith in
-          subst (λ (k : ℕ). is_more_for (side_of player) (is_answered table vulnerability k player) better ≡ false) same
-          (lower_no_more player (best_bid table vulnerability left player) (is_answered table vulnerability left player))
+          subst (λ (k : ℕ). is_more_for (side_of player) (bid_answered table vulnerability k player) better ≡ false) same
+          (lower_no_more player (best_bid table vulnerability left player) (bid_answered table vulnerability left player))
     ] in
     subst P (sym (next_best table vulnerability left player best is)) at
 
@@ -86,7 +86,7 @@ untempted : (table : TrickTable) (vulnerability : Vulnerability) (left : ℕ) (p
     is_more_for (side_of player) best end ≡ false) → GainsNothing table vulnerability left player end
 untempted table vulnerability left player end not_more higher below =
     let (best, held) = has_best table vulnerability left player (omega arith) in
-    no_more_trans (side_of player) end best (is_answered table vulnerability higher player) (not_more best held)
+    no_more_trans (side_of player) end best (bid_answered table vulnerability higher player) (not_more best held)
     (best_gains table vulnerability left player best held higher below)
 
 -- ---- the other three
@@ -158,9 +158,9 @@ more_left table vulnerability left end stands = record {
 answered_stands : (table : TrickTable) (vulnerability : Vulnerability) (higher : ℕ) (player : Place) →
     ((other : Place) (best : Par) → best_bid table vulnerability higher other ≡ Some best →
     StandsAsPar table vulnerability higher best) →
-    StandsAsPar table vulnerability (suc higher) (is_answered table vulnerability higher player)
+    StandsAsPar table vulnerability (suc higher) (bid_answered table vulnerability higher player)
 answered_stands table vulnerability higher player above =
-    let end = is_answered table vulnerability higher player in
+    let end = bid_answered table vulnerability higher player in
     let P : Place → Type 0 = λ q. q ≢ player → GainsNothing table vulnerability higher q end in
     elim (others-cases (best_bid table vulnerability higher) player (bid_out table vulnerability higher player)) [
       | inr one ↦ more_left table vulnerability higher end (above one.0 end one.1)
@@ -184,7 +184,7 @@ best_stands : (table : TrickTable) (vulnerability : Vulnerability) (left : ℕ) 
     best_bid table vulnerability left player ≡ Some best → StandsAsPar table vulnerability left best
 best_stands table vulnerability zero player best is = absurd (no_best table vulnerability player best is)
 best_stands table vulnerability (suc left) player best is =
-    let lower = is_answered table vulnerability left player in
+    let lower = bid_answered table vulnerability left player in
     let better = better_bid player (best_bid table vulnerability left player) lower in
     let at : StandsAsPar table vulnerability (suc left) better = elim
     (better-cases player (best_bid table vulnerability left player) lower) [

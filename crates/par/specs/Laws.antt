@@ -31,15 +31,15 @@ pub record IsBid (level : ℕ) (strain : Strain) (higher : ℕ) : Type 0 where
   pub in_strain : strain_of higher ≡ strain
 
 -- what a player's bid comes to, where those who follow bid on or pass, each for the best
-abbrev pub is_answered : TrickTable → Vulnerability → ℕ → Place → Par
-is_answered table vulnerability higher player =
+abbrev pub bid_answered : TrickTable → Vulnerability → ℕ → Place → Par
+bid_answered table vulnerability higher player =
     others_choose (best_bid table vulnerability higher) player (bid_out table vulnerability higher player)
 
 -- none of so many bids, the highest ones, brings the player's side more than an end does
 abbrev pub GainsNothing : TrickTable → Vulnerability → ℕ → Place → Par → Type 0
 GainsNothing table vulnerability left player end =
     (higher : ℕ) → higher < left →
-    is_more_for (side_of player) (is_answered table vulnerability higher player) end ≡ false
+    is_more_for (side_of player) (bid_answered table vulnerability higher player) end ≡ false
 
 -- an end is a bid that stands, one of so many: none of the other three players gains by a bid that outranks it
 pub record StandsAsPar (table : TrickTable) (vulnerability : Vulnerability) (left : ℕ) (end : Par) : Type 0 where

@@ -36,7 +36,7 @@ use Rattle.disclosure_rules.specs.declared.public.Public.{Public}
 use Rattle.disclosure_rules.specs.declared.viewer.Viewer.{Viewer}
 use Rattle.disclosure_rules.specs.Policy.{first_rule}
 use Rattle.disclosure_rules.proofs.FirstLemmas.{public_allowed}
-use Rattle.session_state.specs.Readers.{seats_in_order}
+use Rattle.session_state.specs.Readers.{seats_in_order, shown_users}
 use Rattle.session_state.specs.SessionState.{SessionState, cell_at, IsPlaced}
 use Rattle.session_book.proofs.session_state_lemmas.ScheduleLemmas.{placed}
 use Rattle.query_filter.specs.declared.trick_table.TrickTable.{TrickTable}
@@ -44,7 +44,6 @@ use Rattle.session_queries.specs.Facts.{has_table_on}
 use Rattle.session_queries.specs.Content.{Content, analysis_of, play_of, costs_of, reason_of}
 use Rattle.session_queries.specs.Reading.{
   as_public,
-  as_seats,
   as_accounts,
   as_pairs,
   as_hands,
@@ -53,7 +52,6 @@ use Rattle.session_queries.specs.Reading.{
   as_costs,
   as_reason,
   shown_public,
-  shown_seats,
   shown_hands,
   shown_marks,
   shown_results,
@@ -118,12 +116,10 @@ module _ (state : SessionState) (viewer : Viewer) where
       none)
 
   pub status_answered : first_rule state.public viewer fact.Public ≡ None →
-      body.Status state.public (seats_in_order state) ≡ answer_from query.Status (shown state viewer)
+      body.Status state.public (seats_in_order state) (shown_users state) state.notices ≡ answer_from query.Status (shown state viewer)
   unfolding answer_from
   status_answered none =
-      sym ((λ i. status_by (public_shown fact.Public none i) (shown_seats (shown state viewer)))
-      ∙ ap (λ c. status_by (Some state.public) (option_and_then as_seats c))
-      (content_allowed state viewer fact.Public refl none))
+      sym (ap status_by (content_allowed state viewer fact.Public refl none))
 
   pub board_answered : (board : ℕ) (hands : Hands) (marks : Marks) → has_board state.public.movement board ≡ true →
       first_rule state.public viewer (fact.Hands board) ≡ None → slice_get state.deals (board - 1) ≡ Some hands →

@@ -44,15 +44,25 @@ use Rattle.query_filter.specs.Formula.{Formula}
 use Rattle.query_filter.specs.declared.trick_table.TrickTable.{TrickTable}
 use Rattle.session_state.specs.OwnNumbers.{KeepsOwn}
 use Rattle.session_state.specs.SessionState.{SessionState, cell_at, seat_of, viewer_of}
-use Rattle.session_state.specs.declared.seated.Seated.{Seated}
-use Rattle.session_queries.specs.Content.{Content, analysis_of, costs_of}
+use Rattle.session_queries.specs.Content.{
+  Content,
+  analysis_of,
+  costs_of,
+  says_public,
+  says_accounts,
+  says_hands,
+  says_analysis,
+  says_result,
+  says_play,
+  says_costs,
+  says_reason,
+}
 use Rattle.session_queries.specs.Facts.{has_place, has_table_on}
 use Rattle.session_queries.specs.Numbers.{IsAnalysisOf, IsCountOf}
 use Rattle.session_queries.specs.Reading.{
   as_analysis,
   as_costs,
   shown_public,
-  shown_seats,
   shown_accounts,
   shown_pairs,
   shown_hands,
@@ -91,7 +101,7 @@ kind body.NoSuchBoard = 0
 kind body.NoSuchCell = 1
 kind body.Behind = 2
 kind (body.Denied denial) = 3
-kind (body.Status public seats) = 4
+kind (body.Status public seats names notices) = 4
 kind (body.Board board hands marks) = 5
 kind (body.Traveller board rows) = 6
 kind (body.Analysis board tricks) = 7
@@ -131,10 +141,16 @@ kind_above query.Accounts = omega arith
 abbrev IsOfKind : ℕ → Body → Type 0
 IsOfKind k found = (kind found ≡ k) ⊎ (kind found ≡ 0)
 
-status_kind : (public : Option Public) (seats : Option (List Seated)) → IsOfKind 4 (status_by public seats)
-status_kind None seats = inr refl
-status_kind (Some public) None = inr refl
-status_kind (Some public) (Some seats) = inl refl
+status_kind : (said : Option Content) → IsOfKind 4 (status_by said)
+status_kind None = inr refl
+status_kind (Some (says_public public seats names notices)) = inl refl
+status_kind (Some (says_accounts users pairs)) = inr refl
+status_kind (Some (says_hands found)) = inr refl
+status_kind (Some (says_analysis tricks)) = inr refl
+status_kind (Some (says_result found)) = inr refl
+status_kind (Some (says_play found)) = inr refl
+status_kind (Some (says_costs found)) = inr refl
+status_kind (Some (says_reason found)) = inr refl
 
 board_kind : (board : ℕ) (hands : Option Hands) (marks : Option Marks) → IsOfKind 5 (board_by board hands marks)
 board_kind board None marks = inr refl
@@ -169,7 +185,7 @@ accounts_kind (Some users) (Some pairs) = inl refl
 -- an answer is of its query's kind
 answer_kind : (asked : Query) (items : List Shown) → IsOfKind (kind_asked asked) (answer_from asked items)
 unfolding answer_from
-answer_kind query.Status items = status_kind (shown_public items) (shown_seats items)
+answer_kind query.Status items = status_kind (content_shown items fact.Public)
 answer_kind (query.Board board) items = board_kind board (shown_hands items board) (shown_marks items board)
 answer_kind (query.Traveller board) items = traveller_kind items board (shown_public items) (shown_marks items board)
 answer_kind (query.Analysis board) items = analysis_kind board (shown_analysis items board)

@@ -14,6 +14,7 @@ use Rattle.disclosure_rules.proofs.FirstLemmas.{hands_allowed}
 use Rattle.rbac.specs.declared.account.Account.{Account}
 use Rattle.session_state.specs.SessionState.{SessionState, viewer_of}
 use Rattle.session_state.specs.declared.seated.Seated.{Seated}
+use Rattle.session_state.specs.Readers.{shown_among}
 use Rattle.session_queries.specs.declared.query.Query.{Query}
 use Rattle.session_queries.specs.Content.{
   content,
@@ -51,6 +52,7 @@ module _ (board : ℕ) (one other : SessionState) (user : List ℕ) (differ : Di
   same_public = λ i. says_public (differ.public i)
       (filter_map (λ (account : Account). option_map (λ seat. record { name = account.name; seat = seat })
       (seat_among (differ.seats i) account.name)) (differ.roles i).accounts)
+      (shown_among (differ.roles i).accounts (differ.names i)) (differ.notices i)
 
   free : (rule : Option Rule) → not (is_some rule) ≡ true → rule ≡ None
   free None none = refl

@@ -12,4 +12,5 @@ pub mod PlaceLemmas
 pub mod ShowingLemmas
 pub mod StandingLemmas
 pub mod StepLemmas
+pub mod ToldLemmas
 pub mod TotalLemmas

@@ -23,8 +23,10 @@ pub record Agree (one other : SessionState) (user : List ℕ) : Type 0 where
 -- beyond which of them have a result; digests, which no fact says, may differ too
 pub record DifferAt (board : ℕ) (one other : SessionState) : Type 0 where
   pub roles : one.roles ≡ other.roles
+  pub names : one.names ≡ other.names
   pub seats : one.seats ≡ other.seats
   pub public : one.public ≡ other.public
+  pub notices : one.notices ≡ other.notices
   pub hands : (number : ℕ) → has_board one.public.movement number ≡ true → number ≢ board →
       slice_get one.deals (number - 1) ≡ slice_get other.deals (number - 1)
   pub analyses : (number : ℕ) → has_board one.public.movement number ≡ true → number ≢ board →

@@ -9,18 +9,18 @@ use Rattle.query_filter.specs.Formula.{Formula}
 use Rattle.query_filter.specs.declared.trick_table.TrickTable.{TrickTable}
 use Rattle.rbac.specs.declared.account.Account.{Account}
 use Rattle.rbac.specs.declared.inheritance.Inheritance.{Inheritance}
-use Rattle.session_state.specs.declared.seated.Seated.{Seated}
+use Rattle.disclosure_rules.specs.declared.fact.Fact.TheVariants as fact
+use Rattle.session_queries.specs.Content.{Content, says_public}
 use Rattle.session_queries.specs.Facts.{boards}
 use Rattle.session_queries.specs.Reading.{
   shown_public,
-  shown_seats,
   shown_accounts,
   shown_pairs,
   shown_hands,
   shown_marks,
 }
 use Rattle.session_queries.specs.Reading.{shown_analysis, shown_play, shown_costs, shown_reason, shown_results}
-use Rattle.session_queries.specs.Shown.{Shown}
+use Rattle.session_queries.specs.Shown.{Shown, content_shown}
 use Rattle.session_queries.specs.declared.query.Query.{Query}
 use Rattle.session_queries.specs.declared.query.Query.TheVariants as query
 use Rattle.session_queries.specs.declared.body.Body.{Body}
@@ -30,11 +30,10 @@ use Rattle.standings.specs.Traveller.{traveller_rows}
 use Rattle.published_view.specs.Listing.{listed_from}
 use Rattle.standings.specs.Ranking.{earnings_of, ranking_of}
 
--- what every member may see
-abbrev pub status_by : Option Public → Option (List Seated) → Body
-status_by None seats = body.NoSuchBoard
-status_by (Some public) None = body.NoSuchBoard
-status_by (Some public) (Some seats) = body.Status public seats
+-- what the public fact says, where it is shown
+abbrev pub status_by : Option Content → Body
+status_by (Some (says_public public seats names notices)) = body.Status public seats names notices
+status_by _ = body.NoSuchBoard
 
 -- a board with its marks, where both are shown; what isn't shown can't be told from what isn't there
 abbrev pub board_by : ℕ → Option Hands → Option Marks → Body
@@ -91,7 +90,7 @@ accounts_by (Some users) (Some pairs) = body.Accounts users pairs
 
 -- the answer to each query, from what is shown
 unfoldable pub answer_from : Query → List Shown → Body
-answer_from query.Status items = status_by (shown_public items) (shown_seats items)
+answer_from query.Status items = status_by (content_shown items fact.Public)
 answer_from (query.Board board) items = board_by board (shown_hands items board) (shown_marks items board)
 answer_from (query.Traveller board) items = traveller_by items board (shown_public items) (shown_marks items board)
 answer_from (query.Analysis board) items = analysis_by board (shown_analysis items board)

@@ -3,7 +3,7 @@ ghost use Rattle.std.specs.Prelude.{◌≡◌, ◌≤◌, ◌+◌, ◌-◌, ◌+
 ghost use Rattle.disclosure_rules.specs.Policy.{first_rule};
 ghost use Rattle.movement.specs.Movement.{IsSection, has_board, most_tables};
 ghost use Rattle.session_state.specs.SessionState.{cell_at};
-ghost use Rattle.session_state.specs.Readers.{seats_in_order};
+ghost use Rattle.session_state.specs.Readers.{seats_in_order, shown_users};
 ghost use Rattle.disclosure_rules.specs.declared.fact.Fact.TheVariants as fact;
 ghost use Rattle.standings.specs.Ranking.{most_results};
 ghost use Rattle.session_queries.specs.declared.body.Body.TheVariants as body;
@@ -23,7 +23,8 @@ use rbac::{Account, Inheritance};
 use session_commands::CellState;
 use session_commands::room::with_room;
 use session_queries::{
-    Body, PublicFacts, Query, analysis_of, costs_of, play_of, push_found, reason_of, shown_results,
+    Body, PublicFacts, Query, ToldNotices, analysis_of, costs_of, play_of, push_found, reason_of,
+    shown_results,
 };
 use session_state::{Seated, State};
 use standings::{Earning, add_earnings, ranking_of, traveller_rows};
@@ -83,11 +84,18 @@ fn known(state: &State, cell: Cell) -> CellState
 /// What every member may see.
 fn status(alloc: Global, state: &State) -> Result<Body, AllocError>
     ensures { IfOk result (λ found.
-        found ≡ body.Status state.now.public (seats_in_order state.now)) }
+        found ≡ body.Status state.now.public (seats_in_order state.now) (shown_users state.now) state.now.notices) }
 {
     let public = PublicFacts::new(alloc, state.public().copy())?;
     let seats = Items::new(seats_of(alloc, state)?);
-    Ok(Body::Status { public, seats })
+    let names = Items::new(state.shown_users(alloc)?);
+    let notices = ToldNotices::new(alloc, state.notices().copy(alloc)?)?;
+    Ok(Body::Status {
+        public,
+        seats,
+        names,
+        notices,
+    })
 }
 
 /// Where the users sit, in the order of the accounts.

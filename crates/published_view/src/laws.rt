@@ -7,7 +7,9 @@ ghost use Rattle.disclosure_rules.specs.declared.fact.Fact.TheVariants.{Hands};
 ghost use Rattle.disclosure_rules.specs.Policy.{first_rule};
 ghost use Rattle.disclosure_rules.specs.Seating.{IsSeatedAt};
 ghost use Rattle.denials.specs.declared.denial.Denial.{Denial};
+ghost use Rattle.notices.specs.declared.notices.Notices.{Notices};
 ghost use Rattle.session_state.specs.SessionState.{SessionState, viewer_of};
+ghost use Rattle.session_state.specs.Told.{told_as};
 ghost use Rattle.session_commands.specs.declared.entry.Entry.{Entry};
 ghost use Rattle.session_opening.specs.Opening.{opening_of};
 ghost use Rattle.session_opening.specs.declared.config.Config.{Config};
@@ -17,6 +19,7 @@ ghost use Rattle.session_book.specs.Replay.{replay};
 ghost use Rattle.session_queries.specs.Query.{fact_of};
 ghost use Rattle.session_queries.specs.declared.body.Body.TheVariants.{Denied};
 ghost use Rattle.session_queries.specs.declared.query.Query.{Query};
+ghost use Rattle.session_queries.specs.declared.query.Query.TheVariants.{Status};
 ghost use Rattle.session_queries.specs.declared.reply.Reply.{Reply};
 ghost use Rattle.published_view.specs.Agreement.{Agree, DifferAt};
 ghost use Rattle.published_view.specs.History.{IsGivenIn, state_there, NamesPublished, IsWritten, NamesFirst};
@@ -41,6 +44,14 @@ pub fn two_worlds()
     ensures hidden { (one other : SessionState) (version : ℕ) (user : List ℕ) (query : Query) (since board : ℕ) →
         DifferAt board one other → first_rule one.public (viewer_of one user) (Hands board) ≢ None →
         reply_of one version user query since ≡ reply_of other version user query since }
+{}
+
+/// Names to show, and what a session tells of itself, are told in the status alone: with others every user gets the same
+/// reply to every other query.
+pub fn names_are_told_in_the_status_alone()
+    ensures { (state : SessionState) (names : List (List ℕ)) (notices : Notices) (version : ℕ) (user : List ℕ)
+        (query : Query) (since : ℕ) → query ≢ Status →
+        reply_of (told_as state names notices) version user query since ≡ reply_of state version user query since }
 {}
 
 /// Over every interleaving of desk batches, solver results and queries, each reply names one published version and is

@@ -1,8 +1,8 @@
 -- A reply has no float.
 use Rattle.std.proofs.Common.{◌≡◌, ℕ, ℤ, pos, negsuc, List, [], ◌∷◌, ◌||◌, Bool, Option, Some, None, true, false, refl, ap}
-use Rattle.std.specs.Prelude.{codes, take}
+use Rattle.std.specs.Prelude.{take, option_map}
 use Rattle.std.specs.List.{range_with_len}
-use Rattle.serde_json.specs.Data.{Data, Members, string, object, member, no_members}
+use Rattle.serde_json.specs.Data.{Data, Members, object}
 use Rattle.serde_json.specs.Find.{of_integer, is_float}
 use Rattle.serde_json.specs.Written.{has_float}
 use Rattle.table_terms.specs.declared.pair.Pair.{Pair}
@@ -19,27 +19,16 @@ use Rattle.session_queries.specs.declared.body.Body.{Body}
 use Rattle.session_queries.specs.declared.body.Body.TheVariants as body
 use Rattle.session_queries.specs.declared.reply.Reply.{Reply}
 use Rattle.session_state.specs.declared.seated.Seated.{Seated}
+use Rattle.session_state.specs.declared.shown_user.ShownUser.{ShownUser}
+use Rattle.notices.specs.declared.notices.Notices.{Notices}
 use Rattle.session_queries.specs.declared.card_costs.CardCosts.{CardCosts}
 use Rattle.session_queries.specs.declared.card_costs.CardCosts.TheVariants.{Pending, NoCards, Each, NotAPlay}
 use Rattle.standings.specs.declared.row_result.RowResult.{RowResult}
 use Rattle.standings.specs.declared.row_result.RowResult.TheVariants.{Played, Ruled}
 use Rattle.standings.specs.declared.traveller_row.TravellerRow.{TravellerRow}
 use Rattle.reply_texts.specs.DataOf.{number_data, list_data, option_data}
-use Rattle.reply_texts.specs.StatusText.{
-  phase_name,
-  held_boards,
-  live_tables,
-  tables_data,
-  live_data,
-  mark_data,
-  marks_data,
-  movement_row_data,
-  seat_data,
-  status_data,
-  with_absent,
-  with_edition,
-  with_movement,
-}
+use Rattle.reply_texts.specs.StatusText.{held_boards, live_tables, tables_data, live_data, mark_data, marks_data, movement_row_data, seat_data, shown_data, some_list, edition_data, embargo_data, movement_data, status_slots, status_data}
+use Rattle.reply_texts.specs.Slots.{Slot, with_slot, members_of}
 use Rattle.reply_texts.specs.BoardText.{tricks_data}
 use Rattle.reply_texts.specs.TravellerText.{outcome_data, result_data, traveller_row_data}
 use Rattle.reply_texts.specs.CostsText.{card_costs_data}
@@ -78,45 +67,102 @@ none_in_live_tables public =
     (λ board. none_in_numbers (live_tables public board))
     (range_with_len 1 (boards_of public.movement))
 
-none_with_absent : (absent : Option Pair) (others : Members) → has_float (object others) ≡ false →
-    has_float (object (with_absent absent others)) ≡ false
-none_with_absent None others none = none
-none_with_absent (Some pair) others none = none
+-- a member that is left out, or what stands there, has none
+abbrev NoneThere : Option Data → Type 0
+NoneThere None = Unit {0}
+NoneThere (Some d) = has_float d ≡ false
 
-none_with_edition : (edition : Edition) (embargo : Bool) (others : Members) → has_float (object others) ≡ false →
-    has_float (object (with_edition edition embargo others)) ≡ false
-none_with_edition First embargo others none = none
-none_with_edition Second embargo others none = none
+-- of some members each has none
+abbrev NoneInSlots : List Slot → Type 0
+NoneInSlots [] = Unit {0}
+NoneInSlots (slot ∷ slots) = NoneThere slot.value × NoneInSlots slots
 
-none_with_movement : (named : Bool) (rows : List Row) (others : Members) → has_float (object others) ≡ false →
-    has_float (object (with_movement named rows others)) ≡ false
-none_with_movement false rows others none = none
-none_with_movement true rows others none = λ i. none_in_a_list movement_row_data (λ row. refl) rows i || none i
+none_with_slot : (name : List ℕ) (o : Option Data) (others : Members) → NoneThere o →
+    has_float (object others) ≡ false → has_float (object (with_slot name o others)) ≡ false
+none_with_slot name None others there none = none
+none_with_slot name (Some d) others there none = λ i. there i || none i
 
--- the members after the movement's rows
-abbrev later_members : Public → List Seated → Members
-later_members public seats =
-    member (codes "per_set") (number_data public.movement.per_set)
-    (member (codes "phase") (string (phase_name public.phase))
-    (member (codes "round") (number_data public.round)
-    (member (codes "rounds") (number_data public.movement.rounds)
-    (member (codes "seats") (list_data seat_data seats)
-    (member (codes "tables") (number_data public.movement.tables) no_members)))))
+none_in_slots : (slots : List Slot) → NoneInSlots slots → has_float (object (members_of slots)) ≡ false
+none_in_slots [] none = refl
+none_in_slots (slot ∷ slots) none =
+    none_with_slot slot.name slot.value (members_of slots) none.0 (none_in_slots slots none.1)
 
-none_in_later_members : (public : Public) (seats : List Seated) → has_float (object (later_members public seats)) ≡
-    false
-none_in_later_members public seats =
-    λ i. false || (false || (false || (false
-    || (none_in_a_list seat_data (λ seated. refl) seats i || (false || false)))))
+none_if_said : {A : Type 0} (data_of : A → Data) → ((x : A) → has_float (data_of x) ≡ false) → (o : Option A) →
+    NoneThere (option_map data_of o)
+none_if_said data_of none None = tt
+none_if_said data_of none (Some x) = none x
 
-none_in_a_status : (public : Public) (seats : List Seated) → has_float (status_data public seats) ≡ false
-none_in_a_status public seats =
-    none_with_absent public.movement.absent _ (none_with_edition public.edition public.embargo _
-    (λ i. none_in_numbers (held_boards public) i
-    || (none_in_live_tables public i
-    || (none_in_marks public i
-    || none_with_movement public.movement.is_named (rows public.movement) (later_members public seats)
-    (none_in_later_members public seats) i))))
+none_in_some : {A : Type 0} (data_of : A → Data) → ((x : A) → has_float (data_of x) ≡ false) → (xs : List A) →
+    NoneThere (some_list data_of xs)
+none_in_some data_of none [] = tt
+none_in_some data_of none (x ∷ xs) = none_in_a_list data_of none (x ∷ xs)
+
+none_in_an_edition : (edition : Edition) → NoneThere (edition_data edition)
+none_in_an_edition First = tt
+none_in_an_edition Second = refl
+
+none_in_an_embargo : (edition : Edition) (embargo : Bool) → NoneThere (embargo_data edition embargo)
+none_in_an_embargo First embargo = tt
+none_in_an_embargo Second embargo = refl
+
+none_in_a_movement : (named : Bool) (rows : List Row) → NoneThere (movement_data named rows)
+none_in_a_movement false rows = tt
+none_in_a_movement true rows = none_in_a_list movement_row_data (λ row. refl) rows
+
+none_in_a_status : (public : Public) (seats : List Seated) (names : List ShownUser) (notices : Notices) →
+    has_float (status_data public seats names notices) ≡ false
+none_in_a_status public seats names notices = none_in_slots (status_slots public seats names notices) (
+  none_if_said _ (λ pair. refl) public.movement.absent,
+  (
+    none_if_said _ (λ date. refl) notices.date,
+    (
+      none_in_an_edition public.edition,
+      (
+        none_in_an_embargo public.edition public.embargo,
+        (
+          none_in_numbers (held_boards public),
+          (
+            none_in_live_tables public,
+            (
+              none_in_marks public,
+              (
+                none_in_a_movement public.movement.is_named (rows public.movement),
+                (
+                  none_in_some shown_data (λ user. refl) names,
+                  (
+                    refl,
+                    (
+                      refl,
+                      (
+                        none_in_some _ (λ reason. refl) notices.reasons,
+                        (
+                          refl,
+                          (
+                            refl,
+                            (
+                              none_in_a_list seat_data (λ seated. refl) seats,
+                              (
+                                refl,
+                                (
+                                  none_if_said _ (λ title. refl) notices.title,
+                                  tt,
+                                ),
+                              ),
+                            ),
+                          ),
+                        ),
+                      ),
+                    ),
+                  ),
+                ),
+              ),
+            ),
+          ),
+        ),
+      ),
+    ),
+  ),
+)
 
 none_in_an_outcome : (outcome : Outcome) → has_float (outcome_data outcome) ≡ false
 none_in_an_outcome outcome.PassedOut = refl
@@ -146,7 +192,7 @@ none_in_a_body body.NoSuchBoard = refl
 none_in_a_body body.NoSuchCell = refl
 none_in_a_body body.Behind = refl
 none_in_a_body (body.Denied denial) = refl
-none_in_a_body (body.Status public seats) = none_in_a_status public seats
+none_in_a_body (body.Status public seats names notices) = none_in_a_status public seats names notices
 none_in_a_body (body.Board number hands marks) = refl
 none_in_a_body (body.Traveller number rows) = ap (λ b. b || false) (none_in_a_list traveller_row_data none_in_a_row
     rows)

@@ -3,6 +3,7 @@ pub mod CostsText
 pub mod DataOf
 pub mod ListText
 pub mod ReplyText
+pub mod Slots
 pub mod StatusText
 pub mod TableText
 pub mod TravellerText

@@ -1,9 +1,8 @@
 -- What is written of a session's status: what every member may see.
-use Rattle.std.specs.Prelude.{ℕ, Bool, true, false, Option, None, Some, List, [], ◌∷◌, ◌++◌, take, codes}
+use Rattle.std.specs.Prelude.{ℕ, Bool, true, false, Option, None, Some, option_map, List, [], ◌∷◌, ◌++◌, take, codes}
 use Rattle.std.specs.List.{range_with_len}
-use Rattle.serde_json.specs.Data.{Data, Members, boolean, string, array, object, member, no_members}
+use Rattle.serde_json.specs.Data.{Data, boolean, string, array, object}
 use Rattle.serde_json.specs.View.{items_of}
-use Rattle.table_terms.specs.declared.pair.Pair.{Pair}
 use Rattle.table_terms.specs.Pair.{pair_text}
 use Rattle.table_terms.specs.Place.{place_letter}
 use Rattle.table_terms.specs.Vulnerability.{vulnerability_text}
@@ -18,7 +17,10 @@ use Rattle.disclosure_rules.specs.declared.public.Public.{Public}
 use Rattle.disclosure_rules.specs.LiveCells.{is_live}
 use Rattle.small_sets.specs.Numbers.{has_number, numbers_that}
 use Rattle.session_state.specs.declared.seated.Seated.{Seated}
+use Rattle.session_state.specs.declared.shown_user.ShownUser.{ShownUser}
+use Rattle.notices.specs.declared.notices.Notices.{Notices}
 use Rattle.reply_texts.specs.DataOf.{number_data, list_data}
+use Rattle.reply_texts.specs.Slots.{Slot, always, perhaps, members_of}
 
 abbrev pub phase_name : Phase → List ℕ
 phase_name Running = codes "Running"
@@ -71,32 +73,73 @@ seat_data seated =
     ∷ string (place_letter seated.seat.place ∷ [])
     ∷ []))
 
--- the pair that is absent, where one is, before the other members
-abbrev pub with_absent : Option Pair → Members → Members
-with_absent None others = others
-with_absent (Some pair) others = member (codes "absent") (string (pair_text pair)) others
+-- a user's name, and the name to show in its place
+abbrev pub shown_data : ShownUser → Data
+shown_data user = array (items_of (string user.name ∷ string user.shown ∷ []))
 
--- the second edition of the policy, and whether there is an embargo, before the other members
-abbrev pub with_edition : Edition → Bool → Members → Members
-with_edition First embargo others = others
-with_edition Second embargo others =
-    member (codes "edition") (number_data 2) (member (codes "embargo") (boolean embargo) others)
+-- a list, where it isn't empty
+abbrev pub some_list : {A : Type 0} → (A → Data) → List A → Option Data
+some_list data_of [] = None
+some_list data_of (x ∷ xs) = Some (list_data data_of (x ∷ xs))
 
--- the rows of a movement that was named, by set and then by table, before the other members
-abbrev pub with_movement : Bool → List Row → Members → Members
-with_movement false rows others = others
-with_movement true rows others = member (codes "movement") (list_data movement_row_data rows) others
+-- the number of the second edition, which alone is told
+abbrev pub edition_data : Edition → Option Data
+edition_data First = None
+edition_data Second = Some (number_data 2)
 
-abbrev pub status_data : Public → List Seated → Data
-status_data public seats =
-    object (with_absent public.movement.absent (with_edition public.edition public.embargo
-    (member (codes "held") (list_data number_data (held_boards public))
-    (member (codes "live") (live_data public)
-    (member (codes "marks") (marks_data public)
-    (with_movement public.movement.is_named (rows public.movement)
-    (member (codes "per_set") (number_data public.movement.per_set)
-    (member (codes "phase") (string (phase_name public.phase))
-    (member (codes "round") (number_data public.round)
-    (member (codes "rounds") (number_data public.movement.rounds)
-    (member (codes "seats") (list_data seat_data seats)
-    (member (codes "tables") (number_data public.movement.tables) no_members))))))))))))
+-- whether there is an embargo, which the second edition knows
+abbrev pub embargo_data : Edition → Bool → Option Data
+embargo_data First embargo = None
+embargo_data Second embargo = Some (boolean embargo)
+
+-- the rows of a movement that was named, by set and then by table
+abbrev pub movement_data : Bool → List Row → Option Data
+movement_data false rows = None
+movement_data true rows = Some (list_data movement_row_data rows)
+
+-- the members of a status, in the order of their names: the first of them,
+abbrev pub first_slots : Public → Notices → List Slot
+first_slots public notices =
+    perhaps (codes "absent") (option_map (λ pair. string (pair_text pair)) public.movement.absent)
+    ∷ perhaps (codes "date") (option_map (λ date. string date) notices.date)
+    ∷ perhaps (codes "edition") (edition_data public.edition)
+    ∷ perhaps (codes "embargo") (embargo_data public.edition public.embargo)
+    ∷ []
+
+-- those of boards and users,
+abbrev pub board_slots : Public → List ShownUser → List Slot
+board_slots public names =
+    always (codes "held") (list_data number_data (held_boards public))
+    ∷ always (codes "live") (live_data public)
+    ∷ always (codes "marks") (marks_data public)
+    ∷ perhaps (codes "movement") (movement_data public.movement.is_named (rows public.movement))
+    ∷ perhaps (codes "names") (some_list shown_data names)
+    ∷ []
+
+-- of what has come,
+abbrev pub progress_slots : Public → Notices → List Slot
+progress_slots public notices =
+    always (codes "per_set") (number_data public.movement.per_set)
+    ∷ always (codes "phase") (string (phase_name public.phase))
+    ∷ perhaps (codes "reasons") (some_list (λ reason. string reason) notices.reasons)
+    ∷ always (codes "round") (number_data public.round)
+    ∷ always (codes "rounds") (number_data public.movement.rounds)
+    ∷ []
+
+-- and the last
+abbrev pub last_slots : Public → List Seated → Notices → List Slot
+last_slots public seats notices =
+    always (codes "seats") (list_data seat_data seats)
+    ∷ always (codes "tables") (number_data public.movement.tables)
+    ∷ perhaps (codes "title") (option_map (λ title. string title) notices.title)
+    ∷ []
+
+-- all of them
+abbrev pub status_slots : Public → List Seated → List ShownUser → Notices → List Slot
+status_slots public seats names notices =
+    first_slots public notices
+    ++ (board_slots public names ++ (progress_slots public notices ++ last_slots public seats notices))
+
+-- the status: those of its members that aren't left out
+abbrev pub status_data : Public → List Seated → List ShownUser → Notices → Data
+status_data public seats names notices = object (members_of (status_slots public seats names notices))

@@ -74,7 +74,18 @@ fn body_value(alloc: Global, body: &Body) -> Result<Value, AllocError>
         Body::NoSuchCell => Value::try_from_str(alloc, "NoSuchCell"),
         Body::Behind => Value::try_from_str(alloc, "Behind"),
         Body::Denied(denial) => denial_value(alloc, *denial),
-        Body::Status { public, seats } => status_value(alloc, public.public(), seats.as_slice()),
+        Body::Status {
+            public,
+            seats,
+            names,
+            notices,
+        } => status_value(
+            alloc,
+            public.public(),
+            seats.as_slice(),
+            names.as_slice(),
+            notices.notices(),
+        ),
         Body::Board {
             number,
             deal,

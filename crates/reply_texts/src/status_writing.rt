@@ -1,22 +1,25 @@
 //! What is written of a session's status.
 
-ghost use Rattle.std.specs.Prelude.{◌≡◌, IfOk, Option, if◌then◌else◌, codes};
-ghost use Rattle.serde_json.specs.Data.{Members, no_members, put};
+ghost use Rattle.std.specs.Prelude.{◌≡◌, IfOk, option_map, codes};
+ghost use Rattle.serde_json.specs.Data.{Members, string};
 ghost use Rattle.serde_json.specs.View.{view};
-ghost use Rattle.table_terms.specs.declared.pair.Pair.{Pair};
+ghost use Rattle.table_terms.specs.Pair.{pair_text};
 ghost use Rattle.movement.specs.Movement.{rows};
 ghost use Rattle.json_fields.specs.Written.{HasMembers};
 ghost use Rattle.reply_texts.specs.DataOf.{number_data, list_data};
 ghost use Rattle.reply_texts.specs.StatusText.{phase_name, held_boards, live_tables, tables_data, live_data, mark_data};
-ghost use Rattle.reply_texts.specs.StatusText.{marks_data, movement_row_data, seat_data, with_absent, with_edition, status_data};
+ghost use Rattle.reply_texts.specs.StatusText.{marks_data, movement_row_data, seat_data, shown_data, some_list};
+ghost use Rattle.reply_texts.specs.StatusText.{edition_data, embargo_data, movement_data, first_slots, board_slots, progress_slots, last_slots, status_data};
+ghost use Rattle.reply_texts.specs.Slots.{put_slot, put_slots};
 
 use crate::to_json::{ToJson, list_value};
 use disclosure_rules::{Marks, Phase, Public};
 use json_fields::{ArrayWriter, ObjectWriter, array_value, string_value};
 use movement::{Cell, Movement, Row};
+use notices::{NoticeText, Notices};
 use serde_json::{Value, push};
 use session_roles::Edition;
-use session_state::Seated;
+use session_state::{Seated, ShownUser};
 use std::alloc::{AllocError, Global};
 use table_terms::Pair;
 
@@ -24,46 +27,114 @@ pub(crate) fn status_value(
     alloc: Global,
     public: &Public,
     seats: &[Seated],
+    names: &[ShownUser],
+    notices: &Notices,
 ) -> Result<Value, AllocError>
-    ensures { IfOk result (λ value. view value ≡ status_data public.now seats.now) }
+    ensures { IfOk result (λ value. view value ≡ status_data public.now seats.now names.now notices.now) }
 {
-    let begun = with_edition(
-        begun_with(alloc, public.movement.absent()),
-        public.edition,
-        public.embargo,
-    )
-    .member("held", held_value(alloc, public))
-    .member("live", live_value(alloc, public))
-    .member("marks", marks_value(alloc, public));
-    with_movement(begun, alloc, &public.movement)
-        .number("per_set", public.movement.per_set())
-        .member(
-            "phase",
-            Value::try_from_str(alloc, phase_name(public.phase)),
-        )
-        .number("round", public.round)
-        .number("rounds", public.movement.rounds())
-        .member("seats", list_value(alloc, seats))
-        .number("tables", public.movement.tables())
-        .object()
+    let object = with_first_slots(ObjectWriter::new(alloc), alloc, public, notices);
+    let object = with_board_slots(object, alloc, public, names);
+    let object = with_progress_slots(object, alloc, public, notices);
+    with_last_slots(object, alloc, public, seats, notices).object()
 }
 
-// An object that begins with the pair that is absent, where one is.
-fn begun_with(alloc: Global, absent: Option<Pair>) -> ObjectWriter
-    ensures { HasMembers result (with_absent absent no_members) }
+fn with_first_slots(
+    object: ObjectWriter,
+    alloc: Global,
+    public: &Public,
+    notices: &Notices,
+) -> ObjectWriter
+    ensures { (members : Members) → HasMembers object members →
+        HasMembers result (put_slots (first_slots public.now notices.now) members) }
 {
-    let object = ObjectWriter::new(alloc);
+    let object = with_absent(object, alloc, public.movement.absent());
+    let object = with_text(object, alloc, "date", notices.date);
+    with_edition(object, public.edition, public.embargo)
+}
+
+fn with_board_slots(
+    object: ObjectWriter,
+    alloc: Global,
+    public: &Public,
+    names: &[ShownUser],
+) -> ObjectWriter
+    ensures { (members : Members) → HasMembers object members →
+        HasMembers result (put_slots (board_slots public.now names.now) members) }
+{
+    let object = object
+        .member("held", held_value(alloc, public))
+        .member("live", live_value(alloc, public))
+        .member("marks", marks_value(alloc, public));
+    let object = with_movement(object, alloc, &public.movement);
+    with_list(object, alloc, "names", names)
+}
+
+fn with_progress_slots(
+    object: ObjectWriter,
+    alloc: Global,
+    public: &Public,
+    notices: &Notices,
+) -> ObjectWriter
+    ensures { (members : Members) → HasMembers object members →
+        HasMembers result (put_slots (progress_slots public.now notices.now) members) }
+{
+    let object = object.number("per_set", public.movement.per_set()).member(
+        "phase",
+        Value::try_from_str(alloc, phase_name(public.phase)),
+    );
+    with_list(object, alloc, "reasons", notices.reasons.as_slice())
+        .number("round", public.round)
+        .number("rounds", public.movement.rounds())
+}
+
+fn with_last_slots(
+    object: ObjectWriter,
+    alloc: Global,
+    public: &Public,
+    seats: &[Seated],
+    notices: &Notices,
+) -> ObjectWriter
+    ensures { (members : Members) → HasMembers object members →
+        HasMembers result (put_slots (last_slots public.now seats.now notices.now) members) }
+{
+    let object = object
+        .member("seats", list_value(alloc, seats))
+        .number("tables", public.movement.tables());
+    with_text(object, alloc, "title", notices.title)
+}
+
+// The pair that is absent, where one is.
+fn with_absent(object: ObjectWriter, alloc: Global, absent: Option<Pair>) -> ObjectWriter
+    ensures { (members : Members) → HasMembers object members →
+        HasMembers result (put_slot (codes "absent") (option_map (λ pair. string (pair_text pair)) absent) members) }
+{
     match absent {
         None => object,
         Some(pair) => object.member("absent", string_value(pair.to_string(alloc))),
     }
 }
 
-// The second edition of the policy, and whether there is an embargo, after the pair that is absent.
+// A text, where it is said.
+fn with_text(
+    object: ObjectWriter,
+    alloc: Global,
+    name: &str,
+    said: Option<NoticeText>,
+) -> ObjectWriter
+    ensures { (members : Members) → HasMembers object members →
+        HasMembers result (put_slot name.now (option_map (λ text. string text) said) members) }
+{
+    match said {
+        None => object,
+        Some(text) => object.member(name, Value::try_from_str(alloc, text.as_str())),
+    }
+}
+
+// The second edition of the policy, and whether there is an embargo.
 fn with_edition(object: ObjectWriter, edition: Edition, embargo: bool) -> ObjectWriter
-    ensures { (absent : Option Pair) →
-        HasMembers object (with_absent absent no_members) →
-        HasMembers result (with_absent absent (with_edition edition embargo no_members)) }
+    ensures { (members : Members) → HasMembers object members →
+        HasMembers result (put_slot (codes "embargo") (embargo_data edition embargo)
+        (put_slot (codes "edition") (edition_data edition) members)) }
 {
     match edition {
         Edition::First => object,
@@ -73,17 +144,33 @@ fn with_edition(object: ObjectWriter, edition: Edition, embargo: bool) -> Object
     }
 }
 
-// The rows of a movement that was named, after the members before them.
+// The rows of a movement that was named.
 fn with_movement(object: ObjectWriter, alloc: Global, movement: &Movement) -> ObjectWriter
-    ensures { (members : Members) →
-        HasMembers object members →
-        HasMembers result (if movement.now.is_named
-        then put (codes "movement") (list_data movement_row_data (rows movement.now)) members else members) }
+    ensures { (members : Members) → HasMembers object members →
+        HasMembers result (put_slot (codes "movement") (movement_data movement.now.is_named (rows movement.now))
+        members) }
 {
     if movement.is_named() {
         object.member("movement", rows_value(alloc, movement))
     } else {
         object
+    }
+}
+
+// A list, where it isn't empty.
+fn with_list<T: ToJson>(
+    object: ObjectWriter,
+    alloc: Global,
+    name: &str,
+    items: &[T],
+) -> ObjectWriter
+    ensures { (members : Members) → HasMembers object members →
+        HasMembers result (put_slot name.now (some_list T.json items.now) members) }
+{
+    if items.is_empty() {
+        object
+    } else {
+        object.member(name, list_value(alloc, items))
     }
 }
 
@@ -187,6 +274,25 @@ impl ToJson for Seated {
             .item(string_value(self.seat.pair.to_string(alloc)))
             .item(string_value(self.seat.place.to_string(alloc)))
             .array()
+    }
+}
+
+impl ToJson for ShownUser {
+    ghost json = { shown_data };
+
+    fn to_json(&self, alloc: Global) -> Result<Value, AllocError> {
+        ArrayWriter::new(alloc)
+            .item(Value::try_from_str(alloc, self.name.as_str()))
+            .item(Value::try_from_str(alloc, self.shown.as_str()))
+            .array()
+    }
+}
+
+impl ToJson for NoticeText {
+    ghost json = { λ text. string text };
+
+    fn to_json(&self, alloc: Global) -> Result<Value, AllocError> {
+        Value::try_from_str(alloc, self.as_str())
     }
 }
 

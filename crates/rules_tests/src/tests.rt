@@ -4,6 +4,7 @@ mod growths;
 mod lines;
 mod pool;
 mod ranking;
+mod renamed;
 mod roles;
 mod scores;
 mod told;

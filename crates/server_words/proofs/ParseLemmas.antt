@@ -5,17 +5,17 @@ use Rattle.clap.specs.Words.{App, FailsBy, HasKind, HasMatchesOf, Text, fault_of
 use Rattle.clap.specs.declared.error.Error.{Error}
 use Rattle.clap.specs.declared.parser.matches.ArgMatches.{ArgMatches}
 use Rattle.clap.proofs.OnLiterals.{clap_on_literals}
-use Rattle.server_words.specs.CommandLine.{command_line, line_for, needs_files}
+use Rattle.server_words.specs.CommandLine.{command_line, line_for, needs_files, prepare_line, with_session_words, with_notice_words, with_movement_words, with_movement_numbers, with_prepared_files}
 use Rattle.server_words.specs.Words.{IsReadFrom, faults_in}
 
 -- `clap` says exactly what comes of this command line
 pub is_known : (needed : Bool) → is_simple (command_line needed) ≡ true
-unfolding clap_on_literals
+unfolding clap_on_literals prepare_line with_session_words with_notice_words with_movement_words with_movement_numbers with_prepared_files
 is_known true = refl
 is_known false = refl
 
 pub is_known_to_fail : (needed : Bool) → is_simple_and_free (command_line needed) ≡ true
-unfolding clap_on_literals
+unfolding clap_on_literals prepare_line with_session_words with_notice_words with_movement_words with_movement_numbers with_prepared_files
 is_known_to_fail true = refl
 is_known_to_fail false = refl
 

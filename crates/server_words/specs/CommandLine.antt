@@ -1,10 +1,10 @@
 -- The program's command line, as `clap` reads it: a subcommand `script` with nothing after it, and subcommands `serve`,
--- `audit` and `copy` with options, of which each has a value. `clap` adds its help.
-use Rattle.std.specs.Prelude.{Bool, ℕ, ℤ, List, [], ◌∷◌, ◌||◌, Some, true, not, pos, codes, drop, eqb}
+-- `audit`, `copy`, `check` and `prepare` with options, of which each has a value. `clap` adds its help and the version.
+use Rattle.std.specs.Prelude.{Bool, ℕ, ℤ, List, [], ◌∷◌, ◌||◌, Some, true, false, not, pos, codes, drop, eqb}
 use Rattle.std.specs.List.{list_any, starts_with}
 use Rattle.std.specs.Str.{bytes_eq}
 use Rattle.clap.specs.Words.{App, Rule, Text, new_app, new_rule, with_rule, with_subcommand}
-use Rattle.server_words.specs.declared.words.TheConstants.{DISPLAYS_AT_MOST, MOST_WORKERS, MOST_CONNECTIONS}
+use Rattle.server_words.specs.declared.words.TheConstants.{DISPLAYS_AT_MOST, MOST_WORKERS, MOST_CONNECTIONS, MOST_BUDGET}
 use Rattle.clap.specs.declared.builder.value_parser.ValueParser.TheVariants.{Signed}
 
 -- own: each number's limits
@@ -91,11 +91,69 @@ abbrev pub copy_line : App
 copy_line =
     with_rule (with_rule (new_app (codes "copy")) (file_rule true (codes "journal"))) (file_rule true (codes "to"))
 
+-- which session is looked at: its deals may be left out
+abbrev pub check_line : App
+check_line =
+    with_rule (with_rule (new_app (codes "check")) (file_rule true (codes "session"))) (file_rule false (codes "deals"))
+
 -- one of the subcommands has to be there
+-- a number that has to be there
+abbrev pub needed_number : Text → ℤ → ℤ → Rule
+needed_number name least most = record (number_rule name least most) { required = true }
+
+-- an option of this name whose value is this text where the option isn't there
+abbrev pub default_option : Text → Text → Rule
+default_option name default = record (option_rule name) { defaults = default ∷ [] }
+
+-- own: the most visits of a solver's call
+abbrev pub most_budget : ℤ
+most_budget = MOST_BUDGET
+
+-- what a session is prepared of, and to where
+unfoldable pub with_prepared_files : App → App
+with_prepared_files line =
+    with_rule
+    (with_rule (with_rule line (file_rule true (codes "people"))) (file_rule true (codes "deals")))
+    (file_rule true (codes "to"))
+
+-- the numbers of its movement
+unfoldable pub with_movement_numbers : App → App
+with_movement_numbers line =
+    with_rule
+    (with_rule (with_rule line (needed_number (codes "tables") (pos 0) (pos 255)))
+    (needed_number (codes "rounds") (pos 0) (pos 255)))
+    (needed_number (codes "per-set") (pos 0) (pos 255))
+
+-- what else may be said of it
+unfoldable pub with_movement_words : App → App
+with_movement_words line =
+    with_rule
+    (with_rule (with_rule line (option_rule (codes "movement"))) (default_rule (codes "switched") (pos 0) (pos 255) (codes "0")))
+    (option_rule (codes "absent"))
+
+-- what is said of the session besides
+unfoldable pub with_notice_words : App → App
+with_notice_words line =
+    with_rule
+    (with_rule (with_rule line (default_rule (codes "budget") (pos 0) most_budget (codes "10000000")))
+    (option_rule (codes "title")))
+    (option_rule (codes "date"))
+
+-- the same, and where people sign in
+unfoldable pub with_session_words : App → App
+with_session_words line =
+    with_rule (with_notice_words line) (default_option (codes "address") (codes "http://localhost:8000/"))
+
+-- how a session is prepared
+unfoldable pub prepare_line : App
+prepare_line =
+    with_session_words (with_movement_words (with_movement_numbers (with_prepared_files (new_app (codes "prepare")))))
+
+-- one of the subcommands has to be there, and the version may be asked for
 abbrev pub needing_one : App
 needing_one =
     let plain = new_app (codes "bridge_server") in
-    record plain { top = record plain.top { subcommand_required = true } }
+    record plain { top = record plain.top { subcommand_required = true; has_version = true } }
 
 -- the whole, where the files of the session may be needed
 abbrev pub command_line : Bool → App
@@ -104,11 +162,15 @@ command_line needed =
     (with_subcommand
     (with_subcommand
     (with_subcommand
+    (with_subcommand
+    (with_subcommand
     needing_one
     (new_app (codes "script")).top)
     (serve_line needed).top)
     audit_line.top)
-    copy_line.top
+    copy_line.top)
+    check_line.top)
+    prepare_line.top
 
 -- a word is an option, or the option with its value, which begins so
 abbrev pub is_option : Text → Text → Text → Bool

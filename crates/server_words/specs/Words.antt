@@ -17,7 +17,8 @@ use Rattle.server_words.specs.CommandLine.{
   most_idle,
 }
 use Rattle.server_words.specs.declared.words.Words.{Words}
-use Rattle.server_words.specs.declared.words.Words.TheVariants.{Script, Serve, Audit, Copy}
+use Rattle.server_words.specs.declared.words.Words.TheVariants.{Script, Serve, Audit, Copy, Check, Prepare}
+use Rattle.server_words.specs.declared.words.Preparing.{Preparing}
 use Rattle.server_words.specs.declared.words.Serving.{Serving}
 use Rattle.server_words.specs.declared.words.SessionSource.{SessionSource}
 use Rattle.server_words.specs.declared.words.SessionSource.TheVariants.{Files, Journal}
@@ -81,6 +82,22 @@ pub record IsServingGiven (options : List Row) (serving : Serving) : Type 0 wher
   pub range : AreNumbersInRange serving
   pub numbers : AreNumbersGiven options serving
 
+-- own: each option of `prepare` is as it is given
+pub record IsPreparingGiven (options : List Row) (preparing : Preparing) : Type 0 where
+  pub people : first_of (codes "people") options ≡ Some preparing.people.now
+  pub deals : first_of (codes "deals") options ≡ Some preparing.deals.now
+  pub to : first_of (codes "to") options ≡ Some preparing.to.now
+  pub tables : IsGiven options (codes "tables") preparing.tables
+  pub rounds : IsGiven options (codes "rounds") preparing.rounds
+  pub per_set : IsGiven options (codes "per-set") preparing.per_set
+  pub movement : first_of (codes "movement") options ≡ option_map (λ o. o.now) preparing.movement
+  pub switched : IsGiven options (codes "switched") preparing.switched
+  pub absent : first_of (codes "absent") options ≡ option_map (λ o. o.now) preparing.absent
+  pub budget : IsGiven options (codes "budget") preparing.budget
+  pub title : first_of (codes "title") options ≡ option_map (λ o. o.now) preparing.title
+  pub date : first_of (codes "date") options ≡ option_map (λ o. o.now) preparing.date
+  pub address : first_of (codes "address") options ≡ Some preparing.address.now
+
 -- the name of the subcommand that the words name
 abbrev pub name_in : List Text → Option Text
 name_in words = option_map (λ p. p.0) (subcommand_in words)
@@ -101,6 +118,12 @@ AsksFor words (Copy copy) =
     (faults_in words ≡ []) × (name_in words ≡ Some (codes "copy"))
     × (first_of (codes "journal") (options_in words) ≡ Some copy.journal.now)
     × (first_of (codes "to") (options_in words) ≡ Some copy.to.now)
+AsksFor words (Check checking) =
+    (faults_in words ≡ []) × (name_in words ≡ Some (codes "check"))
+    × (first_of (codes "session") (options_in words) ≡ Some checking.session.now)
+    × (first_of (codes "deals") (options_in words) ≡ option_map (λ deals. deals.now) checking.deals)
+AsksFor words (Prepare preparing) =
+    (faults_in words ≡ []) × (name_in words ≡ Some (codes "prepare")) × IsPreparingGiven (options_in words) preparing
 
 -- ---- for private clauses
 

@@ -1,11 +1,12 @@
 //! The command line as `clap` takes it.
 
-ghost use Rattle.std.specs.Prelude.{◌≡◌, false, true, Ok, OnOk, codes};
+ghost use Rattle.std.specs.Prelude.{◌≡◌, false, true, Ok, OnOk, codes, pos};
 ghost use Rattle.clap.specs.Words.{app_of, new_app, rule_of, shape_of, with_rule, with_subcommand};
 ghost use Rattle.clap.specs.declared.builder.command.Command.TheViews.{out-Command};
-ghost use Rattle.server_words.specs.CommandLine.{command_line, needing_one, serve_line, audit_line, copy_line, with_files, with_counts, with_clients, option_rule, port_rule, file_rule, number_rule, default_rule};
+ghost use Rattle.server_words.specs.CommandLine.{command_line, needing_one, serve_line, audit_line, copy_line, check_line, prepare_line, with_prepared_files, with_movement_numbers, with_movement_words, with_notice_words, with_session_words, needed_number, default_option, with_files, with_counts, with_clients, option_rule, port_rule, file_rule, number_rule, default_rule};
 
-use crate::words::{DISPLAYS_AT_MOST, MOST_CONNECTIONS, MOST_IDLE, MOST_WORKERS};
+use crate::version::VERSION;
+use crate::words::{DISPLAYS_AT_MOST, MOST_BUDGET, MOST_CONNECTIONS, MOST_IDLE, MOST_WORKERS};
 use clap::builder::ValueParser;
 use clap::{Arg, Command};
 use std::alloc::{AllocError, Global};
@@ -17,6 +18,7 @@ pub(crate) fn plain_line<'a>(alloc: Global) -> Command<'a>
 {
     Command::new(alloc, "bridge_server")
         .about("Serves a session of duplicate bridge while it is played")
+        .version(VERSION)
         .subcommand_required(true)
 }
 
@@ -31,7 +33,9 @@ pub(crate) fn add_subcommands(
     add_script(alloc, command)?;
     add_serve(alloc, command, needed)?;
     add_audit(alloc, command)?;
-    add_copy(alloc, command)
+    add_copy(alloc, command)?;
+    add_check(alloc, command)?;
+    add_prepare(alloc, command)
 }
 
 // Adds the subcommand that answers a script.
@@ -86,6 +90,237 @@ fn add_copy(alloc: Global, command: &mut Command<'_>) -> Result<(), AllocError>
         Ok(()) => added,
         Err(error) => Err(error),
     }
+}
+
+// Adds the subcommand that looks at a session before it is opened.
+fn add_check(alloc: Global, command: &mut Command<'_>) -> Result<(), AllocError>
+    ensures { OnOk result (app_of command.new ≡ with_subcommand (app_of command.old) check_line.top) }
+{
+    let mut check = Command::new(alloc, "check").about(
+        "Says why a session isn't opened, and where, or that it opens",
+    );
+    let filled = add_checked_files(alloc, &mut check);
+    let added = add_subcommand(alloc, command, check);
+    match filled {
+        Ok(()) => added,
+        Err(error) => Err(error),
+    }
+}
+
+// Adds the files of a session that is looked at: the deals may stand in the object.
+fn add_checked_files(alloc: Global, command: &mut Command<'_>) -> Result<(), AllocError>
+    ensures line { OnOk result (app_of command.new
+        ≡ with_rule (with_rule (app_of command.old) (file_rule true (codes "session"))) (file_rule false (codes "deals"))) }
+    ensures local { OnOk result ((out-Command command.new).has_globals ≡ (out-Command command.old).has_globals) }
+{
+    add_file(
+        alloc,
+        command,
+        "session",
+        "The session object, or without deals a script, whose first line is one",
+        true,
+    )?;
+    add_file(
+        alloc,
+        command,
+        "deals",
+        "The deals of the session, in PBN",
+        false,
+    )
+}
+
+// Adds the subcommand that prepares a session.
+#[tactic(auto, unfolding(crate::specs::CommandLine::prepare_line))]
+fn add_prepare(alloc: Global, command: &mut Command<'_>) -> Result<(), AllocError>
+    ensures { OnOk result (app_of command.new ≡ with_subcommand (app_of command.old) prepare_line.top) }
+{
+    let mut prepare = Command::new(alloc, "prepare").about(
+        "Makes a folder with a session object, the tokens of its people, and cards to print",
+    );
+    let filled = add_prepare_options(alloc, &mut prepare);
+    let added = add_subcommand(alloc, command, prepare);
+    match filled {
+        Ok(()) => added,
+        Err(error) => Err(error),
+    }
+}
+
+// Adds the options of the subcommand that prepares a session.
+fn add_prepare_options(alloc: Global, command: &mut Command<'_>) -> Result<(), AllocError>
+    ensures line { OnOk result (app_of command.new
+        ≡ with_session_words (with_movement_words (with_movement_numbers (with_prepared_files (app_of command.old))))) }
+    ensures local { OnOk result ((out-Command command.new).has_globals ≡ (out-Command command.old).has_globals) }
+{
+    add_prepared_files(alloc, command)?;
+    add_movement_numbers(alloc, command)?;
+    add_movement_words(alloc, command)?;
+    add_session_words(alloc, command)
+}
+
+// Adds what a session is prepared of, and to where.
+#[tactic(auto, unfolding(crate::specs::CommandLine::with_prepared_files))]
+fn add_prepared_files(alloc: Global, command: &mut Command<'_>) -> Result<(), AllocError>
+    ensures line { OnOk result (app_of command.new ≡ with_prepared_files (app_of command.old)) }
+    ensures local { OnOk result ((out-Command command.new).has_globals ≡ (out-Command command.old).has_globals) }
+{
+    add_file(
+        alloc,
+        command,
+        "people",
+        "The people, in CSV: name,pair,place,roles,number,sign_in",
+        true,
+    )?;
+    add_file(
+        alloc,
+        command,
+        "deals",
+        "The deals of the session, in PBN",
+        true,
+    )?;
+    add_file(
+        alloc,
+        command,
+        "to",
+        "The folder that is made, at a path where nothing is yet",
+        true,
+    )
+}
+
+// Adds the numbers of a movement.
+#[tactic(auto, unfolding(crate::specs::CommandLine::with_movement_numbers))]
+fn add_movement_numbers(alloc: Global, command: &mut Command<'_>) -> Result<(), AllocError>
+    ensures line { OnOk result (app_of command.new ≡ with_movement_numbers (app_of command.old)) }
+    ensures local { OnOk result ((out-Command command.new).has_globals ≡ (out-Command command.old).has_globals) }
+{
+    add_needed(alloc, command, "tables", "How many tables there are")?;
+    add_needed(alloc, command, "rounds", "How many rounds are played")?;
+    add_needed(
+        alloc,
+        command,
+        "per-set",
+        "How many boards are played in a round",
+    )
+}
+
+// Adds what else may be said of a movement.
+#[tactic(auto, unfolding(crate::specs::CommandLine::with_movement_words))]
+fn add_movement_words(alloc: Global, command: &mut Command<'_>) -> Result<(), AllocError>
+    ensures line { OnOk result (app_of command.new ≡ with_movement_words (app_of command.old)) }
+    ensures local { OnOk result ((out-Command command.new).has_globals ≡ (out-Command command.old).has_globals) }
+{
+    add_option(
+        alloc,
+        command,
+        "movement",
+        "WORD",
+        "The movement: mitchell, howell, share_and_relay or web",
+    )?;
+    add_count(
+        alloc,
+        command,
+        "switched",
+        (0, 255),
+        "0",
+        "In how many of the last rounds the pairs sit the other way round",
+    )?;
+    add_option(
+        alloc,
+        command,
+        "absent",
+        "PAIR",
+        "The pair that is absent, as EW9",
+    )
+}
+
+// Adds what is said of the session besides, and where people sign in.
+#[tactic(auto, unfolding(crate::specs::CommandLine::with_session_words))]
+fn add_session_words(alloc: Global, command: &mut Command<'_>) -> Result<(), AllocError>
+    ensures line { OnOk result (app_of command.new ≡ with_session_words (app_of command.old)) }
+    ensures local { OnOk result ((out-Command command.new).has_globals ≡ (out-Command command.old).has_globals) }
+{
+    add_notice_words(alloc, command)?;
+    add_default(
+        alloc,
+        command,
+        "address",
+        "http://localhost:8000/",
+        "Where the page is that people sign in on",
+    )
+}
+
+// Adds what is said of the session besides.
+#[tactic(auto, unfolding(crate::specs::CommandLine::with_notice_words))]
+fn add_notice_words(alloc: Global, command: &mut Command<'_>) -> Result<(), AllocError>
+    ensures line { OnOk result (app_of command.new ≡ with_notice_words (app_of command.old)) }
+    ensures local { OnOk result ((out-Command command.new).has_globals ≡ (out-Command command.old).has_globals) }
+{
+    add_count(
+        alloc,
+        command,
+        "budget",
+        (0, MOST_BUDGET),
+        "10000000",
+        "How many visits a solver's call may make",
+    )?;
+    add_option(
+        alloc,
+        command,
+        "title",
+        "TEXT",
+        "What the session is called",
+    )?;
+    add_option(
+        alloc,
+        command,
+        "date",
+        "DAY",
+        "The day of the session, as 2026-11-27",
+    )
+}
+
+// Adds an option of this name, whose value is this text where it isn't there.
+fn add_default<'a>(
+    alloc: Global,
+    command: &mut Command<'a>,
+    name: &'a str,
+    default: &'a str,
+    help: &'a str,
+) -> Result<(), AllocError>
+    ensures line { OnOk result (app_of command.new
+        ≡ with_rule (app_of command.old) (default_option name.now default.now)) }
+    ensures local { OnOk result ((out-Command command.new).has_globals ≡ (out-Command command.old).has_globals) }
+{
+    let named = option(alloc, name, "URL", help).default_value(default);
+    add(alloc, command, named)
+}
+
+// Adds an option of this name, which may be left out.
+fn add_option<'a>(
+    alloc: Global,
+    command: &mut Command<'a>,
+    name: &'a str,
+    value: &'a str,
+    help: &'a str,
+) -> Result<(), AllocError>
+    ensures line { OnOk result (app_of command.new ≡ with_rule (app_of command.old) (option_rule name.now)) }
+    ensures local { OnOk result ((out-Command command.new).has_globals ≡ (out-Command command.old).has_globals) }
+{
+    let named = option(alloc, name, value, help);
+    add(alloc, command, named)
+}
+
+// Adds a number up to 255, which has to be there.
+fn add_needed<'a>(
+    alloc: Global,
+    command: &mut Command<'a>,
+    name: &'a str,
+    help: &'a str,
+) -> Result<(), AllocError>
+    ensures line { OnOk result (app_of command.new ≡ with_rule (app_of command.old) (needed_number name.now (pos 0) (pos 255))) }
+    ensures local { OnOk result ((out-Command command.new).has_globals ≡ (out-Command command.old).has_globals) }
+{
+    let needed = number(alloc, name, (0, 255), help).required(true);
+    add(alloc, command, needed)
 }
 
 // Adds a journal, which has to be there.

@@ -7,9 +7,13 @@ pub mod laws;
 mod options_named;
 mod reading;
 mod statuses;
+mod version;
 mod words;
 
 pub use called::called_with;
 pub use reading::read_words;
 pub use statuses::status_of_words;
-pub use words::{DISPLAYS_AT_MOST, JournalCopy, Serving, SessionFiles, SessionSource, Words};
+pub use version::VERSION;
+pub use words::{
+    Checking, DISPLAYS_AT_MOST, JournalCopy, Preparing, Serving, SessionFiles, SessionSource, Words,
+};

@@ -4,11 +4,11 @@ ghost use Rattle.std.specs.Prelude.{MatchResult, ◌≡◌, ◌⊎◌, ℕ, List
 ghost use Rattle.clap.specs.Words.{HasKind, app_of, first_of, found_of, kind_of, rows_of};
 ghost use Rattle.clap.specs.declared.error.kind.ErrorKind.TheVariants.{InvalidValue, OutOfMemory};
 ghost use Rattle.server_words.specs.CommandLine.{needing_one};
-ghost use Rattle.server_words.specs.Words.{AsksFor, IsReadFrom, IsServingGiven, IsSourceGiven, faults_in};
+ghost use Rattle.server_words.specs.Words.{AsksFor, IsPreparingGiven, IsReadFrom, IsServingGiven, IsSourceGiven, faults_in};
 
 use crate::command_line::{add_subcommands, plain_line};
 use crate::options_named::need_files;
-use crate::words::{JournalCopy, Serving, SessionFiles, SessionSource, Words};
+use crate::words::{Checking, JournalCopy, Preparing, Serving, SessionFiles, SessionSource, Words};
 use clap::error::ErrorKind;
 use clap::{ArgMatches, Command, Error};
 use std::alloc::Global;
@@ -59,12 +59,20 @@ fn words_of<'a>(matches: &ArgMatches<'a>) -> Option<Words<'a>>
             Some(serving) => Some(Words::Serve(serving)),
             None => None,
         },
-        Some(("audit", given)) => match text_of(given, "journal") {
+        Some(("audit", given)) => match journal_of(given) {
             Some(path) => Some(Words::Audit(path)),
             None => None,
         },
         Some(("copy", given)) => match copy_of(given) {
             Some(copy) => Some(Words::Copy(copy)),
+            None => None,
+        },
+        Some(("check", given)) => match checking_of(given) {
+            Some(checking) => Some(Words::Check(checking)),
+            None => None,
+        },
+        Some(("prepare", given)) => match preparing_of(given) {
+            Some(preparing) => Some(Words::Prepare(preparing)),
             None => None,
         },
         _ => None,
@@ -128,6 +136,13 @@ fn source_of<'a>(given: &ArgMatches<'a>) -> Option<SessionSource<'a>>
     }
 }
 
+// Which journal's audit is to be told.
+fn journal_of<'a>(given: &ArgMatches<'a>) -> Option<&'a str>
+    ensures { IfSome result (λ path. first_of (codes "journal") (rows_of (found_of given.now)) ≡ Some path.now) }
+{
+    text_of(given, "journal")
+}
+
 // Which journal is to be copied, and to where.
 fn copy_of<'a>(given: &ArgMatches<'a>) -> Option<JournalCopy<'a>>
     ensures journal { IfSome result (λ copy. first_of (codes "journal") (rows_of (found_of given.now)) ≡ Some copy.journal.now) }
@@ -136,6 +151,40 @@ fn copy_of<'a>(given: &ArgMatches<'a>) -> Option<JournalCopy<'a>>
     Some(JournalCopy {
         journal: text_of(given, "journal")?,
         to: text_of(given, "to")?,
+    })
+}
+
+// Which session is to be looked at.
+fn checking_of<'a>(given: &ArgMatches<'a>) -> Option<Checking<'a>>
+    ensures session { IfSome result (λ checking.
+        first_of (codes "session") (rows_of (found_of given.now)) ≡ Some checking.session.now) }
+    ensures deals { IfSome result (λ checking.
+        first_of (codes "deals") (rows_of (found_of given.now)) ≡ option_map (λ deals. deals.now) checking.deals) }
+{
+    Some(Checking {
+        session: text_of(given, "session")?,
+        deals: text_of(given, "deals"),
+    })
+}
+
+// How a session is to be prepared.
+fn preparing_of<'a>(given: &ArgMatches<'a>) -> Option<Preparing<'a>>
+    ensures { IfSome result (IsPreparingGiven (rows_of (found_of given.now))) }
+{
+    Some(Preparing {
+        people: text_of(given, "people")?,
+        deals: text_of(given, "deals")?,
+        to: text_of(given, "to")?,
+        tables: given.get_one("tables")?,
+        rounds: given.get_one("rounds")?,
+        per_set: given.get_one("per-set")?,
+        movement: text_of(given, "movement"),
+        switched: given.get_one("switched")?,
+        absent: text_of(given, "absent"),
+        budget: given.get_one("budget")?,
+        title: text_of(given, "title"),
+        date: text_of(given, "date"),
+        address: text_of(given, "address")?,
     })
 }
 

@@ -10,6 +10,9 @@ pub(crate) const MOST_WORKERS: u8 = 16;
 /// After how many connections a display ends at most.
 pub(crate) const MOST_CONNECTIONS: u32 = 1_000_000;
 
+/// How many visits a solver's call may make at most.
+pub(crate) const MOST_BUDGET: i64 = 1_000_000_000_000_000_000;
+
 /// For how many seconds a client that says nothing is waited for at most.
 pub(crate) const MOST_IDLE: u32 = 86_400;
 
@@ -24,6 +27,19 @@ pub enum Words<'a> {
     Audit(&'a str),
     /// To copy a journal.
     Copy(JournalCopy<'a>),
+    /// To look at a session before it is opened.
+    Check(Checking<'a>),
+    /// To prepare a session.
+    Prepare(Preparing<'a>),
+}
+
+/// The paths of the files of a session that is looked at.
+#[derive(Clone, Copy, PartialEq)]
+pub struct Checking<'a> {
+    /// That of the session object, or of a script, which begins with one.
+    pub session: &'a str,
+    /// That of the deals, where they don't stand in the object.
+    pub deals: Option<&'a str>,
 }
 
 /// The paths of the files of a session.
@@ -51,6 +67,33 @@ pub struct JournalCopy<'a> {
     pub journal: &'a str,
     /// That of the copy.
     pub to: &'a str,
+}
+
+/// How a session is prepared.
+#[derive(Clone, Copy, PartialEq)]
+pub struct Preparing<'a> {
+    /// The path of the list of people.
+    pub people: &'a str,
+    /// That of the deals.
+    pub deals: &'a str,
+    /// The folder that is made.
+    pub to: &'a str,
+    pub tables: u8,
+    pub rounds: u8,
+    /// How many boards a set has.
+    pub per_set: u8,
+    /// The movement's name in the field, if one is given.
+    pub movement: Option<&'a str>,
+    /// In how many of the last rounds the pairs sit the other way round.
+    pub switched: u8,
+    /// The pair that is absent, if one is given.
+    pub absent: Option<&'a str>,
+    /// How many visits a solver's call may make, up to 10 ^ 18.
+    pub budget: u64,
+    pub title: Option<&'a str>,
+    pub date: Option<&'a str>,
+    /// Where the page is that people sign in on.
+    pub address: &'a str,
 }
 
 /// How clients are served.

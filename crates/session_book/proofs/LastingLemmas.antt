@@ -26,7 +26,7 @@ use Rattle.session_commands.specs.declared.command.Command.TheVariants.{
 use Rattle.session_commands.specs.declared.command.Command.TheVariants.{Seat, Unseat, NextRound, Close, Finalise}
 use Rattle.session_commands.specs.declared.command.Command.TheVariants.{AddUser, Assign, Deassign, AddInheritance}
 use Rattle.session_commands.specs.declared.command.Command.TheVariants.{DeleteInheritance, Solved, Analysed}
-use Rattle.session_commands.specs.declared.command.Command.TheVariants.{Embargo, Lift}
+use Rattle.session_commands.specs.declared.command.Command.TheVariants.{Embargo, Lift, Rename}
 use Rattle.session_commands.specs.declared.entry.Entry.{Entry}
 use Rattle.session_book.specs.Exposure.{users_of}
 use Rattle.session_book.specs.Replay.{replay}
@@ -92,6 +92,7 @@ effect_lasts state (Solved board table) = nobody state _ refl refl
 effect_lasts state (Analysed cell costs) = nobody state _ refl refl
 effect_lasts state Embargo = nobody state _ refl refl
 effect_lasts state Lift = nobody state _ refl refl
+effect_lasts state (Rename name shown) = nobody state _ refl refl
 
 pub apply_lasts : (state : SessionState) (entry : Entry) → Lasts state (apply state entry)
 apply_lasts state entry = by_hindrance (is_some (hindrance_of state entry.command))

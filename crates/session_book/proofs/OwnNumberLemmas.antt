@@ -62,6 +62,15 @@ deals_kept opening journal = by_entries opening journal
     by_entries state [] = refl
     by_entries state (entry ∷ entries) = by_entries (apply state entry) entries ∙ (entry_part state entry).deals
 
+-- nor what the session tells of itself
+pub notices_kept : (opening : SessionState) (journal : List Entry) → (replay opening journal).notices ≡ opening.notices
+unfolding replay
+notices_kept opening journal = by_entries opening journal
+  where
+    by_entries : (state : SessionState) (entries : List Entry) → (fold apply state entries).notices ≡ state.notices
+    by_entries state [] = refl
+    by_entries state (entry ∷ entries) = by_entries (apply state entry) entries ∙ (entry_part state entry).notices
+
 still_own : (state : SessionState) (entries : List Entry) → IsSection state.public.movement → KeepsOwn state →
     KeepsOwn (fold apply state entries)
 still_own state [] is_section keeps = keeps

@@ -77,7 +77,7 @@ use Rattle.session_commands.specs.declared.command.Command.TheVariants as comman
 use Rattle.session_commands.specs.declared.command.Command.TheVariants.{Seat, Unseat, NextRound, Close, Finalise}
 use Rattle.session_commands.specs.declared.command.Command.TheVariants.{AddUser, Assign, Deassign, AddInheritance}
 use Rattle.session_commands.specs.declared.command.Command.TheVariants.{DeleteInheritance, Solved, Analysed}
-use Rattle.session_commands.specs.declared.command.Command.TheVariants.{Embargo, Lift}
+use Rattle.session_commands.specs.declared.command.Command.TheVariants.{Embargo, Lift, Rename}
 use Rattle.session_commands.specs.declared.entry.Entry.{Entry}
 use Rattle.session_commands.specs.declared.refusal.Refusal.{Refusal}
 use Rattle.session_commands.specs.declared.refusal.Refusal.TheVariants.{NoSuchCell}
@@ -463,6 +463,16 @@ effect_shows state Embargo user board from low high untouched =
       live = λ place is. is;
     }
 effect_shows state Lift user board from low high untouched = absurd (false≢true (sym untouched))
+effect_shows state (Rename name shown) user board from low high untouched =
+    record {
+      movement = refl;
+      roles = λ role. refl;
+      seat = inl refl;
+      edition = refl;
+      embargo = λ is. is;
+      held = λ is. is;
+      live = λ place is. is;
+    }
 
 second_free : (a b rest : Option Refusal) → option_or a (option_or b rest) ≡ None → b ≡ None
 second_free None None rest none = refl

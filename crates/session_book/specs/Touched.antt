@@ -15,7 +15,7 @@ use Rattle.session_commands.specs.declared.command.Command.TheVariants.{
 use Rattle.session_commands.specs.declared.command.Command.TheVariants.{Seat, Unseat, NextRound, Close, Finalise}
 use Rattle.session_commands.specs.declared.command.Command.TheVariants.{AddUser, Assign, Deassign, AddInheritance}
 use Rattle.session_commands.specs.declared.command.Command.TheVariants.{DeleteInheritance, Solved, Analysed}
-use Rattle.session_commands.specs.declared.command.Command.TheVariants.{Embargo, Lift}
+use Rattle.session_commands.specs.declared.command.Command.TheVariants.{Embargo, Lift, Rename}
 use Rattle.session_book.specs.declared.touched.Touched.{Touched}
 use Rattle.session_book.specs.declared.touched.Touched.TheVariants.{Nothing, Board, User, Everything}
 use Rattle.session_book.specs.ExposureTable.{user_at}
@@ -23,8 +23,8 @@ use Rattle.session_book.specs.ExposureTable.{user_at}
 -- what each command touches: a result may complete its board, and a board that is released is shown again, to anybody;
 -- a user who takes a seat, is assigned a role or loses one may see more of any board, since a rule may bind or spare
 -- who has a role; so may everybody where an inheritance comes or goes, or an embargo is lifted. What is entered, voided
--- or held, a seat that is left, a user with no role yet, a round, a phase and an embargo let nobody see more; nor do the
--- solver's numbers, since no rule looks at what a fact says
+-- or held, a seat that is left, a user with no role yet, a round, a phase, an embargo and a name to show let nobody see more;
+-- nor do the solver's numbers, since no rule looks at what a fact says
 abbrev pub touched_by : Command → Touched
 touched_by (Enter cell outcome play) = Nothing
 touched_by (Confirm cell outcome) = Board cell.board
@@ -47,6 +47,7 @@ touched_by (Solved board table) = Nothing
 touched_by (Analysed cell costs) = Nothing
 touched_by Embargo = Nothing
 touched_by Lift = Everything
+touched_by (Rename name shown) = Nothing
 
 -- whether it touches what a user sees of a board
 abbrev pub is_touched : Touched → List ℕ → ℕ → Bool

@@ -392,7 +392,8 @@ impl Book {
 
 // Leads a session's state, and the table of who was shown what, over a journal from the opening again.
 fn replay(opening: &State, journal: &[Entry], state: &mut State, exposure: &mut Exposure)
-    requires { state.old.deals ≡ opening.now.deals }
+    requires deals { state.old.deals ≡ opening.now.deals }
+    requires notices { state.old.notices ≡ opening.now.notices }
     ensures state { state.new ≡ replay opening.now journal.now }
     ensures noted { IsNoted opening.now journal.now state.new exposure.new }
 {

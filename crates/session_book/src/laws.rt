@@ -50,3 +50,9 @@ pub fn seats_stay_of_the_movement()
     ensures { (opening : SessionState) (journal : List Entry) → AreSeatsOf opening.public.movement opening.seats →
         AreSeatsOf opening.public.movement (replay opening journal).seats }
 {}
+
+/// What a session tells its members of itself is told as it was when the session opened, after any journal.
+pub fn a_session_tells_the_same_of_itself()
+    ensures { (opening : SessionState) (journal : List Entry) →
+        (replay opening journal).notices ≡ opening.notices }
+{}

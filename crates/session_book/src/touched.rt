@@ -42,6 +42,7 @@ pub fn touched_by(command: &Command) -> Touched
         | Command::AddUser { .. }
         | Command::Solved { .. }
         | Command::Analysed { .. }
-        | Command::Embargo => Touched::Nothing,
+        | Command::Embargo
+        | Command::Rename { .. } => Touched::Nothing,
     }
 }

@@ -22,7 +22,7 @@ use Rattle.session_commands.specs.declared.command.Command.TheVariants.{
 use Rattle.session_commands.specs.declared.command.Command.TheVariants.{Seat, Unseat, NextRound, Close, Finalise}
 use Rattle.session_commands.specs.declared.command.Command.TheVariants.{AddUser, Assign, Deassign, AddInheritance}
 use Rattle.session_commands.specs.declared.command.Command.TheVariants.{DeleteInheritance, Solved, Analysed}
-use Rattle.session_commands.specs.declared.command.Command.TheVariants.{Embargo, Lift}
+use Rattle.session_commands.specs.declared.command.Command.TheVariants.{Embargo, Lift, Rename}
 
 -- the operation for which a user needs the permission; the solver's commands have none
 abbrev pub operation_of : Command → Option Operation
@@ -47,6 +47,7 @@ operation_of (Solved board table) = None
 operation_of (Analysed cell costs) = None
 operation_of Embargo = Some operation.Embargo
 operation_of Lift = Some operation.Lift
+operation_of (Rename name shown) = Some operation.Rename
 
 -- whether it is one of the solver's
 abbrev pub is_solvers : Command → Bool
@@ -79,6 +80,7 @@ phases_of (Solved board table) = any_phase
 phases_of (Analysed cell costs) = any_phase
 phases_of Embargo = Running ∷ Closed ∷ []
 phases_of Lift = any_phase
+phases_of (Rename name shown) = any_phase
 
 -- the user that it is about, who must have an account
 abbrev pub subject_user : Command → Option (List ℕ)
@@ -103,6 +105,7 @@ subject_user (Solved board table) = None
 subject_user (Analysed cell costs) = None
 subject_user Embargo = None
 subject_user Lift = None
+subject_user (Rename name shown) = Some name
 
 -- the table and the board that it is about, which must be scheduled
 abbrev pub subject_cell : Command → Option Cell
@@ -127,6 +130,7 @@ subject_cell (Solved board table) = None
 subject_cell (Analysed cell costs) = Some cell
 subject_cell Embargo = None
 subject_cell Lift = None
+subject_cell (Rename name shown) = None
 
 -- the board that it is about as a whole, which must be one of the session
 abbrev pub subject_board : Command → Option ℕ
@@ -151,6 +155,7 @@ subject_board (Solved board table) = Some board
 subject_board (Analysed cell costs) = None
 subject_board Embargo = None
 subject_board Lift = None
+subject_board (Rename name shown) = None
 
 -- whether it tells a result that was played: a spoiled table may not
 abbrev pub is_told_by_table : Command → Bool
@@ -175,6 +180,7 @@ is_told_by_table (Solved board table) = false
 is_told_by_table (Analysed cell costs) = false
 is_told_by_table Embargo = false
 is_told_by_table Lift = false
+is_told_by_table (Rename name shown) = false
 
 -- whether two phases are one
 abbrev pub same_phase : Phase → Phase → Bool

@@ -1,7 +1,7 @@
 -- What an audit tells of a command: how it is called, and what it is about. One line for each command, in the order of
 -- the commands.
 --
--- own: an audit tells no result, no card, no percentage and no reason.
+-- own: an audit tells no result, no card, no percentage, no reason and no name to show.
 use Rattle.session_commands.specs.declared.command.Command.{Command}
 use Rattle.session_commands.specs.declared.command.Command.TheVariants.{
   Enter,
@@ -15,7 +15,7 @@ use Rattle.session_commands.specs.declared.command.Command.TheVariants.{
 use Rattle.session_commands.specs.declared.command.Command.TheVariants.{Seat, Unseat, NextRound, Close, Finalise}
 use Rattle.session_commands.specs.declared.command.Command.TheVariants.{AddUser, Assign, Deassign, AddInheritance}
 use Rattle.session_commands.specs.declared.command.Command.TheVariants.{DeleteInheritance, Solved, Analysed}
-use Rattle.session_commands.specs.declared.command.Command.TheVariants.{Embargo, Lift}
+use Rattle.session_commands.specs.declared.command.Command.TheVariants.{Embargo, Lift, Rename}
 use Rattle.session_commands.specs.declared.command_word.CommandWord.{CommandWord}
 use Rattle.session_commands.specs.declared.command_word.CommandWord.TheVariants as word
 use Rattle.session_commands.specs.declared.target.Target.{Target}
@@ -44,6 +44,7 @@ word_of (Solved board solution) = word.Solved
 word_of (Analysed cell costs) = word.Analysed
 word_of Embargo = word.Embargo
 word_of Lift = word.Lift
+word_of (Rename name shown) = word.Rename
 
 -- what it is about: a table's board, a board, a user, a user's role, two roles, or the session
 abbrev pub target_of : Command → Target
@@ -68,3 +69,4 @@ target_of (Solved board solution) = about.Board board
 target_of (Analysed cell costs) = about.Cell cell
 target_of Embargo = about.Session
 target_of Lift = about.Session
+target_of (Rename name shown) = about.User name

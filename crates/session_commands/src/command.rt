@@ -8,7 +8,7 @@ use scoring::Outcome;
 use session_roles::{Operation, Role};
 use solver_results::{DdTable, PlayCosts};
 use table_terms::{Pair, Place};
-use user_names::{Digest, Name};
+use user_names::{Digest, Name, ShownName};
 
 /// What a user wants done, or what the solver found.
 #[derive(Clone, Copy)]
@@ -104,6 +104,12 @@ pub enum Command {
     Embargo,
     /// Ends an embargo: a command of the second edition.
     Lift,
+    /// Gives a user a name to show in place of the one that there was, or takes it away: a command of the second
+    /// edition.
+    Rename {
+        name: Name,
+        shown: ShownName,
+    },
 }
 
 impl Command {
@@ -138,6 +144,7 @@ impl Command {
             Command::Solved { .. } | Command::Analysed { .. } => return None,
             Command::Embargo => Operation::Embargo,
             Command::Lift => Operation::Lift,
+            Command::Rename { .. } => Operation::Rename,
         };
         Some(operation)
     }
@@ -174,7 +181,8 @@ impl Command {
             | Command::DeleteInheritance { .. }
             | Command::Solved { .. }
             | Command::Analysed { .. }
-            | Command::Lift => &[Phase::Running, Phase::Closed, Phase::Final],
+            | Command::Lift
+            | Command::Rename { .. } => &[Phase::Running, Phase::Closed, Phase::Final],
         }
     }
 
@@ -193,7 +201,8 @@ impl Command {
             Command::Seat { name, .. }
             | Command::Unseat { name }
             | Command::Assign { name, .. }
-            | Command::Deassign { name, .. } => Some(name),
+            | Command::Deassign { name, .. }
+            | Command::Rename { name, .. } => Some(name),
             _ => None,
         }
     }
@@ -268,6 +277,7 @@ impl Command {
             Command::Analysed { .. } => CommandWord::Analysed,
             Command::Embargo => CommandWord::Embargo,
             Command::Lift => CommandWord::Lift,
+            Command::Rename { .. } => CommandWord::Rename,
         }
     }
 
@@ -284,8 +294,10 @@ impl Command {
             | Command::Analysed { cell, .. } => Target::Cell(cell),
             Command::Hold { board } | Command::Release { board } | Command::Solved { board, .. } =>
                 { Target::Board(board) }
-            Command::Seat { name, .. } | Command::Unseat { name } | Command::AddUser { name, .. } =>
-                { Target::User(name) }
+            Command::Seat { name, .. }
+            | Command::Unseat { name }
+            | Command::AddUser { name, .. }
+            | Command::Rename { name, .. } => Target::User(name),
             Command::Assign { name, role } | Command::Deassign { name, role } => {
                 Target::Assignment { name, role }
             }

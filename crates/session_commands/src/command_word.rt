@@ -22,4 +22,5 @@ pub enum CommandWord {
     Analysed,
     Embargo,
     Lift,
+    Rename,
 }

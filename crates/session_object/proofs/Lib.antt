@@ -1,4 +1,5 @@
 pub mod AskedLemmas
 pub mod ExclusionLemmas
+pub mod NoticeLemmas
 pub mod ReadingLemmas
 pub mod SessionLemmas

@@ -67,7 +67,7 @@ use Rattle.session_object.specs.declared.session_fault.SessionFault.TheVariants.
   OutOfMemory,
 }
 use Rattle.session_object.specs.Session.{Session, session_of, IsSession}
-use Rattle.session_object.specs.Reading.{section_of, fault_of_list, fault_place, RefusesAsked, RefusesMovement, HasNoMovementFault, ReadsObject, HasNoMovement, HasNoBoards, IsRefusedObject, most_bytes, IsReadAsJson, ReadsSession, IsObjectText, IsSessionRefused, session_of_parts, fault_of_deals, FailsPart}
+use Rattle.session_object.specs.Reading.{notices_of, section_of, fault_of_list, fault_place, RefusesAsked, RefusesMovement, HasNoMovementFault, ReadsObject, HasNoMovement, HasNoBoards, IsRefusedObject, most_bytes, IsReadAsJson, ReadsSession, IsObjectText, IsSessionRefused, session_of_parts, fault_of_deals, FailsPart}
 use Rattle.session_object.proofs.SessionLemmas.{session_read, session_reads, one_session}
 
 -- ---- the elements of a list
@@ -205,7 +205,13 @@ module _ (given : Option (List ℕ)) (d : Data) where
       → many ≡ boards_of section
       → pbn.Reads parts.pbn.now many boards
       → ReadsObject given d (record {
-        config = record { edition = parts.edition; movement = section; boards = boards; users = parts.users };
+        config = record {
+          edition = parts.edition;
+          movement = section;
+          boards = boards;
+          users = parts.users;
+          notices = notices_of (session_of_parts parts);
+        };
         budget = parts.budget;
       })
   reads_object parts section many boards said same allowed is_many read = record {
@@ -216,6 +222,7 @@ module _ (given : Option (List ℕ)) (d : Data) where
     allowed = allowed;
     boards = subst (λ n. pbn.Reads parts.pbn.now n boards) (is_many ∙ ap boards_of same) read;
     users = refl;
+    notices = refl;
     budget = refl;
   }
 
@@ -281,10 +288,18 @@ module _ (given : Option (List ℕ)) where
       ∙ sym second.movement in
       let users : one.config.users ≡ other.config.users = first.users ∙ ap (λ (s : Session). s.users) session
       ∙ sym second.users in
+      let notices : one.config.notices ≡ other.config.notices = first.notices ∙ ap notices_of session
+      ∙ sym second.notices in
       let budget : one.budget ≡ other.budget = first.budget ∙ ap (λ (s : Session). s.budget) session ∙ sym second.budget
       in
       λ i. record {
-        config = record { edition = edition i; movement = movement i; boards = boards i; users = users i };
+        config = record {
+          edition = edition i;
+          movement = movement i;
+          boards = boards i;
+          users = users i;
+          notices = notices i;
+        };
         budget = budget i;
       }
 

@@ -31,7 +31,7 @@ use Rattle.session_roles.specs.declared.edition.Edition.TheVariants.{First, Seco
 use Rattle.session_roles.specs.Edition.{edition_number}
 use Rattle.session_opening.specs.declared.new_user.NewUser.{NewUser}
 use Rattle.json_fields.specs.Form.{HasForm}
-use Rattle.json_fields.specs.User.{user_name, digest, user_roles, pair, absent, place}
+use Rattle.json_fields.specs.User.{user_name, digest, user_roles, pair, absent, place, shown_name, member_number}
 use Rattle.json_fields.specs.Field.{whole, limited, numbered, written}
 use Rattle.json_fields.proofs.FormLemmas.{
   Agrees,
@@ -44,8 +44,18 @@ use Rattle.json_fields.proofs.FormLemmas.{
   numbered_agrees,
 }
 use Rattle.json_fields.proofs.FormLemmas.{limited_agrees, called_agrees, written_agrees, listed_agrees}
-use Rattle.json_fields.proofs.UserLemmas.{digest_agrees, user_roles_agree, pair_agrees, absent_agrees, place_agrees}
+use Rattle.json_fields.proofs.UserLemmas.{
+  digest_agrees,
+  user_roles_agree,
+  pair_agrees,
+  absent_agrees,
+  place_agrees,
+  shown_agrees,
+  member_number_agrees,
+}
 use Rattle.json_fields.proofs.LetterLemmas.{find_nothing, found_passes}
+use Rattle.session_object.specs.NoticeMembers.{title, date, reasons}
+use Rattle.session_object.proofs.NoticeLemmas.{title_agrees, date_agrees, reasons_agree}
 use Rattle.session_object.specs.AskedMovement.{asked_movement, shared_by, switched_rounds, stands_beside}
 use Rattle.session_object.proofs.AskedLemmas.{asked_agrees, shared_by_agrees, switched_agrees, stands_read, stands_reads}
 use Rattle.session_object.specs.Session.{
@@ -117,14 +127,16 @@ edition_agrees = record { read = edition_read; reads = edition_reads }
 module _ (edition : Edition) where
   seated_agrees : AgreesForm (seated edition)
   seated_agrees =
-      with_agrees _ (user_roles edition)
-      (with_agrees _ place (with_agrees _ pair (with_agrees _ user_name (with_agrees _ digest (form_agrees [] _)
-      digest_agrees) (called_agrees _)) pair_agrees) place_agrees) (user_roles_agree edition)
+      with_agrees _ shown_name (with_agrees _ (user_roles edition)
+      (with_agrees _ place (with_agrees _ pair (with_agrees _ member_number (with_agrees _ user_name
+      (with_agrees _ digest (form_agrees [] _) digest_agrees) (called_agrees _)) member_number_agrees) pair_agrees)
+      place_agrees) (user_roles_agree edition)) shown_agrees
 
   unseated_agrees : AgreesForm (unseated edition)
   unseated_agrees =
-      with_agrees _ (user_roles edition) (with_agrees _ user_name (with_agrees _ digest (form_agrees [] _)
-      digest_agrees) (called_agrees _)) (user_roles_agree edition)
+      with_agrees _ shown_name (with_agrees _ (user_roles edition) (with_agrees _ member_number (with_agrees _ user_name
+      (with_agrees _ digest (form_agrees [] _) digest_agrees) (called_agrees _)) member_number_agrees)
+      (user_roles_agree edition)) shown_agrees
 
   user_agrees : (o : Option Data) → AgreesForm (user_form edition o)
   user_agrees None = unseated_agrees
@@ -147,21 +159,24 @@ module _ (edition : Edition) where
 
   with_boards_agrees : AgreesForm (with_boards edition)
   with_boards_agrees =
-      with_agrees _ (users edition) (with_agrees _ (numbered (codes "tables")) (with_agrees _ switched_rounds
-      (with_agrees _ shared_by (with_agrees _ (numbered (codes "rounds")) (with_agrees _ (numbered (codes "per_set"))
-      (with_agrees _ (written (codes "pbn")) (with_agrees _ asked_movement (with_agrees _ session_edition
+      with_agrees _ (users edition) (with_agrees _ title (with_agrees _ (numbered (codes "tables"))
+      (with_agrees _ switched_rounds (with_agrees _ shared_by (with_agrees _ (numbered (codes "rounds"))
+      (with_agrees _ reasons (with_agrees _ (numbered (codes "per_set")) (with_agrees _ (written (codes "pbn"))
+      (with_agrees _ asked_movement (with_agrees _ session_edition (with_agrees _ date
       (with_agrees _ (limited (codes "budget") most_visits)
-      (with_agrees _ absent (form_agrees [] _) absent_agrees) (limited_agrees _ _)) edition_agrees) asked_agrees)
-      (written_agrees _)) (numbered_agrees _)) (numbered_agrees _)) shared_by_agrees) switched_agrees)
-      (numbered_agrees _)) users_agree
+      (with_agrees _ absent (form_agrees [] _) absent_agrees) (limited_agrees _ _)) date_agrees) edition_agrees)
+      asked_agrees) (written_agrees _)) (numbered_agrees _)) reasons_agree) (numbered_agrees _)) shared_by_agrees)
+      switched_agrees) (numbered_agrees _)) title_agrees) users_agree
 
   beside_boards_agrees : (given : List ℕ) → AgreesForm (beside_boards edition given)
   beside_boards_agrees given =
-      with_agrees _ (users edition) (with_agrees _ (numbered (codes "tables")) (with_agrees _ switched_rounds
-      (with_agrees _ shared_by (with_agrees _ (numbered (codes "rounds")) (with_agrees _ (numbered (codes "per_set"))
-      (with_agrees _ asked_movement (with_agrees _ session_edition (with_agrees _ (limited (codes "budget") most_visits)
-      (with_agrees _ absent (form_agrees [] _) absent_agrees) (limited_agrees _ _)) edition_agrees) asked_agrees)
-      (numbered_agrees _)) (numbered_agrees _)) shared_by_agrees) switched_agrees) (numbered_agrees _)) users_agree
+      with_agrees _ (users edition) (with_agrees _ title (with_agrees _ (numbered (codes "tables"))
+      (with_agrees _ switched_rounds (with_agrees _ shared_by (with_agrees _ (numbered (codes "rounds"))
+      (with_agrees _ reasons (with_agrees _ (numbered (codes "per_set")) (with_agrees _ asked_movement
+      (with_agrees _ session_edition (with_agrees _ date (with_agrees _ (limited (codes "budget") most_visits)
+      (with_agrees _ absent (form_agrees [] _) absent_agrees) (limited_agrees _ _)) date_agrees) edition_agrees)
+      asked_agrees) (numbered_agrees _)) reasons_agree) (numbered_agrees _)) shared_by_agrees) switched_agrees)
+      (numbered_agrees _)) title_agrees) users_agree
 
   session_agrees : (given : Option (List ℕ)) → AgreesForm (session_form edition given)
   session_agrees None = with_boards_agrees

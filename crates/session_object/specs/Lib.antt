@@ -2,3 +2,4 @@ pub mod AskedMovement
 pub mod Session
 pub mod Reading
 pub mod FaultText
+pub mod NoticeMembers

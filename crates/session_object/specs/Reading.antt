@@ -33,6 +33,7 @@ use Rattle.movement.specs.Refusal.{Refuses, RefusesList}
 use Rattle.movement.specs.declared.limits.Limits.{Limits}
 use Rattle.movement.specs.declared.list_error.ListError.{ListError}
 use Rattle.movement.specs.declared.list_error.ListError.TheVariants as list
+use Rattle.notices.specs.declared.notices.Notices.{Notices}
 use Rattle.named_movements.specs.Named.{named_section, RefusesNamed}
 use Rattle.named_movements.specs.declared.movement_word.MovementWord.{MovementWord}
 use Rattle.named_movements.specs.declared.named_movement.NamedMovement.{NamedMovement}
@@ -157,8 +158,12 @@ HasNoMovementFault session = (fault : SessionFault) → ¬ RefusesMovement sessi
 
 -- ---- objects
 
+-- what the session tells its members of itself
+abbrev pub notices_of : Session → Notices
+notices_of session = record { title = session.title; date = session.date; reasons = session.reasons }
+
 -- what a session opens with, by an object: its edition, its section, the boards that its text gives to it, its users,
--- its budget
+-- what it tells of itself, its budget
 pub record ReadsObject (given : Option (List ℕ)) (d : Data) (object : SessionObject) : Type 0 where
   pub session : Session
   pub says : IsSession given d session
@@ -167,6 +172,7 @@ pub record ReadsObject (given : Option (List ℕ)) (d : Data) (object : SessionO
   pub allowed : HasNoMovementFault session
   pub boards : pbn.Reads session.pbn (boards_of (section_of session)) object.config.boards
   pub users : object.config.users ≡ session.users
+  pub notices : object.config.notices ≡ notices_of session
   pub budget : object.budget ≡ session.budget
 
 -- the movement of an object is refused
@@ -238,14 +244,17 @@ abbrev pub session_of_parts : Parts → Session
 session_of_parts parts = record {
   absent = parts.absent;
   budget = parts.budget;
+  date = parts.date;
   edition = parts.edition;
   movement = parts.movement;
   pbn = parts.pbn.now;
   per_set = parts.per_set;
+  reasons = parts.reasons;
   rounds = parts.rounds;
   shared_by = parts.shared_by;
   switched = parts.switched;
   tables = parts.tables;
+  title = parts.title;
   users = parts.users;
 }
 

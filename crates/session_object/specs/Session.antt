@@ -24,8 +24,9 @@ use Rattle.session_roles.specs.Edition.{edition_number}
 use Rattle.session_opening.specs.declared.new_user.NewUser.{NewUser}
 use Rattle.json_fields.specs.Form.{Member, Form, form, ◌with◌, formed, HasForm}
 use Rattle.json_fields.specs.Field.{whole, limited, numbered, written, listed}
-use Rattle.json_fields.specs.User.{user_name, digest, user_roles, pair, absent, place}
+use Rattle.json_fields.specs.User.{user_name, digest, user_roles, pair, absent, place, shown_name, member_number}
 use Rattle.session_object.specs.declared.asked_movement.AskedMovement.{AskedMovement}
+use Rattle.session_object.specs.NoticeMembers.{title, date, reasons}
 use Rattle.session_object.specs.AskedMovement.{asked_movement, shared_by, switched_rounds, StandsBeside, stands_beside}
 
 -- ---- the edition of the policy: 1 or 2, and 1 where it is left out
@@ -58,15 +59,28 @@ edition_said o = unwrap_or (edition_or_first o) First
 -- a user who sits somewhere: the pair and the place stand together
 abbrev pub seated : Edition → Form NewUser
 seated edition =
-    form [] (λ digest name pair place roles.
-    record { name = name; digest = digest; roles = roles; seat = Some (record { pair = pair; place = place }) })
-    with digest with user_name with pair with place with user_roles edition
+    form [] (λ digest name number pair place roles shown. record {
+      name = name;
+      digest = digest;
+      roles = roles;
+      seat = Some (record { pair = pair; place = place });
+      shown = shown;
+      number = number;
+    })
+    with digest with user_name with member_number with pair with place with user_roles edition with shown_name
 
 -- a user who sits nowhere
 abbrev pub unseated : Edition → Form NewUser
 unseated edition =
-    form [] (λ digest name roles. record { name = name; digest = digest; roles = roles; seat = None })
-    with digest with user_name with user_roles edition
+    form [] (λ digest name number roles shown. record {
+      name = name;
+      digest = digest;
+      roles = roles;
+      seat = None;
+      shown = shown;
+      number = number;
+    })
+    with digest with user_name with member_number with user_roles edition with shown_name
 
 -- which of the two it is, by the member `pair`
 abbrev pub user_form : Edition → Option Data → Form NewUser
@@ -87,19 +101,23 @@ users edition = listed (codes "users") (new_user_of edition) (IsUser edition)
 
 -- ---- sessions
 
--- what a session object says: the pair that is absent, if one is, the visits of a solver's call, the edition of the
--- policy, the movement that it asks for, the boards' PBN text, the numbers of the movement, and the users
+-- what a session object says: the pair that is absent, if one is, the visits of a solver's call, the day, if it is said,
+-- the edition of the policy, the movement that it asks for, the boards' PBN text, what the reasons of rulings mean, the
+-- numbers of the movement, the title, if there is one, and the users
 pub record Session : Type 0 where
   pub absent : Option Pair
   pub budget : ℕ
+  pub date : Option (List ℕ)
   pub edition : Edition
   pub movement : AskedMovement
   pub pbn : List ℕ
   pub per_set : ℕ
+  pub reasons : List (List ℕ)
   pub rounds : ℕ
   pub shared_by : Option ℕ
   pub switched : Option ℕ
   pub tables : ℕ
+  pub title : Option (List ℕ)
   pub users : List NewUser
 
 -- the most visits of a solver's call
@@ -109,42 +127,48 @@ most_visits = 1000000000000000000
 -- a session object that has its boards in it
 abbrev pub with_boards : Edition → Form Session
 with_boards edition =
-    form [] (λ absent budget said asked pbn per_set rounds shared_by switched tables users. record {
+    form [] (λ absent budget date said asked pbn per_set reasons rounds shared_by switched tables title users. record {
       absent = absent;
       budget = budget;
+      date = date;
       edition = said;
       movement = asked;
       pbn = pbn;
       per_set = per_set;
+      reasons = reasons;
       rounds = rounds;
       shared_by = shared_by;
       switched = switched;
       tables = tables;
+      title = title;
       users = users;
     })
-    with absent with limited (codes "budget") most_visits with session_edition with asked_movement
-    with written (codes "pbn") with numbered (codes "per_set") with numbered (codes "rounds") with shared_by
-    with switched_rounds with numbered (codes "tables") with users edition
+    with absent with limited (codes "budget") most_visits with date with session_edition with asked_movement
+    with written (codes "pbn") with numbered (codes "per_set") with reasons with numbered (codes "rounds")
+    with shared_by with switched_rounds with numbered (codes "tables") with title with users edition
 
 -- a session object whose boards are given beside it
 abbrev pub beside_boards : Edition → List ℕ → Form Session
 beside_boards edition pbn =
-    form [] (λ absent budget said asked per_set rounds shared_by switched tables users. record {
+    form [] (λ absent budget date said asked per_set reasons rounds shared_by switched tables title users. record {
       absent = absent;
       budget = budget;
+      date = date;
       edition = said;
       movement = asked;
       pbn = pbn;
       per_set = per_set;
+      reasons = reasons;
       rounds = rounds;
       shared_by = shared_by;
       switched = switched;
       tables = tables;
+      title = title;
       users = users;
     })
-    with absent with limited (codes "budget") most_visits with session_edition with asked_movement
-    with numbered (codes "per_set") with numbered (codes "rounds") with shared_by with switched_rounds
-    with numbered (codes "tables") with users edition
+    with absent with limited (codes "budget") most_visits with date with session_edition with asked_movement
+    with numbered (codes "per_set") with reasons with numbered (codes "rounds") with shared_by with switched_rounds
+    with numbered (codes "tables") with title with users edition
 
 -- which of the two it is, by the deals that are given
 abbrev pub session_form : Edition → Option (List ℕ) → Form Session

@@ -4,7 +4,7 @@ use table_terms::Items;
 
 /// What the member `movement` of a session object asks for.
 #[derive(Drop)]
-pub(crate) enum AskedMovement {
+pub enum AskedMovement {
     /// There is no such member.
     Nothing,
     /// A movement that has a name in the field.

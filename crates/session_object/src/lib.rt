@@ -6,6 +6,7 @@ mod edition_reading;
 pub mod laws;
 mod made_movement;
 mod movement_reading;
+mod notice_reading;
 mod object;
 mod parts;
 mod reading;
@@ -14,6 +15,8 @@ mod session_fault;
 mod tests;
 mod user;
 
+pub use asked_movement::AskedMovement;
+pub use notice_reading::is_date;
 pub use object::SessionObject;
 pub use reading::{MOST_BYTES, read_session};
 pub use session_fault::SessionFault;

@@ -8,9 +8,11 @@ ghost use Rattle.session_object.specs.Reading.{FailsPart, session_of_parts};
 use crate::asked_movement::AskedMovement;
 use crate::edition_reading::read_edition;
 use crate::movement_reading::{read_asked_movement, read_shared_by, read_switched, stands_beside};
+use crate::notice_reading::{read_date, read_reasons, read_title};
 use crate::session_fault::SessionFault;
 use crate::user::users_of;
 use json_fields::{has_only, limited_at, read_absent, small_number_at, text_at};
+use notices::NoticeText;
 use serde_json::Value;
 use session_opening::NewUser;
 use session_roles::Edition;
@@ -25,15 +27,18 @@ const MOST_VISITS: u64 = 1_000_000_000_000_000_000;
 pub(crate) struct Parts<'t> {
     pub(crate) absent: Option<Pair>,
     pub(crate) budget: u64,
+    pub(crate) date: Option<NoticeText>,
     pub(crate) edition: Edition,
     pub(crate) movement: AskedMovement,
     /// The PBN text of the boards.
     pub(crate) pbn: &'t [u8],
     pub(crate) per_set: u8,
+    pub(crate) reasons: Items<NoticeText>,
     pub(crate) rounds: u8,
     pub(crate) shared_by: Option<u8>,
     pub(crate) switched: Option<u8>,
     pub(crate) tables: u8,
+    pub(crate) title: Option<NoticeText>,
     pub(crate) users: Items<NewUser>,
 }
 
@@ -47,14 +52,17 @@ fn with_boards<'t>(alloc: Global, value: &'t Value) -> Result<Parts<'t>, Session
         &[
             "absent",
             "budget",
+            "date",
             "edition",
             "movement",
             "pbn",
             "per_set",
+            "reasons",
             "rounds",
             "shared_by",
             "switched",
             "tables",
+            "title",
             "users",
         ],
     ) {
@@ -64,6 +72,9 @@ fn with_boards<'t>(alloc: Global, value: &'t Value) -> Result<Parts<'t>, Session
         return Err(SessionFault::BadField);
     };
     let Some(budget) = limited_at(value, "budget", MOST_VISITS) else {
+        return Err(SessionFault::BadField);
+    };
+    let Some(date) = read_date(value) else {
         return Err(SessionFault::BadField);
     };
     let Some(edition) = read_edition(value) else {
@@ -76,6 +87,7 @@ fn with_boards<'t>(alloc: Global, value: &'t Value) -> Result<Parts<'t>, Session
     let Some(per_set) = small_number_at(value, "per_set") else {
         return Err(SessionFault::BadField);
     };
+    let reasons = read_reasons(alloc, value)?;
     let Some(rounds) = small_number_at(value, "rounds") else {
         return Err(SessionFault::BadField);
     };
@@ -88,18 +100,24 @@ fn with_boards<'t>(alloc: Global, value: &'t Value) -> Result<Parts<'t>, Session
     let Some(tables) = small_number_at(value, "tables") else {
         return Err(SessionFault::BadField);
     };
+    let Some(title) = read_title(value) else {
+        return Err(SessionFault::BadField);
+    };
     let users = users_of(alloc, value, edition)?;
     Ok(Parts {
         absent,
         budget,
+        date,
         edition,
         movement,
         pbn: pbn.as_bytes(),
         per_set,
+        reasons,
         rounds,
         shared_by,
         switched,
         tables,
+        title,
         users,
     })
 }
@@ -115,13 +133,16 @@ fn beside_boards<'t>(alloc: Global, value: &Value, pbn: &'t [u8]) -> Result<Part
         &[
             "absent",
             "budget",
+            "date",
             "edition",
             "movement",
             "per_set",
+            "reasons",
             "rounds",
             "shared_by",
             "switched",
             "tables",
+            "title",
             "users",
         ],
     ) {
@@ -133,6 +154,9 @@ fn beside_boards<'t>(alloc: Global, value: &Value, pbn: &'t [u8]) -> Result<Part
     let Some(budget) = limited_at(value, "budget", MOST_VISITS) else {
         return Err(SessionFault::BadField);
     };
+    let Some(date) = read_date(value) else {
+        return Err(SessionFault::BadField);
+    };
     let Some(edition) = read_edition(value) else {
         return Err(SessionFault::BadField);
     };
@@ -140,6 +164,7 @@ fn beside_boards<'t>(alloc: Global, value: &Value, pbn: &'t [u8]) -> Result<Part
     let Some(per_set) = small_number_at(value, "per_set") else {
         return Err(SessionFault::BadField);
     };
+    let reasons = read_reasons(alloc, value)?;
     let Some(rounds) = small_number_at(value, "rounds") else {
         return Err(SessionFault::BadField);
     };
@@ -152,18 +177,24 @@ fn beside_boards<'t>(alloc: Global, value: &Value, pbn: &'t [u8]) -> Result<Part
     let Some(tables) = small_number_at(value, "tables") else {
         return Err(SessionFault::BadField);
     };
+    let Some(title) = read_title(value) else {
+        return Err(SessionFault::BadField);
+    };
     let users = users_of(alloc, value, edition)?;
     Ok(Parts {
         absent,
         budget,
+        date,
         edition,
         movement,
         pbn,
         per_set,
+        reasons,
         rounds,
         shared_by,
         switched,
         tables,
+        title,
         users,
     })
 }

@@ -9,6 +9,7 @@ use crate::made_movement::movement_of;
 use crate::object::SessionObject;
 use crate::parts::parts_of;
 use crate::session_fault::SessionFault;
+use notices::Notices;
 use pbn_records::{BoardSet, DealsError, read_deals};
 use serde_json::Value;
 use session_opening::Config;
@@ -80,6 +81,11 @@ fn read_object(
                 movement,
                 boards,
                 users: parts.users,
+                notices: Notices {
+                    title: parts.title,
+                    date: parts.date,
+                    reasons: parts.reasons,
+                },
             },
             budget: parts.budget,
         }),

@@ -1,6 +1,8 @@
 //! Session objects that ask for a movement: a Howell of three tables as a list, its faults, other values of the members, and
 //! the longest list.
 
+mod told;
+
 use crate::reading::read_session;
 use crate::session_fault::SessionFault;
 use movement::Movement;

@@ -10,7 +10,9 @@ ghost use Rattle.session_object.specs.Reading.{GivesPart, FailsPart};
 
 use crate::session_fault::SessionFault;
 use disclosure_rules::Seat;
-use json_fields::{has_only, name_at, read_digest, read_pair, read_place, read_role};
+use json_fields::{
+    has_only, name_at, read_digest, read_number, read_pair, read_place, read_role, read_shown,
+};
 use serde_json::Value;
 use session_opening::NewUser;
 use session_roles::{Edition, Role};
@@ -47,7 +49,7 @@ fn roles_of(alloc: Global, value: &Value, edition: Edition) -> Result<Items<Role
 fn unseated_user(alloc: Global, value: &Value, edition: Edition) -> Result<NewUser, SessionFault>
     ensures { GivesPart result (formed [] (unseated edition) (view value.now)) }
 {
-    if !has_only(value, &["digest", "name", "roles"]) {
+    if !has_only(value, &["digest", "name", "number", "roles", "shown"]) {
         return Err(SessionFault::BadField);
     }
     let Some(digest) = read_digest(value) else {
@@ -56,25 +58,41 @@ fn unseated_user(alloc: Global, value: &Value, edition: Edition) -> Result<NewUs
     let Some(name) = name_at(value, "name") else {
         return Err(SessionFault::BadField);
     };
+    let Some(number) = read_number(value) else {
+        return Err(SessionFault::BadField);
+    };
     let roles = roles_of(alloc, value, edition)?;
+    let Some(shown) = read_shown(value) else {
+        return Err(SessionFault::BadField);
+    };
     Ok(NewUser {
         name,
         digest,
         roles,
         seat: None,
+        shown,
+        number,
     })
 }
 
 fn seated_user(alloc: Global, value: &Value, edition: Edition) -> Result<NewUser, SessionFault>
     ensures { GivesPart result (formed [] (seated edition) (view value.now)) }
 {
-    if !has_only(value, &["digest", "name", "pair", "place", "roles"]) {
+    if !has_only(
+        value,
+        &[
+            "digest", "name", "number", "pair", "place", "roles", "shown",
+        ],
+    ) {
         return Err(SessionFault::BadField);
     }
     let Some(digest) = read_digest(value) else {
         return Err(SessionFault::BadField);
     };
     let Some(name) = name_at(value, "name") else {
+        return Err(SessionFault::BadField);
+    };
+    let Some(number) = read_number(value) else {
         return Err(SessionFault::BadField);
     };
     let Some(pair) = read_pair(value) else {
@@ -84,11 +102,16 @@ fn seated_user(alloc: Global, value: &Value, edition: Edition) -> Result<NewUser
         return Err(SessionFault::BadField);
     };
     let roles = roles_of(alloc, value, edition)?;
+    let Some(shown) = read_shown(value) else {
+        return Err(SessionFault::BadField);
+    };
     Ok(NewUser {
         name,
         digest,
         roles,
         seat: Some(Seat { pair, place }),
+        shown,
+        number,
     })
 }
 

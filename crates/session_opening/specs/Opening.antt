@@ -58,16 +58,18 @@ opening_public config =
       live = replicate most_boards [];
     }
 
--- the opening state: the users with their digests, their seats, and the hands of the boards; nothing is known of any
--- cell, and no board is solved
+-- the opening state: the users with their digests and their names to show, their seats, the hands of the boards, and what
+-- the session tells of itself; nothing is known of any cell, and no board is solved
 abbrev pub opening_of : Config → SessionState
 opening_of config =
     record {
       roles = opening_roles config.edition config.users;
       digests = map (λ user. user.digest) config.users;
+      names = map (λ user. user.shown) config.users;
       seats = opening_seats config.users;
       public = opening_public config;
       cells = replicate most_cells Empty;
       deals = map (λ board. board.deal) (boards_in_play config);
       tables = replicate most_boards None;
+      notices = config.notices;
     }

@@ -1,10 +1,12 @@
 use crate::new_user::NewUser;
 use movement::Movement;
+use notices::Notices;
 use pbn_records::BoardSet;
 use session_roles::Edition;
 use table_terms::Items;
 
-/// What a session opens with: by which edition of the policy, who plays what where, the boards, and the users.
+/// What a session opens with: by which edition of the policy, who plays what where, the boards, the users, and what it tells
+/// its members of itself.
 #[derive(Drop)]
 pub struct Config {
     /// The edition of the policy.
@@ -13,4 +15,6 @@ pub struct Config {
     /// The boards of the movement, from 1.
     pub boards: BoardSet,
     pub users: Items<NewUser>,
+    /// What the session tells its members of itself.
+    pub notices: Notices,
 }

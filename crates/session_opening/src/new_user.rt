@@ -1,7 +1,7 @@
 use disclosure_rules::Seat;
 use session_roles::Role;
 use table_terms::Items;
-use user_names::{Digest, Name};
+use user_names::{Digest, MemberNumber, Name, ShownName};
 
 /// A user with whom a session opens.
 #[derive(Drop)]
@@ -12,4 +12,8 @@ pub struct NewUser {
     pub roles: Items<Role>,
     /// Where the user sits, if the user plays.
     pub seat: Option<Seat>,
+    /// The name to show, or none.
+    pub shown: ShownName,
+    /// The number that the user has as a member of a club or a federation, which is told to nobody.
+    pub number: Option<MemberNumber>,
 }

@@ -22,7 +22,7 @@ use session_roles::{Edition, Role};
 use session_state::{Seated, State};
 use std::alloc::{AllocError, Global};
 use table_terms::{Place, Vulnerability};
-use user_names::Digest;
+use user_names::{Digest, ShownName};
 
 /// What stands in the place of a board that isn't played.
 const NO_MARKS: Marks = Marks {
@@ -58,9 +58,20 @@ fn opening_state(alloc: Global, config: &Config) -> Result<State, AllocError>
     let users = config.users.as_slice();
     let roles = roles(alloc, config.edition, users)?;
     let digests = digests(alloc, users)?;
+    let names = names(alloc, users)?;
     let seats = seats(alloc, users)?;
     let deals = deals(alloc, config)?;
-    State::new(alloc, roles, digests, seats, public(config), deals)
+    let notices = config.notices.copy(alloc)?;
+    State::new(
+        alloc,
+        roles,
+        digests,
+        names,
+        seats,
+        public(config),
+        deals,
+        notices,
+    )
 }
 
 // The users and their roles.
@@ -99,6 +110,19 @@ fn digests(alloc: Global, users: &[NewUser]) -> Result<Vec<Digest>, AllocError>
         push_within(&mut digests, user.digest);
     }
     Ok(digests)
+}
+
+// The users' names to show.
+fn names(alloc: Global, users: &[NewUser]) -> Result<Vec<ShownName>, AllocError>
+    requires { length users.now ≤ most_users }
+    ensures items { IfOk result (λ names. names.items ≡ map (λ user. user.shown) users.now) }
+    ensures room { IfOk result (λ names. most_users ≤ vec_capacity names) }
+{
+    let mut names = Vec::with_capacity(alloc, Roles::MOST_USERS)?;
+    for user in users {
+        push_within(&mut names, user.shown);
+    }
+    Ok(names)
 }
 
 // Where the users sit.

@@ -20,17 +20,20 @@ use Rattle.solver_results.specs.declared.play_answer.PlayAnswer.TheVariants as a
 use Rattle.session_commands.specs.declared.cell_state.CellState.{CellState}
 use Rattle.session_commands.specs.declared.cell_state.CellState.TheVariants.{Empty, Entered, Confirmed, Ruled}
 use Rattle.session_state.specs.declared.seated.Seated.{Seated}
+use Rattle.session_state.specs.declared.shown_user.ShownUser.{ShownUser}
+use Rattle.notices.specs.declared.notices.Notices.{Notices}
 use Rattle.cards.specs.PlayedCards.{has_card}
-use Rattle.session_state.specs.Readers.{seats_in_order}
+use Rattle.session_state.specs.Readers.{seats_in_order, shown_users}
 use Rattle.session_state.specs.SessionState.{SessionState, cell_at, table_at}
 use Rattle.session_queries.specs.declared.card_costs.CardCosts.{CardCosts}
 use Rattle.session_queries.specs.declared.card_costs.CardCosts.TheVariants.{Pending, NoCards, Each, NotAPlay}
 use Rattle.standings.specs.declared.cell_result.CellResult.{CellResult}
 use Rattle.standings.specs.declared.cell_result.CellResult.TheVariants as cell_result
 
--- what a fact says: a fact of a cell says nothing where the cell has no result
+-- what a fact says: the public one beside what every member may see the seats, the names to show and what the session
+-- tells of itself; a fact of a cell says nothing where the cell has no result
 pub data Content : Type 0 where
-  says_public : Public → List Seated → Content
+  says_public : Public → List Seated → List ShownUser → Notices → Content
   says_accounts : List Account → List Inheritance → Content
   says_hands : Option Hands → Content
   says_analysis : Option TrickTable → Content
@@ -102,7 +105,7 @@ analysis_of state board = option_map tricks_of_deal (table_at state board)
 
 -- what each fact says of a state
 abbrev pub content : SessionState → Fact → Content
-content state fact.Public = says_public state.public (seats_in_order state)
+content state fact.Public = says_public state.public (seats_in_order state) (shown_users state) state.notices
 content state fact.Accounts = says_accounts state.roles.accounts state.roles.pairs
 content state (fact.Hands board) = says_hands (slice_get state.deals (board - 1))
 content state (fact.Analysis board) = says_analysis (analysis_of state board)

@@ -11,7 +11,6 @@ use Rattle.disclosure_rules.specs.declared.fact.Fact.TheVariants as fact
 use Rattle.disclosure_rules.specs.declared.marks.Marks.{Marks}
 use Rattle.disclosure_rules.specs.declared.public.Public.{Public}
 use Rattle.query_filter.specs.declared.trick_table.TrickTable.{TrickTable}
-use Rattle.session_state.specs.declared.seated.Seated.{Seated}
 use Rattle.session_queries.specs.declared.card_costs.CardCosts.{CardCosts}
 use Rattle.standings.specs.declared.cell_result.CellResult.{CellResult}
 use Rattle.standings.specs.declared.table_result.TableResult.{TableResult}
@@ -30,13 +29,8 @@ use Rattle.session_queries.specs.Shown.{Shown, content_shown}
 
 -- what every member may see, if that is what is said
 abbrev pub as_public : Content → Option Public
-as_public (says_public public seats) = Some public
+as_public (says_public public seats names notices) = Some public
 as_public _ = None
-
--- where the users sit, in the order of the accounts
-abbrev pub as_seats : Content → Option (List Seated)
-as_seats (says_public public seats) = Some seats
-as_seats _ = None
 
 abbrev pub as_accounts : Content → Option (List Account)
 as_accounts (says_accounts users pairs) = Some users
@@ -74,10 +68,6 @@ as_reason _ = None
 -- what every member may see, where it is shown
 abbrev pub shown_public : List Shown → Option Public
 shown_public items = option_and_then as_public (content_shown items fact.Public)
-
--- the seats, where they are shown
-abbrev pub shown_seats : List Shown → Option (List Seated)
-shown_seats items = option_and_then as_seats (content_shown items fact.Public)
 
 -- the users with their roles, where they are shown
 abbrev pub shown_accounts : List Shown → Option (List Account)

@@ -1,5 +1,6 @@
 use crate::card_costs::CardCosts;
 use crate::public_facts::PublicFacts;
+use crate::told_notices::ToldNotices;
 use cards::{Deal, Play};
 use denials::Denial;
 use disclosure_rules::Marks;
@@ -7,7 +8,7 @@ use movement::Cell;
 use query_filter::TrickTable;
 use rbac::{Account, Inheritance};
 use scoring::Standing;
-use session_state::Seated;
+use session_state::{Seated, ShownUser};
 use standings::TravellerRow;
 use table_terms::Items;
 
@@ -22,10 +23,13 @@ pub enum Body {
     Behind,
     /// A rule forbids what was asked for.
     Denied(Denial),
-    /// What every member may see, with the seats in the order of the accounts.
+    /// What every member may see, with the seats and the names to show in the order of the accounts, and what the session
+    /// tells of itself.
     Status {
         public: PublicFacts,
         seats: Items<Seated>,
+        names: Items<ShownUser>,
+        notices: ToldNotices,
     },
     /// The hands and the marks of a board.
     Board {

@@ -11,6 +11,7 @@ mod push;
 mod query;
 mod reply;
 mod results;
+mod told_notices;
 
 pub use body::Body;
 pub use card_costs::CardCosts;
@@ -20,3 +21,4 @@ pub use push::push_found;
 pub use query::Query;
 pub use reply::Reply;
 pub use results::{put_results, shown_results};
+pub use told_notices::ToldNotices;

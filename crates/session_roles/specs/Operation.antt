@@ -34,6 +34,7 @@ use Rattle.session_roles.specs.declared.operation.Operation.TheVariants.{
   DeleteInheritance,
   Embargo,
   Lift,
+  Rename,
 }
 use Rattle.session_roles.specs.Edition.{is_second}
 use Rattle.session_roles.specs.Role.{roles, has}
@@ -60,8 +61,9 @@ operation_number AddInheritance = 16
 operation_number DeleteInheritance = 17
 operation_number Embargo = 18
 operation_number Lift = 19
+operation_number Rename = 20
 
--- whether an edition knows the operation: the first one knows no embargo
+-- whether an edition knows the operation: the first one knows no embargo and no names to show
 abbrev pub is_operation_of : Edition → Operation → Bool
 is_operation_of edition Enter = true
 is_operation_of edition Confirm = true
@@ -83,6 +85,7 @@ is_operation_of edition AddInheritance = true
 is_operation_of edition DeleteInheritance = true
 is_operation_of edition Embargo = is_second edition
 is_operation_of edition Lift = is_second edition
+is_operation_of edition Rename = is_second edition
 
 -- whether two operations are one
 abbrev pub same_operation : Operation → Operation → Bool
@@ -110,7 +113,7 @@ operations_of Director =
     ∷ Lift
     ∷ []
 operations_of Administrator =
-    AddUser ∷ Assign ∷ Deassign ∷ AddInheritance ∷ DeleteInheritance ∷ Audit ∷ []
+    AddUser ∷ Assign ∷ Deassign ∷ AddInheritance ∷ DeleteInheritance ∷ Audit ∷ Rename ∷ []
 operations_of Commentator = []
 
 -- whether a role itself permits an operation

@@ -30,13 +30,14 @@ pub enum Operation {
     DeleteInheritance,
     Embargo,
     Lift,
+    Rename,
 }
 
 impl Operation {
     /// The operation's place in their order, from 0.
     pub fn number(self) -> u8
         ensures number { result ≡ operation_number self }
-        ensures below { result < 20 }
+        ensures below { result < 21 }
     {
         self as u8
     }
@@ -46,7 +47,7 @@ impl Operation {
         ensures { result ≡ is_operation_of edition self }
     {
         match self {
-            Operation::Embargo | Operation::Lift => edition.is_second(),
+            Operation::Embargo | Operation::Lift | Operation::Rename => edition.is_second(),
             Operation::Enter
             | Operation::Confirm
             | Operation::Correct

@@ -34,6 +34,7 @@ impl Role {
                 Operation::AddInheritance,
                 Operation::DeleteInheritance,
                 Operation::Audit,
+                Operation::Rename,
             ],
         }
     }

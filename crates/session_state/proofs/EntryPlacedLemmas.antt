@@ -27,6 +27,7 @@ use Rattle.session_commands.specs.declared.command.Command.TheVariants.{
   Analysed,
   Embargo,
   Lift,
+  Rename,
 }
 use Rattle.session_commands.specs.declared.entry.Entry.{Entry}
 use Rattle.session_commands.specs.declared.refusal.Refusal.{Refusal}
@@ -70,6 +71,7 @@ module _ (state : SessionState) (are : ArePlaced state) where
   effect_placed (Analysed cell costs) unhindered = are
   effect_placed Embargo unhindered = are
   effect_placed Lift unhindered = are
+  effect_placed (Rename name shown) unhindered = are
 
 pub entry_placed : (state : SessionState) (entry : Entry) → AreSeatsOf state.public.movement state.seats →
     AreSeatsOf (apply state entry).public.movement (apply state entry).seats

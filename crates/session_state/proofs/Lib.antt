@@ -9,6 +9,7 @@ pub mod EditionLemmas
 pub mod EntryPlacedLemmas
 pub mod HindranceLemmas
 pub mod LiveLemmas
+pub mod NameLemmas
 pub mod NumberRefusalLemmas
 pub mod OwnNumberLemmas
 pub mod PartLemmas
@@ -18,3 +19,4 @@ pub mod RefusalLemmas
 pub mod ScheduleLemmas
 pub mod SeatCauseLemmas
 pub mod SeatLemmas
+pub mod ToldLemmas

@@ -32,6 +32,7 @@ use Rattle.session_commands.specs.declared.command.Command.TheVariants.{
   Analysed,
   Embargo,
   Lift,
+  Rename,
 }
 use Rattle.session_commands.specs.declared.refusal.Refusal.{Refusal}
 use Rattle.session_commands.specs.declared.refusal.Refusal.TheVariants.{
@@ -134,6 +135,7 @@ solvers_not_strange state (Analysed cell costs) solvers =
     (refl, (other _ NotLive refl, (other _ StrangePlay refl, (other _ AlreadySolved refl, tt))))
 solvers_not_strange state Embargo never = absurd (false≢true never)
 solvers_not_strange state Lift never = absurd (false≢true never)
+solvers_not_strange state (Rename name shown) never = absurd (false≢true never)
 
 pub numbers_name_nobody : (state : SessionState) (spoiler : Option (List ℕ)) (actor : Actor) (command : Command)
     (entries : ℕ) → is_solvers command ≡ true →

@@ -85,6 +85,7 @@ use Rattle.session_commands.specs.declared.command.Command.TheVariants.{
   Analysed,
   Embargo,
   Lift,
+  Rename,
 }
 use Rattle.user_names.specs.declared.digest.Digest.{Digest}
 use Rattle.session_commands.specs.declared.entry.Entry.{Entry}
@@ -232,16 +233,19 @@ costless deals board known none outcome play costs is =
 
 -- a state that keeps its own numbers, with a part changed
 module _ (state : SessionState) (keeps : KeepsOwn state) where
-  unchanged : (roles : RoleData) (digests : List Digest) (seats : List Seated) (public : Public) → KeepsOwn (record {
-    roles = roles;
-    digests = digests;
-    seats = seats;
-    public = public;
-    cells = state.cells;
-    deals = state.deals;
-    tables = state.tables;
-  })
-  unchanged roles digests seats public = record { tables = keeps.tables; costs = keeps.costs }
+  unchanged : (roles : RoleData) (digests : List Digest) (names : List (List ℕ)) (seats : List Seated)
+      (public : Public) → KeepsOwn (record {
+        roles = roles;
+        digests = digests;
+        names = names;
+        seats = seats;
+        public = public;
+        cells = state.cells;
+        deals = state.deals;
+        tables = state.tables;
+        notices = state.notices;
+      })
+  unchanged roles digests names seats public = record { tables = keeps.tables; costs = keeps.costs }
 
   with_known : (own : Cell) (known : CellState) (public : Public) → IsPlaced own → AreOwn state.deals own.board known →
       KeepsOwn (record state { cells = slice_set state.cells (cell_index own) known; public = public })
@@ -306,26 +310,27 @@ module _ (state : SessionState) (keeps : KeepsOwn state) where
   effect_keeps is_section (Void cell) unhindered =
       with_known _ _ _ (scheduled_placed state _ is_section (cell_unhindered state (Void cell) unhindered))
       (costless _ _ Empty refl)
-  effect_keeps is_section (Hold board) unhindered = unchanged _ _ _ _
-  effect_keeps is_section (Release board) unhindered = unchanged _ _ _ _
-  effect_keeps is_section (Seat name pair place) unhindered = unchanged _ _ _ _
-  effect_keeps is_section (Unseat name) unhindered = unchanged _ _ _ _
-  effect_keeps is_section NextRound unhindered = unchanged _ _ _ _
-  effect_keeps is_section Close unhindered = unchanged _ _ _ _
-  effect_keeps is_section Finalise unhindered = unchanged _ _ _ _
-  effect_keeps is_section (AddUser name digest) unhindered = unchanged _ _ _ _
-  effect_keeps is_section (Assign name role) unhindered = unchanged _ _ _ _
-  effect_keeps is_section (Deassign name role) unhindered = unchanged _ _ _ _
-  effect_keeps is_section (AddInheritance senior junior) unhindered = unchanged _ _ _ _
-  effect_keeps is_section (DeleteInheritance senior junior) unhindered = unchanged _ _ _ _
+  effect_keeps is_section (Hold board) unhindered = unchanged _ _ _ _ _
+  effect_keeps is_section (Release board) unhindered = unchanged _ _ _ _ _
+  effect_keeps is_section (Seat name pair place) unhindered = unchanged _ _ _ _ _
+  effect_keeps is_section (Unseat name) unhindered = unchanged _ _ _ _ _
+  effect_keeps is_section NextRound unhindered = unchanged _ _ _ _ _
+  effect_keeps is_section Close unhindered = unchanged _ _ _ _ _
+  effect_keeps is_section Finalise unhindered = unchanged _ _ _ _ _
+  effect_keeps is_section (AddUser name digest) unhindered = unchanged _ _ _ _ _
+  effect_keeps is_section (Assign name role) unhindered = unchanged _ _ _ _ _
+  effect_keeps is_section (Deassign name role) unhindered = unchanged _ _ _ _ _
+  effect_keeps is_section (AddInheritance senior junior) unhindered = unchanged _ _ _ _ _
+  effect_keeps is_section (DeleteInheritance senior junior) unhindered = unchanged _ _ _ _ _
   effect_keeps is_section (Solved board table) unhindered = with_table board table
       (solved_own state board table unhindered).0
   effect_keeps is_section (Analysed cell costs) unhindered =
       with_known _ _ _ (scheduled_placed state _ is_section (cell_unhindered state (Analysed cell costs)
       unhindered))
       (counted _ costs (analysed_own state cell costs unhindered))
-  effect_keeps is_section Embargo unhindered = unchanged _ _ _ _
-  effect_keeps is_section Lift unhindered = unchanged _ _ _ _
+  effect_keeps is_section Embargo unhindered = unchanged _ _ _ _ _
+  effect_keeps is_section Lift unhindered = unchanged _ _ _ _ _
+  effect_keeps is_section (Rename name shown) unhindered = unchanged _ _ _ _ _
 
 -- each entry keeps them
 pub entry_keeps : (state : SessionState) (entry : Entry) → IsSection state.public.movement → KeepsOwn state →

@@ -37,6 +37,7 @@ use Rattle.session_commands.specs.declared.command.Command.TheVariants.{
   Analysed,
   Embargo,
   Lift,
+  Rename,
 }
 use Rattle.user_names.specs.declared.digest.Digest.{Digest}
 use Rattle.session_commands.specs.declared.entry.Entry.{Entry}
@@ -55,6 +56,7 @@ use Rattle.session_state.specs.Parts.{
   Hierarchy,
   Tables,
   Embargoes,
+  Names,
   part_of,
   IsSameBut,
 }
@@ -71,6 +73,7 @@ module _ (state : SessionState) where
     movement = refl;
     marks = refl;
     deals = refl;
+    notices = refl;
     edition = refl;
     roles_edition = refl;
     cells = λ _. refl;
@@ -81,6 +84,7 @@ module _ (state : SessionState) where
     phase = λ _. refl;
     accounts = λ _. refl;
     digests = λ _. refl;
+    names = λ _ _. refl;
     pairs = λ _. refl;
     tables = λ _. refl;
     embargo = λ _. refl;
@@ -92,6 +96,7 @@ module _ (state : SessionState) where
     movement = refl;
     marks = refl;
     deals = refl;
+    notices = refl;
     edition = refl;
     roles_edition = refl;
     cells = λ other. absurd (other refl);
@@ -102,6 +107,7 @@ module _ (state : SessionState) where
     phase = λ _. refl;
     accounts = λ _. refl;
     digests = λ _. refl;
+    names = λ _ _. refl;
     pairs = λ _. refl;
     tables = λ _. refl;
     embargo = λ _. refl;
@@ -113,6 +119,7 @@ module _ (state : SessionState) where
     movement = refl;
     marks = refl;
     deals = refl;
+    notices = refl;
     edition = refl;
     roles_edition = refl;
     cells = λ _. refl;
@@ -123,6 +130,7 @@ module _ (state : SessionState) where
     phase = λ _. refl;
     accounts = λ _. refl;
     digests = λ _. refl;
+    names = λ _ _. refl;
     pairs = λ _. refl;
     tables = λ _. refl;
     embargo = λ _. refl;
@@ -133,6 +141,7 @@ module _ (state : SessionState) where
     movement = refl;
     marks = refl;
     deals = refl;
+    notices = refl;
     edition = refl;
     roles_edition = refl;
     cells = λ _. refl;
@@ -143,6 +152,7 @@ module _ (state : SessionState) where
     phase = λ _. refl;
     accounts = λ _. refl;
     digests = λ _. refl;
+    names = λ _ _. refl;
     pairs = λ _. refl;
     tables = λ _. refl;
     embargo = λ _. refl;
@@ -154,6 +164,7 @@ module _ (state : SessionState) where
     movement = refl;
     marks = refl;
     deals = refl;
+    notices = refl;
     edition = refl;
     roles_edition = refl;
     cells = λ _. refl;
@@ -164,6 +175,7 @@ module _ (state : SessionState) where
     phase = λ _. refl;
     accounts = λ _. refl;
     digests = λ _. refl;
+    names = λ _ _. refl;
     pairs = λ _. refl;
     tables = λ _. refl;
     embargo = λ _. refl;
@@ -175,6 +187,7 @@ module _ (state : SessionState) where
     movement = refl;
     marks = refl;
     deals = refl;
+    notices = refl;
     edition = refl;
     roles_edition = refl;
     cells = λ _. refl;
@@ -185,17 +198,20 @@ module _ (state : SessionState) where
     phase = λ other. absurd (other refl);
     accounts = λ _. refl;
     digests = λ _. refl;
+    names = λ _ _. refl;
     pairs = λ _. refl;
     tables = λ _. refl;
     embargo = λ _. refl;
   }
 
-  same_but_accounts : (accounts : List Account) (digests : List Digest) → IsSameBut Accounts state
-      (record state { roles = record state.roles { accounts = accounts }; digests = digests })
-  same_but_accounts accounts digests = record {
+  same_but_accounts : (accounts : List Account) (digests : List Digest) (names : List (List ℕ))
+      → IsSameBut Accounts state
+      (record state { roles = record state.roles { accounts = accounts }; digests = digests; names = names })
+  same_but_accounts accounts digests names = record {
     movement = refl;
     marks = refl;
     deals = refl;
+    notices = refl;
     edition = refl;
     roles_edition = refl;
     cells = λ _. refl;
@@ -206,6 +222,7 @@ module _ (state : SessionState) where
     phase = λ _. refl;
     accounts = λ other. absurd (other refl);
     digests = λ other. absurd (other refl);
+    names = λ other _. absurd (other refl);
     pairs = λ _. refl;
     tables = λ _. refl;
     embargo = λ _. refl;
@@ -217,6 +234,7 @@ module _ (state : SessionState) where
     movement = refl;
     marks = refl;
     deals = refl;
+    notices = refl;
     edition = refl;
     roles_edition = refl;
     cells = λ _. refl;
@@ -227,6 +245,7 @@ module _ (state : SessionState) where
     phase = λ _. refl;
     accounts = λ _. refl;
     digests = λ _. refl;
+    names = λ _ _. refl;
     pairs = λ other. absurd (other refl);
     tables = λ _. refl;
     embargo = λ _. refl;
@@ -237,6 +256,7 @@ module _ (state : SessionState) where
     movement = refl;
     marks = refl;
     deals = refl;
+    notices = refl;
     edition = refl;
     roles_edition = refl;
     cells = λ _. refl;
@@ -247,6 +267,7 @@ module _ (state : SessionState) where
     phase = λ _. refl;
     accounts = λ _. refl;
     digests = λ _. refl;
+    names = λ _ _. refl;
     pairs = λ _. refl;
     tables = λ other. absurd (other refl);
     embargo = λ _. refl;
@@ -258,6 +279,7 @@ module _ (state : SessionState) where
     movement = refl;
     marks = refl;
     deals = refl;
+    notices = refl;
     edition = refl;
     roles_edition = refl;
     cells = λ _. refl;
@@ -268,9 +290,32 @@ module _ (state : SessionState) where
     phase = λ _. refl;
     accounts = λ _. refl;
     digests = λ _. refl;
+    names = λ _ _. refl;
     pairs = λ _. refl;
     tables = λ _. refl;
     embargo = λ other. absurd (other refl);
+  }
+
+  same_but_names : (names : List (List ℕ)) → IsSameBut Names state (record state { names = names })
+  same_but_names names = record {
+    movement = refl;
+    marks = refl;
+    deals = refl;
+    notices = refl;
+    edition = refl;
+    roles_edition = refl;
+    cells = λ _. refl;
+    live = λ _. refl;
+    held = λ _. refl;
+    seats = λ _. refl;
+    round = λ _. refl;
+    phase = λ _. refl;
+    accounts = λ _. refl;
+    digests = λ _. refl;
+    names = λ _ other. absurd (other refl);
+    pairs = λ _. refl;
+    tables = λ _. refl;
+    embargo = λ _. refl;
   }
 
   confirmed_part : (cell : Cell) (known : CellState) → IsSameBut Results state (confirmed state cell known)
@@ -292,15 +337,16 @@ module _ (state : SessionState) where
   effect_part NextRound = same_but_round _
   effect_part Close = same_but_phase _
   effect_part Finalise = same_but_phase _
-  effect_part (AddUser name digest) = same_but_accounts _ _
-  effect_part (Assign name role) = same_but_accounts _ _
-  effect_part (Deassign name role) = same_but_accounts _ _
+  effect_part (AddUser name digest) = same_but_accounts _ _ _
+  effect_part (Assign name role) = same_but_accounts _ _ _
+  effect_part (Deassign name role) = same_but_accounts _ _ _
   effect_part (AddInheritance senior junior) = same_but_pairs _
   effect_part (DeleteInheritance senior junior) = same_but_pairs _
   effect_part (Solved board table) = same_but_tables _
   effect_part (Analysed cell costs) = same_but_cells _ _
   effect_part Embargo = same_but_embargo _
   effect_part Lift = same_but_embargo _
+  effect_part (Rename name shown) = same_but_names _
 
 -- an entry changes one part at most
 pub entry_part : (state : SessionState) (entry : Entry) → IsSameBut (part_of entry.command) state (apply state entry)
@@ -380,6 +426,7 @@ effect_elsewhere state command cell is_section placed_cell unhindered other = by
         (no_other _ other) _
     by_command Embargo there other = refl
     by_command Lift there other = refl
+    by_command (Rename name shown) there other = refl
 
 -- an entry changes what is known of its own cell alone
 pub entry_elsewhere : (state : SessionState) (entry : Entry) (cell : Cell) → IsSection state.public.movement →

@@ -44,6 +44,7 @@ use Rattle.session_commands.specs.declared.command.Command.TheVariants.{
   Analysed,
   Embargo,
   Lift,
+  Rename,
 }
 use Rattle.session_commands.specs.declared.refusal.Refusal.{Refusal}
 use Rattle.session_commands.specs.declared.refusal.Refusal.TheVariants.{
@@ -272,6 +273,7 @@ own_not_apart state (Analysed cell costs) =
     (of _ NotLive refl, (of _ StrangePlay refl, (of _ AlreadySolved refl, tt)))
 own_not_apart state Embargo = (of _ AlreadyEmbargoed refl, tt)
 own_not_apart state Lift = (of _ NotEmbargoed refl, tt)
+own_not_apart state (Rename name shown) = tt
 
 -- nor of the others
 later_not_apart : (state : SessionState) (spoiler : Option (List ℕ)) (command : Command) (entries : ℕ) →

@@ -33,13 +33,14 @@ use Rattle.session_commands.specs.declared.command.Command.TheVariants.{
 use Rattle.session_commands.specs.declared.command.Command.TheVariants.{Seat, Unseat, NextRound, Close, Finalise}
 use Rattle.session_commands.specs.declared.command.Command.TheVariants.{AddUser, Assign, Deassign, AddInheritance}
 use Rattle.session_commands.specs.declared.command.Command.TheVariants.{DeleteInheritance, Solved, Analysed}
-use Rattle.session_commands.specs.declared.command.Command.TheVariants.{Embargo, Lift}
+use Rattle.session_commands.specs.declared.command.Command.TheVariants.{Embargo, Lift, Rename}
 use Rattle.session_commands.specs.declared.cell_state.CellState.{CellState}
 use Rattle.session_commands.specs.declared.cell_state.CellState.TheVariants.{Empty, Entered, Confirmed, Ruled}
 use Rattle.session_commands.specs.declared.entry.Entry.{Entry}
 use Rattle.session_commands.specs.CellState.{with_costs}
 use Rattle.session_state.specs.Refusal.{hindrance_of}
 use Rattle.session_state.specs.Seats.{without_seat}
+use Rattle.session_state.specs.Readers.{account_place}
 use Rattle.session_state.specs.SessionState.{SessionState, cell_at, with_cell}
 
 -- with another part that every member may see
@@ -86,8 +87,13 @@ effect state (Unseat name) = record state { seats = without_seat state.seats nam
 effect state NextRound = with_public state (record state.public { round = state.public.round + 1 })
 effect state Close = with_public state (record state.public { phase = Closed })
 effect state Finalise = with_public state (record state.public { phase = Final })
+-- a new user has no name to show
 effect state (AddUser name digest) =
-    record state { roles = add_user state.roles name; digests = state.digests ++ digest ∷ [] }
+    record state {
+      roles = add_user state.roles name;
+      digests = state.digests ++ digest ∷ [];
+      names = state.names ++ [] ∷ [];
+    }
 effect state (Assign name role) = with_roles state (assign_user state.roles name role)
 effect state (Deassign name role) = with_roles state (deassign_user state.roles name role)
 effect state (AddInheritance senior junior) = with_roles state (add_inheritance state.roles senior junior)
@@ -98,6 +104,9 @@ effect state (Analysed cell costs) = with_cell state cell (with_costs (cell_at s
 -- an embargo begins, and ends
 effect state Embargo = with_public state (record state.public { embargo = true })
 effect state Lift = with_public state (record state.public { embargo = false })
+-- the user's name to show is another, or the empty text, which is none
+effect state (Rename name shown) =
+    record state { names = slice_set state.names (account_place state.roles.accounts name) shown }
 
 -- what an entry does: nothing where the state hinders it
 abbrev pub apply : SessionState → Entry → SessionState

@@ -6,9 +6,9 @@ use Rattle.session_state.specs.Seats.{AreSeated, AreSeatsOf}
 use Rattle.session_state.specs.SessionState.{most_cells, AreLive}
 use Rattle.session_state.specs.declared.state.State.TheInside.{Inside}
 
--- there is a place for each cell, a marking, a deal and a place for a table for each board, a digest for each user, and
--- room for a digest and a seat of each user that a session can have; users have at most one seat each, and there are
--- not too many; a seat has at most one user, and is one of the movement's; the roles are of the edition of the policy by
+-- there is a place for each cell, a marking, a deal and a place for a table for each board, a digest and a name to show
+-- for each user, and room for a digest, a name and a seat of each user that a session can have; users have at most one
+-- seat each, and there are not too many; a seat has at most one user, and is one of the movement's; the roles are of the edition of the policy by
 -- which facts are denied; and what every member may see shows a result just where a cell has one
 pub record IsKeptState (state : Inside) : Type 0 where
   pub cells : vec_len state.cells ≡ most_cells
@@ -18,6 +18,8 @@ pub record IsKeptState (state : Inside) : Type 0 where
   pub deals : boards_of state.public.movement ≤ vec_len state.deals
   pub digests : vec_len state.digests ≡ length state.roles.accounts
   pub digest_room : most_users ≤ vec_capacity state.digests
+  pub names : vec_len state.names ≡ length state.roles.accounts
+  pub name_room : most_users ≤ vec_capacity state.names
   pub seats : most_users ≤ vec_capacity state.seats
   pub users : length state.roles.accounts ≤ most_users
   pub seated : AreSeated state.roles state.seats.items

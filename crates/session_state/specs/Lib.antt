@@ -7,3 +7,4 @@ pub mod Readers
 pub mod Refusal
 pub mod Seats
 pub mod SessionState
+pub mod Told

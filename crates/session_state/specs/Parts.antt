@@ -13,7 +13,7 @@ use Rattle.session_commands.specs.declared.command.Command.TheVariants.{
 use Rattle.session_commands.specs.declared.command.Command.TheVariants.{Seat, Unseat, NextRound, Close, Finalise}
 use Rattle.session_commands.specs.declared.command.Command.TheVariants.{AddUser, Assign, Deassign, AddInheritance}
 use Rattle.session_commands.specs.declared.command.Command.TheVariants.{DeleteInheritance, Solved, Analysed}
-use Rattle.session_commands.specs.declared.command.Command.TheVariants.{Embargo, Lift}
+use Rattle.session_commands.specs.declared.command.Command.TheVariants.{Embargo, Lift, Rename}
 use Rattle.session_state.specs.SessionState.{SessionState}
 
 -- the parts that commands change
@@ -27,6 +27,7 @@ pub data Part : Type 0 where
   Hierarchy : Part
   Tables : Part
   Embargoes : Part
+  Names : Part
 
 -- the part that it is about
 abbrev pub part_of : Command → Part
@@ -51,12 +52,15 @@ part_of (Solved board table) = Tables
 part_of (Analysed cell costs) = Results
 part_of Embargo = Embargoes
 part_of Lift = Embargoes
+part_of (Rename name shown) = Names
 
--- two states differ in one part at most; the movement, the marks, the deals and the edition are none
+-- two states differ in one part at most, where a new account brings its own digest and name to show; the movement, the marks, the deals, the edition and what the
+-- session tells of itself are none
 pub record IsSameBut (part : Part) (before after : SessionState) : Type 0 where
   pub movement : after.public.movement ≡ before.public.movement
   pub marks : after.public.marks ≡ before.public.marks
   pub deals : after.deals ≡ before.deals
+  pub notices : after.notices ≡ before.notices
   pub edition : after.public.edition ≡ before.public.edition
   pub roles_edition : after.roles.edition ≡ before.roles.edition
   pub cells : part ≢ Results → after.cells ≡ before.cells
@@ -67,6 +71,7 @@ pub record IsSameBut (part : Part) (before after : SessionState) : Type 0 where
   pub phase : part ≢ Phases → after.public.phase ≡ before.public.phase
   pub accounts : part ≢ Accounts → after.roles.accounts ≡ before.roles.accounts
   pub digests : part ≢ Accounts → after.digests ≡ before.digests
+  pub names : part ≢ Accounts → part ≢ Names → after.names ≡ before.names
   pub pairs : part ≢ Hierarchy → after.roles.pairs ≡ before.roles.pairs
   pub tables : part ≢ Tables → after.tables ≡ before.tables
   pub embargo : part ≢ Embargoes → after.public.embargo ≡ before.public.embargo

@@ -36,7 +36,7 @@ use Rattle.session_commands.specs.declared.command.Command.TheVariants.{
 use Rattle.session_commands.specs.declared.command.Command.TheVariants.{Seat, Unseat, NextRound, Close, Finalise}
 use Rattle.session_commands.specs.declared.command.Command.TheVariants.{AddUser, Assign, Deassign, AddInheritance}
 use Rattle.session_commands.specs.declared.command.Command.TheVariants.{DeleteInheritance, Solved, Analysed}
-use Rattle.session_commands.specs.declared.command.Command.TheVariants.{Embargo, Lift}
+use Rattle.session_commands.specs.declared.command.Command.TheVariants.{Embargo, Lift, Rename}
 use Rattle.session_commands.specs.declared.refusal.Refusal.{Refusal}
 use Rattle.session_commands.specs.declared.refusal.Refusal.TheVariants.{
   NotPermitted,
@@ -211,6 +211,7 @@ own_causes state (Analysed cell costs) =
     ∷ []
 own_causes state Embargo = then_some state.public.embargo AlreadyEmbargoed ∷ []
 own_causes state Lift = then_some (not state.public.embargo) NotEmbargoed ∷ []
+own_causes state (Rename name shown) = []
 
 -- whether the round of its cell is still to come; the solver's commands wait for none, since a result is there or isn't
 abbrev pub is_early : SessionState → Command → Bool

@@ -37,6 +37,9 @@ use Rattle.disclosure_rules.specs.declared.seat.Seat.{Seat}
 use Rattle.disclosure_rules.specs.declared.viewer.Viewer.{Viewer}
 use Rattle.user_names.specs.declared.digest.Digest.{Digest}
 use Rattle.user_names.specs.contracts.digest.Digest as the_digest
+use Rattle.user_names.specs.contracts.shown_name.ShownName as the_shown_name
+use Rattle.notices.specs.declared.notices.Notices.{Notices}
+use Rattle.notices.specs.contracts.notices.Notices as the_notices
 use Rattle.session_state.specs.declared.seated.Seated.{Seated}
 use Rattle.session_state.specs.contracts.seated.Seated as the_seated
 use Rattle.session_commands.specs.declared.cell_state.CellState.{CellState}
@@ -44,36 +47,43 @@ use Rattle.session_commands.specs.declared.cell_state.CellState.TheVariants.{Emp
 use Rattle.session_commands.specs.contracts.cell_state.CellState as the_cell_state
 use Rattle.session_commands.specs.CellState.{has_result}
 
--- the users with their roles and the role hierarchy, the digest of each user's token in the order of the accounts,
--- where users sit, what every member may see, what is known of each cell, and of board 1, 2, .. the hands, and the
--- double-dummy table, if it is solved. A table is seen as the deal that it is of, since its type keeps the numbers
+-- the users with their roles and the role hierarchy, in the order of the accounts the digest of each user's token and
+-- the name to show, which is empty where there is none, where users sit, what every member may see, what is known of
+-- each cell, of board 1, 2, .. the hands, and the double-dummy table, if it is solved, and what the session tells its
+-- members of itself. A table is seen as the deal that it is of, since its type keeps the numbers
 pub record SessionState : Type 0 where
   pub roles : RoleData
   pub digests : List Digest
+  pub names : List (List ℕ)
   pub seats : List Seated
   pub public : Public
   pub cells : List CellState
   pub deals : List Hands
   pub tables : List (Option Hands)
+  pub notices : Notices
 
 -- a state is stored as the tuple of its parts
 abbrev pub session_code : Coded SessionState
 session_code =
     code_by
-    (RoleData × (List Digest × (List Seated × (Public × (List CellState × (List Hands × List (Option Hands)))))))
+    (RoleData × (List Digest × (List (List ℕ) × (List Seated × (Public × (List CellState × (List Hands ×
+    (List (Option Hands) × Notices))))))))
     (coded× the_roles.the_row.coded (coded× (coded_list the_digest.the_row.coded)
+    (coded× (coded_list the_shown_name.the_row.coded)
     (coded× (coded_list the_seated.the_row.coded) (coded× the_public.the_row.coded
     (coded× (coded_list the_cell_state.the_row.coded) (coded× (coded_list hands_code)
-    (coded_list (coded_option hands_code))))))))
-    (λ s. (s.roles, (s.digests, (s.seats, (s.public, (s.cells, (s.deals, s.tables)))))))
+    (coded× (coded_list (coded_option hands_code)) the_notices.the_row.coded))))))))
+    (λ s. (s.roles, (s.digests, (s.names, (s.seats, (s.public, (s.cells, (s.deals, (s.tables, s.notices)))))))))
     (λ p. record {
       roles = p.0;
       digests = p.1.0;
-      seats = p.1.1.0;
-      public = p.1.1.1.0;
-      cells = p.1.1.1.1.0;
-      deals = p.1.1.1.1.1.0;
-      tables = p.1.1.1.1.1.1;
+      names = p.1.1.0;
+      seats = p.1.1.1.0;
+      public = p.1.1.1.1.0;
+      cells = p.1.1.1.1.1.0;
+      deals = p.1.1.1.1.1.1.0;
+      tables = p.1.1.1.1.1.1.1.0;
+      notices = p.1.1.1.1.1.1.1.1;
     })
     (λ _. refl)
 

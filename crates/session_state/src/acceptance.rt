@@ -153,5 +153,6 @@ fn own_cause(state: &State, command: &Command) -> Option<Refusal>
         Command::Analysed { cell, costs } => solved::analysed_cause(state, *cell, costs),
         Command::Embargo => progress::embargo_cause(state),
         Command::Lift => progress::lift_cause(state),
+        Command::Rename { .. } => None,
     }
 }

@@ -1,21 +1,27 @@
 //! Laws of the state: functions with nothing to do, whose clauses are the laws.
-ghost use Rattle.std.specs.Prelude.{◌≡◌, ◌≢◌, ◌↔◌, ℕ, true, List, Option, Some, None};
+ghost use Rattle.std.specs.Prelude.{◌≡◌, ◌≢◌, ◌↔◌, ℕ, true, List, length, Option, Some, None};
 ghost use Rattle.std.specs.List.{fold};
 ghost use Rattle.movement.specs.declared.cell.Cell.{Cell};
 ghost use Rattle.movement.specs.Movement.{IsCell, IsSection};
 ghost use Rattle.rbac.specs.Authorization.{IsValid};
 ghost use Rattle.disclosure_rules.specs.declared.public.Public.{Public};
 ghost use Rattle.disclosure_rules.specs.LiveCells.{is_live};
+ghost use Rattle.disclosure_rules.specs.declared.fact.Fact.{Fact};
+ghost use Rattle.disclosure_rules.specs.Policy.{first_rule};
+ghost use Rattle.notices.specs.declared.notices.Notices.{Notices};
 ghost use Rattle.session_state.specs.Apply.{apply};
+ghost use Rattle.session_state.specs.Told.{told_as};
 ghost use Rattle.session_commands.specs.Command.{is_solvers, subject_cell};
 ghost use Rattle.session_state.specs.OwnNumbers.{TellsOwn, KeepsOwn};
 ghost use Rattle.session_state.specs.Parts.{part_of, IsSameBut};
+ghost use Rattle.session_state.specs.Readers.{shown_name_of};
 ghost use Rattle.session_state.specs.Refusal.{hindrance_of, refusal_of, are_all_live, MayGive};
 ghost use Rattle.session_state.specs.Seats.{AreSeatsOf};
-ghost use Rattle.session_state.specs.SessionState.{SessionState, cell_at, IsPlaced};
+ghost use Rattle.session_state.specs.SessionState.{SessionState, cell_at, viewer_of, IsPlaced};
 ghost use Rattle.session_commands.specs.declared.actor.Actor.{Actor};
 ghost use Rattle.session_commands.specs.declared.entry.Entry.{Entry};
 ghost use Rattle.session_commands.specs.declared.command.Command.{Command};
+ghost use Rattle.session_commands.specs.declared.command.Command.TheVariants.{Rename};
 ghost use Rattle.session_commands.specs.declared.refusal.Refusal.TheVariants.{NotPermitted, NoSuchUser};
 
 /// A command is refused as not permitted just where who gives it may not: a user who is authorized for no role that
@@ -77,4 +83,30 @@ pub fn numbers_are_of_their_own_deal()
         hindrance_of state command ≡ None → TellsOwn state command }
     ensures kept { (state : SessionState) (entry : Entry) → IsSection state.public.movement → KeepsOwn state →
         KeepsOwn (apply state entry) }
+{}
+
+/// Names to show, and what a session tells of itself, change nothing else: with others a command is refused for the same
+/// cause, or for none, and what an entry makes of the state is the same but for these; what the policy looks at is the
+/// same too.
+pub fn names_change_nothing()
+    ensures refusal { (state : SessionState) (names : List (List ℕ)) (notices : Notices) (spoiler : Option (List ℕ))
+        (actor : Actor) (command : Command) (entries : ℕ) →
+        refusal_of (told_as state names notices) spoiler actor command entries
+        ≡ refusal_of state spoiler actor command entries }
+    ensures entry { (state : SessionState) (names later : List (List ℕ)) (notices after : Notices) (entry : Entry) →
+        told_as (apply (told_as state names notices) entry) later after ≡ told_as (apply state entry) later after }
+    ensures policy { (state : SessionState) (names : List (List ℕ)) (notices : Notices) (user : List ℕ) (fact : Fact) →
+        first_rule (told_as state names notices).public (viewer_of (told_as state names notices) user) fact
+        ≡ first_rule state.public (viewer_of state user) fact }
+{}
+
+/// A user who is renamed has the new name to show, and everybody else the one that there was.
+pub fn a_rename_is_of_its_own_user()
+    ensures own { (state : SessionState) (actor : Actor) (name shown : List ℕ) →
+        length state.names ≡ length state.roles.accounts → hindrance_of state (Rename name shown) ≡ None →
+        shown_name_of (apply state (record { actor = actor; command = Rename name shown })) name ≡ shown }
+    ensures others { (state : SessionState) (actor : Actor) (name other shown : List ℕ) →
+        length state.names ≡ length state.roles.accounts → other ≢ name →
+        shown_name_of (apply state (record { actor = actor; command = Rename name shown })) other
+        ≡ shown_name_of state other }
 {}

@@ -6,10 +6,12 @@ mod causes;
 pub mod laws;
 mod schedule;
 mod seated;
+mod shown_user;
 mod state;
 
 pub use causes::first_cause;
 pub use causes::seats::is_of_side;
 pub use schedule::has_cell;
 pub use seated::Seated;
+pub use shown_user::ShownUser;
 pub use state::State;

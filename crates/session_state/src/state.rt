@@ -25,6 +25,7 @@ use crate::seated::Seated;
 use cards::{Deal, Play};
 use disclosure_rules::{Fact, Marks, Public, Rule, Seat, Viewer, decide};
 use movement::{Cell, Movement};
+use notices::Notices;
 use rbac::{Account, Roles};
 use scoring::Outcome;
 use session_commands::room::{filled, with_room};
@@ -33,7 +34,7 @@ use session_roles::{Operation, RoleSet};
 use solver_results::{DdTable, PlayCosts};
 use std::alloc::{AllocError, Global};
 use std::marker::Model;
-use user_names::{Digest, Name};
+use user_names::{Digest, Name, ShownName};
 
 /// How many boards there is room for.
 const MOST_BOARDS: usize = Movement::MOST_BOARDS as usize;
@@ -46,11 +47,13 @@ const MOST_CELLS: usize = Movement::MOST_TABLES as usize * MOST_BOARDS;
 pub struct State {
     roles: Roles,
     digests: Vec<Digest>,
+    names: Vec<ShownName>,
     seats: Vec<Seated>,
     public: Public,
     cells: Vec<CellState>,
     deals: Vec<Deal>,
     tables: Vec<Option<DdTable>>,
+    notices: Notices,
 }
 
 impl Model for State {
@@ -65,11 +68,13 @@ impl Model for State {
     ghost view = { λ s. record {
       roles = s.roles;
       digests = s.digests.items;
+      names = s.names.items;
       seats = s.seats.items;
       public = s.public;
       cells = s.cells.items;
       deals = s.deals.items;
       tables = s.tables.items;
+      notices = s.notices;
     } };
 
     ghost invariant = { IsKeptState };
@@ -81,9 +86,11 @@ impl State {
         alloc: Global,
         roles: Roles,
         digests: Vec<Digest>,
+        names: Vec<ShownName>,
         seats: Vec<Seated>,
         public: Public,
         deals: Vec<Deal>,
+        notices: Notices,
     ) -> Result<State, AllocError>
         requires marks { length public.marks ≡ most_boards }
         requires edition { roles.edition ≡ public.edition }
@@ -91,6 +98,8 @@ impl State {
         requires deals { boards_of public.movement ≤ length deals.items }
         requires digests { length digests.items ≡ length roles.accounts }
         requires digest_room { most_users ≤ vec_capacity digests }
+        requires names { length names.items ≡ length roles.accounts }
+        requires name_room { most_users ≤ vec_capacity names }
         requires seats { most_users ≤ vec_capacity seats }
         requires users { length roles.accounts ≤ most_users }
         requires seated { AreSeated roles seats.items }
@@ -98,11 +107,13 @@ impl State {
         ensures { IfOk result (λ state. state ≡ record {
           roles = roles;
           digests = digests.items;
+          names = names.items;
           seats = seats.items;
           public = public;
           cells = replicate most_cells Empty;
           deals = deals.items;
           tables = replicate most_boards None;
+          notices = notices;
         }) }
     {
         let cells = filled(alloc, CellState::Empty, MOST_CELLS)?;
@@ -110,11 +121,13 @@ impl State {
         Ok(State {
             roles,
             digests,
+            names,
             seats,
             public,
             cells,
             deals,
             tables,
+            notices,
         })
     }
 
@@ -124,46 +137,55 @@ impl State {
     {
         let roles = self.roles.copy(alloc)?;
         let digests = with_room(alloc, &self.digests, Roles::MOST_USERS)?;
+        let names = with_room(alloc, &self.names, Roles::MOST_USERS)?;
         let seats = with_room(alloc, &self.seats, Roles::MOST_USERS)?;
-        self.copy_boards(alloc, roles, digests, seats)
+        self.copy_boards(alloc, roles, digests, names, seats)
     }
 
-    // A copy over copies of the users' roles, digests and seats, with room for all that a state can need.
+    // A copy over copies of the users' roles, digests, names and seats, with room for all that a state can need.
     fn copy_boards(
         &self,
         alloc: Global,
         roles: Roles,
         digests: Vec<Digest>,
+        names: Vec<ShownName>,
         seats: Vec<Seated>,
     ) -> Result<State, AllocError>
         requires roles { roles ≡ self.now.roles }
         requires digests { digests.items ≡ self.now.digests }
+        requires names { names.items ≡ self.now.names }
         requires seats { seats.items ≡ self.now.seats }
         requires digest_room { most_users ≤ vec_capacity digests }
+        requires name_room { most_users ≤ vec_capacity names }
         requires seat_room { most_users ≤ vec_capacity seats }
         ensures { IfOk result (λ copy. copy ≡ self.now) }
     {
         let cells = with_room(alloc, &self.cells, MOST_CELLS)?;
         let deals = with_room(alloc, &self.deals, self.deals.len())?;
         let tables = with_room(alloc, &self.tables, MOST_BOARDS)?;
+        let notices = self.notices.copy(alloc)?;
         Ok(State {
             roles,
             digests,
+            names,
             seats,
             public: self.public.copy(),
             cells,
             deals,
             tables,
+            notices,
         })
     }
 
-    /// Becomes a copy of another state of the same deals, in the room that it has.
+    /// Becomes a copy of another state of the same deals, which tells the same of the session, in the room that it has.
     pub fn copy_from(&mut self, other: &State)
-        requires { self.old.deals ≡ other.now.deals }
+        requires deals { self.old.deals ≡ other.now.deals }
+        requires notices { self.old.notices ≡ other.now.notices }
         ensures { self.new ≡ other.now }
     {
         self.roles.copy_from(&other.roles);
         refill(&mut self.digests, &other.digests);
+        refill(&mut self.names, &other.names);
         refill(&mut self.seats, &other.seats);
         self.public = other.public.copy();
         refill(&mut self.cells, &other.cells);
@@ -178,6 +200,13 @@ impl State {
         ensures dealt { boards_of self.now.public.movement ≤ length self.now.deals }
     {
         &self.public
+    }
+
+    /// What the session tells its members of itself.
+    pub fn notices(&self) -> &Notices
+        ensures { result.now ≡ self.now.notices }
+    {
+        &self.notices
     }
 
     /// The accounts, in the order of adding.
@@ -366,6 +395,7 @@ impl State {
             Command::Analysed { cell, costs } => self.analyse(cell, costs),
             Command::Embargo => self.embargo(),
             Command::Lift => self.lift(),
+            Command::Rename { name, shown } => self.rename(name, shown),
         }
     }
 }

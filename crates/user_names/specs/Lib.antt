@@ -1,1 +1,5 @@
+pub mod MemberNumber
 pub mod Name
+pub mod Places
+pub mod ShownName
+pub mod ShownText

@@ -28,7 +28,7 @@ use Rattle.session_commands.specs.declared.command_word.CommandWord.TheVariants.
 }
 use Rattle.session_commands.specs.declared.command_word.CommandWord.TheVariants.{Finalise, AddUser, Assign, Deassign}
 use Rattle.session_commands.specs.declared.command_word.CommandWord.TheVariants.{AddInheritance, DeleteInheritance}
-use Rattle.session_commands.specs.declared.command_word.CommandWord.TheVariants.{Solved, Analysed, Embargo, Lift}
+use Rattle.session_commands.specs.declared.command_word.CommandWord.TheVariants.{Solved, Analysed, Embargo, Lift, Rename}
 use Rattle.session_commands.specs.declared.target.Target.{Target}
 use Rattle.session_commands.specs.declared.target.Target.TheVariants as about
 
@@ -55,6 +55,7 @@ word_text Solved = codes "Solved"
 word_text Analysed = codes "Analysed"
 word_text Embargo = codes "Embargo"
 word_text Lift = codes "Lift"
+word_text Rename = codes "Rename"
 
 -- what a command is about: a table's number and the board's, as `2/14`; a board's; a user; a user's role, as
 -- `d:Director`; the senior role and the junior one that it inherits, as `Director>Scorer`; nothing, where it is the

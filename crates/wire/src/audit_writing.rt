@@ -110,6 +110,7 @@ fn word_text(word: CommandWord) -> &'static str
         CommandWord::Analysed => "Analysed",
         CommandWord::Embargo => "Embargo",
         CommandWord::Lift => "Lift",
+        CommandWord::Rename => "Rename",
     }
 }
 

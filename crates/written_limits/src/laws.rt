@@ -11,7 +11,11 @@ ghost use Rattle.session_book.specs.Run.{most_commands};
 ghost use Rattle.session_object.specs.Reading.{most_bytes};
 ghost use Rattle.session_state.specs.Refusal.{most_entries};
 ghost use Rattle.solver_pool.specs.declared.pool.TheConstants.Pool.{MOST_JOBS};
+ghost use Rattle.user_names.specs.declared.member_number.TheConstants.MemberNumber.{MOST as MOST_NUMBER};
 ghost use Rattle.user_names.specs.declared.name.TheConstants.Name.{MOST};
+ghost use Rattle.user_names.specs.declared.shown_name.TheConstants.ShownName.{MOST as MOST_SHOWN};
+ghost use Rattle.notices.specs.declared.notice_text.TheConstants.NoticeText.{MOST as MOST_NOTICE};
+ghost use Rattle.notices.specs.declared.notices.TheConstants.Notices.{MOST_TITLE, MOST_REASONS};
 ghost use Rattle.websocket_server.specs.Conversation.{longest_message};
 ghost use Rattle.wire.specs.Request.{most_message_bytes};
 ghost use Rattle.wire.specs.List.{most_listed};
@@ -29,6 +33,11 @@ pub fn limits_are_as_written()
     ensures boards { most_boards ≡ 128 }
     ensures users { most_users ≡ 256 }
     ensures bytes_of_a_name { MOST ≡ 32 }
+    ensures bytes_of_a_name_to_show { MOST_SHOWN ≡ 64 }
+    ensures characters_of_a_members_number { MOST_NUMBER ≡ 16 }
+    ensures bytes_of_a_title { MOST_TITLE ≡ 100 }
+    ensures bytes_of_a_reason { MOST_NOTICE ≡ 200 }
+    ensures reasons { MOST_REASONS ≡ 99 }
     ensures entries { most_entries ≡ 60000 }
     ensures commands_of_a_batch { most_commands ≡ 64 }
     ensures jobs { MOST_JOBS ≡ 70000 }

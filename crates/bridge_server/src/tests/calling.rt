@@ -7,6 +7,7 @@ use crate::calling::run_program;
 use journal_store::JournalFiles;
 use std::io::{self, ErrorKind};
 use std::net::Net;
+use std::random::RandomSource;
 use std::rt::Files;
 use std::sync::Wait;
 use std::thread::Threads;
@@ -45,6 +46,23 @@ const COPY_HELP: Ending = (
     "Copies a journal that no server has open\n\nUsage: bridge_server copy",
     "",
 );
+
+const CHECK_HELP: Ending = (
+    0,
+    "Says why a session isn't opened, and where, or that it opens\n\nUsage: bridge_server check",
+    "",
+);
+
+const PREPARE_HELP: Ending = (
+    0,
+    "Makes a folder with a session object, the tokens of its people, and cards to print\n\nUsage: bridge_server prepare",
+    "",
+);
+
+const VERSION_TOLD: Ending = (0, "bridge_server 0.", "");
+
+// What is said of an empty file.
+const LOOKED_AT: Ending = (1, "Malformed: this is no JSON object in UTF-8, ", "");
 
 // There is no journal.
 const NO_JOURNAL: Ending = (1, "", "bridge_server: NotAJournal\n");
@@ -89,6 +107,19 @@ static WORDS: &[(&str, Ending)] = &[
     ("audit", MISSING),
     ("copy --journal j", MISSING),
     ("copy --to k", MISSING),
+    ("check", MISSING),
+    ("prepare", MISSING),
+    (
+        "prepare --people p --deals d --to t --rounds 1 --per-set 1",
+        MISSING,
+    ),
+    (
+        "prepare --people p --deals d --to t --rounds 1 --per-set 1 --tables 256",
+        BAD_VALUE,
+    ),
+    ("--version", VERSION_TOLD),
+    ("prepare --help", PREPARE_HELP),
+    ("check --deals d", MISSING),
     (
         "serve --journal j --journal k --port 1",
         (2, "", "error: the argument '--journal"),
@@ -168,6 +199,7 @@ static WORDS: &[(&str, Ending)] = &[
     ("serve --journal j -h", SERVE_HELP),
     ("audit -h", AUDIT_HELP),
     ("copy -h", COPY_HELP),
+    ("check -h", CHECK_HELP),
     // There is no such file, or it is a folder, or too long. Both files are read before either is judged.
     ("serve --session /nothing --deals /nothing --port 1", FAULT),
     ("serve --session / --deals /dev/null --port 1", FAULT),
@@ -195,6 +227,12 @@ static WORDS: &[(&str, Ending)] = &[
     ("audit --journal /", UNREAD_JOURNAL),
     ("copy --journal /nothing --to /nothing", NO_JOURNAL),
     ("copy --journal / --to /nothing", UNREAD_JOURNAL),
+    ("check --session /nothing", FAULT),
+    ("check --session /", FAULT),
+    ("check --session /nothing --deals /dev/null", FAULT),
+    ("check --session /dev/null --deals /nothing", FAULT),
+    ("check --session /dev/null", LOOKED_AT),
+    ("check --session /dev/null --deals /dev/null", LOOKED_AT),
 ];
 
 #[test]
@@ -240,10 +278,9 @@ static NO_SESSIONS: &[(&str, Ending)] = &[
 ];
 
 // Whether a row's script ends so.
-fn script_ends<R: Files + Net + Clock + Wait + Threads + JournalFiles + AllocGlobal + Sync>(
-    rt: &R,
-    (length, rest, ending): &(usize, &str, Ending),
-) -> bool
+fn script_ends<
+    R: Files + Net + Clock + Wait + Threads + JournalFiles + RandomSource + AllocGlobal + Sync,
+>(rt: &R, (length, rest, ending): &(usize, &str, Ending)) -> bool
 where
     R::Listener: Sync,
     R::Stream: Send,
@@ -277,11 +314,9 @@ fn ends_by_its_script(rt: HostRuntime) {
 
 // Whether a word, which leaves its script alone, ends so over writers that fail after seven bytes: the status, and
 // how much is written and said.
-fn ends_in_little_room<R: Files + Net + Clock + Wait + Threads + JournalFiles + AllocGlobal + Sync>(
-    rt: &R,
-    word: &str,
-    (status, written, said): (u8, usize, usize),
-) -> bool
+fn ends_in_little_room<
+    R: Files + Net + Clock + Wait + Threads + JournalFiles + RandomSource + AllocGlobal + Sync,
+>(rt: &R, word: &str, (status, written, said): (u8, usize, usize)) -> bool
 where
     R::Listener: Sync,
     R::Stream: Send,

@@ -6,6 +6,7 @@ use super::running::{Ending, ends};
 use super::serving::port_and_line;
 use journal_store::JournalFiles;
 use std::net::Net;
+use std::random::RandomSource;
 use std::rt::Files;
 use std::sync::Wait;
 use std::test::Fail;
@@ -68,10 +69,9 @@ fn remove_files<R: Files>(rt: &R) {
 }
 
 // Whether a server that is called with the words of a line ends, and says nothing.
-fn ends_in_silence<R: Files + Net + Clock + Wait + Threads + JournalFiles + AllocGlobal + Sync>(
-    rt: &R,
-    line: &str,
-) -> bool
+fn ends_in_silence<
+    R: Files + Net + Clock + Wait + Threads + JournalFiles + RandomSource + AllocGlobal + Sync,
+>(rt: &R, line: &str) -> bool
 where
     R::Listener: Sync,
     R::Stream: Send,

@@ -8,6 +8,7 @@ use journal_store::JournalFiles;
 use kept_sessions::MOST_FILE_BYTES;
 use std::alloc::{AllocError, Global};
 use std::net::{Ipv4Addr, Net, OpenListener, TcpListener};
+use std::random::RandomSource;
 use std::rt::Files;
 use std::sync::Wait;
 use std::test::Fail;
@@ -216,11 +217,9 @@ static ENDINGS: &[(&str, Ending)] = &[
 ];
 
 // Whether a row's words end so.
-fn ends_at<R: Files + Net + Clock + Wait + Threads + JournalFiles + AllocGlobal + Sync>(
-    rt: &R,
-    port: u16,
-    (words, ending): &(&str, Ending),
-) -> bool
+fn ends_at<
+    R: Files + Net + Clock + Wait + Threads + JournalFiles + RandomSource + AllocGlobal + Sync,
+>(rt: &R, port: u16, (words, ending): &(&str, Ending)) -> bool
 where
     R::Listener: Sync,
     R::Stream: Send,

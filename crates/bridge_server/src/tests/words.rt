@@ -1,7 +1,9 @@
 //! What words ask for that are understood.
 
 use super::running::words_of;
-use server_words::{JournalCopy, Serving, SessionFiles, SessionSource, Words, read_words};
+use server_words::{
+    Checking, JournalCopy, Serving, SessionFiles, SessionSource, Words, read_words,
+};
 use std::alloc::Global;
 
 const FILES: SessionFiles<'static> = SessionFiles {
@@ -53,6 +55,16 @@ const COPY: JournalCopy<'static> = JournalCopy {
     to: "k",
 };
 
+const CHECK: Checking<'static> = Checking {
+    session: "s.json",
+    deals: Some("d.pbn"),
+};
+
+const CHECK_SCRIPT: Checking<'static> = Checking {
+    session: "my.script",
+    deals: None,
+};
+
 static LINES: &[(&str, Words<'static>)] = &[
     ("script", Words::Script),
     (
@@ -83,6 +95,8 @@ static LINES: &[(&str, Words<'static>)] = &[
     ("serve --port 8080 --journal=j", Words::Serve(KEPT_ALONE)),
     ("audit --journal j", Words::Audit("j")),
     ("copy --journal j --to k", Words::Copy(COPY)),
+    ("check --deals=d.pbn --session s.json", Words::Check(CHECK)),
+    ("check --session my.script", Words::Check(CHECK_SCRIPT)),
 ];
 
 // Whether the words of a line ask for this.

@@ -3,6 +3,7 @@
 use cards::Deal;
 use double_dummy::{Budget, table};
 use movement::Movement;
+use notices::Notices;
 use pbn_records::read_deals;
 use session_commands::{Actor, Command, Refusal};
 use session_opening::{Config, NewUser};
@@ -11,7 +12,7 @@ use session_state::State;
 use solver_results::DdTable;
 use std::alloc::Global;
 use table_terms::Items;
-use user_names::{Digest, Name};
+use user_names::{Digest, Name, ShownName};
 
 /// North has the spades, East the hearts, South the diamonds and West the clubs; and each suit's owner one further on.
 const SUITS: &str = "N:AKQJT98765432... .AKQJT98765432.. ..AKQJT98765432. ...AKQJT98765432";
@@ -38,6 +39,8 @@ fn user(alloc: Global, name: &str, role: Role) -> Option<NewUser> {
         digest: Digest { bytes: [0; 32] },
         roles: Items::new(roles),
         seat: None,
+        shown: ShownName::none(),
+        number: None,
     })
 }
 
@@ -65,6 +68,11 @@ fn opened(alloc: Global) -> Option<State> {
         movement,
         boards,
         users: users(alloc)?,
+        notices: Notices {
+            title: None,
+            date: None,
+            reasons: Items::new(Vec::new(alloc)),
+        },
     };
     config.open(alloc).ok()
 }

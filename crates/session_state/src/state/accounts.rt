@@ -1,15 +1,16 @@
 //! What the commands on users, roles and the role hierarchy do to a state.
-ghost use Rattle.std.specs.Prelude.{◌≡◌, None};
+ghost use Rattle.std.specs.Prelude.{◌≡◌, None, slice_set, vec_len, vec_capacity};
 ghost use Rattle.session_state.specs.Apply.{effect};
 ghost use Rattle.session_state.specs.Refusal.{hindrance_of};
 ghost use Rattle.session_commands.specs.declared.command.Command.TheVariants.{AddUser, Assign, Deassign, AddInheritance};
-ghost use Rattle.session_commands.specs.declared.command.Command.TheVariants.{DeleteInheritance};
+ghost use Rattle.session_commands.specs.declared.command.Command.TheVariants.{DeleteInheritance, Rename};
+ghost use Rattle.session_state.specs.Readers.{account_place};
 
 use crate::state::State;
-use rbac::Roles;
+use rbac::{Account, Roles};
 use session_commands::room::push_within;
 use session_roles::Role;
-use user_names::{Digest, Name};
+use user_names::{Digest, Name, ShownName};
 
 impl State {
     /// The users, their roles and the role hierarchy.
@@ -19,7 +20,7 @@ impl State {
         &self.roles
     }
 
-    // Adds an account with no role.
+    // Adds an account with no role, and no name to show.
     pub(super) fn add_user(&mut self, name: Name, digest: Digest)
         requires { hindrance_of self.old (AddUser name digest) ≡ None }
         ensures { self.new ≡ effect self.old (AddUser name digest) }
@@ -28,6 +29,7 @@ impl State {
             unreachable!();
         };
         push_within(&mut self.digests, digest);
+        push_within(&mut self.names, ShownName::none());
     }
 
     // Assigns a role to a user.
@@ -68,5 +70,36 @@ impl State {
         let Ok(()) = self.roles.delete_inheritance(senior, junior) else {
             unreachable!();
         };
+    }
+
+    // Gives a user a name to show in place of the one that there was.
+    pub(super) fn rename(&mut self, name: Name, shown: ShownName)
+        ensures { self.new ≡ effect self.old (Rename name shown) }
+    {
+        let place = account_place(self.roles.accounts(), name);
+        put_at(&mut self.names, place, shown);
+    }
+}
+
+// Where the account of a name stands: after all others, where there is none.
+fn account_place(accounts: &[Account], name: Name) -> usize
+    ensures { result ≡ account_place accounts.now name }
+{
+    for place in 0..accounts.len() {
+        if accounts[place].name == name {
+            return place;
+        }
+    }
+    accounts.len()
+}
+
+// Puts a name to show in a place, where there is such a place.
+fn put_at(names: &mut Vec<ShownName>, place: usize, shown: ShownName)
+    ensures items { names.new.items ≡ slice_set names.old.items place shown }
+    ensures len { vec_len names.new ≡ vec_len names.old }
+    ensures room { vec_capacity names.new ≡ vec_capacity names.old }
+{
+    if place < names.len() {
+        names[place] = shown;
     }
 }

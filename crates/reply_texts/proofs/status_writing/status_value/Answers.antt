@@ -1,28 +1,19 @@
-use Rattle.std.proofs.Common.{ap, refl, ◌∙◌}
+use Rattle.std.proofs.Common.{ap, ◌∙◌}
 use Rattle.std.proofs.lemmas.Result.{IfOk-weaker}
-use Rattle.serde_json.specs.Data.{string, object}
-use Rattle.movement.specs.Movement.{rows}
-use Rattle.reply_texts.proofs.StatusLemmas.{others_come_last}
+use Rattle.serde_json.specs.Data.{object}
+use Rattle.reply_texts.proofs.StatusLemmas.{status_in_order}
 use Rattle.reply_texts.proofs.status_writing.status_value.Goals as goal
 
 pub returns : goal.returns
 returns c =
     let public = c.args.public.now in
+    let seats = c.args.seats.now in
+    let names = c.args.names.now in
+    let notices = c.args.notices.now in
     IfOk-weaker c.object.result _ _
-    (λ v h. h ∙ ap object (others_come_last _ _ _ _ _ _ _ _ _ public.movement.is_named (rows public.movement) public.movement.absent
-    public.edition public.embargo))
+    (λ value h. h ∙ ap object (status_in_order public seats names notices))
     (c.object.ensures _
-    (c.number-4.ensures _ _
-    (c.member-4.ensures _ _
-    (c.number-3.ensures _ _
-    (c.number-2.ensures _ _
-    (c.member-3.ensures _ _
-    (c.number.ensures _ _
-    (c.with_movement.ensures _
-    (c.member-begun.ensures _ _
-    (c.member-2.ensures _ _
-    (c.member.ensures _ _ (c.with_edition.ensures public.movement.absent (rw c.absent.ensures.absent at
-    c.begun_with.ensures)) c.held_value.ensures)
-    c.live_value.ensures) c.marks_value.ensures)) c.per_set.ensures.per_set) (IfOk-weaker c.try_from_str.result _ _
-    (λ v h. h ∙ ap string c.phase_name.ensures) c.try_from_str.ensures)) refl) c.rounds.ensures.rounds)
-    c.list_value.ensures) c.tables.ensures.tables))
+    (c.with_last_slots.ensures _
+    (c.with_progress_slots-object.ensures _
+    (c.with_board_slots-object.ensures _
+    (c.with_first_slots-object.ensures _ c.new.ensures)))))

@@ -72,6 +72,12 @@ digests-requires c =
     (subst (JoinInTurn c.args.config.now.edition) (sym c.as_slice-users.ensures)
     (users_join c.args.config.now c.requires.allowed))
 
+pub names-requires : goal.names-requires
+names-requires c =
+    users_are_few c.args.config.now.edition c.as_slice-users.result.now
+    (subst (JoinInTurn c.args.config.now.edition) (sym c.as_slice-users.ensures)
+    (users_join c.args.config.now c.requires.allowed))
+
 pub seats-requires : goal.seats-requires
 seats-requires c =
     users_are_few c.args.config.now.edition c.as_slice-users.result.now
@@ -91,6 +97,12 @@ new-requires-clause-digests c =
     c.in_ok-roles.roles.accounts
     c.in_ok-digests.ensures.items (ap (λ (roles : RoleData). roles.accounts) c.in_ok-roles.ensures)
 
+pub new-requires-clause-names : goal.new-requires-clause-names
+new-requires-clause-names c =
+    one_each (λ (user : NewUser). user.shown) account_of c.as_slice-users.result.now c.in_ok-names.names.items
+    c.in_ok-roles.roles.accounts
+    c.in_ok-names.ensures.items (ap (λ (roles : RoleData). roles.accounts) c.in_ok-roles.ensures)
+
 pub returns : goal.returns
 returns c =
     let config = c.args.config.now in
@@ -98,19 +110,23 @@ returns c =
     let opening : record {
       roles = c.in_ok-roles.roles;
       digests = c.in_ok-digests.digests.items;
+      names = c.in_ok-names.names.items;
       seats = c.in_ok-seats.seats.items;
       public = c.public.result;
       cells = replicate most_cells Empty;
       deals = c.in_ok-deals.deals.items;
       tables = replicate most_boards None;
+      notices = c.in_ok-notices.notices;
     } ≡ opening_of config =
     λ i. record {
       roles = (c.in_ok-roles.ensures ∙ ap (opening_roles config.edition) users) i;
       digests = (c.in_ok-digests.ensures.items ∙ ap (map (λ (user : NewUser). user.digest)) users) i;
+      names = (c.in_ok-names.ensures.items ∙ ap (map (λ (user : NewUser). user.shown)) users) i;
       seats = (c.in_ok-seats.ensures.items ∙ ap opening_seats users) i;
       public = c.public.ensures i;
       cells = replicate most_cells Empty;
       deals = c.in_ok-deals.ensures i;
       tables = replicate most_boards None;
+      notices = c.in_ok-notices.ensures i;
     } in
     subst (λ (opened : SessionState). IfOk c.new.result (λ state. state ≡ opened)) opening c.new.ensures

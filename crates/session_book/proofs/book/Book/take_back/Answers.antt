@@ -3,13 +3,18 @@ use Rattle.session_state.specs.SessionState.{SessionState}
 use Rattle.session_book.specs.Journal.{replay, IsAccepted}
 use Rattle.session_book.specs.ExposureTable.{IsNoted}
 use Rattle.session_book.proofs.JournalLemmas.{accepted_first}
-use Rattle.session_book.proofs.OwnNumberLemmas.{deals_kept}
+use Rattle.session_book.proofs.OwnNumberLemmas.{deals_kept, notices_kept}
 use Rattle.session_book.proofs.book.Book.take_back.Goals as goal
 
-pub replay-requires : goal.replay-requires
-replay-requires c =
+pub replay-requires-clause-deals : goal.replay-requires-clause-deals
+replay-requires-clause-deals c =
     ap (λ (state : SessionState). state.deals) c.self.invariant.replayed
     ∙ deals_kept c.self.inside.opening c.self.inside.journal.items
+
+pub replay-requires-clause-notices : goal.replay-requires-clause-notices
+replay-requires-clause-notices c =
+    ap (λ (state : SessionState). state.notices) c.self.invariant.replayed
+    ∙ notices_kept c.self.inside.opening c.self.inside.journal.items
 
 pub invariant_of-self : goal.invariant_of-self
 invariant_of-self c =

@@ -1,4 +1,4 @@
-use Rattle.std.proofs.Common.{◌≡◌, ◌+◌, ◌<◌, None, length, sym, ap, subst, ◌∙◌, arith}
+use Rattle.std.proofs.Common.{◌≡◌, ◌+◌, ◌<◌, ◌++◌, ◌∷◌, [], None, length, sym, ap, subst, ◌∙◌, arith}
 use Rattle.std.proofs.lemmas.List.{length_push}
 use Rattle.rbac.specs.Account.{new_account}
 use Rattle.rbac.specs.Refusals.{RefusesUser}
@@ -28,6 +28,13 @@ push_within-requires c =
     let room = room_for_user (the_view c.self.inside) c.args.name c.args.digest unhindered in
     omega (arith, room, c.self.invariant.digests, c.self.invariant.digest_room)
 
+pub push_within-requires-2 : goal.push_within-requires-2
+push_within-requires-2 c =
+    let unhindered : hindrance_of (the_view c.self.inside) (AddUser c.args.name c.args.digest) ≡ None =
+    ap (λ state. hindrance_of state (AddUser c.args.name c.args.digest)) c.self.view_is ∙ c.requires in
+    let room = room_for_user (the_view c.self.inside) c.args.name c.args.digest unhindered in
+    omega (arith, room, c.self.invariant.names, c.self.invariant.name_room)
+
 pub invariant_of-self : goal.invariant_of-self
 invariant_of-self c =
     let inside = c.self.inside in
@@ -47,6 +54,8 @@ invariant_of-self c =
       deals = kept.deals;
       digests = c.push_within.ensures.len ∙ ap (λ n. n + 1) kept.digests ∙ sym more;
       digest_room = omega (arith, kept.digest_room, c.push_within.ensures.capacity);
+      names = c.push_within-2.ensures.len ∙ ap (λ n. n + 1) kept.names ∙ sym more;
+      name_room = omega (arith, kept.name_room, c.push_within-2.ensures.capacity);
       seats = kept.seats;
       users = omega (arith, more, room);
       seated = subst (λ roles. AreSeated roles inside.seats.items) (sym added)
@@ -59,5 +68,10 @@ invariant_of-self c =
 pub returns : goal.returns
 returns c =
     let added = c.in-Ok.ensures.added ∙ ap (add_user c.self.inside.roles) c.as_str.ensures.text in
-    (λ i. record (the_view c.self.inside) { roles = added i; digests = c.push_within.ensures.items i })
+    let named = c.push_within-2.ensures.items ∙ ap (λ name. c.self.inside.names.items ++ name ∷ []) c.none.ensures in
+    (λ i. record (the_view c.self.inside) {
+      roles = added i;
+      digests = c.push_within.ensures.items i;
+      names = named i;
+    })
     ∙ ap (λ state. effect state (AddUser c.args.name c.args.digest)) c.self.view_is

@@ -13,6 +13,8 @@ invariant_of-result c = record {
   deals = omega (arith, c.args.deals.ok.0, c.requires.deals);
   digests = omega (arith, c.args.digests.ok.0, c.requires.digests);
   digest_room = c.requires.digest_room;
+  names = omega (arith, c.args.names.ok.0, c.requires.names);
+  name_room = c.requires.name_room;
   seats = c.requires.seats;
   users = c.requires.users;
   seated = c.requires.seated;
@@ -26,6 +28,7 @@ returns c =
     λ i. record {
       roles = c.args.roles;
       digests = c.args.digests.items;
+      names = c.args.names.items;
       seats = c.args.seats.items;
       public =
           c.args.public;
@@ -33,4 +36,5 @@ returns c =
       deals = c.args.deals.items;
       tables =
           c.in_ok-tables.ensures.items i;
+      notices = c.args.notices;
     }

@@ -65,3 +65,6 @@ returns-in-Embargo c = c.embargo.ensures ∙ ap (effect c.args.self.now) (sym c.
 
 pub returns-in-Lift : goal.returns-in-Lift
 returns-in-Lift c = c.lift.ensures ∙ ap (effect c.args.self.now) (sym c.in-Lift.is)
+
+pub returns-in-Rename : goal.returns-in-Rename
+returns-in-Rename c = c.rename.ensures ∙ ap (effect c.args.self.now) (sym c.in-Rename.is)

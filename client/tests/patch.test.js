@@ -1,0 +1,64 @@
+// Drawing what has changed: what is the same stays the same element, and the rest becomes what the new content says.
+import assert from "node:assert/strict";
+import { test } from "node:test";
+import { byId, nodeOf, textOf } from "./elements.js";
+import { button, element, fragmentOf, patchContent } from "../dom.js";
+
+function drawn(...content) {
+  const container = nodeOf("main");
+  container.append(...content);
+  return container;
+}
+
+const patch = (container, ...content) => patchContent(container, fragmentOf(...content));
+const shape = (node) => ("setAttribute" in node ? [node.tagName, { ...node.attributes }, ...node.childNodes.map(shape)] : node.textContent);
+
+test("what comes is what was asked for, whatever was there", () => {
+  const contents = [
+    () => [element("p", { id: "a", class: "x" }, "one"), "text", element("p", {}, "two", element("b", {}, 3))],
+    () => [element("p", { id: "b" }, "one"), element("p", { id: "a" }, "four")],
+    () => [element("div", {}, "text"), element("p", { id: "a", title: "t" }, element("b", {}, "one"))],
+    () => [],
+    () => ["text", element("p", {}, "two"), element("p", {}, "three"), element("p", { id: "b" }), element("p", { id: "a" })],
+    () => [element("input", { type: "radio", id: "c" }), element("input", { type: "text" }), element("b", { id: "a" })],
+  ];
+  for (const before of contents) {
+    for (const after of contents) {
+      const container = drawn(...before().flatMap((each) => (typeof each === "string" ? [document.createTextNode(each)] : [each])));
+      patch(container, after());
+      assert.deepEqual(container.childNodes.map(shape), fragmentOf(after()).childNodes.map(shape));
+    }
+  }
+});
+
+test("what is the same stays the same element, though it moves", () => {
+  const [a, b, plain] = [element("p", { id: "a" }, "one"), element("p", { id: "b" }), element("p", {}, "two")];
+  const container = drawn(a, plain, b);
+  patch(container, element("p", { id: "b" }), element("p", { id: "a" }, "three"), element("p", {}, "four"));
+  assert.deepEqual(container.childNodes.map((node) => [node === a, node === b, node === plain]), [[false, true, false], [true, false, false], [false, false, true]]);
+  assert.deepEqual(container.childNodes.map(textOf), ["", "three", "four"]);
+});
+
+test("a button does what it does now, and not what it did before", () => {
+  const done = [];
+  const container = drawn(button("a", "A", () => done.push("before")));
+  patch(container, button("a", "A", () => done.push("now")));
+  byId(container, "a").listeners.click();
+  assert.deepEqual(done, ["now"]);
+  patch(container, element("button", { type: "button", id: "a" }, "A"));
+  assert.equal(byId(container, "a").listeners.click, undefined);
+});
+
+test("what was typed and chosen becomes what the new content says", () => {
+  const field = element("input", { type: "text", id: "a", value: "typed" });
+  const container = drawn(field);
+  patch(container, element("input", { type: "text", id: "a", value: "" }));
+  assert.equal(field.value, "");
+  const tile = Object.assign(element("input", { type: "radio", id: "b" }), { checked: true });
+  const others = drawn(tile);
+  patch(others, Object.assign(element("input", { type: "radio", id: "b" }), { checked: false }));
+  assert.equal(tile.checked, false);
+  assert.notEqual(byId(others, "b"), undefined);
+  patch(others, element("input", { type: "checkbox", id: "b" }));
+  assert.notEqual(byId(others, "b"), tile, "another kind of field is another element");
+});

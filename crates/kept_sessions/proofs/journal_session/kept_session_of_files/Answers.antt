@@ -1,0 +1,10 @@
+use Rattle.std.proofs.lemmas.Result.{IfOk-weaker}
+use Rattle.kept_sessions.proofs.journal_session.kept_session_of_files.Goals as goal
+
+pub returns-in-Ok-clause-taken : goal.returns-in-Ok-clause-taken
+returns-in-Ok-clause-taken g c =
+    let texts = c.in-Ok.texts in
+    let few = c.in-Ok.ensures.few in
+    IfOk-weaker c.kept_session_of_texts.result _ _
+    (λ kept taken. (texts.object.items, texts.boards.items, few.0, few.1, taken))
+    c.kept_session_of_texts.ensures.taken

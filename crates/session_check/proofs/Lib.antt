@@ -1,0 +1,4 @@
+pub mod TextLemmas
+pub mod UserLemmas
+pub mod CheckLemmas
+pub mod MemberLemmas

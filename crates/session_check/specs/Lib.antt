@@ -1,0 +1,5 @@
+pub mod Lines
+pub mod Users
+pub mod Summaries
+pub mod Places
+pub mod Members

@@ -1,0 +1,187 @@
+//! What is told of sessions that open and that don't, as it is printed.
+
+use crate::checking::check_session;
+use crate::member::{MemberAt, MemberName};
+use crate::misread::misread_at;
+use serde_json::Value;
+use std::alloc::{AllocError, Global};
+use std::test::Fail;
+
+/// A deal in which each player has a suit.
+const DEAL: &str = "N:AKQJT98765432... .AKQJT98765432.. ..AKQJT98765432. ...AKQJT98765432";
+
+/// A digest.
+const DIGEST: &str = "5c8b48b667e98452c602b3a1eef2b59ccaefb1b592725c105a8c482ddee81a01";
+
+/// Users after the administrator, each a name, what `roles` lists and what else is said; and how what is told begins.
+static USERS: [(&str, &[(&str, &str, &str)], &str); 9] = [
+    (
+        "one",
+        &[],
+        "opens: 3 tables, 3 rounds, boards 1 to 3, 1 users",
+    ),
+    (
+        "a player",
+        &[("n1", r#""Contestant""#, r#","pair":"NS1","place":"N""#)],
+        "opens: 3 tables, 3 rounds, boards 1 to 3, 2 users",
+    ),
+    (
+        "a blank",
+        &[("Anna B.", "", "")],
+        r#"BadName: user 2 ("Anna B."): a name is "#,
+    ),
+    (
+        "quotes",
+        &[(r#"\"\n"#, "", "")],
+        r#"BadName: user 2 ("\"\n"): a name is "#,
+    ),
+    (
+        "a name again",
+        &[("b", "", ""), ("a", "", ""), ("b", "", "")],
+        r#"UserExists: user 3 ("a") and user 1 ("a"): two users have one name; "#,
+    ),
+    (
+        "a seat again",
+        &[
+            ("n1", r#""Contestant""#, r#","pair":"NS1","place":"N""#),
+            ("s1", r#""Contestant""#, r#","pair":"NS1","place":"S""#),
+            ("carla", r#""Contestant""#, r#","pair":"NS1","place":"N""#),
+        ],
+        r#"SeatTaken: user 4 ("carla") and user 2 ("n1"): two users have one seat"#,
+    ),
+    (
+        "a playing director",
+        &[("d", r#""Director","Contestant""#, "")],
+        r#"Separation(S1): user 2 ("d"): who plays may not direct"#,
+    ),
+    (
+        "the first of two",
+        &[
+            ("x", r#""Member","Member""#, ""),
+            ("n4", r#""Contestant""#, r#","pair":"NS4","place":"N""#),
+        ],
+        r#"AlreadyAssigned: user 2 ("x"): a role stands twice"#,
+    ),
+    (
+        "a member that is missing",
+        &[("n1", r#""Contestant""#, r#","pair":"NS1""#)],
+        "BadField: a member is missing",
+    ),
+];
+
+/// Texts of the boards, and how what is told begins.
+static DEALS: [(&str, &str); 4] = [
+    ("", "MissingBoard(1): no game has a deal of this board"),
+    (
+        "[",
+        "BadTag(0): line 1 of the PBN text: a `[` outside a comment",
+    ),
+    (
+        "% a\n\n\n[Board \"1\"]\n[Deal \"N:\"]\n",
+        "BadDeal(18): line 5 of the PBN text: ",
+    ),
+    (
+        "\r\n\r\n [Board \"1\"][Dealer \"X\"][Deal \"N:\"]\n",
+        "BadMark(16): line 3 of the PBN text: ",
+    ),
+];
+
+/// Users after the administrator, and the member that isn't as it should be.
+static MISREAD: [(&[(&str, &str, &str)], Option<usize>, MemberName); 7] = [
+    (
+        &[("n1", r#""Contestant""#, r#","pair":"NS1""#)],
+        Some(2),
+        MemberName::Place,
+    ),
+    (
+        &[("b", "", ""), ("c", r#""Commentator""#, "")],
+        Some(3),
+        MemberName::Roles,
+    ),
+    (&[("b", "", r#","seat":1"#)], Some(2), MemberName::Listed),
+    (
+        &[("b", "", ""), ("c", "", r#","digest":"5c""#)],
+        Some(3),
+        MemberName::Digest,
+    ),
+    (&[("b", "", r#","number":17"#)], Some(2), MemberName::Number),
+    (&[("b", "", r#","shown":"b ""#)], Some(2), MemberName::Shown),
+    (&[], None, MemberName::Movement),
+];
+
+// The helpers have no clause, so that a test's proof does not carry what its calls say.
+
+/// The boards' text of three boards.
+fn deals(alloc: Global) -> Result<String, AllocError> {
+    let mut text = String::new(alloc);
+    for number in 1..=3_u8 {
+        let deal = format!(in alloc; "[Board \"{number}\"]\n[Deal \"{DEAL}\"]\n\n")?;
+        text.push_str(deal.as_str())?;
+    }
+    Ok(text)
+}
+
+/// The object of a session with these users after the administrator.
+fn object_of(alloc: Global, users: &[(&str, &str, &str)]) -> Result<String, AllocError> {
+    let mut text = format!(in alloc;
+        "{{\"budget\":0,\"per_set\":1,\"rounds\":3,\"tables\":3,\"users\":[{{\"digest\":\"{DIGEST}\",\"name\":\"a\",\"roles\":[\"Administrator\"]}}"
+    )?;
+    for (name, roles, rest) in users {
+        let user = format!(in alloc;
+            ",{{\"digest\":\"{DIGEST}\",\"name\":\"{name}\",\"roles\":[{roles}]{rest}}}"
+        )?;
+        text.push_str(user.as_str())?;
+    }
+    text.push_str("]}")?;
+    Ok(text)
+}
+
+/// What is told of a session.
+fn told(alloc: Global, object: &str, deals: &str) -> Result<String, AllocError> {
+    match check_session(alloc, object.as_bytes(), Some(deals.as_bytes())) {
+        Ok(summary) => format!(in alloc; "{summary}"),
+        Err(refused) => format!(in alloc; "{refused}"),
+    }
+}
+
+/// The member that isn't as it should be, of an object whose boards are given beside it; none where the text is no JSON.
+fn misread_in(alloc: Global, object: &str) -> Option<MemberAt> {
+    match Value::from_str(alloc, object) {
+        Ok(value) => Some(misread_at(&value, true)),
+        Err(_) => None,
+    }
+}
+
+#[test]
+fn the_user_is_told(rt: HostRuntime) -> Result<(), Fail> {
+    let deals = deals(rt.alloc())?;
+    for (row, users, start) in USERS {
+        let object = object_of(rt.alloc(), users)?;
+        let line = told(rt.alloc(), object.as_str(), deals.as_str())?;
+        assert!(rt; line.as_str().starts_with(start), "{row}: {line}");
+    }
+    Ok(())
+}
+
+#[test]
+fn the_line_is_told(rt: HostRuntime) -> Result<(), Fail> {
+    let object = object_of(rt.alloc(), &[])?;
+    for (deals, start) in DEALS {
+        let line = told(rt.alloc(), object.as_str(), deals)?;
+        assert!(rt; line.as_str().starts_with(start), "{deals}: {line}");
+    }
+    Ok(())
+}
+
+#[test]
+fn the_member_is_told(rt: HostRuntime) -> Result<(), Fail> {
+    for (users, user, name) in MISREAD {
+        let object = object_of(rt.alloc(), users)?;
+        let found = misread_in(rt.alloc(), object.as_str());
+        assert!(rt;
+            found == Some(MemberAt { user, name }),
+            "{object}: {name:?}"
+        );
+    }
+    Ok(())
+}

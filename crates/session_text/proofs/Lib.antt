@@ -1,0 +1,4 @@
+pub mod MembersLemmas
+pub mod DepthLemmas
+pub mod ReadingLemmas
+pub mod TextLemmas

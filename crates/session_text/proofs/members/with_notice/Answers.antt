@@ -1,0 +1,4 @@
+use Rattle.session_text.proofs.members.with_notice.Goals as goal
+
+pub returns-in-Some : goal.returns-in-Some
+returns-in-Some c = λ members has. rw (c.in-Some.is) (c.member.ensures members _ has c.notice_value.ensures)

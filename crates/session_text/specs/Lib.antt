@@ -1,0 +1,4 @@
+pub mod AskedSession
+pub mod Members
+pub mod SessionData
+pub mod Writable

@@ -1,0 +1,11 @@
+use Rattle.std.proofs.Common.{sym, ap, ◌∙◌, map-id}
+use Rattle.std.specs.List.{list_all}
+use Rattle.std.proofs.lemmas.Iterator.{YieldsList-from_chars}
+use Rattle.std.proofs.lemmas.Iterator.Consumers.{YieldsList-end}
+use Rattle.user_names.specs.ShownText.{is_shown_character}
+use Rattle.user_names.proofs.shown_text.has_shown_characters.Goals as goal
+
+pub returns : goal.returns
+returns c =
+    let end = YieldsList-end (YieldsList-from_chars c.args.text.now c.utf8.text cc) c.loop-c.yielded _ c.loop-c.yielded_by _ _ c.in-None.is c.next.ensures.steps in
+    c.loop-c.invariant ∙ ap (list_all is_shown_character) (sym (map-id c.loop-c.yielded) ∙ end.0)
