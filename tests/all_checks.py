@@ -38,6 +38,7 @@ CHECKS = (
     ("tests/pages/headline_definitions.py", "--check"),
     ("tests/pages/definitions_index.py", "--check"),
     ("tests/models/session_check.py",),
+    ("tests/models/par_model.py",),
     ("tests/models/movement_lists.py",),
     ("tests/pages/quoted_code.py",),
     ("tests/pages/links.py",),

@@ -106,6 +106,12 @@ QUERIES = {
     "status": [], "ranking": [], "accounts": [], "board": ["board"], "traveller": ["board"], "analysis": ["board"],
     "play": ["table", "board"], "costs": ["table", "board"], "reason": ["table", "board"], "list": [],
 }
+SECOND_QUERIES = {"par": ["board"]}
+
+
+def queries_of(edition):
+    """The members of each query of an edition."""
+    return {**QUERIES, **SECOND_QUERIES} if edition == 2 else QUERIES
 
 
 def commands_of(edition):
@@ -154,10 +160,11 @@ def filter_of(value, depth, atoms):
     return {word: read[word]()}
 
 
-def query(found):
+def query(found, edition):
     word = found["ask"]
-    members(found, ["as", "ask", *QUERIES[word]], ["since", *(["filter", "from", "limit"] if word == "list" else [])])
-    read = {"ask": word, **{cell: byte(found[cell]) for cell in QUERIES[word]}}
+    cells = queries_of(edition)[word]
+    members(found, ["as", "ask", *cells], ["since", *(["filter", "from", "limit"] if word == "list" else [])])
+    read = {"ask": word, **{cell: byte(found[cell]) for cell in cells}}
     if "since" in found:
         read["since"] = number(found["since"], 0, WORD)
     if "filter" in found:
@@ -193,7 +200,7 @@ def read_line(line, edition=1):
     kinds = [word for word in ("ask", "do", "audit", "hello") if word in found]
     if len(kinds) != 1 or kinds == ["hello"]:
         raise Fault("UnknownRequest")
-    if kinds == ["ask"] and is_text(found["ask"]) and found["ask"] not in QUERIES:
+    if kinds == ["ask"] and is_text(found["ask"]) and found["ask"] not in queries_of(edition):
         raise Fault("UnknownRequest")
     if kinds == ["do"] and isinstance(found["do"], list):
         words = [inner["cmd"] for inner in found["do"] if isinstance(inner, dict) and "cmd" in inner]
@@ -203,7 +210,7 @@ def read_line(line, edition=1):
     actor = name(found["as"])
     if kinds == ["ask"]:
         text(found["ask"])
-        return actor, query(found)
+        return actor, query(found, edition)
     members(found, ["as", *kinds])
     if kinds == ["do"]:
         return actor, {"do": [command(inner, edition) for inner in listed(found["do"], MOST_COMMANDS)]}

@@ -22,7 +22,7 @@ WHY = [
 # Law 2: who deals boards 1 to 4, and who is vulnerable on boards 1 to 16
 DEALERS = "NESW"
 VULNERABLE = {"none": (1, 8, 11, 14), "ns": (2, 5, 12, 15), "ew": (3, 6, 9, 16), "both": (4, 7, 10, 13)}
-HANDS_OF = {"board": "Hands", "traveller": "Hands", "analysis": "Analysis", "play": "Play", "costs": "Cost", "reason": "Reason"}
+HANDS_OF = {"board": "Hands", "traveller": "Hands", "analysis": "Analysis", "par": "Analysis", "play": "Play", "costs": "Cost", "reason": "Reason"}
 
 
 def roles_of(edition):
@@ -281,6 +281,10 @@ class Session:
 
     def ask_analysis(self, name, query):
         return {"board": query["board"], "tricks": None}
+
+    def ask_par(self, name, query):
+        """Nothing yet, as an analysis: a script solves no board. What par is says tests/models/par_model.py."""
+        return {"board": query["board"], "result": None, "score": None}
 
     def about_table(self, query, member, value_of):
         result = self.results.get((query["table"], query["board"]))

@@ -4,8 +4,8 @@
     python3 tests/pages/protocol_types.py    # says how many were compared, and what doesn't fit; status 1 where anything doesn't
 
 Each answer must have the type of an answer to its message, with no number above 2^53, and each message that was read the type
-of a message. What was answered UnknownRequest must have no message's type, but for commands of the second edition in a session of
-the first; of BadField it is only counted how much fits, since types tell no ranges. Each fenced example on the page must be a message of some run, but for its `as`, with its answer.
+of a message. What was answered UnknownRequest must have no message's type, but for commands and queries of the second edition in a
+session of the first; of BadField it is only counted how much fits, since types tell no ranges. Each fenced example on the page must be a message of some run, but for its `as`, with its answer.
 
 It knows the part of TypeScript that the page uses: aliases, literals, templates, unions, intersections, objects, lists, tuples
 and the type of a member. An object may have no member that isn't listed.
@@ -23,6 +23,7 @@ PAGE = pathlib.Path(__file__).resolve().parents[2] / "docs" / "PROTOCOL.md"
 TOKEN = re.compile(r'\s+|//[^\n]*|(?P<text>"[^"]*")|(?P<template>`[^`]*`)|(?P<number>[0-9]+)|(?P<name>[A-Za-z_]\w*)'
                    r'|(?P<mark>[{}()\[\]|&:;,?=])')
 SECOND = ("Embargo", "Lift", "Rename")
+SECOND_QUERIES = ("par",)
 UNREAD = ("TooLong", "Malformed", "UnknownRequest", "BadField")
 LARGEST = 2**53
 
@@ -208,9 +209,10 @@ def edition_of(text):
 
 
 def names_second(said):
-    """Whether commands are asked for that the second edition alone has."""
+    """Whether commands or a query are asked for that the second edition alone has."""
     commands = said.get("do")
-    return isinstance(commands, list) and any(isinstance(one, dict) and one.get("cmd") in SECOND for one in commands)
+    return said.get("ask") in SECOND_QUERIES or (
+        isinstance(commands, list) and any(isinstance(one, dict) and one.get("cmd") in SECOND for one in commands))
 
 
 def runs():
@@ -294,7 +296,7 @@ def main():
             comparison.check((without_user(message), answer) in met, "no run has this example", message)
     print(f"{comparison.out_of_range} messages that are BadField fit the types: a number, a length or a depth is out of range, or a role "
           "is the second edition's")
-    print(f"{comparison.unknown_to_first} messages that are UnknownRequest have commands of the second edition")
+    print(f"{comparison.unknown_to_first} messages that are UnknownRequest have commands or a query of the second edition")
     print(f"{comparison.passed} passed, {comparison.failed} failed")
     sys.exit(comparison.failed > 0)
 

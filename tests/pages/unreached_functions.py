@@ -5,7 +5,7 @@ A function is reached where the `main` of a program reaches it by names: a metho
 type by the type and its name, any other by its name. So what this lists is dead; what it doesn't list may still be. What a
 trait of another library asks for is taken as reached, and functions of a file `laws.rt` are theorems, which nobody calls.
 It prints nothing, and ends with 0, or prints each such function, and each edit of must-fail/ that changes no function which
-a program reaches, and ends with 1."""
+a program reaches, and ends with 1. A crate whose functions no program calls yet is left out, as long as it is told what it waits for."""
 import pathlib
 import re
 import sys
@@ -15,6 +15,14 @@ CRATES = ROOT / "crates"
 PROGRAMS = ("bridge_server", "pbn_boards", "deal_tables", "par_tables")
 # what only tests and stored runs stand on
 TESTING = ("test_devices",)
+
+# crates whose functions no program calls yet (its laws may be used), each with what it waits for
+TO_COME = {
+    "text_writer": "the forms in which a report is written",
+    "session_report": "the same, and the command that writes them",
+    "many_clients": "a display's thread that serves many clients at once",
+    "hall_terms": "the same thread, which asks it who is late and who may come",
+}
 
 # public functions that no program reaches, each with the reason why it stays
 KEPT = {
@@ -164,6 +172,8 @@ def edits():
 
 def unreached_edits(functions, reached):
     for path, file, texts in edits():
+        if path.relative_to(CRATES).parts[0] in TO_COME:
+            continue
         source = file.read_text(encoding="utf-8")
         places = [source.find(text) for text in texts]
         changed = [function for function in functions for place in places
@@ -189,10 +199,13 @@ def main():
             outside.append(rest)
     reached = reached_by(functions, outside)
     dead = {f"{function.crate}::{function.owner or ''}::{function.name}".replace("::::", "::"): function
-            for function in functions if function.is_public and function not in reached
+            for function in functions if function.is_public and function not in reached and function.crate not in TO_COME
             and function.path.name != "laws.rt" and not function.trait}
     said = [str(function) for name, function in sorted(dead.items()) if name not in KEPT]
     said += [f"{name} is reached, or isn't there: it needs no reason" for name in sorted(KEPT) if name not in dead]
+    waiting = {function.crate for function in functions if function.is_public and function not in reached}
+    said += [f"{crate} is called, or isn't there: it doesn't wait" for crate in sorted(TO_COME)
+             if crate in crates - waiting or crate not in stands_on]
     said += unreached_edits(functions, reached)
     for line in said:
         print(line)

@@ -6,7 +6,7 @@ wanted.
     tests/runs/stored_runs.py desk               # the script of a part, for `bridge_server script`
     tests/runs/stored_runs.py desk answers       # the answers to it
 
-The last seventeen parts are no scripts: the program knows them by their names, up to a comma.
+The last eighteen parts are no scripts: the program knows them by their names, up to a comma.
 
 The crate's files stdin and stdout have one form: before each part stand an LF and a line with its name, `== desk`. So a script
 may end without an LF of its own, and no message begins so.
@@ -49,7 +49,7 @@ PARTS = {
     "traveller": "worked out apart, from the printed tables of Law 77 and Law 78A",
     **{part: EDITIONS for part in (
         "second edition", "embargo", "every role and an embargo", "a commentator who plays", "a commentator's roles",
-        "second edition's end", "half table of the second edition", "first edition", "first edition by its number")},
+        "second edition's end", "half table of the second edition", "par", "first edition", "first edition by its number")},
     **{part: MOVEMENTS for part in (
         "a Howell", "a Howell, its rows in another order", "a Howell, a void", "a Howell, an absent pair", "496 rows", "a Howell, by its word",
         "an arrow switch", "share and relay", "share and relay, an absent pair", "a web")},
@@ -60,6 +60,7 @@ PARTS = {
     "connections, names": "tests/runs/write_name_runs.py: by hand, from docs/PROTOCOL.md",
     "solver": SOLVER,
     "solver, second edition": SOLVER,
+    "solver, par": SOLVER,
     "both ways": "tests/runs/write_both_ways_run.py: how many commands the rules accept, and that no reply differs",
     "both ways, each cell": "tests/runs/write_both_ways_run.py: the same, with the play, the costs and the reason of every cell",
     "both ways, 2,000 commands": "tests/runs/write_both_ways_run.py: the same, of commands that are drawn with a fixed seed",

@@ -167,7 +167,8 @@ write("both ways", questions((1, 2, 3), ((1, 1), (2, 1), (3, 2))), played(lambda
 write("both ways, each cell", [*questions((1, 2, 3), ALL_CELLS), text_of({"as": "d", "ask": "ranking", "since": 21})],
       played(lambda table, board: result(4, (10, 11, 10)[table - 1]) if board == 1 else "pass"))
 write("both ways, 2,000 commands", SOME, [drawn.command() for _ in range(2000)])
-write("both ways, second edition", [*SOME, text_of({"as": "d", "ask": "board", "board": 2}), text_of({"as": "d", "ask": "play", "board": 1, "table": 2})],
+write("both ways, second edition", [*SOME, text_of({"as": "d", "ask": "board", "board": 2}), text_of({"as": "d", "ask": "play", "board": 1, "table": 2}),
+                                   text_of({"as": "d", "ask": "par", "board": 1})],
       [second_drawn.command() for _ in range(200)], 2)
 # A Howell: each cell is played in its round, then a result of a pair that changed its side is voided, ruled and corrected.
 howell = JudgedSession(3, 5, 1, HOWELL_USERS, HOWELL_DEALS, movement=HOWELL)

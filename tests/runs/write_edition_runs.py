@@ -386,6 +386,64 @@ def write_second_half_table():
     run.write("half table of the second edition")
 
 
+# ---- par, which is shown as the analysis is
+
+PENDING = {"board": 1, "result": None, "score": None}
+
+
+def ask_par(run, names):
+    """Who is told a board's analysis is told its par, and who is denied the one is denied the other for the same rule, with its table."""
+    for name in names:
+        for board in (1, 2, 3, 4):
+            replies = [run.session.reply(name, {"ask": ask, "board": board}) for ask in ("analysis", "par")]
+            assert replies[0] == replies[1] or ("analysis" in replies[0] and "par" in replies[1]), (name, board, replies)
+            for ask in ("analysis", "par"):
+                run.ask(name, ask, board=board)
+
+
+def write_par():
+    run = second_edition(*ROLES_MORE)
+    run.says('{"as":"c","ask":"par","board":1}', '{"par":{"board":1,"result":null,"score":null},"version":0}')
+    run.says('{"as":"n1","ask":"par","board":1}',
+             '{"denied":{"board":1,"rule":6,"table":1,"why":"your pair has still to play this board"},"version":0}')
+    run.says('{"as":"n1","ask":"par","board":4,"since":9}', '{"error":"NoSuchBoard","version":0}')
+    run.says('{"as":"n1","ask":"par","board":1,"since":9}', '{"error":"Behind","version":0}')
+    for name, denial in (("n2", (6, 2)), ("s", (9, 1)), ("k", NEITHER), ("a", NEITHER), ("m", NEITHER), ("x", NO_MEMBER), ("zz", NO_ACCOUNT)):
+        run.ask(name, "par", denial, board=1)
+    ask_par(run, ALL_ROLES)
+    # whoever played the board waits for the others, as for the analysis, and commentators don't
+    run.do("k", *played(1, 1, FOUR_SPADES), OK, OK)
+    for name, answer in (("n1", (10, 2)), ("s", (9, 2)), ("c", PENDING), ("ca", PENDING), ("d", PENDING), ("k", NEITHER)):
+        run.ask(name, "par", answer, board=1)
+    run.do("d", NEXT, OK)
+    run.do("k", *played(3, 1, "pass"), OK, OK)
+    run.ask("n1", "par", (10, 2), board=1)
+    ask_par(run, ALL_ROLES)
+    # of a complete board it is shown to all who watch or play it, unless the director holds it or there is an embargo
+    run.do("d", NEXT, rule(2, 1, 60, 40, 7), OK, OK)
+    for name in ("n1", "n2", "s", "c"):
+        run.ask(name, "par", PENDING, board=1)
+    run.do("d", hold(1), OK)
+    run.says('{"as":"n1","ask":"par","board":1}', '{"denied":{"board":1,"rule":5,"table":0,"why":"the board is held"},"version":8}')
+    ask_par(run, ALL_ROLES)
+    run.do("d", release(1), EMBARGO, OK, OK)
+    for name in NOT_DIRECTORS:
+        run.ask(name, "par", UNDER_EMBARGO, board=1)
+    run.ask("d", "par", PENDING, board=1)
+    ask_par(run, ALL_ROLES)
+    run.do("d", LIFT, *[rule(row[1], row[2], 50, 50, 1) for row in run.session.rows if row[2] > 1], OK, *[OK] * 6)
+    run.do("d", CLOSE, FINALISE, OK, OK)
+    ask_par(run, ALL_ROLES)
+    # a board's number, and no other member
+    for message in ('{"as":"d","ask":"Par","board":1}', '{"as":"d","ask":"pars","board":1}', '{"as":"d","ask":"optimum","board":1}'):
+        run.says(message, '{"error":"UnknownRequest"}')
+    for message in ('{"as":"d","ask":"par"}', '{"as":"d","ask":"par","board":256}', '{"as":"d","ask":"par","board":"1"}', '{"ask":"par","board":1}',
+                    '{"as":"d","ask":"par","board":1,"table":1}', '{"as":"d","ask":"par","board":1,"dealer":"N"}',
+                    '{"as":"d","ask":"par","board":1,"since":-1}'):
+        run.says(message, '{"error":"BadField"}')
+    run.write("par")
+
+
 # ---- the first edition, which has nothing of this
 
 def write_first_edition(part, said):
@@ -394,6 +452,8 @@ def write_first_edition(part, said):
     run.says('{"as":"d","do":[{"cmd":"Embargo"}]}', '{"error":"UnknownRequest"}')
     for message in (do("d", LIFT), do("d", NEXT, EMBARGO), do("n1", EMBARGO), do("zz", LIFT), do("d", {**EMBARGO, "board": 1}),
                     do("a", assign("s", "Commentator"), EMBARGO), '{"do":[{"cmd":"Lift"}]}'):
+        run.says(message, '{"error":"UnknownRequest"}')
+    for message in ('{"as":"d","ask":"par","board":1}', '{"as":"zz","ask":"par","board":1}', '{"ask":"par","board":256}'):
         run.says(message, '{"error":"UnknownRequest"}')
     for command in (assign("s", "Commentator"), assign("zz", "Commentator"), deassign("s", "Commentator"), inherit("Commentator", "Spectator"),
                     inherit("Director", "Commentator"), disinherit("Commentator", "Spectator"), disinherit("Commentator", "Commentator")):
@@ -420,5 +480,6 @@ if __name__ == "__main__":
     write_changed_commentator()
     write_second_edition_end()
     write_second_half_table()
+    write_par()
     write_first_edition("first edition", False)
     write_first_edition("first edition by its number", True)

@@ -1,5 +1,5 @@
 #!/usr/bin/env python3
-"""Writes the parts `solver` and `solver, second edition` of the stored runs of crates/bridge_server_stored_runs: what a solver tells a
+"""Writes the parts `solver`, `solver, second edition` and `solver, par` of the stored runs of crates/bridge_server_stored_runs: what a solver tells a
 session, between its messages.
 
     python3 tests/runs/write_solved_run.py
@@ -7,6 +7,11 @@ session, between its messages.
 The deals give each player a whole suit, so every number is worked by hand: who holds trumps takes all thirteen tricks, and without
 trumps the side that leads takes all. Each line that is given stands beside the line that is wanted.
 """
+import pathlib
+import sys
+
+sys.path[:0] = [str(pathlib.Path(__file__).resolve().parents[1] / folder) for folder in ("models",)]
+from par_model import par_of
 from stored_runs import put
 from write_stored_runs import SECOND_SESSION, SESSION, text_of
 
@@ -152,3 +157,57 @@ listed("c", [1], 7, **many("S", True))
 asked("a", {"audit": [[4, None, "Analysed", "1/1"], [5, "d", "Embargo", ""], [6, None, "Solved", "2"], [7, "d2", "Lift", ""]]}, 7,
       audit={"from": 4, "limit": 9})
 write("solver, second edition", SECOND_SESSION)
+
+# Par: who holds the spades makes all thirteen tricks in them, which nothing outranks but seven no trump, in which declarer takes no
+# trick: so on each board that side bids seven spades. Whoever of the two is the last to call does, since to pass costs the first
+# nothing. Boards 1 and 3: North and South. Board 2: East and West. None of them is vulnerable there (Law 2). Par is told to whom the
+# analysis is.
+rows.clear()
+OTHER_TABLE = {"N": TABLE["E"], "S": TABLE["W"], "E": TABLE["N"], "W": TABLE["S"]}
+
+
+def par(board, score, declarer):
+    result = {"by": declarer, "doubled": 0, "level": 7, "strain": "S", "tricks": 13}
+    return {"par": {"board": board, "result": result, "score": score}}
+
+
+def pending(board):
+    return {"par": {"board": board, "result": None, "score": None}}
+
+
+# 7 times 30, a game of 300, and a grand slam of 1000
+pars = {1: par(1, 1510, "S"), 2: par(2, -1510, "W"), 3: par(3, 1510, "N")}
+for board, numbers in ((1, TABLE), (2, OTHER_TABLE), (3, TABLE)):
+    assert par_of(numbers, board) == {member: pars[board]["par"][member] for member in ("result", "score")}, par_of(numbers, board)
+asked("c", pending(1), 0, ask="par", board=1)
+asked("d", pending(1), 0, ask="par", board=1)
+told("solve 1 1", "ok")
+asked("c", pars[1], 1, ask="par", board=1)
+asked("c", {"analysis": {"board": 1, "tricks": TABLE}}, 1, ask="analysis", board=1)
+asked("d", pars[1], 1, ask="par", board=1)
+asked("d", pending(2), 1, ask="par", board=2)
+for name, number, table, why in (("n1", 6, 1, "your pair has still to play this board"), ("s", 9, 1, "the board isn't complete"),
+                                 ("k", 8, 0, "neither a contestant nor a spectator")):
+    for word in ("par", "analysis"):
+        asked(name, {"denied": {"board": 1, "rule": number, "table": table, "why": why}}, 1, ask=word, board=1)
+done("k", 3, {"cmd": "Enter", "result": RESULT, **CELL}, {"cmd": "Confirm", "result": RESULT, **CELL})
+for word in ("par", "analysis"):
+    asked("n1", {"denied": {"board": 1, "rule": 10, "table": 2, "why": "analysis waits until the board is complete"}}, 3, ask=word, board=1)
+done("d", 4, {"cmd": "Embargo"})
+told("solve 2 2", "ok")
+told("solve 3 3", "ok")
+for word in ("par", "analysis"):
+    asked("c", {"denied": {"board": 2, "rule": 4, "table": 0, "why": "the session is under embargo"}}, 6, ask=word, board=2)
+asked("d", pars[2], 6, ask="par", board=2)
+asked("d", pars[3], 6, ask="par", board=3)
+done("d", 7, {"cmd": "Lift"})
+asked("c", pars[3], 7, ask="par", board=3)
+done("d", 11, {"cmd": "NextRound"}, {"cmd": "NextRound"},
+     *({"cmd": "Rule", "board": 1, "ew": 40, "ns": 60, "reason": 7, "table": table} for table in (2, 3)))
+for name in ("n1", "n2", "s"):
+    asked(name, pars[1], 11, ask="par", board=1)
+done("d", 12, {"cmd": "Hold", "board": 1})
+for word in ("par", "analysis"):
+    asked("n1", {"denied": {"board": 1, "rule": 5, "table": 0, "why": "the board is held"}}, 12, ask=word, board=1)
+asked("d", pars[1], 12, ask="par", board=1)
+write("solver, par", SECOND_SESSION)

@@ -35,7 +35,7 @@ pub(crate) fn status_of_audit<
     ensures untold { result ≢ 0 → result ≢ 3 → Appends (W.contents writer.old) (W.contents writer.new) [] }
 {
     match audit_of_journal(rt, path, Wary, WORKERS) {
-        Ok(text) => match write_text(writer, text.as_bytes()) {
+        Ok(told) => match write_text(writer, told.audit.as_bytes()) {
             Ok(()) => 0,
             Err(_) => 3,
         },

@@ -53,7 +53,7 @@ impl ClassViews {
         Ok(ClassViews { state, kept })
     }
 
-    /// The state.
+    /// The state beside which the classes are kept.
     pub fn state(&self) -> &State
         ensures { result.now ≡ self.now }
     {

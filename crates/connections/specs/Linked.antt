@@ -22,6 +22,10 @@ linked_code =
     (λ p. record { opening = p.0; journal = p.1.0; own_entries = p.1.1.0; user = p.1.1.1 })
     (λ _. refl)
 
+-- the same connection, on which this user is signed in, or nobody is
+abbrev pub signed_in : Option (List ℕ) → Linked → Linked
+signed_in user at = record at { user = user }
+
 -- the journal has gone on, if at all, and the session is the same
 abbrev pub HasGoneOn : Linked → Linked → Type 0
 HasGoneOn before after = GoesOn before.opening before.journal after.opening after.journal

@@ -4,7 +4,7 @@ ghost use Rattle.std.specs.Prelude.{◌≡◌, ◌≤◌, ◌⊎◌, ◌↔◌, 
 ghost use Rattle.session_book.specs.Journal.{IsAccepted};
 ghost use Rattle.wire.specs.Request.{HasFew};
 ghost use Rattle.wire.specs.declared.connection_fault.ConnectionFault.TheVariants.{NotKnown, NoEntry, OutOfMemory};
-ghost use Rattle.connections.specs.Linked.{EntersNone, HasGoneOn};
+ghost use Rattle.connections.specs.Linked.{EntersNone, HasGoneOn, signed_in};
 ghost use Rattle.connections.specs.Serving.{IsOwnToken, IsServed, is_fault_of};
 
 use request_answers::{AnswerFault, answer_request};
@@ -71,6 +71,14 @@ impl<K: Keeper> Connection<K> {
         ensures { result ≡ self.now.user }
     {
         self.user
+    }
+
+    /// From here on messages are answered for this user, or where there is none as those of somebody who isn't signed in.
+    /// So one keeper serves many connections, on each of which somebody of its own is signed in.
+    pub fn set_user(&mut self, user: Option<Name>)
+        ensures { self.new ≡ signed_in user self.old }
+    {
+        self.user = user;
     }
 
     /// Signs a user in whose account has the digest of this token; else who was signed in still is. That there is no

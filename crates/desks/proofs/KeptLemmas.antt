@@ -67,6 +67,12 @@ module _ (opening : SessionState) (published : List (List Entry)) (more : List E
   not_kept_is_gone NotKept is_open other leaves = leaves
   not_kept_is_gone Unsure is_open other leaves = absurd (other refl)
 
+-- a store that is open wherever it answers that nothing is kept is open unless that isn't known
+pub open_unless_unsure : (fault : KeepFault) (is_open : Bool) → (fault ≡ NotKept → is_open ≡ true) → (fault ≡ Unsure → ⊥) →
+    is_open ≡ true
+open_unless_unsure NotKept is_open goes_on other = goes_on refl
+open_unless_unsure Unsure is_open goes_on other = absurd (other refl)
+
 -- an open store leaves just what is published
 pub kept_open : (opening : SessionState) (published : List (List Entry)) (doubt : ℕ) (is_open : Bool)
     (Left : List (List Entry) → Type 0) → IsKeptBy opening published doubt is_open Left → is_open ≡ true →

@@ -59,6 +59,7 @@ pub fn batch<N: Server, K: EntryStore, R: Wait>(
     ensures unsure { IfErr result (λ fault. fault ≡ Unsure → K.doubt store.new ≡ 0 → K.is_open store.new ≡ false) }
     ensures unkept { IfErr result (λ fault. fault ≢ Unsure → K.doubt store.new ≡ 0 →
         LeavesAsBefore (K.leaves store.old) (K.leaves store.new)) }
+    ensures goes_on { IfErr result (λ fault. fault ≢ Unsure → K.is_open store.new ≡ K.is_open store.old) }
 {
     if !store.is_open() {
         return Err(SubmitFault::NotKept);
@@ -139,6 +140,7 @@ fn show<N: Server, K: EntryStore, R: Wait>(
         fault ≡ keeping.Unsure → K.doubt store.new ≡ 0 → K.is_open store.new ≡ false) }
     ensures unkept { IfErr result (λ fault. fault ≢ keeping.Unsure → K.doubt store.new ≡ 0 →
         LeavesAsBefore (K.leaves store.old) (K.leaves store.new)) }
+    ensures goes_on { IfErr result (λ fault. fault ≢ keeping.Unsure → K.is_open store.new ≡ true) }
 {
     let told = publisher.tell();
     if !grown {

@@ -121,6 +121,8 @@ impl<N: Server, K: EntryStore> LockedBook<N, K> {
             fault ≡ Unsure → K.doubt self.new.store ≡ 0 → K.is_open self.new.store ≡ false) }
         ensures unkept { IfErr result (λ fault. fault ≢ Unsure → K.doubt self.new.store ≡ 0 →
             LeavesAsBefore (K.leaves self.old.store) (K.leaves self.new.store)) }
+        ensures goes_on { IfErr result (λ fault.
+            fault ≢ Unsure → K.is_open self.new.store ≡ K.is_open self.old.store) }
     {
         let before = self.book.version();
         let told = batch(

@@ -36,7 +36,7 @@ pub enum OpenError {
     OutOfMemory,
 }
 
-/// As it is called here.
+/// The variant's name.
 impl fmt::Display for OpenError {
     fn fmt<W: fmt::Write>(&self, f: &mut fmt::Formatter<W>) -> fmt::Result {
         fmt::Debug::fmt(self, f)

@@ -2,6 +2,7 @@
 
 ghost use Rattle.std.specs.Prelude.{◌≡◌, ◌<◌, length, true, false, OnOk, IfErr};
 ghost use Rattle.entry_store.specs.Keeping.{LeavesOneMore, LeavesAsBefore, LeavesNoneOrOne};
+ghost use Rattle.entry_store.specs.declared.keep_fault.KeepFault.TheVariants.{NotKept};
 
 use crate::keep_fault::KeepFault;
 use session_commands::Entry;
@@ -30,11 +31,13 @@ pub trait EntryStore: Drop {
         ensures shut { result ≡ false → fails };
 
     /// Keeps a publication behind the others, the whole of it or nothing. Once it returns with `Ok`, every crash leaves it.
+    /// A store that has refused one as `NotKept` goes on: it takes the next.
     fn keep(&mut self, entries: &[Entry]) -> Result<(), KeepFault>
         requires open { is_open self.old ≡ true }
         requires some { 0 < length entries.now }
         ensures clean { doubt self.new ≡ 0 → doubt self.old ≡ 0 }
         ensures open { OnOk result (is_open self.new ≡ true) }
+        ensures goes_on { IfErr result (λ fault. fault ≡ NotKept → is_open self.new ≡ true) }
         ensures kept { OnOk result (doubt self.new ≡ 0 → LeavesOneMore (leaves self.old) entries.now (leaves self.new)) }
         ensures fault { IfErr result (λ fault. fails × (doubt self.new ≡ 0 →
             LeavesNoneOrOne fault (is_open self.new) (leaves self.old) entries.now (leaves self.new))) };

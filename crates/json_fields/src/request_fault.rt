@@ -20,7 +20,7 @@ pub enum RequestFault {
     OutOfMemory,
 }
 
-/// As it is called here.
+/// The variant's name.
 impl fmt::Display for RequestFault {
     fn fmt<W: fmt::Write>(&self, f: &mut fmt::Formatter<W>) -> fmt::Result {
         fmt::Debug::fmt(self, f)

@@ -6,12 +6,13 @@ use Rattle.session_state.specs.SessionState.{SessionState}
 use Rattle.session_commands.specs.declared.entry.Entry.{Entry}
 use Rattle.journal_store.specs.Tables.{session_row}
 use Rattle.journal_store.specs.Restart.{IsTakenUp, IsKeptAt}
-use Rattle.kept_entries.specs.KeptRows.{rows_of}
+use Rattle.kept_entries.specs.KeptRows.{AreKeepable, rows_of}
 use Rattle.row_journal.specs.Leaving.{LeavesPublications}
 use Rattle.kept_sessions.specs.Sources.{IsSessionOf}
 
--- whatever a crash leaves of the journal is just these publications
+-- whatever a crash leaves of the journal is just these publications, and no others have their rows
 pub record KeepsJust (s : State) (publications : List (List Entry)) : Type 0 where
+  pub keepable : AreKeepable publications
   pub left : HasCleanDisk s → (found : List (List Entry)) → LeavesPublications s found → found ≡ publications
 
 -- the session is that of two texts, and the files held the journal of these texts, with just these publications

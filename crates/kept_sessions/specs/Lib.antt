@@ -1,3 +1,3 @@
 pub mod Sources
-pub mod Audited
 pub mod Kept
+pub mod Audited

@@ -2,10 +2,11 @@
 use Rattle.std.specs.Prelude.{◌≡◌, ℕ, Bool, true, false, List, [], Some}
 use Rattle.session_state.specs.SessionState.{SessionState}
 use Rattle.session_commands.specs.declared.entry.Entry.{Entry}
-use Rattle.opened_session.specs.Opened.{OpensWith, GivesBudget}
+use Rattle.opened_session.specs.Opened.{OpensWith, OpensNoneWith, GivesBudget, is_want_of_memory}
+use Rattle.opened_session.specs.declared.opening_fault.OpeningFault.{OpeningFault}
 use Rattle.kept_sessions.specs.declared.source_texts.TheConstants.{MOST_FILE_BYTES}
 use Rattle.kept_sessions.specs.declared.source_fault.KeptSessionFault.{KeptSessionFault}
-use Rattle.kept_sessions.specs.declared.source_fault.KeptSessionFault.TheVariants.{Journal, CopyUnwritten}
+use Rattle.kept_sessions.specs.declared.source_fault.KeptSessionFault.TheVariants.{OutOfMemory, Unread, Unopened, Journal, NotAccepted, CopyExists, CopyUnwritten}
 
 -- own: how many bytes a file has at most
 abbrev pub most_file_bytes : ℕ
@@ -17,6 +18,19 @@ pub record IsSessionOf (object boards : List ℕ) (opening : SessionState) (jour
   pub opens : OpensWith (Some boards) object opening
   pub gives : GivesBudget (Some boards) object budget
   pub empty : journal ≡ []
+
+-- why two texts open no session: for each fault what the session object's own opening says of them, and want of memory where
+-- that says so
+abbrev pub WhyNoSession : List ℕ → List ℕ → KeptSessionFault → Type 0
+WhyNoSession object boards OutOfMemory =
+    (fault : OpeningFault) × (is_want_of_memory fault ≡ true) × OpensNoneWith (Some boards) fault object
+WhyNoSession object boards Unread = ⊥
+WhyNoSession object boards (Unopened fault) =
+    (is_want_of_memory fault ≡ false) × OpensNoneWith (Some boards) fault object
+WhyNoSession object boards (Journal fault) = ⊥
+WhyNoSession object boards (NotAccepted number) = ⊥
+WhyNoSession object boards CopyExists = ⊥
+WhyNoSession object boards CopyUnwritten = ⊥
 
 -- own: the fault is one of a journal or of its copy, which is named also where the status is 3
 abbrev pub is_of_a_journal : KeptSessionFault → Bool

@@ -1,18 +1,35 @@
 //! The audit of a journal, told where no server has it.
 
-ghost use Rattle.std.specs.Prelude.{◌≡◌, ◌++◌, [], string_bytes, IfOk, OnOk};
-ghost use Rattle.kept_sessions.specs.Audited.{TellsJournal, line_of_row, lines_from};
+ghost use Rattle.std.specs.Prelude.{◌≡◌, ◌⊎◌, ◌++◌, ◌∷◌, [], false, string_bytes, IfOk, IfErr, OnOk};
+ghost use Rattle.sqlite.specs.Files.{file_state};
+ghost use Rattle.sqlite.specs.WalFiles.{image_at};
+ghost use Rattle.history.specs.Prefixes.{entries_of};
+ghost use Rattle.session_book.specs.Journal.{IsAccepted};
+ghost use Rattle.session_commands.specs.Refusal.{is_out_of_memory};
+ghost use Rattle.kept_entries.specs.KeptRows.{lists_in};
+ghost use Rattle.kept_sessions.specs.Audited.{TellsJournal, TellsKeptJournal, WhyNotTold, line_of_row, lines_from};
+ghost use Rattle.kept_sessions.specs.declared.source_fault.KeptSessionFault.TheVariants.{NotAccepted, OutOfMemory};
 
 use crate::journal_session::{KeptSession, kept_session};
 use crate::source_fault::KeptSessionFault;
 use journal_store::JournalFiles;
+use row_journal::{OpenedJournal, RowJournal};
 use session_book::{AuditRow, Book};
-use session_commands::Entry;
-use sqlite::Start;
+use session_commands::{Entry, Refusal};
+use sqlite::{Alter, FileFrom, FileStore, Start};
 use std::alloc::{AllocError, Global};
 use std::rt::Files;
 use std::thread::Threads;
 use wire::audit_row_text;
+
+/// A journal that was told.
+#[derive(Drop)]
+pub struct ToldJournal<S: Alter> {
+    /// Its audit, a line for each entry.
+    pub audit: String,
+    /// The journal, as it was opened.
+    pub store: RowJournal<S>,
+}
 
 /// The audit of the journal at a path, a line for each entry. What the solver found is found again by so many workers.
 pub fn audit_of_journal<R: Files + Threads + JournalFiles + AllocGlobal + Sync, S: Start>(
@@ -20,29 +37,43 @@ pub fn audit_of_journal<R: Files + Threads + JournalFiles + AllocGlobal + Sync, 
     path: &str,
     start: S,
     workers: usize,
-) -> Result<String, KeptSessionFault>
-    ensures { IfOk result (λ text. TellsJournal (string_bytes text)) }
+) -> Result<ToldJournal<FileStore<FileFrom<S>>>, KeptSessionFault>
+    ensures told { IfOk result (λ told. TellsJournal (string_bytes told.audit)) }
+    ensures kept { IfOk result (λ told.
+        TellsKeptJournal (image_at S.Start) (string_bytes told.audit) (file_state told.store.conn)) }
 {
     let KeptSession { session, journal } = match kept_session(rt, path, start, workers) {
         Ok(kept) => kept,
         Err(fault) => return Err(fault),
     };
-    audit_of_entries(rt.alloc(), session.book, journal.publications.as_slice())
+    let OpenedJournal {
+        store,
+        publications,
+    } = journal;
+    match audit_of_publications(rt.alloc(), session.book, publications.as_slice()) {
+        Ok(audit) => Ok(ToldJournal { audit, store }),
+        Err(fault) => Err(fault),
+    }
 }
 
-// The audit of a book in which nothing is entered yet, once these publications are.
-fn audit_of_entries(
+/// The audit of publications, a line for each entry, in their order: of the session of a book in which nothing is entered
+/// yet, and which accepts them.
+pub fn audit_of_publications(
     alloc: Global,
     book: Book,
     publications: &[Vec<Entry>],
 ) -> Result<String, KeptSessionFault>
     requires { book.journal ≡ [] }
-    ensures { IfOk result (λ text. TellsJournal (string_bytes text)) }
+    ensures lines { IfOk result (λ text. string_bytes text ≡ lines_from 1 (entries_of (lists_in publications.now))) }
+    ensures accepted { IfOk result (λ text. IsAccepted book.opening (entries_of (lists_in publications.now))) }
+    ensures fault { IfErr result (WhyNotTold book.opening (entries_of (lists_in publications.now))) }
 {
     let mut book = book;
     let mut text = String::new(alloc);
     for publication in publications {
-        tell_all(alloc, &mut book, &mut text, publication)?;
+        if let Err(fault) = tell_all(alloc, &mut book, &mut text, publication.as_slice()) {
+            return Err(fault);
+        }
     }
     // Each book's journal is accepted.
     let _version = book.version();
@@ -57,10 +88,15 @@ fn tell_all(
     entries: &[Entry],
 ) -> Result<(), KeptSessionFault>
     requires { string_bytes text.old ≡ lines_from 1 book.old.journal }
-    ensures { OnOk result (string_bytes text.new ≡ lines_from 1 book.new.journal) }
+    ensures lines { OnOk result (string_bytes text.new ≡ lines_from 1 book.new.journal) }
+    ensures entered { OnOk result (book.new.journal ≡ book.old.journal ++ entries.now) }
+    ensures fault { IfErr result (WhyNotTold book.old.opening (book.old.journal ++ entries.now)) }
+    ensures opening { book.new.opening ≡ book.old.opening }
 {
     for entry in entries {
-        tell(alloc, book, text, entry)?;
+        if let Err(fault) = tell(alloc, book, text, entry) {
+            return Err(fault);
+        }
     }
     Ok(())
 }
@@ -73,17 +109,30 @@ fn tell(
     entry: &Entry,
 ) -> Result<(), KeptSessionFault>
     requires { string_bytes text.old ≡ lines_from 1 book.old.journal }
-    ensures { OnOk result (string_bytes text.new ≡ lines_from 1 book.new.journal) }
+    ensures lines { OnOk result (string_bytes text.new ≡ lines_from 1 book.new.journal) }
+    ensures entered { OnOk result (book.new.journal ≡ book.old.journal ++ entry.now ∷ []) }
+    ensures fault { IfErr result (WhyNotTold book.old.opening (book.old.journal ++ entry.now ∷ [])) }
+    ensures opening { book.new.opening ≡ book.old.opening }
 {
     let number = book.version() + 1;
     match book.check(entry.actor, &entry.command) {
         Ok(checked) => book.commit(checked),
-        Err(cause) if cause.is_out_of_memory() => return Err(KeptSessionFault::OutOfMemory),
-        Err(_) => return Err(KeptSessionFault::NotAccepted(number as u32)),
+        Err(cause) => return Err(fault_of(cause, number as u32)),
     }
     match add_line(alloc, text, number, entry) {
         Ok(()) => Ok(()),
         Err(_) => Err(KeptSessionFault::OutOfMemory),
+    }
+}
+
+// What is told of the entry of this number, which a book refuses: want of memory is no cause of the session's.
+fn fault_of(cause: Refusal, number: u32) -> KeptSessionFault
+    ensures { (result ≡ OutOfMemory) ⊎ ((result ≡ NotAccepted number) × (is_out_of_memory cause ≡ false)) }
+{
+    if cause.is_out_of_memory() {
+        KeptSessionFault::OutOfMemory
+    } else {
+        KeptSessionFault::NotAccepted(number)
     }
 }
 

@@ -10,7 +10,7 @@ mod source_fault;
 mod source_texts;
 mod texts_session;
 
-pub use auditing::audit_of_journal;
+pub use auditing::{ToldJournal, audit_of_journal, audit_of_publications};
 pub use copying::copy_journal;
 pub use journal_session::{
     KeptSession, kept_session, kept_session_of_files, kept_session_of_texts,

@@ -22,7 +22,7 @@ pub enum DealsError {
     OutOfMemory,
 }
 
-/// As it is called here, with its number: `BadTag(12)`.
+/// The variant's name with its number: `BadTag(12)`.
 impl fmt::Display for DealsError {
     fn fmt<W: fmt::Write>(&self, f: &mut fmt::Formatter<W>) -> fmt::Result {
         write!(f, "{self:?}")

@@ -42,6 +42,7 @@ use Rattle.session_book.proofs.session_state_lemmas.ScheduleLemmas.{placed}
 use Rattle.query_filter.specs.declared.trick_table.TrickTable.{TrickTable}
 use Rattle.session_queries.specs.Facts.{has_table_on}
 use Rattle.session_queries.specs.Content.{Content, analysis_of, play_of, costs_of, reason_of}
+use Rattle.session_queries.specs.Par.{marked_par}
 use Rattle.session_queries.specs.Reading.{
   as_public,
   as_accounts,
@@ -67,6 +68,7 @@ use Rattle.published_view.specs.Answers.{
   board_by,
   traveller_by,
   analysis_by,
+  par_by,
   list_by,
   ranking_by,
   accounts_by,
@@ -138,13 +140,28 @@ module _ (state : SessionState) (viewer : Viewer) where
       sym (λ i. traveller_by (shown state viewer) board (public_shown (fact.Hands board) none i)
       (marks_shown (fact.Hands board) board none i))
 
+  analysis_shown : (board : ℕ) → has_board state.public.movement board ≡ true →
+      first_rule state.public viewer (fact.Analysis board) ≡ None →
+      shown_analysis (shown state viewer) board ≡ Some (analysis_of state board)
+  analysis_shown board there none =
+      ap (option_and_then as_analysis) (content_allowed state viewer (fact.Analysis board) there none)
+
   pub analysis_answered : (board : ℕ) → has_board state.public.movement board ≡ true →
       first_rule state.public viewer (fact.Analysis board) ≡ None →
       body.Analysis board (analysis_of state board) ≡ answer_from (query.Analysis board) (shown state viewer)
   unfolding answer_from
   analysis_answered board there none =
-      sym (ap (λ c. analysis_by board (option_and_then as_analysis c))
-      (content_allowed state viewer (fact.Analysis board) there none))
+      sym (ap (analysis_by board) (analysis_shown board there none))
+
+  pub par_answered : (board : ℕ) (marks : Marks) → has_board state.public.movement board ≡ true →
+      first_rule state.public viewer (fact.Analysis board) ≡ None →
+      slice_get state.public.marks (board - 1) ≡ Some marks →
+      body.Par board (option_map (marked_par marks) (analysis_of state board))
+      ≡ answer_from (query.Par board) (shown state viewer)
+  unfolding answer_from
+  par_answered board marks there none marked =
+      sym (λ i. par_by board (analysis_shown board there none i)
+      ((marks_shown (fact.Analysis board) board none ∙ marked) i))
 
   pub play_answered : (cell : Cell) → has_table_on state.public.movement cell ≡ true →
       first_rule state.public viewer (fact.Play cell) ≡ None →

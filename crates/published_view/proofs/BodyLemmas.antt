@@ -22,7 +22,7 @@ use Rattle.std.proofs.Common.{
   inr,
   arith,
 }
-use Rattle.std.specs.Prelude.{Option, Some, None, option_map, option_and_then}
+use Rattle.std.specs.Prelude.{◌-◌, Option, Some, None, option_map, option_and_then, slice_get}
 use Rattle.std.specs.Option.{unwrap_or}
 use Rattle.std.proofs.lemmas.Bool.{false≢true}
 use Rattle.cards.specs.Hands.{Hands}
@@ -42,6 +42,7 @@ use Rattle.denials.specs.declared.denial.Denial.{Denial}
 use Rattle.denials.specs.Evidence.{denial_by, denial_of}
 use Rattle.query_filter.specs.Formula.{Formula}
 use Rattle.query_filter.specs.declared.trick_table.TrickTable.{TrickTable}
+use Rattle.par.specs.declared.par.Par.{Par}
 use Rattle.session_state.specs.OwnNumbers.{KeepsOwn}
 use Rattle.session_state.specs.SessionState.{SessionState, cell_at, seat_of, viewer_of}
 use Rattle.session_queries.specs.Content.{
@@ -58,10 +59,12 @@ use Rattle.session_queries.specs.Content.{
   says_reason,
 }
 use Rattle.session_queries.specs.Facts.{has_place, has_table_on}
-use Rattle.session_queries.specs.Numbers.{IsAnalysisOf, IsCountOf}
+use Rattle.session_queries.specs.Numbers.{IsAnalysisOf, IsCountOf, IsParOf}
+use Rattle.session_queries.specs.Par.{marked_par}
 use Rattle.session_queries.specs.Reading.{
   as_analysis,
   as_costs,
+  as_public,
   shown_public,
   shown_accounts,
   shown_pairs,
@@ -74,6 +77,7 @@ use Rattle.session_queries.specs.Shown.{Shown, shown, content_shown}
 use Rattle.session_queries.specs.declared.card_costs.CardCosts.{CardCosts}
 use Rattle.session_queries.specs.declared.card_costs.CardCosts.TheVariants.{Pending, NoCards}
 use Rattle.session_queries.proofs.NumberLemmas.{analysis_own, costs_own}
+use Rattle.session_queries.proofs.ParLemmas.{par_own}
 use Rattle.session_queries.specs.Query.{fact_of, no_such_place}
 use Rattle.session_queries.specs.declared.body.Body.{Body}
 use Rattle.session_queries.specs.declared.body.Body.TheVariants as body
@@ -85,6 +89,7 @@ use Rattle.published_view.specs.Answers.{
   board_by,
   traveller_by,
   analysis_by,
+  par_by,
   list_by,
   ranking_by,
   accounts_by,
@@ -105,12 +110,13 @@ kind (body.Status public seats names notices) = 4
 kind (body.Board board hands marks) = 5
 kind (body.Traveller board rows) = 6
 kind (body.Analysis board tricks) = 7
-kind (body.Play cell cards) = 8
-kind (body.Costs cell costs) = 9
-kind (body.Reason cell code) = 10
-kind (body.List boards more) = 11
-kind (body.Ranking standings) = 12
-kind (body.Accounts users pairs) = 13
+kind (body.Par board par) = 8
+kind (body.Play cell cards) = 9
+kind (body.Costs cell costs) = 10
+kind (body.Reason cell code) = 11
+kind (body.List boards more) = 12
+kind (body.Ranking standings) = 13
+kind (body.Accounts users pairs) = 14
 
 -- the kind of the answers to a query
 abbrev kind_asked : Query → ℕ
@@ -118,18 +124,20 @@ kind_asked query.Status = 4
 kind_asked (query.Board board) = 5
 kind_asked (query.Traveller board) = 6
 kind_asked (query.Analysis board) = 7
-kind_asked (query.Play cell) = 8
-kind_asked (query.Costs cell) = 9
-kind_asked (query.Reason cell) = 10
-kind_asked (query.List formula from limit) = 11
-kind_asked query.Ranking = 12
-kind_asked query.Accounts = 13
+kind_asked (query.Par board) = 8
+kind_asked (query.Play cell) = 9
+kind_asked (query.Costs cell) = 10
+kind_asked (query.Reason cell) = 11
+kind_asked (query.List formula from limit) = 12
+kind_asked query.Ranking = 13
+kind_asked query.Accounts = 14
 
 kind_above : (asked : Query) → 3 < kind_asked asked
 kind_above query.Status = omega arith
 kind_above (query.Board board) = omega arith
 kind_above (query.Traveller board) = omega arith
 kind_above (query.Analysis board) = omega arith
+kind_above (query.Par board) = omega arith
 kind_above (query.Play cell) = omega arith
 kind_above (query.Costs cell) = omega arith
 kind_above (query.Reason cell) = omega arith
@@ -167,17 +175,23 @@ analysis_kind : (board : ℕ) (tricks : Option (Option TrickTable)) → IsOfKind
 analysis_kind board None = inr refl
 analysis_kind board (Some tricks) = inl refl
 
+par_kind : (board : ℕ) (tricks : Option (Option TrickTable)) (marks : Option Marks) →
+    IsOfKind 8 (par_by board tricks marks)
+par_kind board None marks = inr refl
+par_kind board (Some tricks) None = inr refl
+par_kind board (Some tricks) (Some marks) = inl refl
+
 list_kind : (items : List Shown) (formula : Option Formula) (from limit : ℕ) (public : Option Public) →
-    IsOfKind 11 (list_by items formula from limit public)
+    IsOfKind 12 (list_by items formula from limit public)
 list_kind items formula from limit None = inr refl
 list_kind items formula from limit (Some public) = inl refl
 
-ranking_kind : (items : List Shown) (public : Option Public) → IsOfKind 12 (ranking_by items public)
+ranking_kind : (items : List Shown) (public : Option Public) → IsOfKind 13 (ranking_by items public)
 ranking_kind items None = inr refl
 ranking_kind items (Some public) = inl refl
 
 accounts_kind : (users : Option (List Account)) (pairs : Option (List Inheritance)) →
-    IsOfKind 13 (accounts_by users pairs)
+    IsOfKind 14 (accounts_by users pairs)
 accounts_kind None pairs = inr refl
 accounts_kind (Some users) None = inr refl
 accounts_kind (Some users) (Some pairs) = inl refl
@@ -189,6 +203,7 @@ answer_kind query.Status items = status_kind (content_shown items fact.Public)
 answer_kind (query.Board board) items = board_kind board (shown_hands items board) (shown_marks items board)
 answer_kind (query.Traveller board) items = traveller_kind items board (shown_public items) (shown_marks items board)
 answer_kind (query.Analysis board) items = analysis_kind board (shown_analysis items board)
+answer_kind (query.Par board) items = par_kind board (shown_analysis items board) (shown_marks items board)
 answer_kind (query.Play cell) items = inl refl
 answer_kind (query.Costs cell) items = inl refl
 answer_kind (query.Reason cell) items = inl refl
@@ -233,6 +248,8 @@ analysis_answered (query.Analysis other) items board tricks is = by_shown (shown
         let here : other ≡ board = cc in
         let own : said ≡ Some tricks = cc in
         subst (λ b. shown_analysis items b ≡ Some (Some tricks)) here (at ∙ ap Some own)
+analysis_answered (query.Par other) items board tricks is =
+    absurd (omega (arith, kind_of_answer (query.Par other) items (body.Analysis board (Some tricks)) is (omega arith)))
 analysis_answered (query.Play cell) items board tricks is =
     absurd (omega (arith, kind_of_answer (query.Play cell) items (body.Analysis board (Some tricks)) is (omega arith)))
 analysis_answered (query.Costs cell) items board tricks is =
@@ -253,6 +270,65 @@ analysis_answered query.Ranking items board tricks is =
     absurd (omega (arith, kind_of_answer query.Ranking items (body.Analysis board (Some tricks)) is (omega arith)))
 analysis_answered query.Accounts items board tricks is =
     absurd (omega (arith, kind_of_answer query.Accounts items (body.Analysis board (Some tricks)) is (omega arith)))
+
+-- only a query for a par is answered by one, and it is that of the analysis and the marks that are shown
+record TellsPar (items : List Shown) (board : ℕ) (par : Par) : Type 0 where
+  tricks : TrickTable
+  marks : Marks
+  analysis : shown_analysis items board ≡ Some (Some tricks)
+  marked : shown_marks items board ≡ Some marks
+  is : par ≡ marked_par marks tricks
+
+par_answered : (asked : Query) (items : List Shown) (board : ℕ) (par : Par) → answer_from asked items ≡
+    body.Par board (Some par) → TellsPar items board par
+unfolding answer_from
+par_answered query.Status items board par is =
+    absurd (omega (arith, kind_of_answer query.Status items (body.Par board (Some par)) is (omega arith)))
+par_answered (query.Board other) items board par is =
+    absurd (omega (arith, kind_of_answer (query.Board other) items (body.Par board (Some par)) is (omega arith)))
+par_answered (query.Traveller other) items board par is =
+    absurd (omega (arith, kind_of_answer (query.Traveller other) items (body.Par board (Some par)) is (omega arith)))
+par_answered (query.Analysis other) items board par is =
+    absurd (omega (arith, kind_of_answer (query.Analysis other) items (body.Par board (Some par)) is (omega arith)))
+par_answered (query.Par other) items board par is =
+    by_shown (shown_analysis items other) (shown_marks items other) refl refl is
+  where
+    by_tricks : (tricks : Option TrickTable) (marks : Marks) → shown_analysis items other ≡ Some tricks →
+        shown_marks items other ≡ Some marks → par_by other (Some tricks) (Some marks) ≡ body.Par board (Some par) →
+        TellsPar items board par
+    by_tricks None marks at marked is = absurd cc
+    by_tricks (Some tricks) marks at marked is =
+        let here : other ≡ board = cc in
+        let same : marked_par marks tricks ≡ par = cc in
+        record {
+          tricks = tricks;
+          marks = marks;
+          analysis = subst (λ b. shown_analysis items b ≡ Some (Some tricks)) here at;
+          marked = subst (λ b. shown_marks items b ≡ Some marks) here marked;
+          is = sym same;
+        }
+
+    by_shown : (found : Option (Option TrickTable)) (marks : Option Marks) → shown_analysis items other ≡ found →
+        shown_marks items other ≡ marks → par_by other found marks ≡ body.Par board (Some par) → TellsPar items board par
+    by_shown None marks at marked is = absurd (omega (arith, ap kind is))
+    by_shown (Some tricks) None at marked is = absurd (omega (arith, ap kind is))
+    by_shown (Some tricks) (Some marks) at marked is = by_tricks tricks marks at marked is
+par_answered (query.Play cell) items board par is =
+    absurd (omega (arith, kind_of_answer (query.Play cell) items (body.Par board (Some par)) is (omega arith)))
+par_answered (query.Costs cell) items board par is =
+    absurd (omega (arith, kind_of_answer (query.Costs cell) items (body.Par board (Some par)) is (omega arith)))
+par_answered (query.Reason cell) items board par is =
+    absurd (omega (arith, kind_of_answer (query.Reason cell) items (body.Par board (Some par)) is (omega arith)))
+par_answered (query.List formula from limit) items board par is =
+    absurd (omega (
+      arith,
+      kind_of_answer (query.List formula from limit) items (body.Par board (Some par)) is
+          (omega arith),
+    ))
+par_answered query.Ranking items board par is =
+    absurd (omega (arith, kind_of_answer query.Ranking items (body.Par board (Some par)) is (omega arith)))
+par_answered query.Accounts items board par is =
+    absurd (omega (arith, kind_of_answer query.Accounts items (body.Par board (Some par)) is (omega arith)))
 
 -- only a query for costs is answered by them, and they are those that are shown
 record AsksCosts (asked : Query) (items : List Shown) (cell : Cell) (counted : CardCosts) : Type 0 where
@@ -278,6 +354,8 @@ costs_answered (query.Analysis other) items cell counted is =
       kind_of_answer (query.Analysis other) items (body.Costs cell (Some counted)) is
           (omega arith),
     ))
+costs_answered (query.Par other) items cell counted is =
+    absurd (omega (arith, kind_of_answer (query.Par other) items (body.Costs cell (Some counted)) is (omega arith)))
 costs_answered (query.Play other) items cell counted is =
     absurd (omega (arith, kind_of_answer (query.Play other) items (body.Costs cell (Some counted)) is (omega arith)))
 costs_answered (query.Costs other) items cell counted is =
@@ -321,6 +399,18 @@ module _ (state : SessionState) (viewer : Viewer) where
           let own : Some (analysis_of state board) ≡ Some (Some tricks) =
           sym (ap as_analysis (shown_says state viewer (fact.Analysis board) said at)) ∙ is in
           cc
+
+  marks_shown_own : (board : ℕ) (marks : Marks) → shown_marks (shown state viewer) board ≡ Some marks →
+      slice_get state.public.marks (board - 1) ≡ Some marks
+  marks_shown_own board marks is = by_said (content_shown (shown state viewer) fact.Public) refl is
+    where
+      by_said : (told : Option Content) → content_shown (shown state viewer) fact.Public ≡ told →
+          option_and_then (λ (public : Public). slice_get public.marks (board - 1)) (option_and_then as_public told)
+          ≡ Some marks → slice_get state.public.marks (board - 1) ≡ Some marks
+      by_said None at is = absurd cc
+      by_said (Some said) at is =
+          sym (ap (λ c. option_and_then (λ (public : Public). slice_get public.marks (board - 1)) (as_public c))
+          (shown_says state viewer fact.Public said at)) ∙ is
 
   costs_shown_own : (cell : Cell) (counted : CardCosts) → shown_costs (shown state viewer) cell ≡ Some counted →
       costs_of (cell_at state cell) ≡ Some counted
@@ -442,6 +532,17 @@ module _ (state : SessionState) (version : ℕ) (user : List ℕ) (asked : Query
       analysis_own state board tricks keeps
       (analysis_shown_own state (viewer_of state user) board tricks
       (analysis_answered asked (shown state (viewer_of state user)) board tricks answer.1))
+
+  pub par_is : (board : ℕ) (par : Par) → KeepsOwn state → body_of state version user asked since ≡
+      body.Par board (Some par) → IsParOf state board par
+  par_is board par keeps is =
+      let answer = by_answer place (nat_lt version since) first (body.Par board (Some par)) (sym body_is ∙ is)
+      (omega arith) in
+      let tells = par_answered asked (shown state (viewer_of state user)) board par answer.1 in
+      par_own state board tells.marks par keeps (marks_shown_own state (viewer_of state user) board tells.marks tells.marked)
+      (ap (option_map (marked_par tells.marks))
+      (analysis_shown_own state (viewer_of state user) board tells.tricks tells.analysis)
+      ∙ ap Some (sym tells.is))
 
   pub costs_are : (cell : Cell) (counted : CardCosts) → KeepsOwn state → IsSection state.public.movement →
       body_of state version user asked since ≡ body.Costs cell (Some counted) → counted ≢ Pending → counted ≢ NoCards →

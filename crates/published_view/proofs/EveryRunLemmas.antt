@@ -56,6 +56,7 @@ use Rattle.published_view.proofs.BodyLemmas.{
   answered,
   names_first,
   analysis_is,
+  par_is,
   costs_are,
   filter_is,
 }
@@ -128,6 +129,8 @@ are_exhaustive config history reading reply section is told = record {
   deals = deals_kept opening entries;
   analysis = λ board tricks answer.
       analysis_is state reply.version reading.user reading.query reading.since board tricks keeps (sym body ∙ answer);
+  par = λ board par answer.
+      par_is state reply.version reading.user reading.query reading.since board par keeps (sym body ∙ answer);
   costs = λ cell counted answer not_pending some_cards.
       costs_are state reply.version reading.user reading.query reading.since cell counted keeps same_section
       (sym body ∙ answer) not_pending some_cards;

@@ -61,6 +61,7 @@ use Rattle.published_view.specs.Answers.{
   board_by,
   traveller_by,
   analysis_by,
+  par_by,
   list_by,
   earnings_by,
   board_earnings,
@@ -208,6 +209,8 @@ module _ (state : SessionState) (names : List (List ℕ)) (notices : Notices) (v
       ∙ (λ i. traveller_by (shown state viewer) board (same_public i) (same_marks board i))
   same_answer (query.Analysis board) other =
       ap (analysis_by board) (same as_analysis refl (fact.Analysis board))
+  same_answer (query.Par board) other =
+      λ i. par_by board (same as_analysis refl (fact.Analysis board) i) (same_marks board i)
   same_answer (query.Play cell) other = ap (body.Play cell) (same as_play refl (fact.Play cell))
   same_answer (query.Costs cell) other = ap (body.Costs cell) (same as_costs refl (fact.Cost cell))
   same_answer (query.Reason cell) other = ap (body.Reason cell) (same as_reason refl (fact.Reason cell))

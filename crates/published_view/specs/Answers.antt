@@ -1,5 +1,5 @@
 -- The answers to queries. Each is read from what the user is shown of a state, and from nothing else.
-use Rattle.std.specs.Prelude.{ℕ, nat_lt, Option, Some, None, List, [], length, take}
+use Rattle.std.specs.Prelude.{ℕ, nat_lt, Option, Some, None, option_map, List, [], length, take}
 use Rattle.std.specs.List.{flat_map}
 use Rattle.cards.specs.Hands.{Hands}
 use Rattle.movement.specs.Movement.{Section}
@@ -12,6 +12,7 @@ use Rattle.rbac.specs.declared.inheritance.Inheritance.{Inheritance}
 use Rattle.disclosure_rules.specs.declared.fact.Fact.TheVariants as fact
 use Rattle.session_queries.specs.Content.{Content, says_public}
 use Rattle.session_queries.specs.Facts.{boards}
+use Rattle.session_queries.specs.Par.{marked_par}
 use Rattle.session_queries.specs.Reading.{
   shown_public,
   shown_accounts,
@@ -54,6 +55,13 @@ abbrev pub analysis_by : ℕ → Option (Option TrickTable) → Body
 analysis_by board None = body.NoSuchBoard
 analysis_by board (Some tricks) = body.Analysis board tricks
 
+-- a par, where the analysis is shown, and with what every member may see the board's marks: still to come as long as the
+-- analysis is
+abbrev pub par_by : ℕ → Option (Option TrickTable) → Option Marks → Body
+par_by board None marks = body.NoSuchBoard
+par_by board (Some tricks) None = body.NoSuchBoard
+par_by board (Some tricks) (Some marks) = body.Par board (option_map (marked_par marks) tricks)
+
 -- the boards from one on that are listed, at most so many, and whether more follow
 abbrev pub list_by : List Shown → Option Formula → ℕ → ℕ → Option Public → Body
 list_by items formula from limit None = body.NoSuchBoard
@@ -94,6 +102,7 @@ answer_from query.Status items = status_by (content_shown items fact.Public)
 answer_from (query.Board board) items = board_by board (shown_hands items board) (shown_marks items board)
 answer_from (query.Traveller board) items = traveller_by items board (shown_public items) (shown_marks items board)
 answer_from (query.Analysis board) items = analysis_by board (shown_analysis items board)
+answer_from (query.Par board) items = par_by board (shown_analysis items board) (shown_marks items board)
 answer_from (query.Play cell) items = body.Play cell (shown_play items cell)
 answer_from (query.Costs cell) items = body.Costs cell (shown_costs items cell)
 answer_from (query.Reason cell) items = body.Reason cell (shown_reason items cell)

@@ -10,11 +10,12 @@ use Rattle.denials.specs.declared.denial.Denial.{Denial}
 use Rattle.denials.specs.Evidence.{board_named, table_named}
 use Rattle.query_filter.specs.Formula.{Formula}
 use Rattle.query_filter.specs.declared.trick_table.TrickTable.{TrickTable}
+use Rattle.par.specs.declared.par.Par.{Par}
 use Rattle.session_commands.specs.declared.entry.Entry.{Entry}
 use Rattle.session_state.specs.SessionState.{SessionState, seat_of, viewer_of}
 use Rattle.session_queries.specs.Content.{content}
 use Rattle.session_queries.specs.Facts.{has_place}
-use Rattle.session_queries.specs.Numbers.{IsAnalysisOf, IsCountOf}
+use Rattle.session_queries.specs.Numbers.{IsAnalysisOf, IsCountOf, IsParOf}
 use Rattle.session_queries.specs.Shown.{Shown, shown}
 use Rattle.session_queries.specs.declared.card_costs.CardCosts.{CardCosts}
 use Rattle.session_queries.specs.declared.card_costs.CardCosts.TheVariants.{Pending, NoCards}
@@ -100,12 +101,13 @@ pub record NamesFirst (state : SessionState) (user : List ℕ) (asked : Fact) (d
   pub edition : denial.edition ≡ state.public.edition
 
 -- each double-dummy number in a reply is the exhaustive one. Those of an analysis, and those by which a filter is
--- read, are of their board's hands; those of costs are of their board's hands, the contract and the cards as they were
--- played. The hands are those with which the session opened
+-- read, are of their board's hands; a par is that of such numbers, by what is marked on the board; those of costs are of
+-- their board's hands, the contract and the cards as they were played. The hands are those with which the session opened
 pub record IsExhaustive (opening state : SessionState) (reading : Reading) (reply : Reply) : Type 0 where
   pub deals : state.deals ≡ opening.deals
   pub analysis : (board : ℕ) (tricks : TrickTable) → reply.body ≡ body.Analysis board (Some tricks) →
       IsAnalysisOf state board tricks
+  pub par : (board : ℕ) (par : Par) → reply.body ≡ body.Par board (Some par) → IsParOf state board par
   pub costs : (cell : Cell) (counted : CardCosts) → reply.body ≡ body.Costs cell (Some counted) →
       counted ≢ Pending → counted ≢ NoCards → IsCountOf state cell counted
   pub filter : (formula : Option Formula) (from limit board : ℕ) (marks : Marks) (tricks : TrickTable) →

@@ -23,8 +23,8 @@ use rbac::{Account, Inheritance};
 use session_commands::CellState;
 use session_commands::room::with_room;
 use session_queries::{
-    Body, PublicFacts, Query, ToldNotices, analysis_of, costs_of, play_of, push_found, reason_of,
-    shown_results,
+    Body, PublicFacts, Query, ToldNotices, analysis_of, board_par, costs_of, play_of, push_found,
+    reason_of, shown_results,
 };
 use session_state::{Seated, State};
 use standings::{Earning, add_earnings, ranking_of, traveller_rows};
@@ -49,6 +49,7 @@ pub(crate) fn answer_of(
         Query::Board(number) => Ok(board(state, viewer, *number)),
         Query::Traveller(number) => traveller(alloc, state, viewer, *number),
         Query::Analysis(number) => Ok(analysis(state, *number)),
+        Query::Par(number) => Ok(par(state, viewer, *number)),
         Query::Play(cell) => Ok(Body::Play {
             cell: *cell,
             cards: play_of(&known(state, *cell)),
@@ -133,6 +134,21 @@ fn analysis(state: &State, number: u8) -> Body
     Body::Analysis {
         number,
         tricks: analysis_of(state, number),
+    }
+}
+
+/// The par of a board, once it is solved, for a user who may see its analysis.
+#[tactic(auto, using(crate::proofs::AnswerLemmas::par_answered))]
+fn par(state: &State, viewer: &Viewer, number: u8) -> Body
+    requires section { IsSection state.now.public.movement }
+    requires there { has_board state.now.public.movement number ≡ true }
+    requires allowed { first_rule state.now.public viewer.now (fact.Analysis number) ≡ None }
+    ensures { result ≡ answer_from (query.Par number) (shown state.now viewer.now) }
+{
+    let marks = state.marks(number);
+    Body::Par {
+        number,
+        par: board_par(state, number, marks),
     }
 }
 

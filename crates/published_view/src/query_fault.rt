@@ -10,7 +10,7 @@ pub enum QueryFault {
     OutOfMemory,
 }
 
-/// As it is called here.
+/// The variant's name.
 impl fmt::Display for QueryFault {
     fn fmt<W: fmt::Write>(&self, f: &mut fmt::Formatter<W>) -> fmt::Result {
         fmt::Debug::fmt(self, f)

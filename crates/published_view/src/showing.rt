@@ -21,7 +21,7 @@ pub(crate) trait Showing {
 
     ghost seen: { Self → SessionState };
 
-    /// The state.
+    /// The whole state, hidden facts among it.
     fn whole(&self) -> &State
         ensures { result.now ≡ seen self.now };
 

@@ -15,7 +15,7 @@ pub enum AddInheritanceError {
     Separation(SeparationSet),
 }
 
-/// As it is called here.
+/// The variant's name.
 impl fmt::Display for AddInheritanceError {
     fn fmt<W: fmt::Write>(&self, f: &mut fmt::Formatter<W>) -> fmt::Result {
         fmt::Debug::fmt(self, f)

@@ -12,7 +12,7 @@ pub enum DeassignError {
     NotAssigned,
 }
 
-/// As it is called here.
+/// The variant's name.
 impl fmt::Display for DeassignError {
     fn fmt<W: fmt::Write>(&self, f: &mut fmt::Formatter<W>) -> fmt::Result {
         fmt::Debug::fmt(self, f)

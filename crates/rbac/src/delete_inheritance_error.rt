@@ -10,7 +10,7 @@ pub enum DeleteInheritanceError {
     NotThere,
 }
 
-/// As it is called here.
+/// The variant's name.
 impl fmt::Display for DeleteInheritanceError {
     fn fmt<W: fmt::Write>(&self, f: &mut fmt::Formatter<W>) -> fmt::Result {
         fmt::Debug::fmt(self, f)

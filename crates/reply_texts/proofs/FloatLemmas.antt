@@ -30,6 +30,7 @@ use Rattle.reply_texts.specs.DataOf.{number_data, list_data, option_data}
 use Rattle.reply_texts.specs.StatusText.{held_boards, live_tables, tables_data, live_data, mark_data, marks_data, movement_row_data, seat_data, shown_data, some_list, edition_data, embargo_data, movement_data, status_slots, status_data}
 use Rattle.reply_texts.specs.Slots.{Slot, with_slot, members_of}
 use Rattle.reply_texts.specs.BoardText.{tricks_data}
+use Rattle.reply_texts.specs.ParText.{end_data, score_data}
 use Rattle.reply_texts.specs.TravellerText.{outcome_data, result_data, traveller_row_data}
 use Rattle.reply_texts.specs.CostsText.{card_costs_data}
 use Rattle.reply_texts.specs.TableText.{card_data}
@@ -198,6 +199,9 @@ none_in_a_body (body.Traveller number rows) = ap (λ b. b || false) (none_in_a_l
     rows)
 none_in_a_body (body.Analysis number tricks) =
     ap (λ b. b || false) (none_in_an_option tricks_data (λ table. refl) tricks)
+none_in_a_body (body.Par number par) =
+    λ i. none_in_an_option end_data (λ end. none_in_an_outcome end.outcome) par i
+    || (none_in_an_option score_data (λ end. none_in_an_integer end.score) par i || false)
 none_in_a_body (body.Play cell cards) =
     ap (λ b. b || (false || false))
     (none_in_an_option (list_data card_data) (none_in_a_list card_data (λ card. refl)) cards)

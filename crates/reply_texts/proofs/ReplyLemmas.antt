@@ -17,6 +17,7 @@ version_comes_last (body.Status public seats names notices) d version = refl
 version_comes_last (body.Board number hands marks) d version = refl
 version_comes_last (body.Traveller number rows) d version = refl
 version_comes_last (body.Analysis number tricks) d version = refl
+version_comes_last (body.Par number par) d version = refl
 version_comes_last (body.Play cell cards) d version = refl
 version_comes_last (body.Costs cell costs) d version = refl
 version_comes_last (body.Reason cell code) d version = refl

@@ -2,6 +2,7 @@ pub mod BoardText
 pub mod CostsText
 pub mod DataOf
 pub mod ListText
+pub mod ParText
 pub mod ReplyText
 pub mod Slots
 pub mod StatusText

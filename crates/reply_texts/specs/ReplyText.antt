@@ -13,6 +13,7 @@ use Rattle.session_queries.specs.declared.reply.Reply.{Reply}
 use Rattle.reply_texts.specs.DataOf.{number_data}
 use Rattle.reply_texts.specs.StatusText.{status_data}
 use Rattle.reply_texts.specs.BoardText.{board_data, analysis_data}
+use Rattle.reply_texts.specs.ParText.{par_data}
 use Rattle.reply_texts.specs.TravellerText.{traveller_data}
 use Rattle.reply_texts.specs.CostsText.{costs_data}
 use Rattle.reply_texts.specs.TableText.{play_data, reason_data}
@@ -36,6 +37,7 @@ body_word (body.Status public seats names notices) = codes "status"
 body_word (body.Board number hands marks) = codes "board"
 body_word (body.Traveller number rows) = codes "traveller"
 body_word (body.Analysis number tricks) = codes "analysis"
+body_word (body.Par number par) = codes "par"
 body_word (body.Play cell cards) = codes "play"
 body_word (body.Costs cell costs) = codes "costs"
 body_word (body.Reason cell code) = codes "reason"
@@ -53,6 +55,7 @@ body_data (body.Status public seats names notices) = status_data public seats na
 body_data (body.Board number hands marks) = board_data number hands marks
 body_data (body.Traveller number rows) = traveller_data number rows
 body_data (body.Analysis number tricks) = analysis_data number tricks
+body_data (body.Par number par) = par_data number par
 body_data (body.Play cell cards) = play_data cell cards
 body_data (body.Costs cell costs) = costs_data cell costs
 body_data (body.Reason cell code) = reason_data cell code

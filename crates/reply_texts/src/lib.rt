@@ -6,6 +6,7 @@ mod accounts_writing;
 mod board_writing;
 mod costs_writing;
 mod list_writing;
+mod par_writing;
 mod reply_writing;
 mod status_writing;
 mod table_writing;

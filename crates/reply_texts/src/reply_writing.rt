@@ -10,6 +10,7 @@ use crate::accounts_writing::accounts_value;
 use crate::board_writing::{analysis_value, board_value};
 use crate::costs_writing::costs_value;
 use crate::list_writing::boards_value;
+use crate::par_writing::par_value;
 use crate::status_writing::status_value;
 use crate::table_writing::{play_value, reason_value};
 use crate::to_json::list_value;
@@ -57,6 +58,7 @@ fn body_word(body: &Body) -> &'static str
         Body::Board { .. } => "board",
         Body::Traveller { .. } => "traveller",
         Body::Analysis { .. } => "analysis",
+        Body::Par { .. } => "par",
         Body::Play { .. } => "play",
         Body::Costs { .. } => "costs",
         Body::Reason { .. } => "reason",
@@ -93,6 +95,7 @@ fn body_value(alloc: Global, body: &Body) -> Result<Value, AllocError>
         } => board_value(alloc, *number, deal, *marks),
         Body::Traveller { number, rows } => traveller_value(alloc, *number, rows.as_slice()),
         Body::Analysis { number, tricks } => analysis_value(alloc, *number, tricks),
+        Body::Par { number, par } => par_value(alloc, *number, par),
         Body::Play { cell, cards } => play_value(alloc, *cell, cards),
         Body::Costs { cell, costs } => costs_value(alloc, *cell, costs),
         Body::Reason { cell, code } => reason_value(alloc, *cell, *code),

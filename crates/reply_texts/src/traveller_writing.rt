@@ -83,7 +83,7 @@ fn ruled_value(
         .object()
 }
 
-fn outcome_value(alloc: Global, outcome: Outcome) -> Result<Value, AllocError>
+pub(crate) fn outcome_value(alloc: Global, outcome: Outcome) -> Result<Value, AllocError>
     ensures { IfOk result (λ value. view value ≡ outcome_data outcome) }
 {
     match outcome {

@@ -14,7 +14,7 @@ pub enum AnswerFault {
     OutOfMemory,
 }
 
-/// As it is called here.
+/// The variant's name.
 impl fmt::Display for AnswerFault {
     fn fmt<W: fmt::Write>(&self, f: &mut fmt::Formatter<W>) -> fmt::Result {
         fmt::Debug::fmt(self, f)

@@ -1,2 +1,2 @@
 /// The program's version, named in this place alone.
-pub const VERSION: &str = "0.9.0";
+pub const VERSION: &str = "0.7.0";

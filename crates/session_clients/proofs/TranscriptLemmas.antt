@@ -7,17 +7,19 @@ use Rattle.session_commands.specs.declared.entry.Entry.{Entry}
 use Rattle.wire.specs.ReceiptText.{fault_text}
 use Rattle.wire.specs.Request.{is_message_text}
 use Rattle.connections.specs.Conversation.{AreExchanged, IsExchanged, journal_then, own_entries_then}
-use Rattle.connections.specs.Linked.{Linked}
+use Rattle.connections.specs.Linked.{Linked, signed_in}
 use Rattle.connections.proofs.ConversationLemmas.{opening_stays}
+use Rattle.many_clients.specs.Hall.{HasTaken, IsHallStep}
+use Rattle.many_clients.specs.Talker.{Talker}
+use Rattle.many_clients.proofs.FollowingLemmas.{taken_too}
 use Rattle.websocket_server.specs.Clients.{ServesMany}
 use Rattle.websocket_server.proofs.ClientsLemmas.{many_too}
 use Rattle.session_clients.specs.Transcript.{
   AreServed,
-  ComesNext,
+  AreServedInTurns,
   Transcribes,
   Transcript,
   opening_transcript,
-  signed_out,
 }
 
 -- a connection is what its parts are
@@ -42,47 +44,33 @@ record IsOf (Others : List Entry → List Entry → Type 0) (no_entry not_kept :
 
 module _ (Others : List Entry → List Entry → Type 0) (no_entry not_kept : Type 0) (opening : SessionState) (own : ℕ)
   where
-    note : (before after : Linked) (message : List ℕ) (answer : Option (List ℕ)) (at : Transcript) →
-        IsExchanged Others no_entry not_kept before message answer after × (answer ≡ None → is_message_text message ≡ true) →
+    note : (before : Linked) (user : Option (List ℕ)) (after : Linked) (user_after : Option (List ℕ)) (message : List ℕ)
+        (answer : Option (List ℕ)) (at : Transcript) →
+        IsExchanged Others no_entry not_kept (signed_in user before) message answer after × (user_after ≡ after.user)
+        × (answer ≡ None → is_message_text message ≡ true) →
         IsOf Others no_entry not_kept opening own before at →
-        (later : Transcript) × Transcribes at message answer later × IsOf Others no_entry not_kept opening own after later
-    note before after message answer at (exchanged, short) is =
-        let one = subst (λ b. IsExchanged Others no_entry not_kept b message answer after) (sym is.now) exchanged in
+        (later : Transcript) × Transcribes at user message answer later user_after
+        × IsOf Others no_entry not_kept opening own after later
+    note before user after user_after message answer at (exchanged, who, short) is =
+        let one =
+        subst (λ b. IsExchanged Others no_entry not_kept (signed_in user b) message answer after) (sym is.now) exchanged
+        in
         let same = ap (λ (l : Linked). l.opening) is.now in
         let journal = ap (λ (l : Linked). l.journal) is.now in
         let entered = ap (λ (l : Linked). l.own_entries) is.now in (
           record {
             exchanges =
-                record { before = at.now; message = message; answer = answer; after = after } ∷ at.exchanges;
+                record { before = signed_in user at.now; message = message; answer = answer; after = after }
+                ∷ at.exchanges;
             now = after;
           },
-          (refl, short),
+          (refl, who, short),
           record {
             now = refl;
-            same = opening_stays Others no_entry not_kept before after message answer exchanged ∙ is.same;
+            same = opening_stays Others no_entry not_kept (signed_in user before) after message answer exchanged ∙ is.same;
             journal = refl;
             entered = refl;
             exchanged = (same ∙ is.same, journal ∙ is.journal, entered ∙ is.entered, one, is.exchanged);
-          },
-        )
-
-    turn_over : (before after : Linked) (at : Transcript) →
-        (after.opening ≡ before.opening) × (after.journal ≡ before.journal)
-        × (after.own_entries ≡ before.own_entries) × (after.user ≡ None) →
-        IsOf Others no_entry not_kept opening own before at →
-        (later : Transcript) × ComesNext at later × IsOf Others no_entry not_kept opening own after later
-    turn_over before after at (same_opening, same_journal, same_own, nobody) is =
-        let out : after ≡ signed_out before =
-        linked_is after before.opening before.journal before.own_entries None same_opening same_journal same_own nobody
-        in (
-          record { exchanges = at.exchanges; now = signed_out at.now },
-          refl,
-          record {
-            now = ap signed_out is.now ∙ sym out;
-            same = same_opening ∙ is.same;
-            journal = same_journal ∙ is.journal;
-            entered = same_own ∙ is.entered;
-            exchanged = is.exchanged;
           },
         )
 
@@ -92,11 +80,10 @@ module _ (Others : List Entry → List Entry → Type 0) (no_entry not_kept : Ty
         (linked server).opening ≡ opening → (linked server).journal ≡ [] → (linked server).own_entries ≡ own →
         (linked server).user ≡ None →
         ServesMany remaining contents
-        (λ old message answer new. IsExchanged Others no_entry not_kept (linked old) message answer (linked new)
-        × (answer ≡ None → is_message_text message ≡ true))
-        (fault_text Malformed) (fault_text OutOfMemory)
-        (λ old new. ((linked new).opening ≡ (linked old).opening) × ((linked new).journal ≡ (linked old).journal)
-        × ((linked new).own_entries ≡ (linked old).own_entries) × ((linked new).user ≡ None)) clients server after →
+        (λ old user message answer new user_after.
+        IsExchanged Others no_entry not_kept (signed_in user (linked old)) message answer (linked new)
+        × (user_after ≡ (linked new).user) × (answer ≡ None → is_message_text message ≡ true))
+        (fault_text Malformed) (fault_text OutOfMemory) None clients server after →
         AreServed remaining contents Others no_entry not_kept opening own clients (linked after).journal
         (linked after).own_entries
         × ((linked after).opening ≡ opening)
@@ -106,11 +93,47 @@ module _ (Others : List Entry → List Entry → Type 0) (no_entry not_kept : Ty
         let first : IsOf Others no_entry not_kept opening own (linked server) (opening_transcript opening own) =
         record { now = sym begins; same = same_opening; journal = nothing; entered = same_own; exchanged = tt } in
         let (transcript, served, is) =
-        many_too remaining contents (fault_text Malformed) (fault_text OutOfMemory) _ _ Transcribes ComesNext
+        many_too remaining contents (fault_text Malformed) (fault_text OutOfMemory) None _ Transcribes
         (λ a transcript. IsOf Others no_entry not_kept opening own (linked a) transcript)
-        (λ one other message answer at answered is. note (linked one) (linked other) message answer at answered is)
-        (λ one other at left is. turn_over (linked one) (linked other) at left is)
+        (λ one user other user_after message answer at answered is. note (linked one) user (linked other) user_after message
+        answer at answered is)
         clients server after (opening_transcript opening own) serves first in (
+          record {
+            transcript = transcript;
+            exchanged = is.exchanged;
+            reached = sym is.journal;
+            entered = sym is.entered;
+            served = served;
+          },
+          is.same,
+        )
+
+    -- the same of clients who are served beside one another
+    pub transcribed_in_turns : {S A : Type 0} (remaining contents : S → Option (List ℕ)) (linked : A → Linked)
+        (places : ℕ → Option (Talker S (Option (List ℕ)))) (server after : A) →
+        (linked server).opening ≡ opening → (linked server).journal ≡ [] → (linked server).own_entries ≡ own →
+        (linked server).user ≡ None →
+        HasTaken
+        (IsHallStep remaining contents
+        (λ old user message answer new user_after.
+        IsExchanged Others no_entry not_kept (signed_in user (linked old)) message answer (linked new)
+        × (user_after ≡ (linked new).user) × (answer ≡ None → is_message_text message ≡ true))
+        (fault_text Malformed) (fault_text OutOfMemory) None)
+        (λ _. None) server places after →
+        AreServedInTurns remaining contents Others no_entry not_kept opening own places (linked after).journal
+        (linked after).own_entries
+        × ((linked after).opening ≡ opening)
+    transcribed_in_turns remaining contents linked places server after same_opening nothing same_own nobody (steps, taken) =
+        let begins : linked server ≡ record { opening = opening; journal = []; own_entries = own; user = None } =
+        linked_is (linked server) opening [] own None same_opening nothing same_own nobody in
+        let first : IsOf Others no_entry not_kept opening own (linked server) (opening_transcript opening own) =
+        record { now = sym begins; same = same_opening; journal = nothing; entered = same_own; exchanged = tt } in
+        let (transcript, served, is) =
+        taken_too remaining contents (fault_text Malformed) (fault_text OutOfMemory) None _ Transcribes
+        (λ a transcript. IsOf Others no_entry not_kept opening own (linked a) transcript)
+        (λ one user other user_after message answer at answered is. note (linked one) user (linked other) user_after message
+        answer at answered is)
+        steps (λ _. None) places server after (opening_transcript opening own) taken first in (
           record {
             transcript = transcript;
             exchanged = is.exchanged;

@@ -6,10 +6,12 @@ use Rattle.session_commands.specs.declared.entry.Entry.{Entry}
 use Rattle.wire.specs.ReceiptText.{fault_text}
 use Rattle.wire.specs.Request.{is_message_text}
 use Rattle.connections.specs.Conversation.{Exchange, AreExchanged, journal_then, own_entries_then}
-use Rattle.connections.specs.Linked.{Linked}
+use Rattle.connections.specs.Linked.{Linked, signed_in}
+use Rattle.many_clients.specs.Hall.{HasTaken, IsHallStep}
+use Rattle.many_clients.specs.Talker.{Talker}
 use Rattle.websocket_server.specs.Clients.{ServesMany}
 
--- what was exchanged so far, of which the newest comes first, and the connection as it stands now
+-- what was exchanged so far, of which the newest comes first, and the connection of the newest as it stands then
 pub record Transcript : Type 0 where
   pub exchanges : List Exchange
   pub now : Linked
@@ -22,30 +24,20 @@ opening_transcript opening own = record {
   now = record { opening = opening; journal = []; own_entries = own; user = None };
 }
 
--- the same connection, on which nobody is signed in
-abbrev pub signed_out : Linked → Linked
-signed_out at = record {
-  opening = at.opening;
-  journal = at.journal;
-  own_entries = at.own_entries;
-  user = None;
-}
-
--- one exchange more: of a message, with the text that answers it, or none where memory was refused for one
-abbrev pub Transcribes : Transcript → List ℕ → Option (List ℕ) → Transcript → Type 0
-Transcribes before message answer after =
+-- one exchange more, on the connection of this user, or of nobody who is signed in: of a message, with the text that
+-- answers it, or none where memory was refused for one; it leaves the connection to who is signed in then
+abbrev pub Transcribes : Transcript → Option (List ℕ) → List ℕ → Option (List ℕ) → Transcript → Option (List ℕ) → Type 0
+Transcribes before user message answer after user_after =
     (after.exchanges
-    ≡ record { before = before.now; message = message; answer = answer; after = after.now } ∷ before.exchanges)
-    × (answer ≡ None → is_message_text message ≡ true)
-
--- the next client comes, and nobody is signed in
-abbrev pub ComesNext : Transcript → Transcript → Type 0
-ComesNext before after = after ≡ record { exchanges = before.exchanges; now = signed_out before.now }
+    ≡ record { before = signed_in user before.now; message = message; answer = answer; after = after.now }
+    ∷ before.exchanges)
+    × (user_after ≡ after.now.user) × (answer ≡ None → is_message_text message ≡ true)
 
 -- so many clients were served from the opening on, over streams whose bytes are known so, by a keeper that had entered so
 -- many entries, and then it stands for a journal, and has entered so many: what was exchanged are exchanges on
 -- connections over the keeper, one after another, and beside them it has entered nothing; each text that was read of a
--- client is the message of the next of them, and its answer, or that memory is wanting, was the text sent for it
+-- client is the message of the next of them, of who is signed in on its connection, where nobody is at first; and its
+-- answer, or that memory is wanting, was the text sent for it
 pub record AreServed {S : Type 0} (remaining contents : S → Option (List ℕ))
     (Others : List Entry → List Entry → Type 0) (no_entry not_kept : Type 0) (opening : SessionState) (own : ℕ)
     (clients : ℕ) (journal : List Entry) (own_now : ℕ) : Type 0 where
@@ -54,5 +46,18 @@ pub record AreServed {S : Type 0} (remaining contents : S → Option (List ℕ))
   pub reached : journal_then transcript.exchanges ≡ journal
   pub entered : own_entries_then own transcript.exchanges ≡ own_now
   pub served :
-      ServesMany remaining contents Transcribes (fault_text Malformed) (fault_text OutOfMemory) ComesNext clients
+      ServesMany remaining contents Transcribes (fault_text Malformed) (fault_text OutOfMemory) None clients
       (opening_transcript opening own) transcript
+
+-- the same of clients who are served beside one another, in turns, from an empty hall on, and who are at these places then:
+-- each text that was read of one of them is the message of the next exchange, of who is signed in on its own connection
+pub record AreServedInTurns {S : Type 0} (remaining contents : S → Option (List ℕ))
+    (Others : List Entry → List Entry → Type 0) (no_entry not_kept : Type 0) (opening : SessionState) (own : ℕ)
+    (places : ℕ → Option (Talker S (Option (List ℕ)))) (journal : List Entry) (own_now : ℕ) : Type 0 where
+  pub transcript : Transcript
+  pub exchanged : AreExchanged Others no_entry not_kept opening own transcript.exchanges
+  pub reached : journal_then transcript.exchanges ≡ journal
+  pub entered : own_entries_then own transcript.exchanges ≡ own_now
+  pub served :
+      HasTaken (IsHallStep remaining contents Transcribes (fault_text Malformed) (fault_text OutOfMemory) None)
+      (λ _. None) (opening_transcript opening own) places transcript

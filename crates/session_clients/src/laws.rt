@@ -1,12 +1,13 @@
 //! What holds of a session's clients: the function here has nothing to do, and its clauses are the theorem.
 
-ghost use Rattle.std.specs.Prelude.{◌≡◌, ◌+◌, ℕ, List};
+ghost use Rattle.std.specs.Prelude.{◌≡◌, ◌+◌, ℕ, List, Option};
+ghost use Rattle.many_clients.specs.Talker.{Talker};
 ghost use Rattle.session_state.specs.SessionState.{SessionState};
 ghost use Rattle.session_commands.specs.declared.entry.Entry.{Entry};
 ghost use Rattle.published_view.specs.World.{Moment, IsHistory};
 ghost use Rattle.request_answers.specs.Conversing.{Stop, IsConversation, IsToldBy, OnlyAdd, added_by_all};
 ghost use Rattle.connections.specs.Conversation.{AreStopsOf};
-ghost use Rattle.session_clients.specs.Transcript.{AreServed};
+ghost use Rattle.session_clients.specs.Transcript.{AreServed, AreServedInTurns};
 
 use session_keeper::Keeper;
 use std::io::{Read, Write};
@@ -20,6 +21,17 @@ pub fn every_client<S: Read + Write, K: Keeper>()
     ensures { (opening : SessionState) (own clients : ℕ) (journal : List Entry) (own_now : ℕ)
         (served : AreServed S.remaining S.contents K.others K.no_entry K.not_kept opening own clients journal own_now) →
         OnlyAdd K.others →
+        (stops : List Stop) × AreStopsOf K.others K.no_entry K.not_kept served.transcript.exchanges stops
+        × IsConversation K.others opening stops
+        × (history : List Moment) × IsHistory opening history × (told : IsToldBy opening stops history)
+        × (own_now ≡ own + added_by_all opening stops history told) }
+{}
+
+/// The same of clients who are served beside one another, in whatever turns, as they come and go.
+pub fn every_client_in_turns<S: Read + Write, K: Keeper>()
+    ensures { (opening : SessionState) (own : ℕ) (places : ℕ → Option (Talker S (Option (List ℕ)))) (journal : List Entry)
+        (own_now : ℕ) (served : AreServedInTurns S.remaining S.contents K.others K.no_entry K.not_kept opening own places
+        journal own_now) → OnlyAdd K.others →
         (stops : List Stop) × AreStopsOf K.others K.no_entry K.not_kept served.transcript.exchanges stops
         × IsConversation K.others opening stops
         × (history : List Moment) × IsHistory opening history × (told : IsToldBy opening stops history)

@@ -29,9 +29,9 @@ where
     ensures served { AreServed L.Stream.remaining L.Stream.contents K.others K.no_entry K.not_kept
         (K.opening keeper) (K.own_entries keeper) clients (K.journal result) (K.own_entries result) }
 {
-    let server = SessionServer::new(keeper);
-    let after = serve_clients(rt, alloc, listener, clients, terms, server);
-    after.into_keeper()
+    let mut server = SessionServer::new(keeper);
+    serve_clients(rt, alloc, listener, clients, terms, &mut server);
+    server.into_keeper()
 }
 
 /// Serves one client after another over one who keeps a session, and never ends.
@@ -45,5 +45,6 @@ pub fn serve_session_forever<R: Wait + Clock, L: OpenListener, K: CommandKeeper<
 where
     L::Stream: Read + Write + OpenStream,
 {
-    serve_forever(rt, alloc, listener, terms, SessionServer::new(keeper))
+    let mut server = SessionServer::new(keeper);
+    serve_forever(rt, alloc, listener, terms, &mut server);
 }

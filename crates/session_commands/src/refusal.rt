@@ -106,7 +106,7 @@ impl Refusal {
     }
 }
 
-/// As it is called here.
+/// The variant's name.
 impl fmt::Display for Refusal {
     fn fmt<W: fmt::Write>(&self, f: &mut fmt::Formatter<W>) -> fmt::Result {
         fmt::Debug::fmt(self, f)

@@ -27,7 +27,7 @@ pub enum SessionFault {
     OutOfMemory,
 }
 
-/// As it is called here, and a fault of the movement or of the boards as that is called.
+/// The variant's name, and for a fault of the movement or of the boards that fault's own.
 impl fmt::Display for SessionFault {
     ghost output = { fault_output };
 

@@ -4,4 +4,5 @@ pub mod Shown
 pub mod Reading
 pub mod Results
 pub mod Numbers
+pub mod Par
 pub mod Query

@@ -7,6 +7,7 @@ use Rattle.session_queries.specs.declared.query.Query.TheVariants.{
   Board,
   Traveller,
   Analysis,
+  Par,
   Play,
   Costs,
   Reason,
@@ -21,6 +22,7 @@ fact_of Status = fact.Public
 fact_of (Board board) = fact.Hands board
 fact_of (Traveller board) = fact.Hands board
 fact_of (Analysis board) = fact.Analysis board
+fact_of (Par board) = fact.Analysis board
 fact_of (Play cell) = fact.Play cell
 fact_of (Costs cell) = fact.Cost cell
 fact_of (Reason cell) = fact.Reason cell

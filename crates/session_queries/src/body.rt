@@ -5,6 +5,7 @@ use cards::{Deal, Play};
 use denials::Denial;
 use disclosure_rules::Marks;
 use movement::Cell;
+use par::Par;
 use query_filter::TrickTable;
 use rbac::{Account, Inheritance};
 use scoring::Standing;
@@ -46,6 +47,11 @@ pub enum Body {
     Analysis {
         number: u8,
         tricks: Option<TrickTable>,
+    },
+    /// The par of a board, or nothing while its double-dummy table is still to come.
+    Par {
+        number: u8,
+        par: Option<Par>,
     },
     /// The cards as they were played at a table, or nothing where it has no result.
     Play {

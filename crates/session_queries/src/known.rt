@@ -1,9 +1,12 @@
-ghost use Rattle.std.specs.Prelude.{◌≡◌, ◌≤◌};
+ghost use Rattle.std.specs.Prelude.{◌≡◌, ◌≤◌, option_map};
 ghost use Rattle.movement.specs.Movement.{most_boards};
 ghost use Rattle.session_queries.specs.Content.{analysis_of, costs_of, costs_of_play, found_of, play_of, reason_of, result_of, strain_of_deal, tricks_of_deal};
+ghost use Rattle.session_queries.specs.Par.{marked_par};
 
 use crate::card_costs::CardCosts;
 use cards::Play;
+use disclosure_rules::Marks;
+use par::{Par, par_of_board};
 use query_filter::{StrainTricks, TrickTable};
 use session_commands::CellState;
 use session_state::State;
@@ -98,6 +101,31 @@ pub fn analysis_of(state: &State, board: u8) -> Option<TrickTable>
         Some(table) => Some(tricks_of_table(table)),
         None => None,
     }
+}
+
+/// The par of a board with these marks, once it is solved.
+pub fn board_par(state: &State, board: u8, marks: Marks) -> Option<Par>
+    requires from { 1 ≤ board }
+    requires to { board ≤ most_boards }
+    ensures { result ≡ option_map (marked_par marks) (analysis_of state.now board) }
+{
+    match &state.table(board) {
+        Some(table) => Some(par_of_table(table, marks)),
+        None => None,
+    }
+}
+
+// The par by a table, which is of a deal: so each of its numbers is at most thirteen.
+#[tactic(auto, using(crate::proofs::ParLemmas::has_tricks), unfolding(crate::specs::Par::marked_par))]
+fn par_of_table(table: &DdTable, marks: Marks) -> Par
+    ensures { result ≡ marked_par marks (tricks_of_deal table.now) }
+{
+    let _ = table.deal();
+    let tricks = tricks_of_table(table);
+    let Some(par) = par_of_board(&tricks, marks.vulnerability, marks.dealer) else {
+        unreachable!();
+    };
+    par
 }
 
 // The twenty numbers of a table.

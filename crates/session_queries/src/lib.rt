@@ -15,7 +15,7 @@ mod told_notices;
 
 pub use body::Body;
 pub use card_costs::CardCosts;
-pub use known::{analysis_of, costs_of, play_of, reason_of};
+pub use known::{analysis_of, board_par, costs_of, play_of, reason_of};
 pub use public_facts::PublicFacts;
 pub use push::push_found;
 pub use query::Query;

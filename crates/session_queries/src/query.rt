@@ -16,6 +16,8 @@ pub enum Query {
     Traveller(u8),
     /// The double-dummy table of a board.
     Analysis(u8),
+    /// The par of a board.
+    Par(u8),
     /// The cards as they were played at a table.
     Play(Cell),
     /// What each card that was played at a table cost.
@@ -43,7 +45,7 @@ impl Query {
         match self {
             Query::Status | Query::List { .. } | Query::Ranking => Fact::Public,
             Query::Board(board) | Query::Traveller(board) => Fact::Hands(*board),
-            Query::Analysis(board) => Fact::Analysis(*board),
+            Query::Analysis(board) | Query::Par(board) => Fact::Analysis(*board),
             Query::Play(cell) => Fact::Play(*cell),
             Query::Costs(cell) => Fact::Cost(*cell),
             Query::Reason(cell) => Fact::Reason(*cell),

@@ -56,7 +56,7 @@ impl<'a, N: Server, K: EntryStore> AnalysingKeeper<'a, N, K> {
         if let Answer::Refused(_) = answer {
             return;
         }
-        if let Some(cell) = result_of(command)
+        if let Some(cell) = counted_cell(command)
             && let Some(work) = self.keeper.work_of(rt, cell)
         {
             queue.add(rt, work);
@@ -125,9 +125,14 @@ impl<'a, N: Server, K: EntryStore, R: Wait> CommandKeeper<R> for AnalysingKeeper
 }
 
 // The cell of a result that a command makes.
-fn result_of(command: &Command) -> Option<Cell> {
+fn counted_cell(command: &Command) -> Option<Cell> {
     match command {
         Command::Confirm { cell, .. } | Command::Correct { cell, .. } => Some(*cell),
-        _ => None,
+        Command::Enter { .. } | Command::Rule { .. } | Command::Void { .. } => None,
+        Command::Hold { .. } | Command::Release { .. } | Command::Seat { .. } | Command::Unseat { .. } => None,
+        Command::NextRound | Command::Close | Command::Finalise | Command::Embargo | Command::Lift => None,
+        Command::AddUser { .. } | Command::Rename { .. } | Command::Assign { .. } | Command::Deassign { .. } => None,
+        Command::AddInheritance { .. } | Command::DeleteInheritance { .. } => None,
+        Command::Solved { .. } | Command::Analysed { .. } => None,
     }
 }

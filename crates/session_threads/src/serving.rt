@@ -65,7 +65,7 @@ pub enum ServingError {
     NoThread,
 }
 
-/// As it is called here.
+/// The variant's name.
 impl fmt::Display for ServingError {
     fn fmt<W: fmt::Write>(&self, f: &mut fmt::Formatter<W>) -> fmt::Result {
         fmt::Debug::fmt(self, f)

@@ -1,24 +1,21 @@
 //! The messages of one client, from the handshake to the end of its stream.
 
-ghost use Rattle.std.specs.Prelude.{◌≡◌, ◌⊎◌, ℕ, List, [], Option, Some, Ok, OnOk, OnErr, IfOk};
+ghost use Rattle.std.specs.Prelude.{◌≡◌, ◌⊎◌, ℕ, List, [], Option, Some, Ok, OnOk, OnErr};
 ghost use Rattle.tungstenite.specs.Connection.{write_step};
-ghost use Rattle.tungstenite.specs.Content.{text};
 ghost use Rattle.tungstenite.specs.Socket.{Socket, Writes, content_of};
-ghost use Rattle.websocket_server.specs.Conversation.{longest_message, sent_text, ComesOf, Meets, Exchanges, Ends, StopsAt, ServesStream};
+ghost use Rattle.websocket_server.specs.Conversation.{longest_message, ComesOf, Meets, Exchanges, Ends, StopsAt, ServesStream};
 
+use crate::answering::{answer_message, close_frame, fixed_message};
 use crate::client_terms::{ClientTerms, OriginCheck};
 use crate::message_server::MessageServer;
 use crate::timed_stream::{ANSWER_SECONDS, TimedStream};
 use std::alloc::Global;
-use std::borrow::CowStr;
 use std::io::{Read, Write};
 use std::net::OpenStream;
 use std::sync::Wait;
 use std::time::Clock;
 use tungstenite::handshake::server::start;
-use tungstenite::{
-    CloseCode, CloseFrame, Error, Message, NoMask, Utf8Bytes, WebSocket, WebSocketConfig,
-};
+use tungstenite::{Error, Message, NoMask, WebSocket, WebSocketConfig};
 
 /// How many bytes a message has at most that is read whole: one more than one that is answered, which says that it is
 /// too long. A longer one ends its connection.
@@ -30,15 +27,15 @@ const READ_SIZE: usize = 16_384;
 // Within how many seconds the whole handshake has to be done.
 const HANDSHAKE_SECONDS: u64 = 10;
 
-/// Shakes hands with the client of a stream, and answers its messages until the connection ends, or the client is late.
+/// Shakes hands with the client of a stream, and answers its messages until the connection ends, or the client is late. At
+/// first nobody is signed in on it.
 pub fn serve_stream<
     R: Wait,
     C: Clock + Drop,
     S: Read + Write + OpenStream + Drop,
     A: MessageServer<R>,
 >(rt: &R, clock: C, alloc: Global, stream: S, terms: ClientTerms<'_>, server: &mut A)
-    requires { A.ready server.old }
-    ensures { ServesStream S.remaining S.contents A.answers A.binary_text A.memory_text server.old server.new }
+    ensures { ServesStream S.remaining S.contents A.answers A.binary_text A.memory_text A.nobody server.old server.new }
 {
     let Ok(timed) = TimedStream::new(clock, stream, HANDSHAKE_SECONDS) else {
         return;
@@ -50,7 +47,8 @@ pub fn serve_stream<
     let Ok(mut socket) = start(alloc, timed, check, Some(limits())).handshake() else {
         return;
     };
-    converse(rt, alloc, &mut socket, terms.idle, server);
+    let mut guest = A::newcomer();
+    converse(rt, alloc, &mut socket, terms.idle, &mut guest, server);
 }
 
 // What is kept in memory of a client's message.
@@ -70,12 +68,14 @@ fn converse<R: Wait, C: Clock + Drop, S: Read + Write + OpenStream + Drop, A: Me
     alloc: Global,
     socket: &mut WebSocket<TimedStream<C, S>, NoMask>,
     idle: u32,
+    guest: &mut A::Guest,
     server: &mut A,
 )
-    ensures { Ends S.remaining S.contents A.answers A.binary_text A.memory_text socket.old server.old server.new }
+    ensures { Ends S.remaining S.contents A.answers A.binary_text A.memory_text
+        socket.old guest.old server.old server.new }
 {
     for _ in rt.forever() {
-        if let Err(error) = serve_next(rt, alloc, socket, idle, server) {
+        if let Err(error) = serve_next(rt, alloc, socket, idle, guest, server) {
             say_why(socket, &error);
             return;
         }
@@ -88,16 +88,19 @@ fn serve_next<R: Wait, C: Clock + Drop, S: Read + Write + OpenStream + Drop, A: 
     alloc: Global,
     socket: &mut WebSocket<TimedStream<C, S>, NoMask>,
     idle: u32,
+    guest: &mut A::Guest,
     server: &mut A,
 ) -> Result<(), Error>
-    ensures exchanged { OnOk result (Exchanges S.remaining S.contents A.answers A.binary_text A.memory_text socket.old server.old socket.new server.new) }
-    ensures stopped { OnErr result (StopsAt S.remaining S.contents A.answers A.binary_text A.memory_text socket.old server.old server.new) }
+    ensures exchanged { OnOk result (Exchanges S.remaining S.contents A.answers A.binary_text A.memory_text
+        socket.old guest.old server.old socket.new guest.new server.new) }
+    ensures stopped { OnErr result (StopsAt S.remaining S.contents A.answers A.binary_text A.memory_text
+        socket.old guest.old server.old server.new) }
 {
     if let Err(error) = socket.get_ref().allow(u64::from(idle)) {
         return Err(Error::Io(error));
     }
     match socket.read() {
-        Ok(message) => serve_message(rt, alloc, socket, server, &message),
+        Ok(message) => serve_message(rt, alloc, socket, guest, server, &message),
         Err(error) => Err(error),
     }
 }
@@ -112,19 +115,22 @@ fn serve_message<
     rt: &R,
     alloc: Global,
     socket: &mut WebSocket<TimedStream<C, S>, NoMask>,
+    guest: &mut A::Guest,
     server: &mut A,
     message: &Message,
 ) -> Result<(), Error>
     ensures sent { OnOk result
-        (ComesOf S.remaining S.contents A.answers A.binary_text A.memory_text (content_of message.now) socket.old server.old socket.new server.new) }
-    ensures unsent { OnErr result (Meets S.remaining S.contents A.answers A.binary_text A.memory_text (content_of message.now) server.old server.new) }
+        (ComesOf S.remaining S.contents A.answers A.binary_text A.memory_text (content_of message.now)
+        socket.old guest.old server.old socket.new guest.new server.new) }
+    ensures unsent { OnErr result (Meets S.remaining S.contents A.answers A.binary_text A.memory_text
+        (content_of message.now) guest.old server.old server.new) }
 {
     match message {
-        Message::Text(text) => match answer_to(rt, alloc, text.as_bytes(), server) {
+        Message::Text(text) => match answer_message(rt, alloc, guest, text.as_bytes(), server) {
             Ok(answer) => send_in_time(socket, answer),
             Err(error) => Err(error),
         },
-        Message::Binary(_) => send_in_time(socket, fixed(A::binary_answer())),
+        Message::Binary(_) => send_in_time(socket, fixed_message(A::binary_answer())),
         // tungstenite has answered a ping, and a close.
         Message::Ping(_) | Message::Pong(_) | Message::Close(_) => Ok(()),
     }
@@ -144,56 +150,15 @@ fn send_in_time<C: Clock + Drop, S: Read + Write + OpenStream + Drop>(
     }
 }
 
-// The message that answers a text.
-fn answer_to<R: Wait, A: MessageServer<R>>(
-    rt: &R,
-    alloc: Global,
-    question: &[u8],
-    server: &mut A,
-) -> Result<Message, Error>
-    ensures answered { (answer : Option (List ℕ)) × A.answers server.old question.now answer server.new
-        × IfOk result (λ message. content_of message ≡ text (sent_text A.memory_text answer)) }
-{
-    match server.serve_message(rt, alloc, question) {
-        Ok(CowStr::Borrowed(words)) => Ok(fixed(words)),
-        Ok(CowStr::Owned(answer)) => match Message::text(alloc, answer.as_str()) {
-            Ok(message) => Ok(message),
-            Err(_) => Err(Error::OutOfMemory),
-        },
-        Err(_) => Ok(fixed(A::memory_answer())),
-    }
-}
-
-// The message of a text that is there before any client comes. It takes no memory.
-fn fixed(words: &'static str) -> Message
-    ensures { content_of result ≡ text words.now }
-{
-    Message::Text(Utf8Bytes::from_static(words))
-}
-
 // Tells the client by which rule the connection ends, if a rule ends it.
 fn say_why<C: Clock + Drop, S: Read + Write + OpenStream + Drop>(
     socket: &mut WebSocket<TimedStream<C, S>, NoMask>,
     error: &Error,
 ) {
-    if let Some(code) = close_code(error) {
-        let frame = CloseFrame {
-            code,
-            reason: Utf8Bytes::from_static(""),
-        };
+    if let Some(frame) = close_frame(error) {
         // The connection ends, whether the client hears it or not.
         if socket.get_ref().allow(ANSWER_SECONDS).is_ok() {
             let _unheard = socket.close(Some(frame));
         }
-    }
-}
-
-// The code of RFC 6455, section 7.4.1, for a message that wasn't read.
-fn close_code(error: &Error) -> Option<CloseCode> {
-    match error {
-        Error::Capacity(_) => Some(CloseCode::Size),
-        Error::Protocol(_) => Some(CloseCode::Protocol),
-        Error::Utf8 => Some(CloseCode::Invalid),
-        _ => None,
     }
 }

@@ -1,6 +1,7 @@
 //! One client after another, at a port of this computer.
 
-ghost use Rattle.websocket_server.specs.Clients.{ServesOne, ServesMany};
+ghost use Rattle.websocket_server.specs.Clients.{ServesMany};
+ghost use Rattle.websocket_server.specs.Conversation.{ServesStream};
 
 use crate::client_terms::ClientTerms;
 use crate::conversation::serve_stream;
@@ -30,67 +31,63 @@ pub fn listen<R: Net>(rt: &R, port: u16) -> io::Result<R::Listener> {
 }
 
 /// Serves so many clients, one after another. One counts once accept has returned, be it with a fault.
-pub fn serve_clients<R: Wait + Clock, L: OpenListener, A: MessageServer<R> + Drop>(
+pub fn serve_clients<R: Wait + Clock, L: OpenListener, A: MessageServer<R>>(
     rt: &R,
     alloc: Global,
     listener: &L,
     clients: u32,
     terms: ClientTerms<'_>,
-    server: A,
-) -> A
+    server: &mut A,
+)
 where
     L::Stream: Read + Write + OpenStream,
-    ensures { ServesMany L.Stream.remaining L.Stream.contents A.answers A.binary_text A.memory_text A.leaves clients server result }
+    ensures { ServesMany L.Stream.remaining L.Stream.contents A.answers A.binary_text A.memory_text A.nobody
+        clients server.old server.new }
 {
-    let mut server = server;
     for _ in 0..clients {
-        server = serve_client(rt, alloc, listener, terms, server);
+        serve_client(rt, alloc, listener, terms, server);
     }
-    server
 }
 
 /// Serves one client after another, and never ends.
-pub fn serve_forever<R: Wait + Clock, L: OpenListener, A: MessageServer<R> + Drop>(
+pub fn serve_forever<R: Wait + Clock, L: OpenListener, A: MessageServer<R>>(
     rt: &R,
     alloc: Global,
     listener: &L,
     terms: ClientTerms<'_>,
-    server: A,
+    server: &mut A,
 )
 where
     L::Stream: Read + Write + OpenStream,
 {
-    let mut server = server;
     for _ in rt.forever() {
-        server = serve_client(rt, alloc, listener, terms, server);
+        serve_client(rt, alloc, listener, terms, server);
     }
 }
 
 // Waits for a client, and serves it.
-fn serve_client<R: Wait + Clock, L: OpenListener, A: MessageServer<R> + Drop>(
+fn serve_client<R: Wait + Clock, L: OpenListener, A: MessageServer<R>>(
     rt: &R,
     alloc: Global,
     listener: &L,
     terms: ClientTerms<'_>,
-    server: A,
-) -> A
+    server: &mut A,
+)
 where
     L::Stream: Read + Write + OpenStream,
-    ensures { ServesOne L.Stream.remaining L.Stream.contents A.answers A.binary_text A.memory_text A.leaves server result }
+    ensures { ServesStream L.Stream.remaining L.Stream.contents A.answers A.binary_text A.memory_text A.nobody
+        server.old server.new }
 {
     match listener.accept() {
         Ok((stream, _)) => {
             // Each answer is sent at once, and not only when the client has acknowledged the one before it. Where the
             // stream can't, the client is served all the same.
             let _unheard = stream.set_nodelay(true);
-            let mut server = server.signed_out();
-            serve_stream(rt, rt, alloc, stream, terms, &mut server);
-            server
+            serve_stream(rt, rt, alloc, stream, terms, server);
         }
         Err(_) => {
             // Where there is no room for one more file, say, so that the next try isn't made at once.
             thread::sleep(rt, Duration::from_millis(PAUSE));
-            server
         }
     }
 }

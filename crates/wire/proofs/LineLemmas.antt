@@ -317,9 +317,9 @@ module _ (origin : Origin) (line : List ℕ) (d : Data) (message : IsMessage lin
       (unknown_object origin d)
 
   pub query_line : (user : Option (List ℕ)) (query : Query) (since : ℕ)
-      → (meaning origin line ≡ Ok (a_query user since query)) ↔ IsQuery origin.source d user query since
+      → (meaning origin line ≡ Ok (a_query user since query)) ↔ IsQuery origin d user query since
   query_line user query since =
-      subst (λ said. (said ≡ Ok (a_query user since query)) ↔ IsQuery origin.source d user query since)
+      subst (λ said. (said ≡ Ok (a_query user since query)) ↔ IsQuery origin d user query since)
       (sym (of_message origin line d message)) (query_object origin d user query since)
 
   pub batch_line : (user : Option (List ℕ)) (commands : List Command)

@@ -104,7 +104,7 @@ use Rattle.json_fields.proofs.FormLemmas.{
 use Rattle.json_fields.proofs.MemberLemmas.{since_agrees}
 use Rattle.json_fields.proofs.TableLemmas.{is_among, is_word, none_among, among_none, by_word_read, by_word_reads}
 use Rattle.command_object.proofs.TableLemmas.{command_read, command_reads, all_known}
-use Rattle.wire.proofs.TableLemmas.{queries_agree}
+use Rattle.wire.proofs.TableLemmas.{queries_agree, queries_apart}
 
 wanted_read : {A : Type 0} (o : Option A) (y : A) → wanted o ≡ Ok y → o ≡ Some y
 wanted_read None y h = absurd (cc)
@@ -149,40 +149,44 @@ whose_of source d = let whose = said_user source in whose.value (get whose.name 
 -- ---- queries
 
 -- the parts of a query
-record Asks (source : Source) (word : List ℕ) (d : Data) (y : Request) : Type 0 where
+record Asks (origin : Origin) (word : List ℕ) (d : Data) (y : Request) : Type 0 where
   name : Option (List ℕ)
   query : Query
   version : ℕ
   makes : a_query name version query ≡ y
-  asked : HasFormOf asking queries word d query
-  named : IsOf source d name
+  asked : HasFormOf asking (queries origin.edition) word d query
+  named : IsOf origin.source d name
   from : since.Is (get since.name d) version
 
-asks : (source : Source) (word : List ℕ) (d : Data) (y : Request) → query_of source word d ≡ Some y
-    → Asks source word d y
+asks : (origin : Origin) (word : List ℕ) (d : Data) (y : Request) → query_of origin word d ≡ Some y
+    → Asks origin word d y
 unfolding query_of
-asks source word d y h =
-    let parts = three a_query (whose_of source d) (since.value (get since.name d)) (query_called word d) y h in
+asks origin word d y h =
+    let edition = origin.edition in
+    let parts = three a_query (whose_of origin.source d) (since.value (get since.name d)) (query_called edition word d) y
+    h in
     record {
       name = parts.0;
       query = parts.2;
       version = parts.1;
       makes = parts.6;
-      asked = by_word_read asking queries queries_agree word d parts.2 parts.5;
-      named = (said_agrees source).read _ parts.0 parts.3;
+      asked = by_word_read asking (queries edition) (queries_agree edition) word d parts.2 parts.5;
+      named = (said_agrees origin.source).read _ parts.0 parts.3;
       from = since_agrees.read (get since.name d) parts.1 parts.4;
     }
 
-asked : (source : Source) (word : List ℕ) (d : Data) (name : Option (List ℕ)) (query : Query) (version : ℕ)
-    → HasFormOf asking queries word d query → IsOf source d name → since.Is (get since.name d) version
-    → query_of source word d ≡ Some (a_query name version query)
+asked : (origin : Origin) (word : List ℕ) (d : Data) (name : Option (List ℕ)) (query : Query) (version : ℕ)
+    → HasFormOf asking (queries origin.edition) word d query → IsOf origin.source d name
+    → since.Is (get since.name d) version → query_of origin word d ≡ Some (a_query name version query)
 unfolding query_of
-asked source word d name query version has named from =
-    ap (λ o. applied (applied (applied (Some a_query) o) (since.value (get since.name d))) (query_called word d))
-    ((said_agrees source).reads _ name named)
-    ∙ ap (λ o. applied (applied (Some (a_query name)) o) (query_called word d))
+asked origin word d name query version has named from =
+    let edition = origin.edition in
+    ap (λ o. applied (applied (applied (Some a_query) o) (since.value (get since.name d))) (query_called edition word d))
+    ((said_agrees origin.source).reads _ name named)
+    ∙ ap (λ o. applied (applied (Some (a_query name)) o) (query_called edition word d))
     (since_agrees.reads (get since.name d) version from)
-    ∙ ap (applied (Some (a_query name version))) (by_word_reads asking queries queries_agree refl word d query has)
+    ∙ ap (applied (Some (a_query name version)))
+    (by_word_reads asking (queries edition) (queries_agree edition) (queries_apart edition) word d query has)
 
 -- ---- batches
 
@@ -259,7 +263,7 @@ greeter_is_there d y has = let name = has.made.2.3 in is_there (get (codes "hell
 abbrev Makes : Origin → (ask list audit hello : Option Data) → Data → Option (List ℕ) → RequestBody → Type 0
 Makes origin ask list audit hello d user (body.OfUser (wanting.Query query version)) =
     (count_by (λ member. is_some member) (ask ∷ list ∷ audit ∷ hello ∷ []) ≡ 1)
-    × ((word : List ℕ) × (option_and_then as_str ask ≡ Some word) × HasFormOf asking queries word d query)
+    × ((word : List ℕ) × (option_and_then as_str ask ≡ Some word) × HasFormOf asking (queries origin.edition) word d query)
     × IsOf origin.source d user × since.Is (get since.name d) version
 Makes origin ask list audit hello d user (body.OfUser (wanting.Batch xs)) =
     (count_by (λ member. is_some member) (ask ∷ list ∷ audit ∷ hello ∷ []) ≡ 1)
@@ -278,11 +282,11 @@ abbrev MakesRequest : Origin → (ask list audit hello : Option Data) → Data �
 MakesRequest origin ask list audit hello d y = Makes origin ask list audit hello d y.user y.body
 
 query_made : (origin : Origin) (ask : Data) (o : Option (List ℕ)) (d : Data) (y : Request) → as_str ask ≡ o
-    → query_by origin.source o d ≡ Ok y → MakesRequest origin (Some ask) None None None d y
+    → query_by origin o d ≡ Ok y → MakesRequest origin (Some ask) None None None d y
 query_made origin ask None d y is h = absurd (cc)
 query_made origin ask (Some word) d y is h =
-    let read = read_where (is_among (words queries) word) (query_of origin.source word d) UnknownRequest y h in
-    let parts = asks origin.source word d y read.1 in
+    let read = read_where (is_among (words (queries origin.edition)) word) (query_of origin word d) UnknownRequest y h in
+    let parts = asks origin word d y read.1 in
     subst (MakesRequest origin (Some ask) None None None d) parts.makes (
       refl,
       (word, is, parts.asked),
@@ -344,12 +348,12 @@ made origin None None None None d y h = absurd (cc)
 
 query_says : (origin : Origin) (ask : Data) (d : Data) (name : Option (List ℕ)) (query : Query) (version : ℕ)
     → Makes origin (Some ask) None None None d name (body.OfUser (wanting.Query query version))
-    → query_by origin.source (as_str ask) d ≡ Ok (a_query name version query)
+    → query_by origin (as_str ask) d ≡ Ok (a_query name version query)
 query_says origin ask d name query version (one, (word, is, has), named, from) =
-    ap (λ o. query_by origin.source o d) is
-    ∙ ap (λ b. cond b (wanted (query_of origin.source word d)) (Err UnknownRequest))
-    (is_word asking queries word d query has)
-    ∙ ap wanted (asked origin.source word d name query version has named from)
+    ap (λ o. query_by origin o d) is
+    ∙ ap (λ b. cond b (wanted (query_of origin word d)) (Err UnknownRequest))
+    (is_word asking (queries origin.edition) word d query has)
+    ∙ ap wanted (asked origin word d name query version has named from)
 
 batch_says : (origin : Origin) (list : Data) (d : Data) (name : Option (List ℕ)) (xs : List Command)
     → Makes origin None (Some list) None None d name (body.OfUser (wanting.Batch xs))
@@ -430,7 +434,7 @@ module _ (origin : Origin) (d : Data) where
   hello_member = get (codes "hello") d
 
   pub query_object : (name : Option (List ℕ)) (query : Query) (version : ℕ)
-      → (request_of origin d ≡ Ok (a_query name version query)) ↔ IsQuery origin.source d name query version
+      → (request_of origin d ≡ Ok (a_query name version query)) ↔ IsQuery origin d name query version
   unfolding request_of
   query_object name query version = (
     λ h. let m = made origin ask_member do_member audit_member hello_member d (a_query name version query) h in
@@ -559,10 +563,11 @@ batch_at : (b : Bool) (o : Option Request) (fault : RequestFault) → cond b (Er
 batch_at true o fault h = unknown_fault fault (cc)
 batch_at false o fault h = member_fault fault (wanted_fails o fault h)
 
-query_fault : (source : Source) (o : Option (List ℕ)) (d : Data) (fault : RequestFault)
-    → query_by source o d ≡ Err fault → IsFaultOfObject fault
-query_fault source None d fault h = member_fault fault (cc)
-query_fault source (Some word) d fault h = query_at (is_among (words queries) word) (query_of source word d) fault h
+query_fault : (origin : Origin) (o : Option (List ℕ)) (d : Data) (fault : RequestFault)
+    → query_by origin o d ≡ Err fault → IsFaultOfObject fault
+query_fault origin None d fault h = member_fault fault (cc)
+query_fault origin (Some word) d fault h =
+    query_at (is_among (words (queries origin.edition)) word) (query_of origin word d) fault h
 
 batch_fault : (origin : Origin) (o : Option Items) (d : Data) (fault : RequestFault)
     → batch_by origin o d ≡ Err fault → IsFaultOfObject fault
@@ -579,7 +584,7 @@ said_fault : (origin : Origin) (ask list audit hello : Option Data) (d : Data) (
 said_fault origin (Some ask) (Some list) audit hello d fault h = unknown_fault fault (cc)
 said_fault origin (Some ask) None (Some rows) hello d fault h = unknown_fault fault (cc)
 said_fault origin (Some ask) None None (Some name) d fault h = unknown_fault fault (cc)
-said_fault origin (Some ask) None None None d fault h = query_fault origin.source (as_str ask) d fault h
+said_fault origin (Some ask) None None None d fault h = query_fault origin (as_str ask) d fault h
 said_fault origin None (Some list) (Some rows) hello d fault h = unknown_fault fault (cc)
 said_fault origin None (Some list) None (Some name) d fault h = unknown_fault fault (cc)
 said_fault origin None (Some list) None None d fault h = batch_fault origin (as_array list) d fault h
@@ -599,8 +604,9 @@ object_fault origin d fault h =
 -- ---- unknown requests
 
 -- when a message is unknown, by the four members
-abbrev AsksOther : Option Data → Type 0
-AsksOther ask = (word : List ℕ) × (option_and_then as_str ask ≡ Some word) × All (λ other. word ≢ other) (words queries)
+abbrev AsksOther : Edition → Option Data → Type 0
+AsksOther edition ask =
+    (word : List ℕ) × (option_and_then as_str ask ≡ Some word) × All (λ other. word ≢ other) (words (queries edition))
 
 abbrev WantsOther : Edition → Option Data → Type 0
 WantsOther edition list =
@@ -609,7 +615,7 @@ WantsOther edition list =
 abbrev IsOther : Origin → Option Data → Option Data → Option Data → Option Data → Type 0
 IsOther origin ask list audit hello =
     (count_by (λ member. is_some member) (ask ∷ list ∷ audit ∷ hello ∷ []) ≢ 1)
-    ⊎ (((origin.source ≡ Script) × IsSome hello) ⊎ (AsksOther ask ⊎ WantsOther origin.edition list))
+    ⊎ (((origin.source ≡ Script) × IsSome hello) ⊎ (AsksOther origin.edition ask ⊎ WantsOther origin.edition list))
 
 other_where : {A : Type 0} (b : Bool) (o : Option A) → cond b (wanted o) (Err UnknownRequest) ≡ Err UnknownRequest
     → b ≡ false
@@ -621,15 +627,12 @@ other_unless : {A : Type 0} (b : Bool) (o : Option A) → cond b (Err UnknownReq
 other_unless true o h = refl
 other_unless false o h = let bad = wanted_fails o UnknownRequest h in absurd (cc)
 
-asks_other : (source : Source) (o : Option (List ℕ)) (d : Data) → query_by source o d ≡ Err UnknownRequest
-    → (word : List ℕ) × (o ≡ Some word) × All (λ other. word ≢ other) (words queries)
-asks_other source None d h = absurd (cc)
-asks_other source (Some word) d h = (
-  word,
-  refl,
-  none_among (words queries) word (other_where (is_among (words queries) word) (query_of source word d)
-      h),
-)
+asks_other : (origin : Origin) (o : Option (List ℕ)) (d : Data) → query_by origin o d ≡ Err UnknownRequest
+    → (word : List ℕ) × (o ≡ Some word) × All (λ other. word ≢ other) (words (queries origin.edition))
+asks_other origin None d h = absurd (cc)
+asks_other origin (Some word) d h =
+    let all = words (queries origin.edition) in
+    (word, refl, none_among all word (other_where (is_among all word) (query_of origin word d) h))
 
 wants_other : (origin : Origin) (o : Option Items) (d : Data) → batch_by origin o d ≡ Err UnknownRequest
     → (elements : Items) × (o ≡ Some elements) × (has_unknown origin.edition elements ≡ true)
@@ -645,7 +648,7 @@ other_is : (origin : Origin) (ask list audit hello : Option Data) (d : Data)
 other_is origin (Some ask) (Some list) audit hello d h = inl (λ same. omega (arith, same))
 other_is origin (Some ask) None (Some rows) hello d h = inl (λ same. omega (arith, same))
 other_is origin (Some ask) None None (Some name) d h = inl (λ same. omega (arith, same))
-other_is origin (Some ask) None None None d h = inr (inr (inl (asks_other origin.source (as_str ask) d h)))
+other_is origin (Some ask) None None None d h = inr (inr (inl (asks_other origin (as_str ask) d h)))
 other_is origin None (Some list) (Some rows) hello d h = inl (λ same. omega (arith, same))
 other_is origin None (Some list) None (Some name) d h = inl (λ same. omega (arith, same))
 other_is origin None (Some list) None None d h = inr (inr (inr (wants_other origin (as_array list) d h)))
@@ -656,13 +659,13 @@ other_is origin None None None (Some name) d h = inr (inl (greets_other origin.s
 other_is origin None None None None d h = inl (λ same. omega (arith, same))
 
 one_asks : (origin : Origin) (ask : Data) (d : Data) → IsOther origin (Some ask) None None None
-    → query_by origin.source (as_str ask) d ≡ Err UnknownRequest
+    → query_by origin (as_str ask) d ≡ Err UnknownRequest
 one_asks origin ask d (inl count) = absurd (count refl)
 one_asks origin ask d (inr (inl greets)) = let none = greets.1 in absurd (cc)
 one_asks origin ask d (inr (inr (inl other))) =
-    ap (λ o. query_by origin.source o d) other.1
-    ∙ ap (λ b. cond b (wanted (query_of origin.source other.0 d)) (Err UnknownRequest))
-    (among_none (words queries) other.0 other.2)
+    ap (λ o. query_by origin o d) other.1
+    ∙ ap (λ b. cond b (wanted (query_of origin other.0 d)) (Err UnknownRequest))
+    (among_none (words (queries origin.edition)) other.0 other.2)
 one_asks origin ask d (inr (inr (inr other))) = let none = other.1 in absurd (cc)
 
 one_wants : (origin : Origin) (list : Data) (d : Data) → IsOther origin None (Some list) None None

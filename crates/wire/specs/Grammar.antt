@@ -69,10 +69,10 @@ request_count d =
 abbrev pub GreetsInScript : Source → Data → Type 0
 GreetsInScript source d = (source ≡ Script) × IsSome (get (codes "hello") d)
 
--- it asks by a text that no query is called by
-abbrev pub AsksAnother : Data → Type 0
-AsksAnother d =
-    (word : List ℕ) × (text_at (codes "ask") d ≡ Some word) × All (λ other. word ≢ other) (words queries)
+-- it asks by a text that no query of the edition is called by
+abbrev pub AsksAnother : Edition → Data → Type 0
+AsksAnother edition d =
+    (word : List ℕ) × (text_at (codes "ask") d ≡ Some word) × All (λ other. word ≢ other) (words (queries edition))
 
 -- somewhere in its list a word names no command of the edition
 abbrev pub WantsAnother : Edition → Data → Type 0
@@ -83,17 +83,17 @@ WantsAnother edition d =
 -- not exactly one member makes a request, or it is a greeting in a script, or a word in it names nothing
 abbrev pub IsUnknownRequest : Origin → Data → Type 0
 IsUnknownRequest origin d =
-    (request_count d ≢ 1) ⊎ (GreetsInScript origin.source d ⊎ (AsksAnother d ⊎ WantsAnother origin.edition d))
+    (request_count d ≢ 1) ⊎ (GreetsInScript origin.source d ⊎ (AsksAnother origin.edition d ⊎ WantsAnother origin.edition d))
 
 -- whose it is, by where it comes from
 abbrev pub IsOf : Source → Data → Option (List ℕ) → Type 0
 IsOf source d user = let whose = said_user source in whose.Is (get whose.name d) user
 
 -- it asks for this, for this user and from this version on, and nothing else stands in it
-pub record IsQuery (source : Source) (d : Data) (name : Option (List ℕ)) (query : Query) (version : ℕ) : Type 0 where
+pub record IsQuery (origin : Origin) (d : Data) (name : Option (List ℕ)) (query : Query) (version : ℕ) : Type 0 where
   pub one : request_count d ≡ 1
-  pub asked : (word : List ℕ) × (text_at (codes "ask") d ≡ Some word) × HasFormOf asking queries word d query
-  pub user : IsOf source d name
+  pub asked : (word : List ℕ) × (text_at (codes "ask") d ≡ Some word) × HasFormOf asking (queries origin.edition) word d query
+  pub user : IsOf origin.source d name
   pub since : since.Is (get since.name d) version
 
 -- it wants these commands done, for this user, and nothing else stands in it
@@ -121,14 +121,14 @@ pub record IsGreeting (source : Source) (d : Data) (user : Option (List ℕ)) (n
 
 -- it is no query, no batch, no audit and no greeting
 pub record IsNoRequest (origin : Origin) (d : Data) : Type 0 where
-  pub no_query : (user : Option (List ℕ)) (query : Query) (version : ℕ) → ¬ IsQuery origin.source d user query version
+  pub no_query : (user : Option (List ℕ)) (query : Query) (version : ℕ) → ¬ IsQuery origin d user query version
   pub no_batch : (user : Option (List ℕ)) (commands : List Command) → ¬ IsBatch origin d user commands
   pub no_audit : (user : Option (List ℕ)) (range : AuditRange) → ¬ IsAudit origin.source d user range
   pub no_greeting : (user : Option (List ℕ)) (name token : List ℕ) → ¬ IsGreeting origin.source d user name token
 
 -- what its members make of an object, and whose it is
 abbrev pub Makes : Origin → Data → Option (List ℕ) → RequestBody → Type 0
-Makes origin d user (body.OfUser (wanting.Query query version)) = IsQuery origin.source d user query version
+Makes origin d user (body.OfUser (wanting.Query query version)) = IsQuery origin d user query version
 Makes origin d user (body.OfUser (wanting.Batch commands)) = IsBatch origin d user commands
 Makes origin d user (body.OfUser (wanting.Audit range)) = IsAudit origin.source d user range
 Makes origin d user (body.Hello name token) = IsGreeting origin.source d user name token

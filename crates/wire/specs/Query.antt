@@ -1,16 +1,23 @@
--- The queries: objects, each with its word in the member `ask`.
+-- The queries of an edition of the policy: objects, each with its word in the member `ask`.
 use Rattle.std.specs.Prelude.{ℕ, List, [], ◌∷◌, codes, Option, IsSome}
 use Rattle.serde_json.specs.Data.{Data}
 use Rattle.session_queries.specs.declared.query.Query.{Query}
 use Rattle.session_queries.specs.declared.query.Query.TheVariants as query
+use Rattle.session_roles.specs.declared.edition.Edition.{Edition}
+use Rattle.session_roles.specs.declared.edition.Edition.TheVariants.{First, Second}
 use Rattle.json_fields.specs.Form.{Form, form, ◌with◌, by_word}
 use Rattle.json_fields.specs.Message.{table, board}
 use Rattle.command_object.specs.Command.{cell}
 use Rattle.wire.specs.List.{filter, from, limit}
 
--- each query: its word and its members; those of `list` may be left out
-abbrev pub queries : List (Form Query)
-queries =
+-- the queries that an edition has beside those of the first
+abbrev pub added_queries : Edition → List (Form Query)
+added_queries First = []
+added_queries Second = (form (codes "par") (λ b. query.Par b) with board) ∷ []
+
+-- each query of an edition: its word and its members; those of `list` may be left out
+abbrev pub queries : Edition → List (Form Query)
+queries edition =
     form (codes "status") query.Status
     ∷ form (codes "ranking") query.Ranking
     ∷ form (codes "accounts") query.Accounts
@@ -21,15 +28,15 @@ queries =
     ∷ (form (codes "costs") (λ t b. query.Costs (cell t b)) with table with board)
     ∷ (form (codes "reason") (λ t b. query.Reason (cell t b)) with table with board)
     ∷ (form (codes "list") (λ f n most. query.List f n most) with filter with from with limit)
-    ∷ []
+    ∷ added_queries edition
 
 -- what every query may have beside its own members; `since` may be left out
 abbrev pub asking : List (List ℕ)
 asking = codes "ask" ∷ codes "as" ∷ codes "since" ∷ []
 
 -- the query of a word
-abbrev pub query_called : List ℕ → Data → Option Query
-query_called word d = by_word asking queries word d
+abbrev pub query_called : Edition → List ℕ → Data → Option Query
+query_called edition word d = by_word asking (queries edition) word d
 
 -- ---- for private clauses
 
@@ -39,6 +46,7 @@ IsFiltered query.Status = ⊥
 IsFiltered (query.Board _) = ⊥
 IsFiltered (query.Traveller _) = ⊥
 IsFiltered (query.Analysis _) = ⊥
+IsFiltered (query.Par _) = ⊥
 IsFiltered (query.Play _) = ⊥
 IsFiltered (query.Costs _) = ⊥
 IsFiltered (query.Reason _) = ⊥

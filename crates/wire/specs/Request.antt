@@ -70,18 +70,18 @@ abbrev pub a_query : Option (List ℕ) → ℕ → Query → Request
 a_query user version query = record { user = user; body = body.OfUser (wanting.Query query version) }
 
 -- the query of a word, its user and its version
-unfoldable pub query_of : Source → List ℕ → Data → Option Request
-query_of source word d =
-    let whose = said_user source in
+unfoldable pub query_of : Origin → List ℕ → Data → Option Request
+query_of origin word d =
+    let whose = said_user origin.source in
     let name = whose.value (get whose.name d) in
     let version = since.value (get since.name d) in
-    applied (applied (applied (Some a_query) name) version) (query_called word d)
+    applied (applied (applied (Some a_query) name) version) (query_called origin.edition word d)
 
 -- what is asked for has to be a text; one that names no query comes before all that is wrong elsewhere
-abbrev pub query_by : Source → Option (List ℕ) → Data → Result Request RequestFault
-query_by source None d = Err BadField
-query_by source (Some word) d =
-    if is_word_of queries word then wanted (query_of source word d) else Err UnknownRequest
+abbrev pub query_by : Origin → Option (List ℕ) → Data → Result Request RequestFault
+query_by origin None d = Err BadField
+query_by origin (Some word) d =
+    if is_word_of (queries origin.edition) word then wanted (query_of origin word d) else Err UnknownRequest
 
 -- ---- batches
 
@@ -120,7 +120,7 @@ greeting_by Connection d = wanted (formed [] greeting d)
 
 -- exactly one of `ask`, `do`, `audit` and `hello` is there
 abbrev pub one_of : Origin → Option Data → Option Data → Option Data → Option Data → Data → Result Request RequestFault
-one_of origin (Some ask) None None None d = query_by origin.source (as_str ask) d
+one_of origin (Some ask) None None None d = query_by origin (as_str ask) d
 one_of origin None (Some list) None None d = batch_by origin (as_array list) d
 one_of origin None None (Some rows) None d = wanted (audit_of origin.source rows d)
 one_of origin None None None (Some name) d = greeting_by origin.source d

@@ -18,7 +18,7 @@ pub enum ConnectionFault {
     OutOfMemory,
 }
 
-/// As it is called here.
+/// The variant's name.
 impl fmt::Display for ConnectionFault {
     fn fmt<W: fmt::Write>(&self, f: &mut fmt::Formatter<W>) -> fmt::Result {
         fmt::Debug::fmt(self, f)

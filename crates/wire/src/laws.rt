@@ -57,7 +57,7 @@ pub fn queries_by_their_members()
     ensures { (origin : Origin) (bytes : List ℕ) (d : Data) (user : Option (List ℕ)) (query : Query) (since : ℕ) →
         IsMessage bytes d →
         (meaning origin bytes ≡ Ok (record { user = user; body = body.OfUser (wanting.Query query since) }))
-        ↔ IsQuery origin.source d user query since }
+        ↔ IsQuery origin d user query since }
 {}
 
 /// An object is a batch of commands exactly where its members are those of the batch.

@@ -5,6 +5,7 @@ ghost use Rattle.serde_json.specs.Find.{get};
 ghost use Rattle.serde_json.specs.View.{view};
 ghost use Rattle.json_fields.specs.Reading.{wanted, Gives};
 ghost use Rattle.json_fields.specs.declared.request_fault.RequestFault.TheVariants.{OutOfMemory};
+ghost use Rattle.session_roles.specs.declared.edition.Edition.TheVariants.{First};
 ghost use Rattle.wire.specs.List.{filter, from, limit};
 ghost use Rattle.wire.specs.Query.{query_called, IsFiltered};
 
@@ -56,8 +57,8 @@ fn filter_of(alloc: Global, value: &Value) -> Result<Option<Filter>, RequestFaul
 }
 
 pub(crate) fn list_query(alloc: Global, value: &Value) -> Result<Query, RequestFault>
-    ensures query { Gives result (wanted (query_called (codes "list") (view value.now))) }
-    ensures memory { result ≡ Err OutOfMemory → IsSomeAnd (query_called (codes "list") (view value.now)) IsFiltered }
+    ensures query { Gives result (wanted (query_called First (codes "list") (view value.now))) }
+    ensures memory { result ≡ Err OutOfMemory → IsSomeAnd (query_called First (codes "list") (view value.now)) IsFiltered }
 {
     if !has_only(value, &["ask", "as", "since", "filter", "from", "limit"]) {
         return Err(RequestFault::BadField);

@@ -32,13 +32,13 @@ fn query_of(
     alloc: Global,
     word: &str,
     value: &Value,
-    source: Source,
+    origin: Origin,
 ) -> Result<Request, RequestFault>
-    ensures { Gives result (wanted (query_of source word.now (view value.now))) }
+    ensures { Gives result (wanted (query_of origin word.now (view value.now))) }
 {
-    let user = said_user(value, source)?;
+    let user = said_user(value, origin.source)?;
     let since = read_since(value)?;
-    let query = query_called(alloc, word, value)?;
+    let query = query_called(alloc, word, value, origin.edition)?;
     let body = RequestBody::OfUser(UserRequest::Query { query, since });
     Ok(Request { user, body })
 }
@@ -47,12 +47,12 @@ fn query_by(
     alloc: Global,
     ask: &Value,
     value: &Value,
-    source: Source,
+    origin: Origin,
 ) -> Result<Request, RequestFault>
-    ensures { Gives result (query_by source (as_str (view ask.now)) (view value.now)) }
+    ensures { Gives result (query_by origin (as_str (view ask.now)) (view value.now)) }
 {
     match ask.as_str() {
-        Some(word) if is_query_word(word) => query_of(alloc, word, value, source),
+        Some(word) if is_query_word(word, origin.edition) => query_of(alloc, word, value, origin),
         Some(_) => Err(RequestFault::UnknownRequest),
         None => Err(RequestFault::BadField),
     }
@@ -116,7 +116,7 @@ fn request_of(alloc: Global, value: &Value, origin: Origin) -> Result<Request, R
         value.get("hello"),
     );
     match members {
-        (Some(ask), None, None, None) => query_by(alloc, ask, value, origin.source),
+        (Some(ask), None, None, None) => query_by(alloc, ask, value, origin),
         (None, Some(list), None, None) => batch_by(alloc, list, value, origin),
         (None, None, Some(rows), None) => audit_of(rows, value, origin.source),
         (None, None, None, Some(_)) => greeting_by(alloc, value, origin.source),

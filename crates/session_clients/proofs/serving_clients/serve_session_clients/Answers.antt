@@ -8,9 +8,9 @@ returns-clause-opening g c =
     c.into_keeper.ensures.opening
     ∙ (transcribed g.K.Keeper.others g.K.Keeper.no_entry g.K.Keeper.not_kept (g.K.Keeper.opening c.args.keeper)
     (g.K.Keeper.own_entries c.args.keeper) g.L.Stream.Read.remaining g.L.Stream.Write.contents
-    (λ server. server.connection) c.args.clients c.new-server.result c.serve_clients-after.result
+    (λ server. server.connection) c.args.clients c.new-server.result c.serve_clients.new.server
     c.new-server.ensures.opening (c.new-server.ensures.journal ∙ c.requires) c.new-server.ensures.own
-    c.new-server.ensures.user c.serve_clients-after.ensures).1
+    c.new-server.ensures.user c.serve_clients.ensures).1
 
 pub returns-clause-served : goal.returns-clause-served
 returns-clause-served g c =
@@ -22,10 +22,10 @@ returns-clause-served g c =
     (subst
     (λ journal. AreServed g.L.Stream.Read.remaining g.L.Stream.Write.contents g.K.Keeper.others g.K.Keeper.no_entry
     g.K.Keeper.not_kept (g.K.Keeper.opening c.args.keeper) (g.K.Keeper.own_entries c.args.keeper) c.args.clients
-    journal c.serve_clients-after.result.connection.own_entries)
+    journal c.serve_clients.new.server.connection.own_entries)
     (sym c.into_keeper.ensures.journal)
     (transcribed g.K.Keeper.others g.K.Keeper.no_entry g.K.Keeper.not_kept (g.K.Keeper.opening c.args.keeper)
     (g.K.Keeper.own_entries c.args.keeper) g.L.Stream.Read.remaining g.L.Stream.Write.contents
-    (λ server. server.connection) c.args.clients c.new-server.result c.serve_clients-after.result
+    (λ server. server.connection) c.args.clients c.new-server.result c.serve_clients.new.server
     c.new-server.ensures.opening (c.new-server.ensures.journal ∙ c.requires) c.new-server.ensures.own
-    c.new-server.ensures.user c.serve_clients-after.ensures).0)
+    c.new-server.ensures.user c.serve_clients.ensures).0)

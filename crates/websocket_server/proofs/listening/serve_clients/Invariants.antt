@@ -8,6 +8,6 @@ invariant-loop g l = record {
   within : l.counter ≤ l.clients;
   served :
       ServesMany g.L.Stream.Read.remaining g.L.Stream.Write.contents g.A.MessageServer.answers
-      g.A.MessageServer.binary_text g.A.MessageServer.memory_text g.A.MessageServer.leaves l.counter l.fn.server
+      g.A.MessageServer.binary_text g.A.MessageServer.memory_text g.A.MessageServer.nobody l.counter l.fn.server
       l.server;
 }

@@ -1,0 +1,43 @@
+use Rattle.std.proofs.Common.{◌≡◌, ◌∙◌, ◌+◌, refl, sym, ap, List, ◌++◌, take, drop}
+use Rattle.session_commands.specs.declared.entry.Entry.{Entry}
+use Rattle.history.specs.Prefixes.{entries_of}
+use Rattle.kept_entries.specs.KeptRows.{lists_in}
+use Rattle.kept_sessions.specs.Audited.{lines_from}
+use Rattle.kept_sessions.proofs.LineLemmas.{entered_all, entered_more, no_lines}
+use Rattle.kept_sessions.proofs.NotToldLemmas.{not_told_inside}
+use Rattle.kept_sessions.proofs.auditing.audit_of_publications.Goals as goal
+
+pub loop-publication-init : goal.loop-publication-init
+loop-publication-init c = record {
+  opening = refl;
+  entered = c.requires;
+  lines = c.new-text.ensures.bytes ∙ sym no_lines ∙ ap (lines_from 1) (sym c.requires);
+}
+
+pub loop-publication-preserved : goal.loop-publication-preserved
+loop-publication-preserved c =
+    let publications = c.args.publications.now in
+    let i = c.loop-publication.publication-index in
+    let before = entries_of (lists_in (take i publications)) in
+    record {
+      opening = c.tell_all.ensures.opening ∙ c.loop-publication.invariant.opening;
+      entered =
+          c.in-Ok.ensures.entered
+          ∙ ap (λ (l : List Entry). l ++ c.as_slice.result.now) c.loop-publication.invariant.entered
+          ∙ ap (λ (l : List Entry). before ++ l) c.as_slice.ensures.value
+          ∙ sym (entered_more publications i c.publication-item.result c.loop-publication-test.true c.publication-item.is);
+      lines = c.in-Ok.ensures.lines;
+    }
+
+pub returns-in-Err-clause-fault : goal.returns-in-Err-clause-fault
+returns-in-Err-clause-fault c =
+    let publications = c.args.publications.now in
+    let i = c.loop-publication.publication-index in
+    let one = c.publication-item.result in
+    let opening = c.args.book.opening in
+    let before = entries_of (lists_in (take i publications)) in
+    not_told_inside opening (before ++ one.items) (entries_of (lists_in (drop (i + 1) publications)))
+    (entries_of (lists_in publications)) c.in-Err.fault
+    (entered_all publications i one c.loop-publication-test.true c.publication-item.is)
+    (rw (c.loop-publication.invariant.opening, c.loop-publication.invariant.entered, c.as_slice.ensures.value)
+    at c.in-Err.ensures.fault)

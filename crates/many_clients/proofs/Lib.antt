@@ -1,0 +1,3 @@
+pub mod FollowingLemmas
+pub mod HallLemmas
+pub mod TurnLemmas

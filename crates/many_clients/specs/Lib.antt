@@ -1,0 +1,3 @@
+pub mod Talker
+pub mod Turns
+pub mod Hall

@@ -1,0 +1,3 @@
+pub mod Hundredths
+pub mod Markup
+pub mod Written
