@@ -79,6 +79,7 @@ LONG = (
     (PYTHON, ("tests/memory/refuse_connection_growths.py", STORED_RUNS)),
     (PYTHON, ("tests/memory/refuse_serving_growths.py", SERVER)),
     (PYTHON, ("tests/drivers/hold_ups.py", SERVER)),
+    (PYTHON, ("tests/drivers/jobs_in_turn.py", SERVER)),
     (PYTHON, ("tests/drivers/conformance.py", SERVER)),
     (PYTHON, ("tests/drivers/failing_calls.py", SERVER)),
     (PYTHON, ("tests/journals/journal_starts.py", SERVER)),

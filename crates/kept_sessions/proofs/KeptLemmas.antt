@@ -1,10 +1,13 @@
 -- A session with its journal, once that is read.
-use Rattle.std.proofs.Common.{◌≡◌, sym, subst, List}
+use Rattle.std.proofs.Common.{◌≡◌, sym, subst, ℕ, List, []}
 use Rattle.sqlite.specs.Order.{Row}
 use Rattle.sqlite.specs.Recovery.{Image}
 use Rattle.sqlite.specs.State.{State, HasCleanDisk}
 use Rattle.journal_store.specs.Tables.{RowBytes}
 use Rattle.journal_store.specs.Restart.{IsKeptAt, IsTakenUp}
+use Rattle.session_state.specs.SessionState.{SessionState}
+use Rattle.session_commands.specs.declared.entry.Entry.{Entry}
+use Rattle.kept_sessions.specs.Kept.{IsKeptSession}
 
 -- what is said of a connection and its rows is said of those that are the same
 pub kept_as : (image : Image) (session : List Row) (found rows : List RowBytes) (s t : State) → t ≡ s → found ≡ rows
@@ -21,3 +24,10 @@ taken_as image session same_session found rows s t texts is same taken clean =
     subst (λ rows_of_session. IsTakenUp image rows_of_session rows t) texts
     (subst (λ r. IsTakenUp image session r t) same
     (subst (λ u. IsTakenUp image session found u) (sym is) (taken (subst HasCleanDisk is clean))))
+
+-- in a session that two texts open nothing is entered
+pub nothing_entered : (image : Image) (opening : SessionState) (entered : List Entry) (budget : ℕ)
+    (publications : List (List Entry)) (s : State) → IsKeptSession image opening entered budget publications s
+    → IsKeptSession image opening [] budget publications s
+nothing_entered image opening entered budget publications s kept =
+    subst (λ e. IsKeptSession image opening e budget publications s) kept.session.empty kept

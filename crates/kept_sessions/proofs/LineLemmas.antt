@@ -1,28 +1,5 @@
 -- The lines of an audit, one after another.
-use Rattle.std.proofs.Common.{
-  ◌≡◌,
-  ◌∙◌,
-  refl,
-  sym,
-  ap,
-  ℕ,
-  ◌+◌,
-  List,
-  [],
-  ◌∷◌,
-  ◌++◌,
-  length,
-  append-nil,
-  append_assoc,
-  arith,
-  ◌<◌,
-  take,
-  drop,
-  get_or,
-  map,
-  Vec,
-  Global,
-}
+use Rattle.std.proofs.Common.{◌≡◌, ◌∙◌, refl, sym, ap, ℕ, ◌+◌, List, [], ◌∷◌, ◌++◌, length, append-nil, append_assoc, arith, ◌<◌, take, drop, get_or, Vec, Global}
 use Rattle.std.proofs.lemmas.List.{take_more, take-append-drop, map-append}
 use Rattle.history.specs.Prefixes.{entries_of}
 use Rattle.kept_entries.specs.KeptRows.{lists_in}

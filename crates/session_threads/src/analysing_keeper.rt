@@ -23,13 +23,13 @@ use user_names::{Digest, Name};
 #[derive(Drop)]
 pub(crate) struct AnalysingKeeper<'a, N: Server, K: EntryStore> {
     keeper: DeskKeeper<'a, N, K>,
-    queue: Option<JobQueue<'a>>,
+    queue: Option<&'a JobQueue>,
 }
 
 impl<'a, N: Server, K: EntryStore> AnalysingKeeper<'a, N, K> {
     pub(crate) fn new(
         keeper: DeskKeeper<'a, N, K>,
-        queue: Option<JobQueue<'a>>,
+        queue: Option<&'a JobQueue>,
     ) -> AnalysingKeeper<'a, N, K>
         ensures { result.keeper.display ≡ keeper.entry.display }
     {
@@ -38,7 +38,7 @@ impl<'a, N: Server, K: EntryStore> AnalysingKeeper<'a, N, K> {
 
     // Queues what is left to find of each result that was accepted.
     fn analyse<R: Wait>(&self, rt: &R, batch: &[Command], answers: &[Answer]) {
-        if let Some(queue) = &self.queue {
+        if let Some(queue) = self.queue {
             for (command, answer) in batch.iter().zip(answers.iter()) {
                 self.analyse_one(rt, queue, command, answer);
             }
@@ -46,13 +46,7 @@ impl<'a, N: Server, K: EntryStore> AnalysingKeeper<'a, N, K> {
     }
 
     // Queues what is left to find of a result that a command made, if it was accepted.
-    fn analyse_one<R: Wait>(
-        &self,
-        rt: &R,
-        queue: &JobQueue<'_>,
-        command: &Command,
-        answer: &Answer,
-    ) {
+    fn analyse_one<R: Wait>(&self, rt: &R, queue: &JobQueue, command: &Command, answer: &Answer) {
         if let Answer::Refused(_) = answer {
             return;
         }
@@ -129,9 +123,19 @@ fn counted_cell(command: &Command) -> Option<Cell> {
     match command {
         Command::Confirm { cell, .. } | Command::Correct { cell, .. } => Some(*cell),
         Command::Enter { .. } | Command::Rule { .. } | Command::Void { .. } => None,
-        Command::Hold { .. } | Command::Release { .. } | Command::Seat { .. } | Command::Unseat { .. } => None,
-        Command::NextRound | Command::Close | Command::Finalise | Command::Embargo | Command::Lift => None,
-        Command::AddUser { .. } | Command::Rename { .. } | Command::Assign { .. } | Command::Deassign { .. } => None,
+        Command::Hold { .. }
+        | Command::Release { .. }
+        | Command::Seat { .. }
+        | Command::Unseat { .. } => None,
+        Command::NextRound
+        | Command::Close
+        | Command::Finalise
+        | Command::Embargo
+        | Command::Lift => None,
+        Command::AddUser { .. }
+        | Command::Rename { .. }
+        | Command::Assign { .. }
+        | Command::Deassign { .. } => None,
         Command::AddInheritance { .. } | Command::DeleteInheritance { .. } => None,
         Command::Solved { .. } | Command::Analysed { .. } => None,
     }

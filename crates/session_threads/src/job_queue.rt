@@ -6,61 +6,86 @@ use movement::Cell;
 use session_book::Book;
 use session_state::State;
 use solver_pool::{Job, Pool, Work};
-use std::alloc::AllocError;
+use std::alloc::Global;
 use std::sync::{Mutex, Wait};
 
-/// Numbers jobs in a pool that threads share, and sends them to the workers.
+/// Numbers jobs in a pool, and gives them to the workers: what the cards of a play cost at once, and of the tables only so many that
+/// each worker has work. So no costs wait for more than a table's time, however many boards are left.
 #[derive(Drop)]
-pub(crate) struct JobQueue<'a> {
-    pool: &'a Mutex<Pool>,
-    jobs: Sender<Job>,
+pub(crate) struct JobQueue {
+    pool: Mutex<Pool>,
+    waiting: Mutex<Waiting>,
+    workers: u8,
 }
 
-impl<'a> JobQueue<'a> {
-    pub(crate) fn new(pool: &'a Mutex<Pool>, jobs: Sender<Job>) -> JobQueue<'a> {
-        JobQueue { pool, jobs }
-    }
+// What is left to give out, and the way to the workers.
+#[derive(Drop)]
+struct Waiting {
+    tables: Vec<WantedTable>,
+    // How many jobs were given out that no worker is done with.
+    given: usize,
+    // None once no more jobs can come.
+    jobs: Option<Sender<Job>>,
+}
 
-    /// Another way to the same workers. As long as there is one, more jobs can come.
-    pub(crate) fn another(&self) -> Result<JobQueue<'a>, AllocError> {
-        let jobs = self.jobs.clone()?;
-        Ok(JobQueue {
-            pool: self.pool,
-            jobs,
-        })
+// The table of a board, which nobody was asked for yet.
+#[derive(Clone, Copy)]
+struct WantedTable {
+    work: Work,
+    // After how many rounds its board is played next.
+    rounds: u8,
+}
+
+impl JobQueue {
+    /// The way to so many workers, who receive what is sent by `jobs`.
+    pub(crate) fn new(alloc: Global, pool: Pool, jobs: Sender<Job>, workers: u8) -> JobQueue {
+        let waiting = Waiting {
+            tables: Vec::new(alloc),
+            given: 0,
+            jobs: Some(jobs),
+        };
+        JobQueue {
+            pool: Mutex::new(pool),
+            waiting: Mutex::new(waiting),
+            workers,
+        }
     }
 
     /// The pool that numbers the jobs.
-    pub(crate) fn pool(&self) -> &'a Mutex<Pool> {
-        self.pool
+    pub(crate) fn pool(&self) -> &Mutex<Pool> {
+        &self.pool
     }
 
     /// Gives work to the workers. Where it can't be numbered or sent, it is dropped.
     pub(crate) fn add<R: Wait>(&self, rt: &R, work: Work) {
-        if let Some(job) = number(rt, self.pool, work) {
-            let _unsent = self.jobs.send(rt, job);
+        if let Some(job) = number(rt, &self.pool, work) {
+            let mut waiting = self.waiting.lock(rt);
+            waiting.give(rt, job);
         }
     }
 
-    /// Gives the workers what is left to find in a session: each board's table, in the order of the boards, and then what
-    /// the cards cost that were played at a cell.
-    pub fn add_left<R: Wait>(&self, rt: &R, book: &Book) {
+    /// Gives the workers what is left to find in a session: what the cards cost that were played at a cell, and each board's
+    /// table, those first whose board is played next.
+    pub(crate) fn add_left<R: Wait>(&self, rt: &R, book: &Book) {
         let state = book.state();
-        self.add_tables(rt, state);
         for table in 0..state.public().movement.tables() {
             self.add_costs(rt, state, table + 1);
         }
+        self.want_tables(rt, state);
+        self.give_tables(rt);
     }
 
-    // Gives the workers the tables that are left to find.
-    fn add_tables<R: Wait>(&self, rt: &R, state: &State) {
-        for before in 0..state.public().movement.boards() {
-            let board = before + 1;
-            if state.table(board).is_none() {
-                let deal = state.deal(board);
-                self.add(rt, Work::Table { board, deal });
-            }
-        }
+    /// Hears that a worker is done with a job, and gives out tables until each worker has work.
+    pub(crate) fn done<R: Wait>(&self, rt: &R) {
+        self.note_done(rt);
+        self.give_tables(rt);
+    }
+
+    /// Drops what is left to give out, and closes the way to the workers.
+    pub(crate) fn close<R: Wait>(&self, rt: &R) {
+        let mut waiting = self.waiting.lock(rt);
+        waiting.tables.clear();
+        waiting.jobs = None;
     }
 
     // Gives the workers the costs that are left to find at a table.
@@ -75,6 +100,87 @@ impl<'a> JobQueue<'a> {
             }
         }
     }
+
+    // Notes the tables that are left to find. One for which there is no memory is dropped.
+    fn want_tables<R: Wait>(&self, rt: &R, state: &State) {
+        let mut waiting = self.waiting.lock(rt);
+        for before in 0..state.public().movement.boards() {
+            let board = before + 1;
+            if state.table(board).is_none() {
+                let deal = state.deal(board);
+                let work = Work::Table { board, deal };
+                let rounds = rounds_before(state, board);
+                let _dropped = waiting.tables.push(WantedTable { work, rounds });
+            }
+        }
+    }
+
+    // Gives out tables until each worker has work.
+    fn give_tables<R: Wait>(&self, rt: &R) {
+        for _ in 0..self.workers {
+            let Some(work) = self.take_table(rt) else {
+                return;
+            };
+            self.add(rt, work);
+        }
+    }
+
+    // The table that is wanted first, where a worker has no work.
+    fn take_table<R: Wait>(&self, rt: &R) -> Option<Work> {
+        let mut waiting = self.waiting.lock(rt);
+        if waiting.given >= self.workers as usize {
+            return None;
+        }
+        let place = first_wanted(waiting.tables.as_slice());
+        if place >= waiting.tables.len() {
+            return None;
+        }
+        Some(waiting.tables.remove(place).work)
+    }
+
+    fn note_done<R: Wait>(&self, rt: &R) {
+        let mut waiting = self.waiting.lock(rt);
+        waiting.given = waiting.given.saturating_sub(1);
+    }
+}
+
+impl Waiting {
+    // Sends a job, where the way is open and there is memory.
+    fn give<R: Wait>(&mut self, rt: &R, job: Job) {
+        if let Some(jobs) = &self.jobs
+            && jobs.send(rt, job).is_ok()
+        {
+            self.given = self.given.saturating_add(1);
+        }
+    }
+}
+
+// The place of the first table whose board is played soonest; 0 where there is none.
+fn first_wanted(tables: &[WantedTable]) -> usize {
+    let mut first = 0;
+    let mut fewest = u8::MAX;
+    for (place, table) in tables.iter().enumerate() {
+        if table.rounds < fewest {
+            first = place;
+            fewest = table.rounds;
+        }
+    }
+    first
+}
+
+// After how many rounds from the session's own on a board is played next: all that there are, where it isn't.
+fn rounds_before(state: &State, board: u8) -> u8 {
+    let public = state.public();
+    let mut fewest = public.movement.rounds();
+    for before in 0..public.movement.tables() {
+        if let Some(cell) = public.movement.cell(before + 1, board) {
+            let round = public.movement.round_of(cell);
+            if public.round <= round {
+                fewest = fewest.min(round - public.round);
+            }
+        }
+    }
+    fewest
 }
 
 // The job of some work, if the pool has room for one more.

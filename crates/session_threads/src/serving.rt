@@ -23,8 +23,8 @@ use std::alloc::{AllocError, Global};
 use std::fmt;
 use std::marker::Brand;
 use std::net::{Net, OpenListener};
+use std::sync::Wait;
 use std::sync::ledger::Blank;
-use std::sync::{Mutex, Wait};
 use std::thread::Threads;
 use std::time::Clock;
 use thiserror::Error;
@@ -129,8 +129,7 @@ where
         return Err(ServingError::OutOfMemory);
     };
     let (publisher, displays) = open_views::<N, R>(rt, alloc, &book, history, plan.displays)?;
-    let pool = Mutex::new(pool);
-    let queue = JobQueue::new(&pool, to_workers);
+    let queue = JobQueue::new(alloc, pool, to_workers, plan.workers);
     let (shared, places) = share::<N, R, K>(
         rt,
         alloc,
@@ -148,7 +147,7 @@ where
         &shared,
         places,
         displays,
-        queue,
+        &queue,
         &jobs,
         from_workers,
         results,
@@ -194,7 +193,7 @@ fn share<N: Server, R: Wait, K: EntryStore>(
     store: K,
     tally: Blank,
     publications: Vec<Vec<Entry>>,
-    queue: &JobQueue<'_>,
+    queue: &JobQueue,
     workers: u8,
 ) -> Result<(Shared<N, K>, DeskPlaces<N>), ServingError>
     requires journal { book.journal ≡ [] }
@@ -238,7 +237,7 @@ fn serve_shared<
     shared: &Shared<N, K>,
     places: DeskPlaces<N>,
     displays: Vec<Display<N>>,
-    queue: JobQueue<'_>,
+    queue: &JobQueue,
     jobs: &Receiver<Job>,
     from_workers: Sender<Done>,
     results: Receiver<Done>,
@@ -252,14 +251,14 @@ where
     let Ok(listener) = listen(rt, plan.port) else {
         return Err(ServingError::NotListening);
     };
-    let Ok(workers) = solvers(alloc, jobs, from_workers, plan) else {
+    let Ok(workers) = solvers(alloc, queue, jobs, from_workers, plan) else {
         return Err(ServingError::OutOfMemory);
     };
     let mut places = places;
     let Some(collecting) = places.take() else {
         return Err(ServingError::NoPlace);
     };
-    let serving = servers(alloc, &listener, shared, places, displays, &queue, plan)?;
+    let serving = servers(alloc, &listener, shared, places, displays, queue, plan)?;
     let collector = Collect {
         desk: shared.desk(collecting),
         pool: queue.pool(),
@@ -275,6 +274,7 @@ where
 // What the workers do.
 fn solvers<'a>(
     alloc: Global,
+    queue: &'a JobQueue,
     jobs: &'a Receiver<Job>,
     from_workers: Sender<Done>,
     plan: ServingPlan<'_>,
@@ -286,6 +286,7 @@ fn solvers<'a>(
         let results = from_workers.clone()?;
         solvers.push(Solve {
             alloc,
+            queue,
             jobs,
             results,
             budget: plan.budget,
@@ -301,7 +302,7 @@ fn servers<'a, N: Server, K: EntryStore, L: OpenListener>(
     shared: &'a Shared<N, K>,
     places: DeskPlaces<N>,
     displays: Vec<Display<N>>,
-    queue: &JobQueue<'a>,
+    queue: &'a JobQueue,
     plan: ServingPlan<'a>,
 ) -> Result<Vec<ServeClients<'a, N, K, L>>, ServingError>
     requires { All (λ display. display ≡ []) displays.items }
@@ -311,9 +312,6 @@ fn servers<'a, N: Server, K: EntryStore, L: OpenListener>(
     };
     let mut places = places;
     for display in displays {
-        let Ok(queue) = queue_of(queue, plan.workers) else {
-            return Err(ServingError::OutOfMemory);
-        };
         let Some(place) = places.take() else {
             return Err(ServingError::NoPlace);
         };
@@ -322,7 +320,7 @@ fn servers<'a, N: Server, K: EntryStore, L: OpenListener>(
             listener,
             desk: shared.desk(place),
             display,
-            queue,
+            queue: queue_of(queue, plan.workers),
             connections: plan.connections,
             terms: plan.terms,
         };
@@ -333,11 +331,7 @@ fn servers<'a, N: Server, K: EntryStore, L: OpenListener>(
     Ok(servers)
 }
 
-// One more way to the workers, if there are any.
-fn queue_of<'a>(queue: &JobQueue<'a>, workers: u8) -> Result<Option<JobQueue<'a>>, AllocError> {
-    if workers == 0 {
-        return Ok(None);
-    }
-    let another = queue.another()?;
-    Ok(Some(another))
+// The way to the workers, if there are any.
+fn queue_of(queue: &JobQueue, workers: u8) -> Option<&JobQueue> {
+    if workers == 0 { None } else { Some(queue) }
 }

@@ -11,7 +11,7 @@ use displays::{Display, Server};
 use entry_store::EntryStore;
 use service_threads::Task;
 use session_clients::{serve_session_clients, serve_session_forever};
-use solver_pool::{Done, Job, OpenGate, Pool, run_worker};
+use solver_pool::{Done, Gate, Job, Pool, run_worker};
 use std::alloc::Global;
 use std::io::{Read, Write};
 use std::net::{OpenListener, OpenStream};
@@ -26,7 +26,7 @@ pub(crate) struct ServeClients<'a, N: Server, K: EntryStore, L: OpenListener> {
     pub(crate) listener: &'a L,
     pub(crate) desk: Desk<'a, N, K>,
     pub(crate) display: Display<N>,
-    pub(crate) queue: Option<JobQueue<'a>>,
+    pub(crate) queue: Option<&'a JobQueue>,
     pub(crate) connections: u32,
     pub(crate) terms: ClientTerms<'a>,
     // The display has seen nothing yet.
@@ -57,10 +57,11 @@ where
     }
 }
 
-/// Solves the jobs that come, each with so many visits.
+/// Solves the jobs that come, each with so many visits, and has tables given out as it is done with them.
 #[derive(Drop)]
 pub(crate) struct Solve<'a> {
     pub(crate) alloc: Global,
+    pub(crate) queue: &'a JobQueue,
     pub(crate) jobs: &'a Receiver<Job>,
     pub(crate) results: Sender<Done>,
     pub(crate) budget: u64,
@@ -70,11 +71,27 @@ impl<'a> Task for Solve<'a> {
     fn run<R: Wait + Clock>(self, rt: &R) {
         let Solve {
             alloc,
+            queue,
             jobs,
             results,
             budget,
         } = self;
-        run_worker(rt, alloc, &OpenGate, jobs, &results, budget);
+        run_worker(rt, alloc, &QueueGate { rt, queue }, jobs, &results, budget);
+    }
+}
+
+/// Lets each job pass, and tells the queue that it is done.
+#[derive(Clone, Copy)]
+struct QueueGate<'a, R: Wait> {
+    rt: &'a R,
+    queue: &'a JobQueue,
+}
+
+impl<R: Wait> Gate for QueueGate<'_, R> {
+    fn pass(&self, _job: u32) {}
+
+    fn done(&self, _job: u32) {
+        self.queue.done(self.rt);
     }
 }
 
@@ -104,17 +121,17 @@ impl<'a, N: Server, K: EntryStore> Task for Collect<'a, N, K> {
     }
 }
 
-/// Drops the jobs that still wait, and closes the way to the workers: nobody is left to see what they would find.
+/// Closes the way to the workers, and drops the jobs that still wait: nobody is left to see what they would find.
 #[derive(Drop)]
 pub(crate) struct CloseQueue<'a> {
     pub(crate) jobs: &'a Receiver<Job>,
-    pub(crate) queue: JobQueue<'a>,
+    pub(crate) queue: &'a JobQueue,
 }
 
 impl<'a> Task for CloseQueue<'a> {
     fn run<R: Wait + Clock>(self, rt: &R) {
         let CloseQueue { jobs, queue } = self;
+        queue.close(rt);
         for _job in jobs.try_iter(rt) {}
-        drop(queue);
     }
 }

@@ -1,4 +1,4 @@
-use Rattle.std.proofs.Common.{◌≡◌, ◌∙◌, ◌+◌, refl, sym, ap, List, ◌++◌, take, drop}
+use Rattle.std.proofs.Common.{◌∙◌, ◌+◌, refl, sym, ap, List, ◌++◌, take, drop}
 use Rattle.session_commands.specs.declared.entry.Entry.{Entry}
 use Rattle.history.specs.Prefixes.{entries_of}
 use Rattle.kept_entries.specs.KeptRows.{lists_in}
@@ -22,11 +22,11 @@ loop-publication-preserved c =
     record {
       opening = c.tell_all.ensures.opening ∙ c.loop-publication.invariant.opening;
       entered =
-          c.in-Ok.ensures.entered
+          c.in_default.ensures.entered
           ∙ ap (λ (l : List Entry). l ++ c.as_slice.result.now) c.loop-publication.invariant.entered
           ∙ ap (λ (l : List Entry). before ++ l) c.as_slice.ensures.value
           ∙ sym (entered_more publications i c.publication-item.result c.loop-publication-test.true c.publication-item.is);
-      lines = c.in-Ok.ensures.lines;
+      lines = c.in_default.ensures.lines;
     }
 
 pub returns-in-Err-clause-fault : goal.returns-in-Err-clause-fault

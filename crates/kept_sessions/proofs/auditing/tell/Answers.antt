@@ -1,4 +1,4 @@
-use Rattle.std.proofs.Common.{◌≡◌, ◌∙◌, sym, ap, ℕ, ◌+◌, List, [], ◌∷◌, ◌++◌, length, arith, rules}
+use Rattle.std.proofs.Common.{◌≡◌, ◌∙◌, sym, ap, ℕ, ◌+◌, List, [], ◌∷◌, ◌++◌, length, arith}
 use Rattle.kept_sessions.specs.Audited.{line_of_row, lines_from}
 use Rattle.kept_sessions.proofs.LineLemmas.{lines_from_more}
 use Rattle.kept_sessions.proofs.NotToldLemmas.{fault_here}
@@ -19,6 +19,7 @@ returns-in-Ok-add_line c =
           ∙ sym (lines_from_more 1 journal entry number next)
           ∙ ap (lines_from 1) (sym entered);
       entered = entered;
+      fault = tt;
       opening = rw c.check.ensures.same at c.commit.ensures.opening;
     }
 
