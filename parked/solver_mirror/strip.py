@@ -71,5 +71,5 @@ for c, mods in CR.items():
             what = re.sub(r"\b(NotACard|NotADeal|NotAPosition|NotLegal)\b", r"\1", what)
             body += f"pub use {m}::{what};\n"
     open(f"{out}/src/{c}/mod.rs", "w").write(body)
-main = open("/work/brief/solver_mirror/main.rs").read()
+main = open(os.path.join(os.path.dirname(os.path.abspath(__file__)), "main.rs")).read()
 open(f"{out}/src/main.rs", "w").write(main)

@@ -77,7 +77,7 @@ def first_trick(deals, board):
 def costs(program, rng):
     """Thirty boards wait for one worker when a result with a play is confirmed."""
     deals = some_deals(rng, 30)
-    session = {"budget": VISITS, "per_set": 10, "rounds": 3, "tables": 3, "users": USERS}
+    session = {"budget": VISITS, "per_set": 6, "rounds": 5, "tables": 5, "users": USERS}
     with Server(program, "--workers", 1, session=session, deals=deals) as server:
         scorer, director = signed_in(server, "k"), signed_in(server, "d")
         accepted(scorer, enter(1, 1, FOUR_SPADES, first_trick(deals, 1)), confirm(1, 1, FOUR_SPADES))

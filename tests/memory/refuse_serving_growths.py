@@ -101,13 +101,14 @@ def answer(stream, message):
 def connection(process, port, messages, before=(), counted=None):
     """What a client is answered, as far as the connection goes; or None where nobody listens any more. Where there are messages
     before those, they must be answered, and then requests for memory begin to count."""
-    for _ in range(1000):
+    for _ in range(10_000):
         if process.poll() is not None:
             return None
         try:
             stream = socket.create_connection(("127.0.0.1", port), timeout=10)
             break
-        except ConnectionRefusedError:
+        except (ConnectionRefusedError, ConnectionResetError):
+            # nobody listens there yet, or the program ended between its listening and this call
             time.sleep(0.002)
     else:
         raise SystemExit("the program neither listens nor ends")
