@@ -5,8 +5,8 @@
 
 It starts the server with the example session, nginx with the configuration of docs/RUNNING.md before it, and a headless Chromium, whose
 devtools slow the network to 150 ms a round trip and 1.6 Mbit/s, and then the processor to a sixth. A load is told from its begin to the
-first picture of the form for signing in, and to when the page could sign in, with nothing kept from before; a tap from the click to the end of the frame that shows its effect, and beside
-it what the page's thread worked for it at full speed, which other programs on the machine hardly change.
+first picture of the form for signing in, and to when the page could sign in, with nothing kept from before; a tap from the click to the end of the frame that shows its effect, of another
+view too to the end of the frame with which all of it is there; and beside it what the page's thread worked for all of it at full speed, which other programs on the machine hardly change.
 What it needs is what tests/browser/page_session.py needs.
 """
 import pathlib
@@ -32,15 +32,20 @@ const told = () => {
     done([asked(painted.startTime), asked(performance.now())]);
 };
 told();"""
-# a frame ends with its painting: a message that is posted in it is heard after that
+# a frame ends with its painting: a message that is posted in it is heard after that; another view is drawn once the page has heard of it
 TAPPED = """const [id, done] = arguments;
-const begun = performance.now();
-document.getElementById(id).click();
-requestAnimationFrame(() => {
+const [begun, hash] = [performance.now(), location.hash];
+const afterFrame = (act) => requestAnimationFrame(() => {
     const heard = new MessageChannel();
-    heard.port1.onmessage = () => done(performance.now() - begun);
+    heard.port1.onmessage = act;
     heard.port2.postMessage(null);
-});"""
+});
+const passed = () => performance.now() - begun;
+const whenWhole = (first) => (document.querySelector("main.begun") ? afterFrame(() => whenWhole(first)) : afterFrame(() => done([first, passed()])));
+const drawn = () => afterFrame(() => whenWhole(passed()));
+document.getElementById(id).click();
+if (location.hash === hash) drawn();
+else addEventListener("hashchange", drawn, { once: true });"""
 TAPS = ("enter-level-4", "enter-strain-H", "enter-by-S", "enter-over-0", "enter-doubled-1", "enter-over--1", "enter-level-3", "enter-strain-N")
 
 
@@ -83,15 +88,20 @@ def worked(driver):
 def measured(driver, what, acts, before=lambda: None):
     """Each act twice over: how long it takes on a slow processor, and what the thread works for it on a fast one."""
     times, works = [], []
-    for slower, found in ((6, times), (1, works)):
+    for slower in (6, 1):
         conditions(driver, FAST_NETWORK, slower)
         for act in acts[slower > 1]:
             before()
             begun = worked(driver)
             took = driver.execute_async_script(TAPPED, act)
-            found.append(took if slower > 1 else worked(driver) - begun)
-    took = f"{statistics.median(times):.0f} ms ({min(times):.0f} to {max(times):.0f})"
-    print(f"{what}: {took}, and {statistics.median(works):.1f} ms of work at full speed", flush=True)
+            if slower > 1:
+                times.append(took)
+            else:
+                works.append(worked(driver) - begun)
+    first, whole = zip(*times)
+    all_of_it = f", all of it after {statistics.median(whole):.0f} ms" if what.startswith("to the view") else ""
+    print(f"{what}: {statistics.median(first):.0f} ms ({min(first):.0f} to {max(first):.0f}){all_of_it}, and {statistics.median(works):.1f} ms of "
+          f"work at full speed ({min(works):.1f} at least)", flush=True)
 
 
 def taps(page, driver):

@@ -2,7 +2,7 @@
 
 import { firstCard, takeCard } from "./card_address.js";
 import { Connection, ConnectionFault } from "./connection.js";
-import { button, element, fragmentOf, patchContent, replaceContent } from "./dom.js";
+import { afterFrame, beginningOf, button, element, fragmentOf, patchContent, replaceContent } from "./dom.js";
 import { Drafts } from "./drafts.js";
 import { newForms } from "./forms.js";
 import { forgetAccount, keepAccount, readAccount } from "./kept_account.js";
@@ -22,6 +22,8 @@ import { footView, headView, isDesk, offlineView, restartView } from "./views/fr
 import { signInView } from "./views/sign_in.js";
 
 const toldBackFor = 15_000;
+// as many elements of a view that is opened fill a phone's window, and are drawn before the others
+const drawnFirst = 150;
 const part = (id) => document.getElementById(id);
 
 function storageOfTab() {
@@ -62,6 +64,7 @@ export class Page {
   #isStale = false;
   #isPressed = false;
   #isFromTop = false;
+  #drawRest = null;
   #store;
 
   /** It goes on with what was typed before it was loaded (begin.js). */
@@ -77,6 +80,7 @@ export class Page {
   start() {
     addEventListener("hashchange", () => this.#routeChanged());
     addEventListener("online", () => this.tryNow());
+    addEventListener("beforeprint", () => this.#drawRest?.());
     document.addEventListener("visibilitychange", () => !document.hidden && this.tryNow());
     part("skip").addEventListener("click", (event) => {
       event.preventDefault();
@@ -346,7 +350,7 @@ export class Page {
 
   #reached() {
     this.heardAt = new Date();
-    patchContent(part("foot"), fragmentOf(footView(this)));
+    if (this.#drawRest === null) this.#drawFoot();
     if (this.#store.isInDoubt) return;
     this.#failures = 0;
     if (!this.offlineFor) return;
@@ -428,14 +432,18 @@ export class Page {
     this.#armed = null;
     this.#openDetails.clear();
     this.notices.putAway();
-    this.drawAnew();
+    // asked before it is drawn, which takes a slow device longer than the answer
     if (this.state.user) this.#poll();
+    this.drawAnew();
   }
 
-  /** What the server answered is drawn at once, but not over an open list of choices, nor under a finger that is down. */
+  /**
+   * What the server answered is drawn at once, but not over an open list of choices, nor under a finger that is down, nor before
+   * the view is there that was opened.
+   */
   #stateChanged() {
     if (this.state.facts?.phase === "Final") forgetAccount(storageOfTab());
-    if (this.#isPressed || document.activeElement?.tagName === "SELECT") this.#isStale = true;
+    if (this.#isPressed || this.#drawRest !== null || document.activeElement?.tagName === "SELECT") this.#isStale = true;
     else if (this.#isFromTop) this.drawAnew();
     else this.draw();
   }
@@ -456,23 +464,25 @@ export class Page {
     this.#drawStrips();
   }
 
-  /** @param {(container: Element, content: DocumentFragment) => void} put how the view that is there becomes the one that is drawn */
-  draw(put = patchContent) {
+  draw() {
     this.#isStale = false;
+    this.#isWhole();
     patchContent(part("top"), fragmentOf(headView(this)));
     const hadFocus = part("content").contains(document.activeElement) && document.activeElement !== part("content");
     const scrollAgain = keepScrolled(part("content"));
     const content = fragmentOf(this.#content());
-    // what was open is open before it is put in, so that who types in it stays there
-    /** @type {NodeListOf<HTMLDetailsElement>} */
-    const parts = content.querySelectorAll("details[id]");
-    for (const details of parts) details.open = this.#openDetails.has(details.id);
-    put(part("content"), content);
+    this.#openDetailsOf(content);
+    patchContent(part("content"), content);
     scrollAgain();
     if (hadFocus && document.activeElement === document.body) part("heading")?.focus({ preventScroll: true });
-    patchContent(part("foot"), fragmentOf(footView(this)));
+    this.#drawFoot();
     this.#drawStrips();
     this.#announce();
+  }
+
+  /** What was open is open before it is put in, so that who types in it stays there. */
+  #openDetailsOf(content) {
+    for (const details of content.querySelectorAll("details[id]")) details.open = this.#openDetails.has(details.id);
   }
 
   /** The view shows something else now: the next time that it is drawn, it is shown from its top. */
@@ -480,12 +490,40 @@ export class Page {
     this.#isFromTop = true;
   }
 
+  /** Draws a view that is opened: what fills a phone's window in one frame, and the rest after it. Nothing asks where anything is between changes. */
   drawAnew() {
     this.#isFromTop = false;
-    this.draw(replaceContent);
+    this.#isStale = false;
+    const { begun, putRest } = beginningOf([this.#content()], drawnFirst);
+    this.#openDetailsOf(begun);
+    patchContent(part("top"), fragmentOf(headView(this)));
+    part("content").classList.add("begun");
+    part("content").replaceChildren(begun);
+    this.#drawFoot();
+    this.#drawStrips();
+    document.title = texts.windowTitle(part("heading")?.textContent ?? "");
     scrollTo(0, 0);
     part("heading")?.focus({ preventScroll: true });
-    document.title = texts.windowTitle(part("heading")?.textContent ?? "");
+    const drawRest = () => {
+      if (this.#drawRest !== drawRest) return;
+      putRest(part("content"));
+      this.#openDetailsOf(part("content"));
+      this.#isWhole();
+      this.#drawFoot();
+      this.#announce();
+      if (this.#isStale) this.#stateChanged();
+    };
+    this.#drawRest = drawRest;
+    afterFrame(drawRest);
+  }
+
+  #isWhole() {
+    this.#drawRest = null;
+    part("content").classList.remove("begun");
+  }
+
+  #drawFoot() {
+    patchContent(part("foot"), fragmentOf(footView(this)));
   }
 
   #content() {
@@ -501,7 +539,7 @@ export class Page {
   }
 
   #drawStrips() {
-    replaceContent(part("offline"), offlineView(this), restartView(this));
+    patchContent(part("offline"), fragmentOf(offlineView(this), restartView(this)));
   }
 
   /** Tells who listens what was denied, when it changes. */

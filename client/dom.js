@@ -1,8 +1,12 @@
 // Elements from values. A text becomes a text node, whatever it holds, so that no name and no reply can become markup.
 
+// in milliseconds
+const longestFrame = 500;
+
 const listeners = { onClick: "click", onInput: "input", onChange: "change", onSubmit: "submit", onToggle: "toggle" };
 
-/** @typedef {Node|string|number|null|undefined|false|any[]} Content what can stand in an element; of a list what is in it */
+/** @typedef {Node|string|number|null|undefined|false|any[]|(() => any)} Content what can stand in an element; of a list what is in it, and of a
+ *  function what it gives */
 /** @typedef {Event & {target: HTMLInputElement}} FieldEvent what happens at a field */
 
 /**
@@ -42,6 +46,7 @@ function listen(made, type, listener) {
 function put(made, child) {
   if (child === null || child === undefined || child === false) return;
   if (Array.isArray(child)) for (const each of child) put(made, each);
+  else if (typeof child === "function") put(made, child());
   else made.append(child instanceof Node ? child : document.createTextNode(String(child)));
 }
 
@@ -107,6 +112,66 @@ function siblingsOf(first) {
 
 // a text has none
 const idOf = (node) => node.id;
+
+/** Into these a cut goes; any other is drawn whole or not at all. */
+const divided = new Set(["SECTION", "DIV", "UL", "TABLE", "TBODY"]);
+
+/**
+ * Makes the first elements of some content, so that they can be drawn before the rest of it.
+ * @param {Content[]} content its parts; one that is a function is made when its turn comes
+ * @param {number} most how many elements are made, or a few more
+ * @returns {{begun: DocumentFragment, putRest: (place: Element) => void}} with what puts the rest behind them, where they stand by then
+ */
+export function beginningOf(content, most) {
+  const begun = document.createDocumentFragment();
+  /** @type {Content[]} */
+  const parts = content.flat(Infinity);
+  while (parts.length > 0 && begun.querySelectorAll("*").length < most) put(begun, parts.shift());
+  const putCut = cutBehind(begun, most);
+  return {
+    begun,
+    putRest: (place) => {
+      putCut(place);
+      put(place, parts);
+    },
+  };
+}
+
+/**
+ * Takes out of new content what stands behind its first elements.
+ * @param {Node} fresh an element or a fragment
+ * @param {number} most how many elements stay, or a few more
+ * @returns {(place: Node) => void} puts the rest where it belongs, in the element in which the others stand by then
+ */
+function cutBehind(fresh, most) {
+  const rest = [];
+  let count = 0;
+  const cut = (container) => {
+    for (let node = firstIn(container); node !== null; node = node.nextSibling) {
+      if (count >= most) {
+        rest.push([container, siblingsOf(node)]);
+        for (const each of siblingsOf(node)) container.removeChild(each);
+        return;
+      }
+      if ("setAttribute" in node) count += 1;
+      if (divided.has(node.nodeName)) cut(node);
+      else if ("setAttribute" in node) count += node.querySelectorAll("*").length;
+    }
+  };
+  cut(fresh);
+  return (place) => rest.forEach(([container, nodes]) => (container === fresh ? place : container).append(...nodes));
+}
+
+/** After the frame that is drawn next; where nobody sees the page, none is. */
+export function afterFrame(act) {
+  let isOver = false;
+  const once = () => {
+    if (!isOver) act();
+    isOver = true;
+  };
+  requestAnimationFrame(() => setTimeout(once, 0));
+  setTimeout(once, longestFrame);
+}
 
 function firstWithoutId(node) {
   return node !== null && !node.id ? node : null;

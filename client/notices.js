@@ -29,6 +29,7 @@ export class Notices {
 
   /** Says nothing any more. Who was at the button is at what was pressed before it again. */
   putAway() {
+    if (!this.isShown) return;
     const [wasThere, cameFrom] = [this.#parts.putAway.contains(document.activeElement), this.#cameFrom];
     this.tell("", "");
     if (!wasThere) return;

@@ -47,6 +47,11 @@ class FakeNode {
     document.activeElement = this;
   }
 
+  /** Of all elements in it. */
+  querySelectorAll() {
+    return all(this.childNodes, (node) => node instanceof FakeElement);
+  }
+
   get id() {
     return this.attributes.id ?? "";
   }
@@ -100,7 +105,8 @@ globalThis.document = {
 };
 
 const isThere = (node) => node !== null && node !== undefined && node !== false;
-const listOf = (made) => [made].flat(Infinity).filter(isThere);
+const given = (made) => (typeof made === "function" ? listOf(made()) : [made]);
+const listOf = (made) => [made].flat(Infinity).flatMap(given).filter(isThere);
 
 export const nodeOf = (tagName) => new FakeElement(tagName);
 

@@ -2,7 +2,7 @@
 import assert from "node:assert/strict";
 import { test } from "node:test";
 import { byId, nodeOf, textOf } from "./elements.js";
-import { button, element, fragmentOf, patchContent } from "../dom.js";
+import { beginningOf, button, element, fragmentOf, patchContent } from "../dom.js";
 
 function drawn(...content) {
   const container = nodeOf("main");
@@ -61,4 +61,38 @@ test("what was typed and chosen becomes what the new content says", () => {
   assert.notEqual(byId(others, "b"), undefined);
   patch(others, element("input", { type: "checkbox", id: "b" }));
   assert.notEqual(byId(others, "b"), tile, "another kind of field is another element");
+});
+
+/** A view of some sections, each with a table of rows, of which those from the third section on are made when their turn comes. */
+function sectionsOf(count, rows, onMade = () => {}) {
+  const row = (number) => element("tr", {}, element("td", {}, number, element("b", {}, "!")), element("td", {}, "text"));
+  const section = (index) => {
+    onMade(index);
+    return element("section", {}, element("h2", {}, index), "text",
+      element("table", {}, element("tbody", {}, Array.from({ length: rows }, (_, number) => row(number)))), element("p", {}, "behind"));
+  };
+  return [element("h1", {}), ["words", null], Array.from({ length: count }, (_, index) => (index < 2 ? section(index) : () => section(index)))];
+}
+
+test("what is drawn first and the rest are together what would be drawn at once, wherever the first ends", () => {
+  const whole = fragmentOf(sectionsOf(4, 5)).childNodes.map(shape);
+  for (let most = 1; most < 140; most += 1) {
+    const { begun, putRest } = beginningOf(sectionsOf(4, 5), most);
+    const [container, first] = [nodeOf("main"), begun.querySelectorAll("*").length];
+    container.append(...begun.childNodes);
+    assert.ok(first >= Math.min(most, 97) && first < most + 4, `${first} elements where ${most} were asked for`);
+    assert.ok(container.querySelectorAll("*").filter(({ tagName }) => tagName === "TR").every((row) => row.childNodes.length === 2), "no row is cut");
+    putRest(container);
+    assert.deepEqual(container.childNodes.map(shape), whole);
+  }
+});
+
+test("what isn't drawn first isn't made first", () => {
+  const made = [];
+  const { begun, putRest } = beginningOf(sectionsOf(4, 5, (index) => made.push(index)), 30);
+  assert.deepEqual(made, [0, 1]);
+  const container = nodeOf("main");
+  container.append(...begun.childNodes);
+  putRest(container);
+  assert.deepEqual(made, [0, 1, 2, 3]);
 });

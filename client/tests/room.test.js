@@ -39,9 +39,13 @@ test("the first that a director sees is the room, and each cell opens its table 
   const view = directorView(pageWith(facts), {});
   assert.equal(textOf(byTag(byClass(view, "panel")[0], "h2")), "The room");
   assert.deepEqual(rowsOf(byClass(view, "room")).map((row) => row.slice(0, 3)), [
-    ["1", "2…H, awaited, the board is held", "1%, ruled"],
-    ["2", "3…, awaited", "2✓H, has a result, the board is held"],
-    ["3", "1…, awaited", "3!, late"],
+    ["1", "2…H", "1%"],
+    ["2", "3…", "2✓H"],
+    ["3", "1…", "3!"],
+  ]);
+  const spoken = byTag(byClass(view, "room"), "a").map((cell) => cell.attributes["aria-label"]);
+  assert.deepEqual(spoken, [
+    "2, awaited, the board is held", "1, ruled", "3, awaited", "2, has a result, the board is held", "1, awaited", "3, late",
   ]);
   assert.equal(byId(view, "room-3-3").attributes.href, "#/director/3/3");
   assert.deepEqual(byTag(byClass(view, "room"), "th").slice(0, 3).map(textOf), ["Table", "Round 2, now", "Round 1"]);

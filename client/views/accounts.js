@@ -15,10 +15,10 @@ export const accountsNeeds = () => [ask.accounts()];
 export function accountsView(page) {
   return [
     heading(texts.accounts.title),
-    answerView(page, ask.accounts(), (accounts) => [usersSection(page, accounts), inheritanceSection(page, accounts)]),
-    walkInSection(page),
-    page.state.permissions?.administer && page.state.facts.edition === 2 && renameSection(page),
-    page.state.permissions?.administer && newUserSection(page),
+    answerView(page, ask.accounts(), (accounts) => [usersSection(page, accounts), () => inheritanceSection(page, accounts)]),
+    () => walkInSection(page),
+    () => page.state.permissions?.administer && page.state.facts.edition === 2 && renameSection(page),
+    () => page.state.permissions?.administer && newUserSection(page),
   ];
 }
 

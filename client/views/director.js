@@ -21,10 +21,10 @@ export function directorView(page, { table, board }) {
   if (table && board) return cellDeskView(page, table, board);
   return [
     heading(texts.director.title),
-    roomSection(page), clockSection(page), roundSection(page), resultSection(page), heldSection(page),
-    page.state.facts.edition === 2 && embargoSection(page),
-    seatsSection(page),
-    walkInSection(page),
+    roomSection(page),
+    () => [clockSection(page), roundSection(page), resultSection(page), heldSection(page)],
+    () => page.state.facts.edition === 2 && embargoSection(page),
+    () => [seatsSection(page), walkInSection(page)],
   ];
 }
 

@@ -13,11 +13,19 @@ export const unseen = (text) => element("span", { class: "unseen" }, text);
 
 /** A suit's symbol in its colour, or NT. */
 export function strainMark(strain) {
-  if (strain === "N") return element("span", { class: "strain notrump" }, texts.strainLetter.N);
+  if (strain === "N") return strainSigns(strain);
   return element("span", { class: `strain suit-${strain}` },
     element("span", { class: "symbol", "aria-hidden": "true" }, symbols[strain]),
     element("span", { class: "letter", "aria-hidden": "true" }, strain),
     unseen(texts.strain[strain]));
+}
+
+/** The same where it is said elsewhere. */
+function strainSigns(strain) {
+  if (strain === "N") return element("span", { class: "strain notrump" }, texts.strainLetter.N);
+  return element("span", { class: `strain suit-${strain}` },
+    element("span", { class: "symbol" }, symbols[strain]),
+    element("span", { class: "letter" }, strain));
 }
 
 /** "4♠ X by N, +1", said in words too. */
@@ -30,7 +38,7 @@ export function resultMark(result) {
         "b",
         {},
         result.level,
-        strainMark(result.strain),
+        strainSigns(result.strain),
         doubled && element("span", { class: "doubled" }, doubled),
       ),
       " ", element("span", { class: "declarer" }, result.by), " ", tricksText(result)),

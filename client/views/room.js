@@ -6,7 +6,7 @@ import { awaitedCells } from "../public_facts.js";
 import { boardsWithResults, roomOf } from "../room.js";
 import { addressOf } from "../routes.js";
 import { texts } from "../texts.js";
-import { section, unseen } from "./marks.js";
+import { section } from "./marks.js";
 
 /** Only a traveller tells which of the results are rulings. */
 export const roomNeeds = ({ facts }) => boardsWithResults(facts).map((board) => ask.traveller(board));
@@ -32,12 +32,15 @@ export function roomSection(page) {
 
 const markOf = (state) => element("span", { class: "room-mark", "aria-hidden": "true" }, texts.room.mark[state]);
 
+const cellMark = (state) => element("span", { class: "room-mark" }, texts.room.mark[state]);
+
 function cellLink({ table: number, board, state, isHeld }) {
-  const words = [texts.room.state[state], ...(isHeld ? [texts.room.state.held] : [])];
+  const words = [board, texts.room.state[state], ...(isHeld ? [texts.room.state.held] : [])];
+  // there are hundreds of them, so what is said of each is an attribute
   return link(
     addressOf("director", number, board),
-    [board, markOf(state), isHeld && markOf("held"), unseen(`, ${words.join(", ")}`)],
-    { id: `room-${number}-${board}`, class: `room-${state}${isHeld ? " room-held" : ""}` },
+    [board, cellMark(state), isHeld && cellMark("held")],
+    { id: `room-${number}-${board}`, class: `room-${state}${isHeld ? " room-held" : ""}`, "aria-label": words.join(", ") },
   );
 }
 

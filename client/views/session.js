@@ -33,7 +33,7 @@ export function sessionView(page) {
       answerView(page, ask.ranking(), (ranking) => rankView(rankOf(facts, ranking, seat.pair))),
     ),
     section(texts.session.tables(facts.round), tablesView(facts, seat)),
-    section(texts.session.boards, element("p", { class: "note" }, texts.session.boardsNote), boardsGrid(facts)),
+    () => section(texts.session.boards, element("p", { class: "note" }, texts.session.boardsNote), boardsGrid(facts)),
   ];
 }
 
@@ -72,9 +72,9 @@ function tablesView(facts, seat) {
 
 function boardLink(facts, tableNumber, board) {
   const live = isLive(facts, tableNumber, board);
-  const spoken = element("span", { class: "unseen" }, live ? texts.session.hasResult : texts.session.noResult);
-  return link(addressOf("board", board), [board, live ? " ✓" : "", spoken],
-    { id: `table-${tableNumber}-board-${board}`, class: live ? "live" : null });
+  const spoken = live ? texts.session.hasResult : texts.session.noResult;
+  return link(addressOf("board", board), `${board}${live ? " ✓" : ""}`,
+    { id: `table-${tableNumber}-board-${board}`, class: live ? "live" : null, "aria-label": `${board}${spoken}` });
 }
 
 function boardsGrid(facts) {

@@ -228,6 +228,15 @@ class Nginx:
         shutil.rmtree(self.folder, ignore_errors=True)
 
 
+# what a press does in a window is noted, so that one that the driver lost can be told from one that the page didn't hear
+BEFORE_PRESS = """
+if (!globalThis.eventsOfPress) {
+    for (const type of ["mousedown", "mouseup", "click"]) addEventListener(type, (event) => eventsOfPress.push([type, event.target.id]), true);
+}
+globalThis.eventsOfPress = [];
+arguments[0].scrollIntoView({block: "center"});"""
+
+
 class Browser:
     """A window of one headless Chromium, or of one WebKit; each has a page, and a token, of its own."""
     driver = None
@@ -296,10 +305,12 @@ class Browser:
         until(f"{name} is signed in", lambda: self.find("as-of"))
 
     def go(self, route):
-        """Opens a view, and waits until the page has heard of it: else what is pressed next may still be the view's before it."""
+        """Opens a view, and waits until the page has heard of it and drawn all of it: else what is pressed next may still be the view's
+        before it."""
         self.here().execute_async_script("""const [hash, done] = arguments;
-            if (location.hash === hash) return void done();
-            addEventListener("hashchange", () => setTimeout(done, 0), { once: true });
+            const drawn = () => (document.querySelector("main.begun") ? setTimeout(drawn, 10) : done());
+            if (location.hash === hash) return void drawn();
+            addEventListener("hashchange", () => setTimeout(drawn, 0), { once: true });
             location.hash = hash;""", f"#/{route}")
 
     def find(self, identity):
@@ -310,16 +321,26 @@ class Browser:
         return found[0] if found else None
 
     def press(self, identity):
-        """A click where the button is seen; the page may draw it anew meanwhile."""
+        """A click where the button is seen; the page may draw it anew meanwhile. A driver's click of which no event came to the window is said,
+        and done again; one that came to something else is the page's, and stays as it was."""
         def pressed():
             try:
                 element = self.find(identity)
-                self.driver.execute_script("arguments[0].scrollIntoView({block: 'center'})", element)
+                self.driver.execute_script(BEFORE_PRESS, element)
                 element.click()
-                return True
+                return self.was_heard(identity)
             except (StaleElementReferenceException, ElementNotInteractableException, JavascriptException):
                 return False
         until(f"{identity} can be pressed", pressed)
+
+    def was_heard(self, identity):
+        """Whether any event of a press came to the window: WebKit's driver has lost one under load."""
+        for _ in range(20):
+            if not self.is_webkit or self.script("return globalThis.eventsOfPress?.length") != 0:
+                return True
+            time.sleep(0.1)
+        print(f"again   no event of a press of {identity} came to the window", flush=True)
+        return False
 
     def type(self, identity, text):
         def typed():

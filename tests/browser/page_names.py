@@ -4,7 +4,7 @@ import pathlib
 
 from page_checks import check, holds, pair_text, part
 from page_devices import EXAMPLES, Browser, until
-from page_layout import laid_out, pages_of
+from page_layout import CUT, laid_out, pages_of
 
 LONG = "Wolfeschlegelsteinhausenbergerdorff von und zu Hohenlohe-Langen"
 SHOWN = {"anna": "Anna Müller", "ben": "Ben \"B\" Roth, Jr.", "rosa": "רוזה כהן", "stig": LONG, "dora": "Dora Lind"}
@@ -92,6 +92,21 @@ def ruled_by_its_text(dora, anna, server):
 
 
 @part
+def traveller_of_names(dora, server):
+    """On a phone a row of a traveller has its percentages in view, however long its players' names are."""
+    commands = [{"cmd": word, "table": table, "board": 2, "result": {"by": "N", "doubled": 2, "level": 3, "strain": "N", "tricks": tricks}}
+                for table, tricks in ((1, 10), (8, 2)) for word in ("Enter", "Confirm")]
+    receipts = [server.reply("sam", {"do": commands[:2]}), server.reply("dora", {"do": [{"cmd": "NextRound"}]}), server.reply("sam", {"do": commands[2:]})]
+    check("two tables have results", ["ok"] * 5, [answer for receipt in receipts for answer in receipt["answers"]])
+    dora.width(390, 844)
+    dora.go("board/2")
+    until("the traveller is there", lambda: len(dora.rows("table.traveller")) == 2)
+    check("names leave room for the percentages at 390 pixels", [], dora.script(CUT, "table.traveller", 7))
+    check("and make the page no wider", True, dora.script("return document.documentElement.scrollWidth <= innerWidth"))
+    dora.width(1000, 900)
+
+
+@part
 def walked_in(dora, anna, server):
     dora.go("director")
     dora.type("walk-in-shown", "Clara Weiß")
@@ -120,4 +135,5 @@ def names(address, server, downloads):
     heads(anna, downloads)
     ruled_by_its_text(dora, anna, server)
     titled_records(dora)
+    traveller_of_names(dora, server)
     walked_in(dora, anna, server)

@@ -337,7 +337,7 @@ def room(dora, server):
     check("there are all kinds of them", {"awaited", "late", "has a result", "ruled"}, set(wanted.values()))
 
     def shown():
-        return dict(dora.script("return [...document.querySelectorAll('.room a')].map((each) => [each.id, each.querySelector('.unseen').textContent.slice(2)])"))
+        return dict(dora.script("return [...document.querySelectorAll('.room a')].map((each) => [each.id, each.getAttribute('aria-label').split(', ').slice(1).join(', ')])"))
     until("the room is whole", lambda: shown() == wanted or time.sleep(0.2))
     check("each cell of the rounds so far has its mark", wanted, shown())
     awaited = [f"awaited-{table}-{board}" for number, table, board in cells(status) if table not in status["live"][board - 1]]
