@@ -78,6 +78,8 @@ LONG = (
     (PYTHON, ("tests/memory/refuse_growths.py", STORED_RUNS, "solver")),
     (PYTHON, ("tests/memory/refuse_connection_growths.py", STORED_RUNS)),
     (PYTHON, ("tests/memory/refuse_serving_growths.py", SERVER)),
+    (PYTHON, ("tests/memory/refuse_reports.py", SERVER)),
+    (PYTHON, ("tests/drivers/report.py", SERVER, "--browser")),
     (PYTHON, ("tests/drivers/hold_ups.py", SERVER)),
     (PYTHON, ("tests/drivers/jobs_in_turn.py", SERVER)),
     (PYTHON, ("tests/drivers/conformance.py", SERVER)),

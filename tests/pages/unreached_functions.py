@@ -18,8 +18,6 @@ TESTING = ("test_devices",)
 
 # crates whose functions no program calls yet (its laws may be used), each with what it waits for
 TO_COME = {
-    "text_writer": "the forms in which a report is written",
-    "session_report": "the same, and the command that writes them",
     "many_clients": "a display's thread that serves many clients at once",
     "hall_terms": "the same thread, which asks it who is late and who may come",
 }

@@ -5,7 +5,7 @@ use Rattle.clap.specs.Words.{Text}
 use Rattle.script_lines.specs.Writing.{WritesPart}
 use Rattle.server_words.specs.Words.{AsksFor}
 use Rattle.server_words.specs.declared.words.Words.{Words}
-use Rattle.server_words.specs.declared.words.Words.TheVariants.{Script, Serve, Audit, Copy, Check, Prepare}
+use Rattle.server_words.specs.declared.words.Words.TheVariants.{Script, Serve, Audit, Copy, Check, Prepare, Report}
 use Rattle.server_words.specs.declared.words.Serving.{Serving}
 use Rattle.server_words.specs.declared.words.SessionSource.{SessionSource}
 use Rattle.server_words.specs.declared.words.SessionSource.TheVariants.{Files, Journal as Kept}
@@ -50,6 +50,7 @@ NamesJournal (Audit path) = Unit {0}
 NamesJournal (Copy copy) = Unit {0}
 NamesJournal (Check checking) = ⊥
 NamesJournal (Prepare preparing) = Unit {0}
+NamesJournal (Report reporting) = Unit {0}
 
 -- own: what is said by words with a status that is neither 1 nor 2. It is nothing; or, where a session of files is served
 -- without a journal, that it is kept nowhere, and nothing else; or, with 3, why nothing comes of a journal or of a folder

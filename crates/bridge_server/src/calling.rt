@@ -7,19 +7,22 @@ ghost use Rattle.program.specs.declared.fault.Fault.{Fault};
 ghost use Rattle.program.specs.declared.fault.Fault.TheVariants.{Input, Output};
 ghost use Rattle.program.specs.Writes.{IsDone, EndsWith};
 ghost use Rattle.server_words.specs.Words.{AsksFor, IsMistaken};
-ghost use Rattle.server_words.specs.declared.words.Words.TheVariants.{Script, Serve, Audit, Copy, Check, Prepare};
+ghost use Rattle.server_words.specs.declared.words.Words.TheVariants.{Script, Serve, Audit, Copy, Check, Prepare, Report};
 ghost use Rattle.server_words.specs.declared.words.Serving.{Serving};
 ghost use Rattle.server_words.specs.declared.words.JournalCopy.{JournalCopy};
 ghost use Rattle.server_words.specs.declared.words.Preparing.{Preparing};
+ghost use Rattle.server_words.specs.declared.words.Reporting.{Reporting};
 ghost use Rattle.server_words.specs.declared.words.Checking.{Checking};
 ghost use Rattle.program.specs.Status.{IsStatus, status_of};
 ghost use Rattle.script_lines.specs.Writing.{WritesPart};
 ghost use Rattle.kept_sessions.specs.Audited.{TellsJournal};
+ghost use Rattle.bridge_server.specs.Reported.{IsReport};
 ghost use Rattle.bridge_server.specs.Said.{IsSaidOnErrors, IsToldUnkept};
 
 use crate::auditing::status_of_audit;
 use crate::checking::status_of_check;
 use crate::copying::status_of_copy;
+use crate::reporting::status_of_report;
 use crate::serving::status_of_serving;
 use crate::session_folder::status_of_preparing;
 use journal_store::JournalFiles;
@@ -78,6 +81,12 @@ where
     ensures unaudited { (path : Bor (List ℕ)) → AsksFor (map string_bytes words.now) (Audit path) → result ≢ 0 →
         Appends (W.contents writer.old) (W.contents writer.new) []
         ⊎ ((text : List ℕ) × TellsJournal text × WritesPart (W.contents writer.old) (W.contents writer.new) text) }
+    ensures reported { (reporting : Reporting) → AsksFor (map string_bytes words.now) (Report reporting) → result ≡ 0 →
+        (text : List ℕ) × IsReport reporting.form text × Appends (W.contents writer.old) (W.contents writer.new) text }
+    ensures unreported { (reporting : Reporting) → AsksFor (map string_bytes words.now) (Report reporting) → result ≢ 0 →
+        Appends (W.contents writer.old) (W.contents writer.new) []
+        ⊎ ((text : List ℕ) × IsReport reporting.form text
+        × WritesPart (W.contents writer.old) (W.contents writer.new) text) }
     ensures copied { (copy : JournalCopy) → AsksFor (map string_bytes words.now) (Copy copy) →
         Appends (W.contents writer.old) (W.contents writer.new) [] }
     ensures checked { (checking : Checking) → AsksFor (map string_bytes words.now) (Check checking) → result ≢ 2 →
@@ -92,6 +101,7 @@ where
         Ok(Words::Copy(copy)) => status_of_copy(rt, &copy, errors),
         Ok(Words::Check(checking)) => status_of_check(rt, &checking, writer),
         Ok(Words::Prepare(preparing)) => status_of_preparing(rt, &preparing, errors),
+        Ok(Words::Report(reporting)) => status_of_report(rt, &reporting, writer, errors),
         Err(error) => status_of_words(rt.alloc(), &error, writer, errors),
     }
 }

@@ -9,6 +9,7 @@ mod calling;
 mod checking;
 mod copying;
 mod folder_fault;
+mod reporting;
 mod serving;
 mod serving_fault;
 mod session_folder;

@@ -2,3 +2,4 @@ pub mod FileLemmas
 pub mod KeptLemmas
 pub mod LineLemmas
 pub mod NotToldLemmas
+pub mod ReportLemmas

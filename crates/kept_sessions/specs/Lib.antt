@@ -1,3 +1,4 @@
 pub mod Sources
 pub mod Kept
 pub mod Audited
+pub mod Reported

@@ -125,8 +125,8 @@ fn tell(
     }
 }
 
-// What is told of the entry of this number, which a book refuses: want of memory is no cause of the session's.
-fn fault_of(cause: Refusal, number: u32) -> KeptSessionFault
+/// What is told of the entry of this number, which a book refuses: want of memory is no cause of the session's.
+pub(crate) fn fault_of(cause: Refusal, number: u32) -> KeptSessionFault
     ensures { (result ≡ OutOfMemory) ⊎ ((result ≡ NotAccepted number) × (is_out_of_memory cause ≡ false)) }
 {
     if cause.is_out_of_memory() {

@@ -1,10 +1,12 @@
 //! A session with the journal that keeps it.
 
-ghost use Rattle.std.specs.Prelude.{◌≡◌, ◌≤◌, ℕ, List, length, map, IfOk};
+ghost use Rattle.std.specs.Prelude.{◌≡◌, ◌≤◌, ◌∷◌, [], ℕ, List, length, map, IfOk};
 ghost use Rattle.sqlite.specs.Files.{file_state};
 ghost use Rattle.sqlite.specs.Held.{state};
+ghost use Rattle.sqlite.specs.State.{HasCleanDisk};
 ghost use Rattle.sqlite.specs.WalFiles.{image_at};
-ghost use Rattle.journal_store.specs.Kept.{texts_of};
+ghost use Rattle.journal_store.specs.Kept.{row_of_session, texts_of};
+ghost use Rattle.journal_store.specs.Restart.{IsKeptAt};
 ghost use Rattle.kept_entries.specs.KeptRows.{lists_in, rows_of};
 ghost use Rattle.kept_sessions.specs.Sources.{most_file_bytes};
 ghost use Rattle.kept_sessions.specs.Kept.{IsKeptSession, IsTakenSession, KeepsJust};
@@ -13,7 +15,7 @@ use crate::paths::{may_hold_database, texts_of_files};
 use crate::source_fault::KeptSessionFault;
 use crate::source_texts::SourceTexts;
 use crate::texts_session::session_of_texts;
-use journal_store::JournalFiles;
+use journal_store::{JournalFiles, SessionText};
 use opened_session::{OpenedSession, OpeningFault};
 use row_journal::{FoundJournal, JournalFault, OpenedJournal, open_kept_journal, open_row_journal};
 use session_object::SessionFault;
@@ -97,14 +99,9 @@ pub fn kept_session<R: Files + JournalFiles + Threads + AllocGlobal + Sync, S: S
     ensures leaves { IfOk result (λ kept. KeepsJust (file_state kept.journal.store.conn)
         (lists_in kept.journal.publications.items)) }
 {
-    match may_hold_database(rt, path) {
-        Ok(true) => {}
-        Ok(false) => return Err(KeptSessionFault::Journal(JournalFault::NotAJournal)),
-        Err(fault) => return Err(fault),
-    }
-    let (texts, found) = match open_kept_journal(rt, path, start) {
+    let (texts, found) = match kept_texts(rt, path, start) {
         Ok(kept) => kept,
-        Err((fault, _)) => return Err(KeptSessionFault::Journal(fault)),
+        Err(fault) => return Err(fault),
     };
     match session_of_texts(rt.alloc(), texts.object.as_bytes(), texts.boards.as_slice()) {
         Ok(session) => with_journal(rt, session, found, workers),
@@ -112,8 +109,29 @@ pub fn kept_session<R: Files + JournalFiles + Threads + AllocGlobal + Sync, S: S
     }
 }
 
-// A session with the journal of it that was found, once that is read.
-fn with_journal<R: Threads + AllocGlobal + Sync, S: Alter + Drop>(
+/// The texts of the session of the journal at a path, which has to be there, with its rows.
+pub(crate) fn kept_texts<R: Files + JournalFiles, S: Start>(
+    rt: &R,
+    path: &str,
+    start: S,
+) -> Result<(SessionText, FoundJournal<FileStore<FileFrom<S>>>), KeptSessionFault>
+    ensures opens { IfOk result (λ kept. HasCleanDisk (file_state kept.1.conn)
+        → IsKeptAt (image_at S.Start) (row_of_session kept.0 ∷ []) (map texts_of kept.1.rows)
+        (file_state kept.1.conn)) }
+{
+    match may_hold_database(rt, path) {
+        Ok(true) => {}
+        Ok(false) => return Err(KeptSessionFault::Journal(JournalFault::NotAJournal)),
+        Err(fault) => return Err(fault),
+    }
+    match open_kept_journal(rt, path, start) {
+        Ok(kept) => Ok(kept),
+        Err((fault, _)) => Err(KeptSessionFault::Journal(fault)),
+    }
+}
+
+/// A session with the journal of it that was found, once that is read.
+pub(crate) fn with_journal<R: Threads + AllocGlobal + Sync, S: Alter + Drop>(
     rt: &R,
     session: OpenedSession,
     found: FoundJournal<S>,

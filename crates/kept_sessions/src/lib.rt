@@ -5,7 +5,9 @@ mod auditing;
 mod closed_journal;
 mod copying;
 mod journal_session;
+mod memberships;
 mod paths;
+mod reporting;
 mod source_fault;
 mod source_texts;
 mod texts_session;
@@ -16,6 +18,7 @@ pub use journal_session::{
     KeptSession, kept_session, kept_session_of_files, kept_session_of_texts,
 };
 pub use paths::{session_of_files, texts_of_files};
+pub use reporting::{ReportedJournal, report_of_journal};
 pub use source_fault::KeptSessionFault;
 pub use source_texts::{MOST_FILE_BYTES, SourceTexts, read_texts};
 pub use texts_session::session_of_texts;

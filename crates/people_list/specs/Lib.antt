@@ -1,3 +1,4 @@
 pub mod Fields
+pub mod Roles
 pub mod Person
 pub mod People

@@ -5,6 +5,7 @@ ghost use Rattle.table_terms.specs.Place.{place_letter};
 ghost use Rattle.csv.specs.Records.{fields_of};
 ghost use Rattle.people_list.specs.Fields.{under_column};
 ghost use Rattle.people_list.specs.Person.{IsPerson, IsSeatIn, IsTextIn};
+ghost use Rattle.people_list.specs.Roles.{NamesRoles};
 
 use crate::field::text_under;
 use crate::people_fault::{LineFault, PeopleFault};
@@ -160,11 +161,20 @@ fn roles_of(
     columns: &ByteRecord,
     row: &ByteRecord,
     line: u64,
-) -> Result<Vec<Role>, PeopleFault> {
-    let text = match text_under(columns, row, "roles") {
-        Ok(text) => text,
-        Err(fault) => return Err(PeopleFault::Line(line, fault)),
-    };
+) -> Result<Vec<Role>, PeopleFault>
+    ensures { IfOk result (λ roles.
+        NamesRoles (under_column (fields_of columns.now) (fields_of row.now) (codes "roles")) roles.items) }
+{
+    match text_under(columns, row, "roles") {
+        Ok(text) => roles_in(alloc, text, line),
+        Err(fault) => Err(PeopleFault::Line(line, fault)),
+    }
+}
+
+// The roles of a field on this line, by their names.
+fn roles_in(alloc: Global, text: &str, line: u64) -> Result<Vec<Role>, PeopleFault>
+    ensures { IfOk result (λ roles. NamesRoles text.now roles.items) }
+{
     let mut roles = Vec::new(alloc);
     for word in text.split_whitespace() {
         let Some(role) = Role::from_name(word) else {

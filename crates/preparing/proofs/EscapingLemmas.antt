@@ -1,5 +1,5 @@
 -- A page's text, character by character.
-use Rattle.std.proofs.Common.{◌≡◌, ℕ, List, [], ◌∷◌, ◌++◌, refl, sym, ap, ◌∙◌, append_assoc, append-nil}
+use Rattle.std.proofs.Common.{◌≡◌, ℕ, List, [], ◌∷◌, ◌++◌, sym, ap, ◌∙◌, append_assoc, append-nil}
 use Rattle.preparing.specs.Escaping.{escaped_sign, escaped_signs}
 
 pub one_sign_more : (signs : List ℕ) (sign : ℕ)

@@ -1,2 +1,9 @@
+pub mod CardParts
+pub mod Cards
 pub mod Escaping
+pub mod Guests
+pub mod OpensAs
+pub mod Planned
+pub mod Prepared
+pub mod SignInList
 pub mod Users

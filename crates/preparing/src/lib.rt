@@ -5,6 +5,7 @@
 mod cards_page;
 mod escaping;
 mod guest;
+pub mod laws;
 mod plan;
 mod prepared;
 mod preparing_fault;
@@ -12,6 +13,7 @@ mod sign_in_list;
 #[cfg(test)]
 mod tests;
 mod users;
+mod writable;
 
 pub use plan::Plan;
 pub use prepared::{Prepared, prepare};

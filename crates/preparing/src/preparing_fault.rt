@@ -19,6 +19,9 @@ pub enum PreparingFault {
     /// The session wouldn't open.
     #[error("{0}")]
     Unopened(OpeningFault),
+    /// There are fewer tokens than people.
+    #[error("FewTokens (each person has a token)")]
+    FewTokens,
     #[error("OutOfMemory")]
     OutOfMemory,
 }

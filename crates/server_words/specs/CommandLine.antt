@@ -1,5 +1,5 @@
 -- The program's command line, as `clap` reads it: a subcommand `script` with nothing after it, and subcommands `serve`,
--- `audit`, `copy`, `check` and `prepare` with options, of which each has a value. `clap` adds its help and the version.
+-- `audit`, `copy`, `check`, `prepare` and `report` with options, of which each has a value. `clap` adds its help and the version.
 use Rattle.std.specs.Prelude.{Bool, ℕ, ℤ, List, [], ◌∷◌, ◌||◌, Some, true, false, not, pos, codes, drop, eqb}
 use Rattle.std.specs.List.{list_any, starts_with}
 use Rattle.std.specs.Str.{bytes_eq}
@@ -91,6 +91,11 @@ abbrev pub copy_line : App
 copy_line =
     with_rule (with_rule (new_app (codes "copy")) (file_rule true (codes "journal"))) (file_rule true (codes "to"))
 
+-- of which journal a report is written, and in which form
+abbrev pub report_line : App
+report_line =
+    with_rule (with_rule (new_app (codes "report")) (file_rule true (codes "journal"))) (file_rule true (codes "as"))
+
 -- which session is looked at: its deals may be left out
 abbrev pub check_line : App
 check_line =
@@ -164,13 +169,15 @@ command_line needed =
     (with_subcommand
     (with_subcommand
     (with_subcommand
+    (with_subcommand
     needing_one
     (new_app (codes "script")).top)
     (serve_line needed).top)
     audit_line.top)
     copy_line.top)
     check_line.top)
-    prepare_line.top
+    prepare_line.top)
+    report_line.top
 
 -- a word is an option, or the option with its value, which begins so
 abbrev pub is_option : Text → Text → Text → Bool

@@ -16,8 +16,9 @@ use Rattle.server_words.specs.CommandLine.{
   least_idle,
   most_idle,
 }
+use Rattle.server_words.specs.ReportForm.{form_word}
 use Rattle.server_words.specs.declared.words.Words.{Words}
-use Rattle.server_words.specs.declared.words.Words.TheVariants.{Script, Serve, Audit, Copy, Check, Prepare}
+use Rattle.server_words.specs.declared.words.Words.TheVariants.{Script, Serve, Audit, Copy, Check, Prepare, Report}
 use Rattle.server_words.specs.declared.words.Preparing.{Preparing}
 use Rattle.server_words.specs.declared.words.Serving.{Serving}
 use Rattle.server_words.specs.declared.words.SessionSource.{SessionSource}
@@ -124,6 +125,10 @@ AsksFor words (Check checking) =
     × (first_of (codes "deals") (options_in words) ≡ option_map (λ deals. deals.now) checking.deals)
 AsksFor words (Prepare preparing) =
     (faults_in words ≡ []) × (name_in words ≡ Some (codes "prepare")) × IsPreparingGiven (options_in words) preparing
+AsksFor words (Report reporting) =
+    (faults_in words ≡ []) × (name_in words ≡ Some (codes "report"))
+    × (first_of (codes "journal") (options_in words) ≡ Some reporting.journal.now)
+    × (first_of (codes "as") (options_in words) ≡ Some (form_word reporting.form))
 
 -- ---- for private clauses
 

@@ -3,7 +3,7 @@
 ghost use Rattle.std.specs.Prelude.{◌≡◌, false, true, Ok, OnOk, codes, pos};
 ghost use Rattle.clap.specs.Words.{app_of, new_app, rule_of, shape_of, with_rule, with_subcommand};
 ghost use Rattle.clap.specs.declared.builder.command.Command.TheViews.{out-Command};
-ghost use Rattle.server_words.specs.CommandLine.{command_line, needing_one, serve_line, audit_line, copy_line, check_line, prepare_line, with_prepared_files, with_movement_numbers, with_movement_words, with_notice_words, with_session_words, needed_number, default_option, with_files, with_counts, with_clients, option_rule, port_rule, file_rule, number_rule, default_rule};
+ghost use Rattle.server_words.specs.CommandLine.{command_line, needing_one, serve_line, audit_line, copy_line, check_line, prepare_line, report_line, with_prepared_files, with_movement_numbers, with_movement_words, with_notice_words, with_session_words, needed_number, default_option, with_files, with_counts, with_clients, option_rule, port_rule, file_rule, number_rule, default_rule};
 
 use crate::version::VERSION;
 use crate::words::{DISPLAYS_AT_MOST, MOST_BUDGET, MOST_CONNECTIONS, MOST_IDLE, MOST_WORKERS};
@@ -35,7 +35,8 @@ pub(crate) fn add_subcommands(
     add_audit(alloc, command)?;
     add_copy(alloc, command)?;
     add_check(alloc, command)?;
-    add_prepare(alloc, command)
+    add_prepare(alloc, command)?;
+    add_report(alloc, command)
 }
 
 // Adds the subcommand that answers a script.
@@ -90,6 +91,32 @@ fn add_copy(alloc: Global, command: &mut Command<'_>) -> Result<(), AllocError>
         Ok(()) => added,
         Err(error) => Err(error),
     }
+}
+
+// Adds the subcommand that writes what a session comes to.
+fn add_report(alloc: Global, command: &mut Command<'_>) -> Result<(), AllocError>
+    ensures { OnOk result (app_of command.new ≡ with_subcommand (app_of command.old) report_line.top) }
+{
+    let mut report = Command::new(alloc, "report").about(
+        "Writes what the session of a journal comes to",
+    );
+    let filled = add_report_options(alloc, &mut report);
+    let added = add_subcommand(alloc, command, report);
+    match filled {
+        Ok(()) => added,
+        Err(error) => Err(error),
+    }
+}
+
+// Adds the journal of a report, and its form.
+fn add_report_options(alloc: Global, command: &mut Command<'_>) -> Result<(), AllocError>
+    ensures line { OnOk result (app_of command.new
+        ≡ with_rule (with_rule (app_of command.old) (file_rule true (codes "journal"))) (file_rule true (codes "as"))) }
+    ensures local { OnOk result ((out-Command command.new).has_globals ≡ (out-Command command.old).has_globals) }
+{
+    add_journal(alloc, command)?;
+    let form = option(alloc, "as", "FORM", "The form: csv, html, pbn or usebio").required(true);
+    add(alloc, command, form)
 }
 
 // Adds the subcommand that looks at a session before it is opened.

@@ -4,11 +4,15 @@ ghost use Rattle.std.specs.Prelude.{MatchResult, ◌≡◌, ◌⊎◌, ℕ, List
 ghost use Rattle.clap.specs.Words.{HasKind, app_of, first_of, found_of, kind_of, rows_of};
 ghost use Rattle.clap.specs.declared.error.kind.ErrorKind.TheVariants.{InvalidValue, OutOfMemory};
 ghost use Rattle.server_words.specs.CommandLine.{needing_one};
+ghost use Rattle.server_words.specs.ReportForm.{form_word};
 ghost use Rattle.server_words.specs.Words.{AsksFor, IsPreparingGiven, IsReadFrom, IsServingGiven, IsSourceGiven, faults_in};
 
 use crate::command_line::{add_subcommands, plain_line};
 use crate::options_named::need_files;
-use crate::words::{Checking, JournalCopy, Preparing, Serving, SessionFiles, SessionSource, Words};
+use crate::words::{
+    Checking, JournalCopy, Preparing, ReportForm, Reporting, Serving, SessionFiles, SessionSource,
+    Words,
+};
 use clap::error::ErrorKind;
 use clap::{ArgMatches, Command, Error};
 use std::alloc::Global;
@@ -73,6 +77,10 @@ fn words_of<'a>(matches: &ArgMatches<'a>) -> Option<Words<'a>>
         },
         Some(("prepare", given)) => match preparing_of(given) {
             Some(preparing) => Some(Words::Prepare(preparing)),
+            None => None,
+        },
+        Some(("report", given)) => match reporting_of(given) {
+            Some(reporting) => Some(Words::Report(reporting)),
             None => None,
         },
         _ => None,
@@ -154,6 +162,19 @@ fn copy_of<'a>(given: &ArgMatches<'a>) -> Option<JournalCopy<'a>>
     })
 }
 
+// Of which journal a report is to be written, and in which form, where it is one.
+fn reporting_of<'a>(given: &ArgMatches<'a>) -> Option<Reporting<'a>>
+    ensures journal { IfSome result (λ reporting.
+        first_of (codes "journal") (rows_of (found_of given.now)) ≡ Some reporting.journal.now) }
+    ensures form { IfSome result (λ reporting.
+        first_of (codes "as") (rows_of (found_of given.now)) ≡ Some (form_word reporting.form)) }
+{
+    let journal = text_of(given, "journal")?;
+    let word = text_of(given, "as")?;
+    let form = ReportForm::of(word)?;
+    Some(Reporting { journal, form })
+}
+
 // Which session is to be looked at.
 fn checking_of<'a>(given: &ArgMatches<'a>) -> Option<Checking<'a>>
     ensures session { IfSome result (λ checking.
@@ -195,7 +216,7 @@ fn text_of<'a>(given: &ArgMatches<'a>, name: &str) -> Option<&'a str>
     given.get_str(name)
 }
 
-// What is said of a value out of its range. `clap` takes no such words: each option has a value, which is in its range.
+// What is said of a value out of its range. `clap` takes no such words but for a report's form that is none of the four.
 fn out_of_range(command: &mut Command<'_>) -> Error
     ensures { (kind_of result ≡ InvalidValue) ⊎ (kind_of result ≡ OutOfMemory) }
 {

@@ -1,4 +1,5 @@
-ghost use Rattle.std.specs.Prelude.{◌≡◌, true};
+ghost use Rattle.std.specs.Prelude.{◌≡◌, true, IfSome};
+ghost use Rattle.server_words.specs.ReportForm.{form_word};
 ghost use Rattle.server_words.specs.Words.{AreNumbersInRange};
 
 /// How many displays there are at most.
@@ -31,6 +32,40 @@ pub enum Words<'a> {
     Check(Checking<'a>),
     /// To prepare a session.
     Prepare(Preparing<'a>),
+    /// To write what the session of a journal comes to.
+    Report(Reporting<'a>),
+}
+
+/// In which form a report is written.
+#[derive(Clone, Copy, PartialEq)]
+pub enum ReportForm {
+    Csv,
+    Html,
+    Pbn,
+    Usebio,
+}
+
+impl ReportForm {
+    /// The form of a word.
+    pub(crate) fn of(word: &str) -> Option<ReportForm>
+        ensures found { IfSome result (λ form. form_word form ≡ word.now) }
+    {
+        match word {
+            "csv" => Some(ReportForm::Csv),
+            "html" => Some(ReportForm::Html),
+            "pbn" => Some(ReportForm::Pbn),
+            "usebio" => Some(ReportForm::Usebio),
+            _ => None,
+        }
+    }
+}
+
+/// A report that is asked for.
+#[derive(Clone, Copy, PartialEq)]
+pub struct Reporting<'a> {
+    /// The path of the journal.
+    pub journal: &'a str,
+    pub form: ReportForm,
 }
 
 /// The paths of the files of a session that is looked at.

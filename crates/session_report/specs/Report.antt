@@ -1,8 +1,8 @@
 -- What a session comes to at a version, as a director sees it: the facts that every written report tells. Each number is
 -- that of the definition by which replies have it.
-use Rattle.std.specs.Prelude.{ℕ, ◌-◌, List, [], ◌∷◌, Option, Some, None, slice_get}
+use Rattle.std.specs.Prelude.{◌≡◌, ◌+◌, ℕ, ◌-◌, List, [], ◌∷◌, Option, Some, None, slice_get}
 use Rattle.std.specs.List.{filter_map, flat_map}
-use Rattle.cards.specs.Hands.{Hands}
+use Rattle.cards.specs.Hands.{Hands, IsDeal}
 use Rattle.movement.specs.Movement.{Section}
 use Rattle.disclosure_rules.specs.declared.marks.Marks.{Marks}
 use Rattle.scoring.specs.declared.standing.Standing.{Standing}
@@ -74,6 +74,11 @@ reported_board state board =
 -- the boards of the section: each is dealt and marked
 unfoldable pub reported_boards : SessionState → List BoardReport
 reported_boards state = filter_map (reported_board state) (boards state.public.movement)
+
+-- boards with the numbers from one on, each of which is a deal
+abbrev pub AreReported : ℕ → List BoardReport → Type 0
+AreReported number [] = Unit {0}
+AreReported number (board ∷ boards) = (board.number ≡ number) × IsDeal board.deal × AreReported (number + 1) boards
 
 -- ---- the session
 

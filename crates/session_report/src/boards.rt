@@ -1,9 +1,10 @@
 //! The boards with their results.
 ghost use Rattle.std.specs.Prelude.{◌≡◌, ◌<◌, ◌≤◌, true, Some, All, IfOk, get_or, length};
-ghost use Rattle.movement.specs.Movement.{IsCell, IsSection, has_board, most_tables};
+ghost use Rattle.cards.specs.Hands.{IsDeal};
+ghost use Rattle.movement.specs.Movement.{IsCell, IsSection, has_board, most_boards, most_tables};
 ghost use Rattle.standings.specs.declared.earning.Earning.{Earning};
 ghost use Rattle.standings.specs.declared.traveller_row.TravellerRow.{TravellerRow};
-ghost use Rattle.session_report.specs.Report.{reported_board, reported_boards, result_rows, with_earnings};
+ghost use Rattle.session_report.specs.Report.{AreReported, reported_board, reported_boards, result_rows, with_earnings};
 
 use crate::board_report::BoardReport;
 use crate::result_row::ResultRow;
@@ -12,11 +13,13 @@ use session_queries::{analysis_of, put_results};
 use session_state::State;
 use standings::{Earning, TableResult, TravellerRow, add_earnings, traveller_rows};
 use std::alloc::{AllocError, Global};
-use table_terms::{Items, Vulnerability};
+use table_terms::{Items, Place, Vulnerability};
 
 /// The boards from 1.
 pub(crate) fn boards_of(alloc: Global, state: &State) -> Result<Vec<BoardReport>, AllocError>
-    ensures { IfOk result (λ boards. boards.items ≡ reported_boards state.now) }
+    ensures boards { IfOk result (λ boards. boards.items ≡ reported_boards state.now) }
+    ensures numbered { IfOk result (λ boards. AreReported 1 boards.items) }
+    ensures few { IfOk result (λ boards. length boards.items ≤ most_boards) }
 {
     let mut boards = Vec::new(alloc);
     for before in 0..state.public().movement.boards() {
@@ -30,8 +33,13 @@ pub(crate) fn boards_of(alloc: Global, state: &State) -> Result<Vec<BoardReport>
 fn board_of(alloc: Global, state: &State, number: u8) -> Result<BoardReport, AllocError>
     requires section { IsSection state.now.public.movement }
     requires there { has_board state.now.public.movement number ≡ true }
-    ensures { IfOk result (λ board. reported_board state.now number ≡ Some board) }
+    ensures board { IfOk result (λ board. reported_board state.now number ≡ Some board) }
+    ensures number { IfOk result (λ board. board.number ≡ number) }
+    ensures deal { IfOk result (λ board. IsDeal board.deal) }
 {
+    let deal = state.deal(number);
+    // Whatever was dealt is a deal.
+    let _north = deal.hand(Place::North);
     let marks = state.marks(number);
     let mut results = Vec::with_capacity(alloc, usize::from(Movement::MOST_TABLES))?;
     put_results(state, number, &mut results);
@@ -44,7 +52,7 @@ fn board_of(alloc: Global, state: &State, number: u8) -> Result<BoardReport, All
     )?;
     Ok(BoardReport {
         number,
-        deal: state.deal(number),
+        deal,
         marks,
         tricks: analysis_of(state, number),
         rows: Items::new(rows),

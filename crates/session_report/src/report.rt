@@ -1,5 +1,6 @@
-ghost use Rattle.std.specs.Prelude.{◌≡◌, IfOk};
-ghost use Rattle.session_report.specs.Report.{report_of};
+ghost use Rattle.std.specs.Prelude.{◌≡◌, ◌≤◌, length, IfOk};
+ghost use Rattle.movement.specs.Movement.{most_boards};
+ghost use Rattle.session_report.specs.Report.{AreReported, report_of};
 
 use crate::board_report::BoardReport;
 use crate::boards::boards_of;
@@ -41,7 +42,9 @@ pub fn report_of(
     memberships: &[Membership],
     version: usize,
 ) -> Result<Report, AllocError>
-    ensures { IfOk result (λ report. report ≡ report_of state.now memberships.now version) }
+    ensures report { IfOk result (λ report. report ≡ report_of state.now memberships.now version) }
+    ensures numbered { IfOk result (λ report. AreReported 1 report.boards) }
+    ensures few { IfOk result (λ report. length report.boards ≤ most_boards) }
 {
     let players = players_of(alloc, state, memberships)?;
     let ranking = ranking_of(alloc, state)?;

@@ -1,5 +1,5 @@
-ghost use Rattle.std.specs.Prelude.{◌≡◌, ◌∷◌, ◌++◌, [], List, ℕ, ℤ, IfOk, string_bytes};
-ghost use Rattle.std.specs.Fmt.{decimal, signed_decimal};
+ghost use Rattle.std.specs.Prelude.{◌≡◌, ◌∷◌, ◌++◌, [], List, ℕ, IfOk, string_bytes};
+ghost use Rattle.std.specs.Fmt.{decimal};
 ghost use Rattle.std.specs.List.{concat};
 ghost use Rattle.text_writer.specs.Markup.{escaped};
 ghost use Rattle.text_writer.specs.Hundredths.{hundredths_text};
@@ -70,22 +70,6 @@ impl TextWriter {
     {
         let digits = number.to_string(self.alloc);
         self.string(digits)
-    }
-
-    /// Adds a number in decimal digits, behind a `-` where it is below 0.
-    pub fn signed(self, number: i32) -> TextWriter
-        ensures { (parts : List (List ℕ)) → HasWritten self parts → HasWritten result (parts ++ signed_decimal number ∷ []) }
-    {
-        let digits = number.to_string(self.alloc);
-        self.string(digits)
-    }
-
-    /// Adds a number of hundredths, with a point and two digits behind it.
-    pub fn hundredths(self, number: u128) -> TextWriter
-        ensures { (parts : List (List ℕ)) → HasWritten self parts → HasWritten result (parts ++ hundredths_text number ∷ []) }
-    {
-        let part = hundredths_text(self.alloc, number);
-        self.part(part)
     }
 
     /// Adds a text from people, as HTML and XML have it between tags and in attributes.

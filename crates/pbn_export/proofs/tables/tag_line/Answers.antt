@@ -1,0 +1,9 @@
+use Rattle.pbn_export.proofs.tables.tag_line.Goals as goal
+
+pub returns : goal.returns
+returns c =
+    c.finish.ensures _
+    (c.text-4.ensures _
+    (c.part.ensures _ _
+    (c.text-3.ensures _ (c.text-2.ensures _ (c.text.ensures _ c.new.ensures)))
+    c.value_text.ensures))

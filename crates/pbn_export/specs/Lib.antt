@@ -1,0 +1,3 @@
+pub mod Tables
+pub mod Games
+pub mod Export

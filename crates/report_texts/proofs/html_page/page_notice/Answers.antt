@@ -1,0 +1,14 @@
+use Rattle.report_texts.proofs.html_page.page_notice.Goals as goal
+
+pub returns : goal.returns
+returns c =
+    c.finish.ensures _
+    (c.text-5.ensures _
+    (c.string.ensures _ _
+    (c.text-4.ensures _
+    (rw c.phase_notice.ensures at (c.text-3.ensures _
+    (c.text-2.ensures _
+    (c.escaped.ensures _
+    (c.text.ensures _
+    c.new.ensures))))))
+    c.to_string.ensures.ok))

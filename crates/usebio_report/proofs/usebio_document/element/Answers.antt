@@ -1,0 +1,14 @@
+use Rattle.usebio_report.proofs.usebio_document.element.Goals as goal
+
+pub returns : goal.returns
+returns c = λ within is.
+    c.finish.ensures _
+    (c.text-6.ensures _
+    (c.text-5.ensures _
+    (c.text-4.ensures _
+    (c.part.ensures _ within
+    (c.text-3.ensures _
+    (c.text-2.ensures _
+    (c.text.ensures _
+    c.new.ensures)))
+    is))))
