@@ -53,8 +53,9 @@ def copied(journal, folder, log=None):
 
 
 def rows_of(journal):
-    """All entries of the file, in their order; none where it has no tables yet, or there is none."""
-    if not pathlib.Path(journal).exists():
+    """All entries of the file, in their order; none where it has no tables yet, or there is none. A file whose making was cut has none
+    either: the first byte of its head comes last, so that no program takes it for a database before."""
+    if not pathlib.Path(journal).exists() or pathlib.Path(journal).read_bytes()[:1] == b"\0":
         return []
     with tempfile.TemporaryDirectory() as folder:
         connection = sqlite3.connect(copied(journal, folder))
