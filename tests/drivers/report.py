@@ -3,7 +3,7 @@
 
     tests/drivers/report.py PROGRAM [--browser] [--dds]            (the built bridge_server)
 
-A session of three tables, in which names, the title and numbers are made to break out of their fields, and one of 16 tables and 128
+A session of three tables, in which names, the title and numbers are made to break out of their fields, one of an example's script, and one of 16 tables and 128
 boards. Each is served with a journal, and entered; before the server ends a director asks for the status, the ranking, and each board with
 its traveller and its analysis. What is wanted of each form is worked out from these replies: the ranking, each result, each board, with
 percentages and places, and the mark of a session that isn't final.
@@ -460,6 +460,26 @@ def the_small(folder, browser):
         check_forms(journal, kept(journal, small_session(), BOARDS, 3, lambda client, command=command: do(client, command)), NUMBERS, False)
 
 
+def the_script(folder):
+    """What the batches of an example's script come to: each is sent as its own user, to a server with a journal."""
+    first, *messages = [json.loads(line) for line in (ROOT / "examples/first_round.script").read_text().splitlines()]
+    deals = first.pop("pbn")
+    for one in first["users"]:
+        one["digest"] = DIGEST
+    director = next(one["name"] for one in first["users"] if "Director" in one["roles"])
+    journal = folder / "script.journal"
+    with Server(PROGRAM, "--journal", journal, "--workers", "1", "--displays", "2", session=first, deals=deals) as server:
+        client = Client(server, 60)
+        for message in messages:
+            if "do" in message:
+                client.ask({"hello": message["as"], "token": "abc"})
+                check("a batch of the script has its receipt", True, "answers" in json.loads(client.ask({"do": message["do"]})))
+        client.ask({"hello": director, "token": "abc"})
+        told = Told(client, len({int(number) for number in re.findall(r'\[Board "(\d+)"\]', deals)}))
+    check("the script has results", True, any(told.rows))
+    check_forms(journal, told, {one["name"]: one["number"] for one in first["users"] if "number" in one}, False)
+
+
 def the_largest(folder, browser):
     journal = folder / "large.journal"
     session = large_session()
@@ -494,6 +514,7 @@ def main():
         folder = pathlib.Path(at)
         the_small(folder, browser)
         the_refused(folder)
+        the_script(folder)
         the_largest(folder, browser)
         tell("each form is read by a reader that isn't the program's")
     return status()
