@@ -2,59 +2,87 @@ ghost use Rattle.std.specs.Prelude.{◌≡◌, true, IfSome, IfNone};
 ghost use Rattle.std.specs.FinSet as set;
 
 use crate::run::is_one_run;
-use crate::weights::{top, weigh};
-use cards::{Card, Hand, Position};
+use crate::weights::{
+    fourth_hand, third_hand, weigh_leads, weigh_second_hand, weigh_without_the_suit,
+};
+use cards::{Card, Hand, Position, Trick};
+use position_patterns::Memory;
 use table_terms::Place;
 
-// The most runs that a player's cards can be.
-const RUNS: usize = 13;
+// More runs than a player's cards can be.
+const PLACES: usize = 16;
 
-/// A card that may be played, the highest of its run, by its number in the pack, and how promising it is.
-#[derive(Clone, Copy)]
-struct Weighed {
-    number: u8,
-    weight: u16,
-}
-
-/// What a player may play, weighed once: of each run the highest card, since if it wins, the fewest cards have to be
-/// known. Which card is tried first decides nothing but the time.
+/// What a player may play, as it is tried: of each run the highest card, since if it wins, the fewest cards have to be
+/// known. Most players' cards are weighed; where third or fourth hand follows suit, they are tried upwards. Which card
+/// is tried first decides nothing but the time.
 #[derive(Clone, Copy)]
 pub struct Order {
-    weighed: [Weighed; RUNS],
+    // Of each run that was weighed the highest card, by its number in the pack, and how promising it is.
+    numbers: [u8; PLACES],
+    weights: [u16; PLACES],
     runs: usize,
     // The most promising of all, the first of equals.
-    first: Weighed,
+    first: u8,
+    most: u16,
+    // The cards that go before the rest where they are tried upwards, and those by which runs end.
+    before: u64,
+    others: u64,
 }
 
 impl Order {
     /// Nothing weighed yet.
     pub fn new() -> Order {
-        let nothing = Weighed {
-            number: 0,
-            weight: 0,
-        };
         Order {
-            weighed: [nothing; RUNS],
+            numbers: [0; PLACES],
+            weights: [0; PLACES],
             runs: 0,
-            first: nothing,
+            first: 0,
+            most: 0,
+            before: 0,
+            others: 0,
         }
     }
 
-    /// Weighs the cards that the player in turn may play; where they are one run, there is nothing to weigh.
-    pub fn weigh(&mut self, position: &Position, player: Place, others: Hand, playable: Hand) {
-        if !is_one_run(playable, others) {
-            weigh(position, player, playable, others, self);
+    /// Looks at the cards that the player in turn may play; where they are one run, there is no choice.
+    pub fn weigh(
+        &mut self,
+        position: &Position,
+        hash: u64,
+        player: Place,
+        others: Hand,
+        playable: Hand,
+        memory: &Memory,
+    ) {
+        self.others = others.word();
+        if is_one_run(playable, others) {
+            return;
+        }
+        match position.trick() {
+            Trick::Empty => weigh_leads(position, hash, player, others, memory, self),
+            Trick::One(a) if follows(playable, a) => {
+                weigh_second_hand(position, player, a, playable, others, self);
+            }
+            Trick::Two(a, b) if follows(playable, a) => {
+                self.before = third_hand(position, player, a, b, playable, others);
+            }
+            Trick::Three(a, b, c) if follows(playable, a) => {
+                self.before = fourth_hand(position, a, b, c);
+            }
+            Trick::One(a) | Trick::Two(a, _) | Trick::Three(a, _, _) => {
+                weigh_without_the_suit(position, player, a, playable, others, self);
+            }
         }
     }
 
     /// Adds a card.
     pub(crate) fn push(&mut self, number: u8, weight: u16) {
-        let weighed = Weighed { number, weight };
-        if self.runs < RUNS {
-            self.weighed[self.runs] = weighed;
+        if self.runs < PLACES {
+            self.numbers[self.runs] = number;
+            self.weights[self.runs] = weight;
             self.runs += 1;
-            if self.first.weight < weight {
-                self.first = weighed;
+            if self.most < weight {
+                self.most = weight;
+                self.first = number;
             }
         }
     }
@@ -67,30 +95,50 @@ impl Order {
         if untried.is_empty() {
             return None;
         }
-        if let Some(number) = self.most_promising(untried.word()) {
-            let card = Card::from_number(number.min(51));
-            if untried.contains(card) {
-                return Some(card);
-            }
+        let card = Card::from_number(self.number(untried.word()).min(51));
+        if untried.contains(card) {
+            return Some(card);
         }
-        let lowest = untried.first()?;
-        Some(top(untried, lowest))
+        untried.first()
     }
 
-    /// The number of the card with the most weight, of those in a word.
-    fn most_promising(&self, untried: u64) -> Option<u8> {
-        if 0 < self.first.weight && untried >> (self.first.number & 63) & 1 == 1 {
-            return Some(self.first.number);
+    /// The number of the most promising of the cards in a word.
+    fn number(&self, untried: u64) -> u8 {
+        if 0 < self.most && untried >> (self.first & 63) & 1 == 1 {
+            return self.first;
         }
-        let mut best = None;
+        let mut best = 0;
         let mut most = 0;
-        for at in 0..self.runs.min(RUNS) {
-            let weighed = self.weighed[at];
-            if most < weighed.weight && untried >> (weighed.number & 63) & 1 == 1 {
-                best = Some(weighed.number);
-                most = weighed.weight;
+        for at in 0..self.runs.min(PLACES) {
+            let number = self.numbers[at];
+            let weight = self.weights[at];
+            if most < weight && untried >> (number & 63) & 1 == 1 {
+                best = number;
+                most = weight;
             }
+        }
+        if most == 0 {
+            return self.lowest(untried);
         }
         best
     }
+
+    /// The number of the highest card of the lowest run, of the cards that go first if there is one.
+    fn lowest(&self, untried: u64) -> u8 {
+        let before = untried & self.before;
+        let from = if before == 0 { untried } else { before };
+        let lowest = from & from.wrapping_neg();
+        let above = self.others & !lowest.wrapping_sub(1);
+        let end = above & above.wrapping_neg();
+        let run = untried & end.wrapping_sub(1);
+        if run == 0 {
+            return 0;
+        }
+        run.ilog2() as u8
+    }
+}
+
+/// Whether cards that may be played follow suit.
+fn follows(playable: Hand, led: Card) -> bool {
+    !playable.of_suit(led.suit).is_empty()
 }

@@ -63,7 +63,7 @@ pub fn search(
             return Ok(found);
         }
     }
-    explore(position, target, patterns, memory, budget)
+    explore(position, 0, target, patterns, memory, budget)
 }
 
 /// The same, at the beginning of a trick. It stands apart, since within a trick no visit should pay for its locals.
@@ -102,17 +102,20 @@ fn at_start(
     if let Some(found) = memory.find(position, &holders, &pattern, target) {
         return Ok(found);
     }
-    let Ok(found) = explore(position, target, patterns, memory, budget) else {
+    let hash = pattern.hash(position.leader(), position.strain());
+    let Ok(found) = explore(position, hash, target, patterns, memory, budget) else {
         return Err(BudgetSpent);
     };
     memory.store(position, &holders, &pattern, target, &found);
     Ok(found)
 }
 
-/// The same, by trying the cards.
+/// The same, by trying the cards. The hash of its pattern is asked for at the beginning of a trick alone, and nothing
+/// but the order of leads depends on it.
 #[cycle(search)]
 fn explore(
     position: &Position,
+    hash: u64,
     target: u8,
     patterns: &DealPatterns,
     memory: &mut Memory,
@@ -146,7 +149,7 @@ fn explore(
     let wanted = wants(player);
     let others = run::others(position, mine);
     let mut order = Order::new();
-    order.weigh(position, player, others, playable);
+    order.weigh(position, hash, player, others, playable, memory);
     let mut known = Hand::new();
     while let Some(card) = order.best(untried) {
         let next = position.after(card);
@@ -156,6 +159,7 @@ fn explore(
         };
         let decisive = found.known.union(trick::decisive(position, card, &next));
         if found.holds == wanted {
+            remember_lead(memory, trick, hash, player, mine, card);
             return Ok(Finding {
                 holds: wanted,
                 known: decisive,
@@ -171,6 +175,21 @@ fn explore(
         holds: !wanted,
         known,
     })
+}
+
+/// Remembers a card that decided, if it was led: it is tried early the next time.
+#[inline(always)]
+fn remember_lead(
+    memory: &mut Memory,
+    trick: Trick,
+    hash: u64,
+    player: Place,
+    mine: Hand,
+    card: Card,
+) {
+    if trick == Trick::Empty {
+        memory.push_lead(player, mine.len(), hash, card);
+    }
 }
 
 /// The same, where the player has no choice.

@@ -5,12 +5,18 @@
 ghost use Rattle.std.specs.Prelude.{◌≡◌, ◌≤◌, true};
 ghost use Rattle.std.specs.FinSet as set;
 
-mod follow;
+mod discard;
 mod lead;
+mod ruff;
+mod second;
+mod upwards;
 
-use crate::order::Order;
 use cards::{Card, Hand, Position};
+pub(crate) use discard::weigh_without_the_suit;
+pub(crate) use lead::weigh_leads;
+pub(crate) use second::weigh_second_hand;
 use table_terms::{Place, Suit};
+pub(crate) use upwards::{fourth_hand, third_hand};
 
 // A weight of nothing: weights count up and down from here.
 const EVEN: u16 = 100;
@@ -22,109 +28,40 @@ const TRUMP: u8 = 14;
 
 const PLAIN: u8 = 1;
 
-/// What the weights of a player's cards are read off: the hands round the table from his own, all cards in play, and
-/// how the trick under way stands.
-#[derive(Clone, Copy)]
-struct Weights {
-    mine: Hand,
-    left: Hand,
-    partner: Hand,
-    right: Hand,
-    // The cards in all hands.
-    all: Hand,
-    // The trump suit, while a trump is in a hand or on the table.
-    trump: Option<Suit>,
-    // How many cards are on the table.
-    played: u32,
-    // Whether partner's card is the best of the trick, and how strong its best card is.
-    ours: bool,
-    beaten: u8,
-    // How strong the best answer of the next opponent is, and that of partner, if they have still to play.
-    threat: u8,
-    help: u8,
-    // What the next opponent must play at least, and what he or partner must, if second hand is to play.
-    least_threat: u8,
-    least: u8,
-    // The lowest card of the suit led with which third hand makes fourth hand spend his best, as a bit for its rank.
-    forcing: u64,
-}
-
-/// Puts the highest card of each run of what the player in turn may play into the order, with how promising it is.
-pub(crate) fn weigh(
-    position: &Position,
-    player: Place,
-    playable: Hand,
-    others: Hand,
-    order: &mut Order,
-) {
-    let trick = position.trick();
-    let mine = position.hand(player);
-    let left = position.hand(player.left());
-    let partner = position.hand(player.partner());
-    let right = position.hand(player.partner().left());
-    let all = mine.union(left).union(partner.union(right));
-    let mut weights = Weights {
-        mine,
-        left,
-        partner,
-        right,
-        all,
-        trump: live_trump(position, all),
-        played: trick.len(),
-        ours: false,
-        beaten: 0,
-        threat: 0,
-        help: 0,
-        least_threat: 0,
-        least: 0,
-        forcing: 0,
-    };
-    match weights.look_at(trick) {
-        None => weights.weigh_leads(playable, others, order),
-        Some(led) => weights.weigh_answers(playable, others, led, order),
-    }
-}
-
 /// The trump suit, while a trump is in a hand or on the table.
-fn live_trump(position: &Position, all: Hand) -> Option<Suit> {
+fn live_trump(position: &Position, player: Place, others: Hand) -> Option<Suit> {
     let suit = position.strain().trump()?;
-    if ranks(all, suit) == 0 && ranks(position.trick().cards(), suit) == 0 {
+    if ranks(others, suit) == 0 && ranks(position.hand(player), suit) == 0 {
         return None;
     }
     Some(suit)
 }
 
-impl Weights {
-    /// How strong a suit's two is where that suit is led.
-    fn base(&self, led: Suit) -> u8
-        ensures { result ≤ 14 }
-    {
-        if self.trump == Some(led) {
-            TRUMP
-        } else {
-            PLAIN
-        }
-    }
+/// How strong a suit's two is where that suit is led.
+fn base(trump: Option<Suit>, led: Suit) -> u8
+    ensures { result ≤ 14 }
+{
+    if trump == Some(led) { TRUMP } else { PLAIN }
+}
 
-    /// How strong a hand's best answer to a suit is, of which it has these ranks: it follows, or ruffs, or discards.
-    fn answer(&self, hand: Hand, suited: u64, led: Suit) -> u8
-        ensures { result ≤ 26 }
-    {
-        if suited != 0 {
-            return self.base(led) + highest(suited);
-        }
-        match self.trump {
-            Some(trump) => greatest(TRUMP, ranks(hand, trump)),
-            None => 0,
-        }
+/// How strong a hand's best answer to a suit is, of which it has these ranks: it follows, or ruffs, or discards.
+fn answer(trump: Option<Suit>, hand: Hand, suited: u64, led: Suit) -> u8
+    ensures { result ≤ 26 }
+{
+    if suited != 0 {
+        return base(trump, led) + highest(suited);
     }
+    match trump {
+        Some(trump) => greatest(TRUMP, ranks(hand, trump)),
+        None => 0,
+    }
+}
 
-    /// 1 for the best card of a suit that is in a hand, 2 for the next one, and so on.
-    fn place_from_top(&self, suit: Suit, run: Run) -> u16
-        ensures { result ≤ 65 }
-    {
-        1 + (ranks(self.all, suit) >> run.height() >> 1).count_ones() as u16
-    }
+/// 1 for the best of a suit's cards, 2 for the next one, and so on.
+fn place_from_top(suited: u64, run: Run) -> u16
+    ensures { result ≤ 65 }
+{
+    1 + (suited >> run.height() >> 1).count_ones() as u16
 }
 
 /// A hand's cards of a suit: a bit for each rank, the lowest for the two.
@@ -168,7 +105,12 @@ fn length(ranks: u64) -> u16
     ranks.count_ones() as u16
 }
 
-/// The highest run of one suit's cards: the height of its highest card, and all its ranks.
+/// Whether this is one card, or none.
+fn is_single(ranks: u64) -> bool {
+    ranks & ranks.wrapping_sub(1) == 0
+}
+
+/// A run of one suit's cards: the height of its highest card, and all its ranks.
 #[derive(Clone, Copy)]
 struct Run {
     height: u8,
@@ -176,7 +118,7 @@ struct Run {
 }
 
 impl Run {
-    /// Of these cards, if there are any, where the other players have those.
+    /// The highest of these cards, if there are any, where the other players have those.
     fn highest(cards: u64, others: u64) -> Option<Run> {
         if cards == 0 {
             return None;
@@ -189,6 +131,21 @@ impl Run {
             cards & u64::MAX << lower.ilog2()
         };
         let height = last.min(12) as u8;
+        Some(Run { height, ranks })
+    }
+
+    /// The lowest run of these cards.
+    fn lowest(cards: u64, others: u64) -> Option<Run> {
+        if cards == 0 {
+            return None;
+        }
+        let lowest = cards & cards.wrapping_neg();
+        let above = others & !lowest.wrapping_sub(1);
+        let ranks = cards & (above & above.wrapping_neg()).wrapping_sub(1);
+        if ranks == 0 {
+            return None;
+        }
+        let height = ranks.ilog2().min(12) as u8;
         Some(Run { height, ranks })
     }
 
@@ -213,7 +170,7 @@ impl Run {
 
     /// Whether it has more cards than one.
     fn is_sequence(self) -> bool {
-        self.ranks & self.ranks.wrapping_sub(1) != 0
+        !is_single(self.ranks)
     }
 }
 

@@ -10,6 +10,12 @@ pub struct Chains {
     pub blocks: Vec<Block>,
 }
 
+/// A hash of how many cards each player has of each suit, of the leader and the strain.
+pub fn hash(lengths: u64, leader: Place, strain: Strain) -> u64 {
+    let word = lengths ^ leader as u64 ^ (strain as u64) << 8;
+    (word ^ word >> 29).wrapping_mul(0x9e37_79b9_7f4a_7c15)
+}
+
 impl Chains {
     /// Empties the chains.
     pub fn clear(&mut self) {
@@ -17,10 +23,8 @@ impl Chains {
         self.heads.fill(NONE);
     }
 
-    /// The chain of a pattern's lengths, leader and strain.
-    pub fn chain(&self, lengths: u64, leader: Place, strain: Strain) -> usize {
-        let mut hash = lengths ^ leader as u64 ^ (strain as u64) << 8;
-        hash = (hash ^ hash >> 29).wrapping_mul(0x9e37_79b9_7f4a_7c15);
+    /// The chain of a hash of lengths, leader and strain.
+    pub fn chain(&self, hash: u64) -> usize {
         let mask = (self.heads.len() as u64).saturating_sub(1);
         ((hash >> 20) & mask) as usize
     }
@@ -61,7 +65,7 @@ impl Chains {
             return;
         }
         let slot = Slot::of(entry, place as u32);
-        let chain = self.chain(entry.lengths(), entry.leader, entry.strain);
+        let chain = self.chain(hash(entry.lengths(), entry.leader, entry.strain));
         let front = self.head(chain);
         let first = front as usize;
         if first < self.blocks.len() && self.blocks[first].fill(slot) {

@@ -9,10 +9,12 @@ ghost use Rattle.std.specs.Prelude.{◌≡◌, All, IfSome, []};
 use crate::chains::Chains;
 use crate::finding::Finding;
 use crate::holders::Holders;
+use crate::leads::{LastLeads, Leads};
 use crate::pattern::{Pattern, Remembered};
 use crate::sketch::NONE;
-use cards::Position;
+use cards::{Card, Position};
 use std::alloc::{AllocError, Global};
+use table_terms::Place;
 
 // How many blocks of a chain are looked at.
 const LONGEST: u32 = 100;
@@ -25,6 +27,7 @@ pub struct Memory {
     entries: Vec<Remembered>,
     chains: Chains,
     room: usize,
+    leads: Leads,
     ghost true_entries: { All IsTruePattern entries.items } by { Prim.hlevel props },
 }
 
@@ -46,6 +49,7 @@ impl Memory {
             entries: Vec::with_capacity(alloc, room)?,
             chains: Chains { heads, blocks },
             room,
+            leads: Leads::new(alloc, room / 16)?,
         })
     }
 
@@ -53,6 +57,17 @@ impl Memory {
     pub fn clear(&mut self) {
         self.entries.clear();
         self.chains.clear();
+        self.leads.clear();
+    }
+
+    /// The leads of a player that decided last with so many tricks left, and at a pattern of this hash.
+    pub fn last_leads(&self, leader: Place, tricks_left: u32, hash: u64) -> LastLeads {
+        self.leads.of(leader, tricks_left, hash)
+    }
+
+    /// Takes in a lead that decided.
+    pub fn push_lead(&mut self, leader: Place, tricks_left: u32, hash: u64, card: Card) {
+        self.leads.push(leader, tricks_left, hash, card);
     }
 
     /// What is known of the position, at the beginning of a trick, if its pattern is remembered.
@@ -68,10 +83,8 @@ impl Memory {
         requires start { position.now.table ≡ [] }
         ensures { IfSome result (λ found. IsFound position.now target found.known found.holds) }
     {
-        let lengths = pattern.lengths();
-        let chain = self
-            .chains
-            .chain(lengths, position.leader(), position.strain());
+        let hash = pattern.hash(position.leader(), position.strain());
+        let chain = self.chains.chain(hash);
         let tops = pattern.sketch();
         let front = self.chains.head(chain);
         let mut at = front;

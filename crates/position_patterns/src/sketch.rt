@@ -1,4 +1,6 @@
+use crate::chains::hash;
 use crate::pattern::{Pattern, Remembered, SuitTops};
+use table_terms::{Place, Strain};
 
 // How many slots a block has: with the next block's number they fill a line of a processor's cache.
 pub const SLOTS: usize = 5;
@@ -78,6 +80,11 @@ impl Pattern {
             self.diamonds.lengths,
             self.clubs.lengths,
         )
+    }
+
+    /// A hash of them, of the leader and the strain.
+    pub fn hash(&self, leader: Place, strain: Strain) -> u64 {
+        hash(self.lengths(), leader, strain)
     }
 
     /// The holders of four top cards of each suit.
