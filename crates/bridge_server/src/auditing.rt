@@ -39,6 +39,6 @@ pub(crate) fn status_of_audit<
             Ok(()) => 0,
             Err(_) => 3,
         },
-        Err(fault) => status_of_source_fault(fault, errors),
+        Err((fault, _left)) => status_of_source_fault(fault, errors),
     }
 }

@@ -24,6 +24,6 @@ pub(crate) fn status_of_copy<R: Files + JournalFiles + AllocGlobal, E: Write>(
 {
     match copy_journal(rt, copy.journal, Wary, copy.to) {
         Ok(()) => 0,
-        Err(fault) => status_of_source_fault(fault, errors),
+        Err((fault, _left)) => status_of_source_fault(fault, errors),
     }
 }

@@ -58,7 +58,7 @@ fn report_text<R: Files + Threads + JournalFiles + AllocGlobal + Sync>(
 {
     let reported = match report_of_journal(rt, reporting.journal, Wary, WORKERS) {
         Ok(reported) => reported,
-        Err(fault) => return Err(fault),
+        Err((fault, _left)) => return Err(fault),
     };
     match form_text(rt.alloc(), reporting.form, &reported.report) {
         Ok(text) => Ok(text),

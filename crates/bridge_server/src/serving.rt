@@ -22,7 +22,7 @@ use script_lines::write_text;
 use server_words::{Serving, SessionFiles, SessionSource};
 use session_commands::Entry;
 use session_threads::{ServingError, ServingPlan, serve_book};
-use sqlite::{Alter, FileFrom, FileStore, Wary};
+use sqlite::{Alter, FileFrom, FileStore, Leftover, Wary};
 use std::io::Write;
 use std::net::Net;
 use std::rt::Files;
@@ -140,7 +140,7 @@ where
 {
     match open_kept(rt, serving, path, files) {
         Ok(kept) => serve_kept(rt, serving, kept),
-        Err(fault) => Err(ServingFault::Source(fault)),
+        Err((fault, _left)) => Err(ServingFault::Source(fault)),
     }
 }
 
@@ -150,7 +150,10 @@ fn open_kept<R: Files + Threads + JournalFiles + AllocGlobal + Sync>(
     serving: &Serving<'_>,
     path: &str,
     files: &Option<SessionFiles<'_>>,
-) -> Result<KeptSession<FileStore<FileFrom<Wary>>>, KeptSessionFault>
+) -> Result<
+    KeptSession<FileStore<FileFrom<Wary>>>,
+    (KeptSessionFault, Option<Leftover<FileFrom<Wary>>>),
+>
     ensures opening { IfOk result (λ kept. kept.session.book.journal ≡ []) }
     ensures kept { IfOk result (λ kept. KeepsJust (file_state kept.journal.store.conn)
         (lists_in kept.journal.publications.items)) }

@@ -1,3 +1,4 @@
+pub mod FaultLemmas
 pub mod FileLemmas
 pub mod KeptLemmas
 pub mod LineLemmas

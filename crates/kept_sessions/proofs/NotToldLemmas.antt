@@ -24,7 +24,8 @@ use Rattle.std.proofs.Common.{
   get_or,
   append_assoc,
 }
-use Rattle.std.specs.Prelude.{None, Some}
+use Rattle.std.specs.Prelude.{None, Some, Result, IfErr}
+use Rattle.std.proofs.lemmas.Result.{IfErr-weaker}
 use Rattle.std.proofs.lemmas.List.{take_more, take-append-drop}
 use Rattle.session_state.specs.SessionState.{SessionState}
 use Rattle.session_commands.specs.Refusal.{is_out_of_memory}
@@ -34,7 +35,7 @@ use Rattle.session_commands.specs.declared.refusal.Refusal.TheVariants as cause_
 use Rattle.session_book.specs.Journal.{IsAccepted, refusal_after}
 use Rattle.kept_sessions.specs.Audited.{WhyNotTold}
 use Rattle.kept_sessions.specs.declared.source_fault.KeptSessionFault.{KeptSessionFault}
-use Rattle.kept_sessions.specs.declared.source_fault.KeptSessionFault.TheVariants.{OutOfMemory, Unread, Unopened, Journal, NotAccepted, CopyExists, CopyUnwritten}
+use Rattle.kept_sessions.specs.declared.source_fault.KeptSessionFault.TheVariants.{OutOfMemory, Unread, Unopened, Journal, NoJournal, NotAccepted, CopyExists, CopyUnwritten}
 
 -- why entries aren't told is why more of them aren't
 pub not_told_inside : (opening : SessionState) (first later all : List Entry) (fault : KeptSessionFault)
@@ -43,6 +44,7 @@ not_told_inside opening first later all OutOfMemory is why = tt
 not_told_inside opening first later all Unread is why = absurd why
 not_told_inside opening first later all (Unopened fault) is why = absurd why
 not_told_inside opening first later all (Journal fault) is why = absurd why
+not_told_inside opening first later all NoJournal is why = absurd why
 not_told_inside opening first later all (NotAccepted number) is why = record {
   entered = why.entered;
   entry = why.entry;
@@ -57,6 +59,12 @@ not_told_inside opening first later all (NotAccepted number) is why = record {
 }
 not_told_inside opening first later all CopyExists is why = absurd why
 not_told_inside opening first later all CopyUnwritten is why = absurd why
+
+-- want of memory says nothing of the entries
+pub memory_not_told : {T : Type 0} (opening : SessionState) (entries : List Entry) (result : Result T KeptSessionFault)
+    → IfErr result (λ fault. fault ≡ OutOfMemory) → IfErr result (WhyNotTold opening entries)
+memory_not_told opening entries result memory =
+    IfErr-weaker result _ _ (λ fault is. subst (WhyNotTold opening entries) (sym is) tt) memory
 
 -- what is told of an entry that a book refuses behind its journal
 pub fault_here : (fault : KeptSessionFault) (cause : Refusal) (opening : SessionState) (journal : List Entry)

@@ -9,7 +9,7 @@ use Rattle.session_book.specs.Journal.{IsAccepted, MayFollow}
 use Rattle.history.specs.Prefixes.{entries_of}
 use Rattle.wire.specs.AuditText.{audit_row_text}
 use Rattle.kept_sessions.specs.declared.source_fault.KeptSessionFault.{KeptSessionFault}
-use Rattle.kept_sessions.specs.declared.source_fault.KeptSessionFault.TheVariants.{OutOfMemory, Unread, Unopened, Journal, NotAccepted, CopyExists, CopyUnwritten}
+use Rattle.kept_sessions.specs.declared.source_fault.KeptSessionFault.TheVariants.{OutOfMemory, Unread, Unopened, Journal, NoJournal, NotAccepted, CopyExists, CopyUnwritten}
 use Rattle.kept_sessions.specs.Kept.{IsKeptSession, KeepsJust}
 
 -- the line of an entry with its number: what an audit has for it, and an LF
@@ -55,6 +55,7 @@ WhyNotTold opening entries OutOfMemory = Unit {0}
 WhyNotTold opening entries Unread = ⊥
 WhyNotTold opening entries (Unopened fault) = ⊥
 WhyNotTold opening entries (Journal fault) = ⊥
+WhyNotTold opening entries NoJournal = ⊥
 WhyNotTold opening entries (NotAccepted number) = IsNotAccepted opening entries number
 WhyNotTold opening entries CopyExists = ⊥
 WhyNotTold opening entries CopyUnwritten = ⊥

@@ -6,7 +6,7 @@ use Rattle.opened_session.specs.Opened.{OpensWith, OpensNoneWith, GivesBudget, i
 use Rattle.opened_session.specs.declared.opening_fault.OpeningFault.{OpeningFault}
 use Rattle.kept_sessions.specs.declared.source_texts.TheConstants.{MOST_FILE_BYTES}
 use Rattle.kept_sessions.specs.declared.source_fault.KeptSessionFault.{KeptSessionFault}
-use Rattle.kept_sessions.specs.declared.source_fault.KeptSessionFault.TheVariants.{OutOfMemory, Unread, Unopened, Journal, NotAccepted, CopyExists, CopyUnwritten}
+use Rattle.kept_sessions.specs.declared.source_fault.KeptSessionFault.TheVariants.{OutOfMemory, Unread, Unopened, Journal, NoJournal, NotAccepted, CopyExists, CopyUnwritten}
 
 -- own: how many bytes a file has at most
 abbrev pub most_file_bytes : ℕ
@@ -28,12 +28,25 @@ WhyNoSession object boards Unread = ⊥
 WhyNoSession object boards (Unopened fault) =
     (is_want_of_memory fault ≡ false) × OpensNoneWith (Some boards) fault object
 WhyNoSession object boards (Journal fault) = ⊥
+WhyNoSession object boards NoJournal = ⊥
 WhyNoSession object boards (NotAccepted number) = ⊥
 WhyNoSession object boards CopyExists = ⊥
 WhyNoSession object boards CopyUnwritten = ⊥
 
+-- own: a file isn't read, or memory is refused
+abbrev pub IsUnread : KeptSessionFault → Type 0
+IsUnread OutOfMemory = Unit {0}
+IsUnread Unread = Unit {0}
+IsUnread (Unopened fault) = ⊥
+IsUnread (Journal fault) = ⊥
+IsUnread NoJournal = ⊥
+IsUnread (NotAccepted number) = ⊥
+IsUnread CopyExists = ⊥
+IsUnread CopyUnwritten = ⊥
+
 -- own: the fault is one of a journal or of its copy, which is named also where the status is 3
 abbrev pub is_of_a_journal : KeptSessionFault → Bool
 is_of_a_journal (Journal fault) = true
+is_of_a_journal NoJournal = true
 is_of_a_journal CopyUnwritten = true
 is_of_a_journal _ = false

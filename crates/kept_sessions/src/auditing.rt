@@ -8,15 +8,17 @@ ghost use Rattle.session_book.specs.Journal.{IsAccepted};
 ghost use Rattle.session_commands.specs.Refusal.{is_out_of_memory};
 ghost use Rattle.kept_entries.specs.KeptRows.{lists_in};
 ghost use Rattle.kept_sessions.specs.Audited.{TellsJournal, TellsKeptJournal, WhyNotTold, line_of_row, lines_from};
+ghost use Rattle.kept_sessions.specs.Faults.{AreCleanlyLeft, WhyJournalNotTold};
 ghost use Rattle.kept_sessions.specs.declared.source_fault.KeptSessionFault.TheVariants.{NotAccepted, OutOfMemory};
 
 use crate::journal_session::{KeptSession, kept_session};
+use crate::left_files::left_of;
 use crate::source_fault::KeptSessionFault;
 use journal_store::JournalFiles;
 use row_journal::{OpenedJournal, RowJournal};
 use session_book::{AuditRow, Book};
 use session_commands::{Entry, Refusal};
-use sqlite::{Alter, FileFrom, FileStore, Start};
+use sqlite::{Alter, FileFrom, FileStore, Leftover, Start};
 use std::alloc::{AllocError, Global};
 use std::rt::Files;
 use std::thread::Threads;
@@ -32,19 +34,21 @@ pub struct ToldJournal<S: Alter> {
 }
 
 /// The audit of the journal at a path, a line for each entry. What the solver found is found again by so many workers.
+/// A refusal comes with what is left of the journal's files, once they were opened.
 pub fn audit_of_journal<R: Files + Threads + JournalFiles + AllocGlobal + Sync, S: Start>(
     rt: &R,
     path: &str,
     start: S,
     workers: usize,
-) -> Result<ToldJournal<FileStore<FileFrom<S>>>, KeptSessionFault>
+) -> Result<ToldJournal<FileStore<FileFrom<S>>>, (KeptSessionFault, Option<Leftover<FileFrom<S>>>)>
     ensures told { IfOk result (λ told. TellsJournal (string_bytes told.audit)) }
     ensures kept { IfOk result (λ told.
         TellsKeptJournal (image_at S.Start) (string_bytes told.audit) (file_state told.store.conn)) }
+    ensures why { IfErr result (λ e. AreCleanlyLeft e.1 → WhyJournalNotTold (image_at S.Start) e.0) }
 {
     let KeptSession { session, journal } = match kept_session(rt, path, start, workers) {
         Ok(kept) => kept,
-        Err(fault) => return Err(fault),
+        Err(refused) => return Err(refused),
     };
     let OpenedJournal {
         store,
@@ -52,7 +56,7 @@ pub fn audit_of_journal<R: Files + Threads + JournalFiles + AllocGlobal + Sync, 
     } = journal;
     match audit_of_publications(rt.alloc(), session.book, publications.as_slice()) {
         Ok(audit) => Ok(ToldJournal { audit, store }),
-        Err(fault) => Err(fault),
+        Err(fault) => Err((fault, Some(left_of(store.into_connection())))),
     }
 }
 

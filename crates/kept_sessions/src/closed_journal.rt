@@ -1,6 +1,7 @@
 //! The bytes of a journal that is closed.
 
-ghost use Rattle.std.specs.Prelude.{◌≡◌, IfOk, IsTrue};
+ghost use Rattle.std.specs.Prelude.{◌≡◌, IfOk, IfErr, IsTrue};
+ghost use Rattle.kept_sessions.specs.Faults.{IsFailedCopy};
 
 use crate::source_fault::KeptSessionFault;
 use journal_store::close_journal;
@@ -13,7 +14,9 @@ use std::alloc::Global;
 pub(crate) fn bytes_of_closed<D: Disk + Drop>(
     alloc: Global,
     conn: Connection<FileStore<D>>,
-) -> Result<Vec<u8>, KeptSessionFault> {
+) -> Result<Vec<u8>, KeptSessionFault>
+    ensures { IfErr result IsFailedCopy }
+{
     match close_journal(conn) {
         Ok(mut files) => bytes_of(alloc, &mut files.db),
         Err(fault) => Err(KeptSessionFault::Journal(fault_of_file(fault))),
@@ -22,7 +25,8 @@ pub(crate) fn bytes_of_closed<D: Disk + Drop>(
 
 // All bytes of a file.
 fn bytes_of<D: Disk>(alloc: Global, file: &mut D) -> Result<Vec<u8>, KeptSessionFault>
-    ensures { IfOk result (λ bytes. IsTrue (D.is_clean file.new) → bytes.items ≡ D.seen file.old) }
+    ensures bytes { IfOk result (λ bytes. IsTrue (D.is_clean file.new) → bytes.items ≡ D.seen file.old) }
+    ensures failed { IfErr result IsFailedCopy }
 {
     if !file.may_be_used() {
         return Err(KeptSessionFault::Journal(JournalFault::Unread));

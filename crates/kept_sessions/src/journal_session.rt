@@ -1,25 +1,26 @@
 //! A session with the journal that keeps it.
 
-ghost use Rattle.std.specs.Prelude.{◌≡◌, ◌≤◌, ◌∷◌, [], ℕ, List, length, map, IfOk};
+ghost use Rattle.std.specs.Prelude.{◌≡◌, ◌≤◌, ◌∷◌, [], ℕ, List, length, map, IfOk, IfErr};
 ghost use Rattle.sqlite.specs.Files.{file_state};
-ghost use Rattle.sqlite.specs.Held.{state};
 ghost use Rattle.sqlite.specs.State.{HasCleanDisk};
 ghost use Rattle.sqlite.specs.WalFiles.{image_at};
 ghost use Rattle.journal_store.specs.Kept.{row_of_session, texts_of};
 ghost use Rattle.journal_store.specs.Restart.{IsKeptAt};
 ghost use Rattle.kept_entries.specs.KeptRows.{lists_in, rows_of};
+ghost use Rattle.kept_sessions.specs.Faults.{AreCleanlyLeft, IsRowsFault, WhyFilesNotTakenUp, WhyNotReopened, WhyNotTakenUp};
 ghost use Rattle.kept_sessions.specs.Sources.{most_file_bytes};
 ghost use Rattle.kept_sessions.specs.Kept.{IsKeptSession, IsTakenSession, KeepsJust};
 
+use crate::left_files::left_of;
 use crate::paths::{may_hold_database, texts_of_files};
 use crate::source_fault::KeptSessionFault;
 use crate::source_texts::SourceTexts;
 use crate::texts_session::session_of_texts;
 use journal_store::{JournalFiles, SessionText};
 use opened_session::{OpenedSession, OpeningFault};
-use row_journal::{FoundJournal, JournalFault, OpenedJournal, open_kept_journal, open_row_journal};
+use row_journal::{FoundJournal, OpenedJournal, open_kept_journal, open_row_journal};
 use session_object::SessionFault;
-use sqlite::{Alter, FileFrom, FileStore, Start};
+use sqlite::{Alter, FileFrom, FileStore, Leftover, Start};
 use std::rt::Files;
 use std::str;
 use std::thread::Threads;
@@ -34,32 +35,38 @@ pub struct KeptSession<S: Alter> {
 }
 
 /// The session that texts open, with its journal at a path, which is made if there is none. What the solver found is found
-/// again by so many workers.
+/// again by so many workers. A refusal comes with what is left of the journal's files, once they were opened.
 pub fn kept_session_of_texts<R: JournalFiles + Threads + AllocGlobal + Sync, S: Start>(
     rt: &R,
     path: &str,
     start: S,
     texts: &SourceTexts,
     workers: usize,
-) -> Result<KeptSession<FileStore<FileFrom<S>>>, KeptSessionFault>
+) -> Result<KeptSession<FileStore<FileFrom<S>>>, (KeptSessionFault, Option<Leftover<FileFrom<S>>>)>
     ensures taken { IfOk result (λ kept. IsTakenSession (image_at S.Start) texts.now.object.items texts.now.boards.items
         kept.session.book.opening kept.session.book.journal kept.session.budget
         (lists_in kept.journal.publications.items) (file_state kept.journal.store.conn)) }
     ensures leaves { IfOk result (λ kept. KeepsJust (file_state kept.journal.store.conn)
         (lists_in kept.journal.publications.items)) }
+    ensures why { IfErr result (λ e. AreCleanlyLeft e.1
+        → WhyNotTakenUp (image_at S.Start) texts.now.object.items texts.now.boards.items e.0) }
 {
     let boards = texts.boards.as_slice();
     let session = match session_of_texts(rt.alloc(), texts.object.as_slice(), boards) {
         Ok(session) => session,
-        Err(fault) => return Err(fault),
+        Err(fault) => return Err((fault, None)),
     };
     // A session object that opens a session is a text.
-    let Ok(object) = str::from_utf8(texts.object.as_slice()) else {
-        return Err(KeptSessionFault::Unopened(OpeningFault::Session(SessionFault::Malformed)));
+    let object = match str::from_utf8(texts.object.as_slice()) {
+        Ok(object) => object,
+        Err(_) => {
+            let fault = OpeningFault::Session(SessionFault::Malformed);
+            return Err((KeptSessionFault::Unopened(fault), None));
+        }
     };
     match open_row_journal(rt, path, start, object, boards) {
         Ok(found) => with_journal(rt, session, found, workers),
-        Err((fault, _)) => Err(KeptSessionFault::Journal(fault)),
+        Err((fault, left)) => Err((KeptSessionFault::Journal(fault), left)),
     }
 }
 
@@ -71,7 +78,7 @@ pub fn kept_session_of_files<R: Files + JournalFiles + Threads + AllocGlobal + S
     object_path: &str,
     boards_path: &str,
     workers: usize,
-) -> Result<KeptSession<FileStore<FileFrom<S>>>, KeptSessionFault>
+) -> Result<KeptSession<FileStore<FileFrom<S>>>, (KeptSessionFault, Option<Leftover<FileFrom<S>>>)>
     ensures taken { IfOk result (λ kept. (object boards : List ℕ)
         × (length object ≤ most_file_bytes) × (length boards ≤ most_file_bytes)
         × IsTakenSession (image_at S.Start) object boards
@@ -79,10 +86,11 @@ pub fn kept_session_of_files<R: Files + JournalFiles + Threads + AllocGlobal + S
         (lists_in kept.journal.publications.items) (file_state kept.journal.store.conn)) }
     ensures leaves { IfOk result (λ kept. KeepsJust (file_state kept.journal.store.conn)
         (lists_in kept.journal.publications.items)) }
+    ensures why { IfErr result (λ e. AreCleanlyLeft e.1 → WhyFilesNotTakenUp (image_at S.Start) e.0) }
 {
     match texts_of_files(rt, object_path, boards_path) {
         Ok(texts) => kept_session_of_texts(rt, path, start, &texts, workers),
-        Err(fault) => Err(fault),
+        Err(fault) => Err((fault, None)),
     }
 }
 
@@ -92,20 +100,21 @@ pub fn kept_session<R: Files + JournalFiles + Threads + AllocGlobal + Sync, S: S
     path: &str,
     start: S,
     workers: usize,
-) -> Result<KeptSession<FileStore<FileFrom<S>>>, KeptSessionFault>
+) -> Result<KeptSession<FileStore<FileFrom<S>>>, (KeptSessionFault, Option<Leftover<FileFrom<S>>>)>
     ensures kept { IfOk result (λ kept. IsKeptSession (image_at S.Start)
         kept.session.book.opening kept.session.book.journal kept.session.budget
         (lists_in kept.journal.publications.items) (file_state kept.journal.store.conn)) }
     ensures leaves { IfOk result (λ kept. KeepsJust (file_state kept.journal.store.conn)
         (lists_in kept.journal.publications.items)) }
+    ensures why { IfErr result (λ e. AreCleanlyLeft e.1 → WhyNotReopened (image_at S.Start) e.0) }
 {
     let (texts, found) = match kept_texts(rt, path, start) {
         Ok(kept) => kept,
-        Err(fault) => return Err(fault),
+        Err(refused) => return Err(refused),
     };
     match session_of_texts(rt.alloc(), texts.object.as_bytes(), texts.boards.as_slice()) {
         Ok(session) => with_journal(rt, session, found, workers),
-        Err(fault) => Err(fault),
+        Err(fault) => Err((fault, Some(left_of(found.into_connection())))),
     }
 }
 
@@ -114,37 +123,43 @@ pub(crate) fn kept_texts<R: Files + JournalFiles, S: Start>(
     rt: &R,
     path: &str,
     start: S,
-) -> Result<(SessionText, FoundJournal<FileStore<FileFrom<S>>>), KeptSessionFault>
+) -> Result<
+    (SessionText, FoundJournal<FileStore<FileFrom<S>>>),
+    (KeptSessionFault, Option<Leftover<FileFrom<S>>>),
+>
     ensures opens { IfOk result (λ kept. HasCleanDisk (file_state kept.1.conn)
         → IsKeptAt (image_at S.Start) (row_of_session kept.0 ∷ []) (map texts_of kept.1.rows)
         (file_state kept.1.conn)) }
+    ensures why { IfErr result (λ e. AreCleanlyLeft e.1 → WhyNotReopened (image_at S.Start) e.0) }
 {
     match may_hold_database(rt, path) {
         Ok(true) => {}
-        Ok(false) => return Err(KeptSessionFault::Journal(JournalFault::NotAJournal)),
-        Err(fault) => return Err(fault),
+        Ok(false) => return Err((KeptSessionFault::NoJournal, None)),
+        Err(fault) => return Err((KeptSessionFault::Journal(fault), None)),
     }
     match open_kept_journal(rt, path, start) {
         Ok(kept) => Ok(kept),
-        Err((fault, _)) => Err(KeptSessionFault::Journal(fault)),
+        Err((cause, left)) => Err((KeptSessionFault::Journal(cause), left)),
     }
 }
 
 /// A session with the journal of it that was found, once that is read.
-pub(crate) fn with_journal<R: Threads + AllocGlobal + Sync, S: Alter + Drop>(
+pub(crate) fn with_journal<R: Threads + AllocGlobal + Sync, S: Start>(
     rt: &R,
     session: OpenedSession,
-    found: FoundJournal<S>,
+    found: FoundJournal<FileStore<FileFrom<S>>>,
     workers: usize,
-) -> Result<KeptSession<S>, KeptSessionFault>
+) -> Result<KeptSession<FileStore<FileFrom<S>>>, (KeptSessionFault, Option<Leftover<FileFrom<S>>>)>
     ensures read { IfOk result (λ kept. (kept.session ≡ session) × (kept.journal.store.conn ≡ found.conn)
         × (map texts_of found.rows ≡ rows_of (lists_in kept.journal.publications.items))) }
-    ensures leaves { IfOk result (λ kept. KeepsJust (state S.Store kept.journal.store.conn)
+    ensures leaves { IfOk result (λ kept. KeepsJust (file_state kept.journal.store.conn)
         (lists_in kept.journal.publications.items)) }
+    ensures unread { IfErr result (λ e. IsRowsFault found.rows e.0
+        × (AreCleanlyLeft e.1 → HasCleanDisk (file_state found.conn))) }
 {
     // Of what was found once the session's visits are no measure any more: a later solver may take others to find it again.
     match found.read(rt, rt.alloc(), u64::MAX, workers) {
         Ok(journal) => Ok(KeptSession { session, journal }),
-        Err(fault) => Err(KeptSessionFault::Journal(fault)),
+        Err((fault, conn)) => Err((KeptSessionFault::Journal(fault), Some(left_of(conn)))),
     }
 }

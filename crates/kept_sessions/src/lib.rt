@@ -5,6 +5,8 @@ mod auditing;
 mod closed_journal;
 mod copying;
 mod journal_session;
+pub mod laws;
+mod left_files;
 mod memberships;
 mod paths;
 mod reporting;

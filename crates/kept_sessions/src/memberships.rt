@@ -1,8 +1,10 @@
 //! The numbers of members that a session object has.
 
-ghost use Rattle.std.specs.Prelude.{◌≡◌, IfOk};
+ghost use Rattle.std.specs.Prelude.{◌≡◌, ◌⊎◌, IfOk, IfErr};
 ghost use Rattle.std.specs.List.{filter_map};
 ghost use Rattle.kept_sessions.specs.Reported.{AreNumbersOf, membership_of};
+ghost use Rattle.kept_sessions.specs.Sources.{WhyNoSession};
+ghost use Rattle.kept_sessions.specs.declared.source_fault.KeptSessionFault.TheVariants.{OutOfMemory};
 
 use crate::source_fault::KeptSessionFault;
 use opened_session::OpeningFault;
@@ -18,7 +20,8 @@ pub(crate) fn memberships_of_texts(
     object: &[u8],
     boards: &[u8],
 ) -> Result<Vec<Membership>, KeptSessionFault>
-    ensures { IfOk result (λ memberships. AreNumbersOf object.now boards.now memberships.items) }
+    ensures numbers { IfOk result (λ memberships. AreNumbersOf object.now boards.now memberships.items) }
+    ensures why { IfErr result (λ fault. (fault ≡ OutOfMemory) ⊎ WhyNoSession object.now boards.now fault) }
 {
     match read_session(alloc, object, Some(boards)) {
         Ok(said) => match memberships_of(alloc, said.config.users.as_slice()) {

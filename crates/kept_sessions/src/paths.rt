@@ -1,7 +1,8 @@
 //! Files at paths: those of a session, and whether one may hold a database.
 
-ghost use Rattle.std.specs.Prelude.{◌≡◌, ◌≤◌, ℕ, List, length, false, IfOk, IfErr};
-ghost use Rattle.kept_sessions.specs.Sources.{IsSessionOf, most_file_bytes, is_of_a_journal};
+ghost use Rattle.std.specs.Prelude.{◌≡◌, ◌≤◌, ℕ, List, length, false, true, IfOk, IfErr};
+ghost use Rattle.row_journal.specs.Faults.{is_file_failure};
+ghost use Rattle.kept_sessions.specs.Sources.{IsSessionOf, IsUnread, most_file_bytes, is_of_a_journal};
 
 use crate::source_fault::KeptSessionFault;
 use crate::source_texts::{SourceTexts, read_texts};
@@ -24,6 +25,7 @@ pub fn texts_of_files<R: Files + AllocGlobal>(
     ensures few { IfOk result (λ texts. (length texts.object.items ≤ most_file_bytes)
         × (length texts.boards.items ≤ most_file_bytes)) }
     ensures fault { IfErr result (λ fault. is_of_a_journal fault ≡ false) }
+    ensures unread { IfErr result IsUnread }
 {
     let object = match fs::open(rt, object_path) {
         Ok(file) => file,
@@ -57,7 +59,8 @@ pub fn session_of_files<R: Files + AllocGlobal>(
 
 // What an error of the system is to one who reads a session's file.
 fn fault_of_reading(error: io::Error) -> KeptSessionFault
-    ensures { is_of_a_journal result ≡ false }
+    ensures fault { is_of_a_journal result ≡ false }
+    ensures unread { IsUnread result }
 {
     match error.kind() {
         ErrorKind::OutOfMemory => KeptSessionFault::OutOfMemory,
@@ -67,11 +70,13 @@ fn fault_of_reading(error: io::Error) -> KeptSessionFault
 
 /// Whether there is something at a path that may hold a database. A shorter file holds none, and an open would make one in
 /// it.
-pub(crate) fn may_hold_database<R: Files>(rt: &R, path: &str) -> Result<bool, KeptSessionFault> {
+pub(crate) fn may_hold_database<R: Files>(rt: &R, path: &str) -> Result<bool, JournalFault>
+    ensures { IfErr result (λ fault. is_file_failure fault ≡ true) }
+{
     match fs::metadata(rt, path) {
         Ok(found) => Ok(!found.is_file() || found.len() >= LEAST_DATABASE_BYTES),
         Err(error) if error.kind() == ErrorKind::NotFound => Ok(false),
-        Err(error) if error.kind() == ErrorKind::OutOfMemory => Err(KeptSessionFault::OutOfMemory),
-        Err(_) => Err(KeptSessionFault::Journal(JournalFault::Unread)),
+        Err(error) if error.kind() == ErrorKind::OutOfMemory => Err(JournalFault::OutOfMemory),
+        Err(_) => Err(JournalFault::Unread),
     }
 }

@@ -14,6 +14,8 @@ pub enum KeptSessionFault {
     Unopened(OpeningFault),
     /// The journal isn't opened.
     Journal(JournalFault),
+    /// There is nothing at the journal's path, or less than a page of a database. Nothing was opened.
+    NoJournal,
     /// The entry of this number, from 1, isn't accepted where it stands in the journal.
     NotAccepted(u32),
     /// There is something at the path of the copy.
@@ -22,7 +24,7 @@ pub enum KeptSessionFault {
     CopyUnwritten,
 }
 
-/// Faults of the texts and of the journal are called as their crates call them.
+/// Faults of the texts and of the journal are called as their crates call them, and no journal as what is none.
 impl fmt::Display for KeptSessionFault {
     fn fmt<W: fmt::Write>(&self, f: &mut fmt::Formatter<W>) -> fmt::Result {
         match self {
@@ -30,6 +32,7 @@ impl fmt::Display for KeptSessionFault {
             KeptSessionFault::Unread => f.write_str("a file can't be read"),
             KeptSessionFault::Unopened(fault) => write!(f, "{fault}"),
             KeptSessionFault::Journal(fault) => write!(f, "{fault}"),
+            KeptSessionFault::NoJournal => f.write_str("NotAJournal"),
             KeptSessionFault::NotAccepted(number) => write!(f, "NotAccepted({number})"),
             KeptSessionFault::CopyExists => f.write_str("CopyExists"),
             KeptSessionFault::CopyUnwritten => f.write_str("CopyUnwritten"),

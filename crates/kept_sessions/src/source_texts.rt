@@ -1,7 +1,7 @@
 //! The texts of a session's two files.
 
 ghost use Rattle.std.specs.Prelude.{◌≡◌, ◌≤◌, length, false, IfOk, IfErr, IfSome};
-ghost use Rattle.kept_sessions.specs.Sources.{most_file_bytes, is_of_a_journal};
+ghost use Rattle.kept_sessions.specs.Sources.{IsUnread, most_file_bytes, is_of_a_journal};
 
 use crate::source_fault::KeptSessionFault;
 use std::alloc::Global;
@@ -30,6 +30,7 @@ pub fn read_texts<I: Read + Drop, J: Read + Drop>(
     ensures few { IfOk result (λ texts. (length texts.object.items ≤ most_file_bytes)
         × (length texts.boards.items ≤ most_file_bytes)) }
     ensures fault { IfErr result (λ fault. is_of_a_journal fault ≡ false) }
+    ensures unread { IfErr result IsUnread }
 {
     let object = match read_whole(alloc, object) {
         Ok(bytes) => bytes,
@@ -46,6 +47,7 @@ fn read_whole<I: Read + Drop>(alloc: Global, reader: I) -> Result<Vec<u8>, KeptS
     ensures whole { IfOk result (λ bytes. IfSome (I.remaining reader) (λ all. bytes.items ≡ all)) }
     ensures few { IfOk result (λ bytes. length bytes.items ≤ most_file_bytes) }
     ensures fault { IfErr result (λ fault. is_of_a_journal fault ≡ false) }
+    ensures unread { IfErr result IsUnread }
 {
     let mut bytes = Vec::new(alloc);
     match reader

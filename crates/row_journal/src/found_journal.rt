@@ -67,34 +67,42 @@ impl<S: Alter> FoundJournal<S> {
     {
         FoundJournal { conn, rows }
     }
+
+    /// Gives back the database, whose rows aren't read.
+    pub fn into_connection(self) -> Connection<S>
+        ensures { result ≡ self.conn }
+    {
+        self.conn
+    }
 }
 
 impl<S: Alter + Drop> FoundJournal<S> {
     /// Reads the publications. What the solver found is found again, by so many workers beside one another, each time
     /// with so many visits. No row is changed. Rows of publications whose entries are an accepted journal are refused for
-    /// want of memory or visits alone.
+    /// want of memory or visits alone. A refusal comes with the database.
     pub fn read<R: Threads + Sync>(
         self,
         rt: &R,
         alloc: Global,
         budget: u64,
         workers: usize,
-    ) -> Result<OpenedJournal<S>, JournalFault>
+    ) -> Result<OpenedJournal<S>, (JournalFault, Connection<S>)>
         ensures open { IfOk result (λ o. (o.store.shut ≡ false) × (o.store.conn ≡ self.conn)) }
         ensures rows { IfOk result (λ o. map texts_of self.rows ≡ rows_of (lists_in o.publications.items)) }
         ensures keepable { IfOk result (λ o. AreKeepable (lists_in o.publications.items)) }
         ensures leaves { IfOk result (λ o. HasCleanDisk (state S.Store self.conn) → (found : List (List Entry))
             → LeavesPublications (state S.Store self.conn) found → found ≡ lists_in o.publications.items) }
-        ensures fault { IfErr result (WhyRowsNotRead self.rows) }
-        ensures numbered { IfErr result (λ fault. HasCleanDisk (state S.Store self.conn) → fault ≢ Misnumbered) }
+        ensures left { IfErr result (λ e. e.1 ≡ self.conn) }
+        ensures fault { IfErr result (λ e. WhyRowsNotRead self.rows e.0) }
+        ensures numbered { IfErr result (λ e. HasCleanDisk (state S.Store self.conn) → e.0 ≢ Misnumbered) }
         ensures accepted { (opening : SessionState) (published : List (List Entry)) → AreKeepable published
             → IsAccepted opening (entries_of published) → map texts_of self.rows ≡ rows_of published
-            → IfErr result IsOpeningWant }
+            → IfErr result (λ e. IsOpeningWant e.0) }
     {
         let FoundJournal { conn, rows } = self;
         let publications = match read_publications(rt, alloc, rows.as_slice(), budget, workers) {
             Ok(publications) => publications,
-            Err(fault) => return Err(fault_of_rows(fault)),
+            Err(fault) => return Err((fault_of_rows(fault), conn)),
         };
         let next = rows.len() as u32 + 1;
         let last = publications.len() as u32;

@@ -1,6 +1,10 @@
+use Rattle.std.proofs.Common.{subst}
 use Rattle.sqlite.specs.Files.{file_state}
+use Rattle.sqlite.specs.Held.{Held}
+use Rattle.sqlite.specs.State.{HasCleanDisk}
 use Rattle.sqlite.specs.WalFiles.{image_at}
 use Rattle.kept_entries.specs.KeptRows.{lists_in}
+use Rattle.kept_sessions.proofs.FaultLemmas.{entries_not_told, not_reopened_told}
 use Rattle.kept_sessions.proofs.KeptLemmas.{nothing_entered}
 use Rattle.kept_sessions.proofs.auditing.audit_of_journal.Goals as goal
 
@@ -20,3 +24,19 @@ returns-in-Ok-audit_of_publications-clause-kept g c =
       accepted = rw c.as_slice.ensures.value at c.in-Ok-audit_of_publications.ensures.accepted;
       lines = rw c.as_slice.ensures.value at c.in-Ok-audit_of_publications.ensures.lines;
     }
+
+pub returns-in-Err-clause-why : goal.returns-in-Err-clause-why
+returns-in-Err-clause-why g c = λ clean.
+    not_reopened_told (image_at g.S.Start) c.in-Err.refused.0 (c.in-Err.ensures.why clean)
+
+pub returns-clause-why : goal.returns-clause-why
+returns-clause-why g c = λ clean.
+    let session = c.in-Ok.kept.session in
+    let journal = c.in-Ok.kept.journal in
+    let publications = lists_in journal.publications.items in
+    let kept = c.in-Ok.ensures.kept in
+    let was = subst (λ (conn : Held _). HasCleanDisk (file_state conn)) c.into_connection.ensures.conn
+    (c.left_of.ensures clean) in
+    entries_not_told (image_at g.S.Start) kept.object kept.boards session.book.opening session.book.journal session.budget
+    publications c.in-Err-audit_of_publications.fault kept.session (kept.kept was).found
+    (rw c.as_slice.ensures.value at c.in-Err-audit_of_publications.ensures.fault)

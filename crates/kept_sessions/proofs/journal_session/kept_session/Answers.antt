@@ -1,10 +1,14 @@
 use Rattle.std.proofs.Common.{ap, sym, subst, ◌∷◌, [], map}
 use Rattle.std.specs.Prelude.{string_bytes}
-use Rattle.std.proofs.lemmas.Result.{IfOk-weaker}
+use Rattle.std.proofs.lemmas.Result.{IfOk-weaker, IfErr-weaker}
 use Rattle.sqlite.specs.Files.{file_state}
+use Rattle.sqlite.specs.Held.{Held}
+use Rattle.sqlite.specs.State.{HasCleanDisk}
+use Rattle.sqlite.specs.WalFiles.{image_at}
 use Rattle.journal_store.specs.Kept.{texts_of, row_of_session}
 use Rattle.kept_entries.specs.KeptRows.{lists_in, rows_of}
 use Rattle.kept_sessions.specs.Sources.{IsSessionOf}
+use Rattle.kept_sessions.proofs.FaultLemmas.{rows_not_reopened, texts_not_reopened}
 use Rattle.kept_sessions.proofs.KeptLemmas.{kept_as}
 use Rattle.kept_sessions.proofs.journal_session.kept_session.Goals as goal
 
@@ -24,3 +28,21 @@ returns-in-Ok-session_of_texts-clause-kept g c =
           (rows_of (lists_in kept.journal.publications.items)) (file_state found.conn)
           (file_state kept.journal.store.conn) (ap (λ conn. file_state conn) read.1) read.2 c.in-Ok.ensures.opens;
     }) c.with_journal.ensures.read
+
+pub returns-in-Ok-session_of_texts-clause-why : goal.returns-in-Ok-session_of_texts-clause-why
+returns-in-Ok-session_of_texts-clause-why g c =
+    let texts = c.in-Ok.kept.0 in
+    let found = c.in-Ok.kept.1 in
+    IfErr-weaker c.with_journal.result _ _ (λ e unread clean.
+    rows_not_reopened (image_at g.S.Start) (string_bytes texts.object) texts.boards.items found.rows e.0
+    (c.in-Ok.ensures.opens (unread.1 clean)).found unread.0)
+    c.with_journal.ensures.unread
+
+pub returns-clause-why : goal.returns-clause-why
+returns-clause-why g c = λ clean.
+    let texts = c.in-Ok.kept.0 in
+    let found = c.in-Ok.kept.1 in
+    let was = subst (λ (conn : Held _). HasCleanDisk (file_state conn)) c.into_connection.ensures (c.left_of.ensures clean) in
+    texts_not_reopened (image_at g.S.Start) (string_bytes texts.object) texts.boards.items (map texts_of found.rows)
+    c.in-Err-session_of_texts.fault (c.in-Ok.ensures.opens was).found
+    (rw (c.as_bytes.ensures.value, c.as_slice.ensures.value) at c.in-Err-session_of_texts.ensures.why)

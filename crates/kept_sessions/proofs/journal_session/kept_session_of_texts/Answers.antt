@@ -1,10 +1,13 @@
-use Rattle.std.proofs.Common.{◌≡◌, ◌∙◌, ap, sym, subst, ◌∷◌, [], map}
-use Rattle.std.proofs.lemmas.Result.{IfOk-weaker}
+use Rattle.std.proofs.Common.{◌≡◌, ◌∙◌, inl, ap, sym, subst, ◌∷◌, [], map}
+use Rattle.std.proofs.lemmas.Result.{IfOk-weaker, IfErr-weaker}
 use Rattle.sqlite.specs.Files.{file_state}
+use Rattle.sqlite.specs.WalFiles.{image_at}
 use Rattle.journal_store.specs.Kept.{texts_of}
 use Rattle.journal_store.specs.Tables.{session_row}
 use Rattle.kept_entries.specs.KeptRows.{lists_in, rows_of}
 use Rattle.kept_sessions.specs.Sources.{IsSessionOf}
+use Rattle.kept_sessions.specs.Faults.{WhyNotTakenUp}
+use Rattle.kept_sessions.proofs.FaultLemmas.{never_cut, rows_not_taken, taken_cause, texts_not_taken}
 use Rattle.kept_sessions.proofs.KeptLemmas.{taken_as}
 use Rattle.kept_sessions.proofs.journal_session.kept_session_of_texts.Goals as goal
 
@@ -25,3 +28,43 @@ returns-in-Ok-open_row_journal-clause-taken g c =
           (λ i. session_row (text i) (c.as_slice-boards.ensures.value i) ∷ [])
           (ap (λ conn. file_state conn) read.1) read.2 c.in-Ok-open_row_journal.ensures.opens;
     }) c.with_journal.ensures.read
+
+pub returns-in-Ok-open_row_journal-clause-why : goal.returns-in-Ok-open_row_journal-clause-why
+returns-in-Ok-open_row_journal-clause-why g c =
+    let object = c.args.texts.now.object.items in
+    let boards = c.args.texts.now.boards.items in
+    let found = c.in-Ok-open_row_journal.found in
+    let text : c.in-Ok-from_utf8.object.now ≡ object = c.in-Ok-from_utf8.ensures.cases.0 ∙ c.as_slice-2.ensures.value in
+    IfErr-weaker c.with_journal.result _ _ (λ e unread clean.
+    subst (λ o. WhyNotTakenUp (image_at g.S.Start) o boards e.0) text
+    (subst (λ b. WhyNotTakenUp (image_at g.S.Start) c.in-Ok-from_utf8.object.now b e.0) c.as_slice-boards.ensures.value
+    (rows_not_taken (image_at g.S.Start) c.in-Ok-from_utf8.object.now c.as_slice-boards.result.now found.rows e.0
+    (c.in-Ok-open_row_journal.ensures.opens (unread.1 clean)).found unread.0)))
+    c.with_journal.ensures.unread
+
+pub returns-in-Err-open_row_journal-clause-why : goal.returns-in-Err-open_row_journal-clause-why
+returns-in-Err-open_row_journal-clause-why g c = λ clean.
+    let object = c.args.texts.now.object.items in
+    let boards = c.args.texts.now.boards.items in
+    let refused = c.in-Err-open_row_journal in
+    let text : c.in-Ok-from_utf8.object.now ≡ object = c.in-Ok-from_utf8.ensures.cases.0 ∙ c.as_slice-2.ensures.value in
+    let why = taken_cause (image_at g.S.Start)
+    (session_row c.in-Ok-from_utf8.object.now c.as_slice-boards.result.now ∷ []) refused.fault refused.left
+    refused.ensures.refuses clean in
+    inl (rw (text, c.as_slice-boards.ensures.value) at why)
+
+pub returns-in-Err-clause-why : goal.returns-in-Err-clause-why
+returns-in-Err-clause-why g c = λ clean.
+    texts_not_taken (image_at g.S.Start) c.args.texts.now.object.items c.args.texts.now.boards.items c.in-Err.fault
+    (rw (c.as_slice.ensures.value, c.as_slice-boards.ensures.value) at c.in-Err.ensures.why)
+
+pub returns-in-Err-from_utf8-clause-why : goal.returns-in-Err-from_utf8-clause-why
+returns-in-Err-from_utf8-clause-why g c = λ clean.
+    let object = c.args.texts.now.object.items in
+    let boards = c.args.texts.now.boards.items in
+    let opened = c.in-Ok.session in
+    let of_texts : IsSessionOf object boards opened.book.opening opened.book.journal opened.budget =
+    rw (c.as_slice.ensures.value, c.as_slice-boards.ensures.value) at c.in-Ok.ensures.session in
+    absurd (never_cut object boards opened.book.opening opened.book.journal opened.budget _ of_texts
+    (rw c.as_slice-2.ensures.value at c.in-Err-from_utf8.ensures.valid_len)
+    (rw c.as_slice-2.ensures.value at c.in-Err-from_utf8.ensures.cases.1.short))

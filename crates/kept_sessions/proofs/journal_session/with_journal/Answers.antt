@@ -1,3 +1,7 @@
+use Rattle.std.proofs.Common.{refl, subst}
+use Rattle.sqlite.specs.Files.{file_state}
+use Rattle.sqlite.specs.Held.{Held}
+use Rattle.sqlite.specs.State.{HasCleanDisk}
 use Rattle.kept_sessions.proofs.journal_session.with_journal.Goals as goal
 
 pub returns-in-Ok-clause-leaves : goal.returns-in-Ok-clause-leaves
@@ -7,3 +11,9 @@ returns-in-Ok-clause-leaves g c = record {
       let same = c.in-Ok.ensures.open.1 in
       c.in-Ok.ensures.leaves (rw same at clean) found (rw same at left);
 }
+
+pub returns-in-Err-clause-unread : goal.returns-in-Err-clause-unread
+returns-in-Err-clause-unread g c = (
+  (c.in-Err.fault, refl, c.in-Err.ensures.fault),
+  λ clean. subst (λ (conn : Held _). HasCleanDisk (file_state conn)) c.in-Err.ensures.left (c.left_of.ensures clean),
+)

@@ -1,0 +1,10 @@
+use Rattle.std.proofs.Common.{◌≡◌, arith}
+use Rattle.sqlite.specs.FileStore.{view}
+use Rattle.sqlite.specs.View.{doubt}
+use Rattle.kept_sessions.proofs.FaultLemmas.{no_doubt}
+use Rattle.kept_sessions.proofs.left_files.left_of.Goals as goal
+
+pub returns : goal.returns
+returns g c clean =
+    let sure : doubt (view c.into_store.result).is_clean ≡ 0 = no_doubt (view c.into_store.result).is_clean clean in
+    omega (arith, c.into_store.ensures.quiet.clean, sure)

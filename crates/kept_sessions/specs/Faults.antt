@@ -1,0 +1,151 @@
+-- own: why the session of a journal isn't opened, told, reported or copied: for each fault what it says of the texts, of what the
+-- files held, or of the rows that were found there. Want of memory, a disk that fails and another program at the file say
+-- nothing of them; that there is no file is the system's word.
+use Rattle.std.specs.Prelude.{◌≡◌, ◌≤◌, ◌⊎◌, ⊤, true, ℕ, List, [], ◌∷◌, length, map, MatchOption, Option}
+use Rattle.sqlite.specs.Tree.{Trees}
+use Rattle.sqlite.specs.Recovery.{Image}
+use Rattle.sqlite.specs.Files.{HoldsDatabase, IsCleanLeft}
+use Rattle.sqlite.specs.declared.file.Leftover.{Leftover}
+use Rattle.sqlite_disk.specs.declared.Disk.{Ghosts}
+use Rattle.journal_store.specs.declared.row_text.RowText.{RowText}
+use Rattle.journal_store.specs.Kept.{AreKept, texts_of}
+use Rattle.journal_store.specs.Restart.{AreFound}
+use Rattle.journal_store.specs.Tables.{RowBytes, session_row}
+use Rattle.session_state.specs.SessionState.{SessionState}
+use Rattle.session_commands.specs.declared.entry.Entry.{Entry}
+use Rattle.history.specs.Prefixes.{entries_of}
+use Rattle.kept_entries.specs.KeptRows.{rows_of}
+use Rattle.row_journal.specs.declared.journal_fault.JournalFault.{JournalFault}
+use Rattle.row_journal.specs.Faults.{WhyNotTaken, WhyNotKept, WhyRowsNotRead, IsOpeningWant, is_file_failure}
+use Rattle.kept_sessions.specs.Audited.{IsNotAccepted}
+use Rattle.kept_sessions.specs.Sources.{IsSessionOf, IsUnread, WhyNoSession, most_file_bytes}
+use Rattle.kept_sessions.specs.declared.source_fault.KeptSessionFault.{KeptSessionFault}
+use Rattle.kept_sessions.specs.declared.source_fault.KeptSessionFault.TheVariants.{OutOfMemory, Unread, Unopened, Journal, NoJournal, NotAccepted, CopyExists, CopyUnwritten}
+
+-- no wrong answer of the disk was taken as true, as far as the files were opened
+abbrev pub AreCleanlyLeft : {D : Type 0} {g : Ghosts D} → Option (Leftover D g) → Type 0
+AreCleanlyLeft left = MatchOption left ⊤ (λ files. IsCleanLeft files)
+
+-- the database that the files held, if there was one, keeps the session of these texts and these rows
+abbrev pub HeldRows : Image → List ℕ → List ℕ → List RowBytes → Type 0
+HeldRows image object boards rows =
+    (db : Trees) → HoldsDatabase image db → AreKept (session_row object boards ∷ []) rows db
+
+-- a journal's rows aren't read for this
+abbrev pub IsRowsFault : List RowText → KeptSessionFault → Type 0
+IsRowsFault rows fault = (cause : JournalFault) × (fault ≡ Journal cause) × WhyRowsNotRead rows cause
+
+-- ---- where the texts are given
+
+-- these rows were found of the session of two texts, or none where there was no table yet; and for this they aren't read
+pub record AreFoundUnread (image : Image) (object boards : List ℕ) (fault : JournalFault) : Type 0 where
+  pub rows : List RowText
+  pub found : AreFound image (session_row object boards ∷ []) (map texts_of rows)
+  pub unread : WhyRowsNotRead rows fault
+
+-- why no session is opened by two texts with the journal that the files held, or that is made
+abbrev pub WhyNotTakenUp : Image → List ℕ → List ℕ → KeptSessionFault → Type 0
+WhyNotTakenUp image object boards OutOfMemory = ⊤
+WhyNotTakenUp image object boards Unread = ⊥
+WhyNotTakenUp image object boards (Unopened fault) = WhyNoSession object boards (Unopened fault)
+WhyNotTakenUp image object boards (Journal fault) =
+    WhyNotTaken image (session_row object boards ∷ []) fault ⊎ AreFoundUnread image object boards fault
+WhyNotTakenUp image object boards NoJournal = ⊥
+WhyNotTakenUp image object boards (NotAccepted number) = ⊥
+WhyNotTakenUp image object boards CopyExists = ⊥
+WhyNotTakenUp image object boards CopyUnwritten = ⊥
+
+-- the same of the texts of two files, which may be unread
+abbrev pub WhyFilesNotTakenUp : Image → KeptSessionFault → Type 0
+WhyFilesNotTakenUp image fault =
+    IsUnread fault
+    ⊎ ((object boards : List ℕ) × (length object ≤ most_file_bytes) × (length boards ≤ most_file_bytes)
+    × WhyNotTakenUp image object boards fault)
+
+-- ---- where the journal has its texts
+
+-- the texts of the journal that the files held open no session
+pub record KeepsNoSession (image : Image) (fault : KeptSessionFault) : Type 0 where
+  pub object : List ℕ
+  pub boards : List ℕ
+  pub rows : List RowBytes
+  pub held : HeldRows image object boards rows
+  pub none : WhyNoSession object boards fault
+
+-- these rows were found in the journal that the files held, and for this they aren't read
+pub record AreKeptUnread (image : Image) (fault : JournalFault) : Type 0 where
+  pub object : List ℕ
+  pub boards : List ℕ
+  pub rows : List RowText
+  pub held : HeldRows image object boards (map texts_of rows)
+  pub unread : WhyRowsNotRead rows fault
+
+-- the entry of this number is the first of the journal that the files held which the session of its own texts doesn't accept
+pub record KeepsNotAccepted (image : Image) (number : ℕ) : Type 0 where
+  pub object : List ℕ
+  pub boards : List ℕ
+  pub opening : SessionState
+  pub budget : ℕ
+  pub publications : List (List Entry)
+  pub session : IsSessionOf object boards opening [] budget
+  pub held : HeldRows image object boards (rows_of publications)
+  pub not : IsNotAccepted opening (entries_of publications) number
+
+-- why the session of the journal that the files held isn't opened
+abbrev pub WhyNotReopened : Image → KeptSessionFault → Type 0
+WhyNotReopened image OutOfMemory = ⊤
+WhyNotReopened image Unread = ⊥
+WhyNotReopened image (Unopened fault) = KeepsNoSession image (Unopened fault)
+WhyNotReopened image (Journal fault) = WhyNotKept image fault ⊎ AreKeptUnread image fault
+WhyNotReopened image NoJournal = ⊤
+WhyNotReopened image (NotAccepted number) = ⊥
+WhyNotReopened image CopyExists = ⊥
+WhyNotReopened image CopyUnwritten = ⊥
+
+-- why the journal that the files held isn't told or reported: its session isn't opened, or it doesn't accept an entry
+abbrev pub WhyJournalNotTold : Image → KeptSessionFault → Type 0
+WhyJournalNotTold image OutOfMemory = ⊤
+WhyJournalNotTold image Unread = ⊥
+WhyJournalNotTold image (Unopened fault) = KeepsNoSession image (Unopened fault)
+WhyJournalNotTold image (Journal fault) = WhyNotKept image fault ⊎ AreKeptUnread image fault
+WhyJournalNotTold image NoJournal = ⊤
+WhyJournalNotTold image (NotAccepted number) = KeepsNotAccepted image number
+WhyJournalNotTold image CopyExists = ⊥
+WhyJournalNotTold image CopyUnwritten = ⊥
+
+-- ---- where the journal is copied
+
+-- memory, the disk or another program at the file is the cause that a journal isn't copied, or what is at the path of the copy
+abbrev pub IsFailedCopy : KeptSessionFault → Type 0
+IsFailedCopy OutOfMemory = ⊤
+IsFailedCopy Unread = ⊥
+IsFailedCopy (Unopened fault) = ⊥
+IsFailedCopy (Journal fault) = is_file_failure fault ≡ true
+IsFailedCopy NoJournal = ⊥
+IsFailedCopy (NotAccepted number) = ⊥
+IsFailedCopy CopyExists = ⊤
+IsFailedCopy CopyUnwritten = ⊤
+
+-- why the journal that the files held isn't copied
+abbrev pub WhyNotCopied : Image → KeptSessionFault → Type 0
+WhyNotCopied image OutOfMemory = ⊤
+WhyNotCopied image Unread = ⊥
+WhyNotCopied image (Unopened fault) = ⊥
+WhyNotCopied image (Journal fault) = WhyNotKept image fault
+WhyNotCopied image NoJournal = ⊤
+WhyNotCopied image (NotAccepted number) = ⊥
+WhyNotCopied image CopyExists = ⊤
+WhyNotCopied image CopyUnwritten = ⊤
+
+-- ---- where the files hold a journal that is accepted
+
+-- want of memory or of visits, the disk, or another program at the file
+abbrev pub IsStartFailure : KeptSessionFault → Type 0
+IsStartFailure OutOfMemory = ⊤
+IsStartFailure Unread = ⊥
+IsStartFailure (Unopened fault) = ⊥
+IsStartFailure (Journal fault) = (is_file_failure fault ≡ true) ⊎ IsOpeningWant fault
+IsStartFailure NoJournal = ⊥
+IsStartFailure (NotAccepted number) = ⊥
+IsStartFailure CopyExists = ⊥
+IsStartFailure CopyUnwritten = ⊥
