@@ -2,8 +2,9 @@
 """Finds public functions that no program reaches, and wrong bodies in functions that no program reaches.
 
 A function is reached where the `main` of a program reaches it by names: a method by a call of its name, a function of a
-type by the type and its name, any other by its name. So what this lists is dead; what it doesn't list may still be. What a
-trait of another library asks for is taken as reached, and functions of a file `laws.rt` are theorems, which nobody calls.
+type by the type and its name, any other by its name, which a function of another crate has to be imported by. So what this
+lists is dead; what it doesn't list may still be. What a trait of another library asks for is taken as reached, and functions
+of a file `laws.rt` are theorems, which nobody calls.
 It prints nothing, and ends with 0, or prints each such function, and each edit of must-fail/ that changes no function which
 a program reaches, and ends with 1. A crate whose functions no program calls yet is left out, as long as it is told what it waits for."""
 import pathlib
@@ -27,6 +28,7 @@ KEPT = {
     "movement::Movement::new": "the usual section, with every pair there; a session object says both, by `with_absent`",
     "scoring::matchpoints": "Law 78A over any list of scores; a traveller has sixteen rows at most, and counts without memory",
     "session_state::State::decide": "the policy for a user by name; programs ask it for a user whom they looked up once",
+    "denials::check": "a denial is checked by whoever holds it, without the server: the page has code of its own for it, and a stored run asks",
     "session_book::Book::exposed": "who was shown what, by name; a check goes over the accounts and asks by their places",
     "row_journal::RowJournal::into_connection": "the law of what a crash leaves speaks of the database that it gives back",
 }
@@ -36,6 +38,7 @@ WORD = re.compile(r"(?:(\.)\s*|(?:\b(\w+)(?:::<[^<>]*>)?\s*::\s*))?\b([a-z_]\w*)
 ITEM = re.compile(r"\b(?:fn\s+(\w+)|(impl|trait)\b)")
 CLAUSE = re.compile(r"\b(?:requires|ensures|decreases)\b[^{};]*$")
 USE = re.compile(r"\b(?:ghost )?(?:pub(?:\([^)]*\))? )?use\b[^;]*;")
+IMPORT = re.compile(r"^[ \t]*(?:pub(?:\([^)]*\))? )?use\s+(?!crate\b|super\b|self\b)([^;]*);", re.MULTILINE)
 
 
 def blanked(text):
@@ -43,6 +46,13 @@ def blanked(text):
     def blank(found):
         return re.sub(r"[^\n]", " ", found[0])
     return USE.sub(blank, BLANKS.sub(blank, text))
+
+
+def imported_by(path):
+    """The names that a file imports of other crates, and these crates' own."""
+    text = BLANKS.sub(" ", path.read_text(encoding="utf-8"))
+    own = set(re.findall(r"\bmod\s+(\w+)\s*;", text))
+    return {word for found in IMPORT.finditer(text) if found[1].split(":")[0] not in own for word in re.findall(r"\w+", found[1])}
 
 
 def closing(text, opening):
@@ -56,8 +66,9 @@ def closing(text, opening):
 
 
 class Function:
-    def __init__(self, crate, path, name, owner, trait, head, start, end, body):
+    def __init__(self, crate, path, name, owner, trait, head, start, end, body, imports):
         self.crate, self.path, self.name, self.owner, self.trait = crate, path, name, owner, trait
+        self.imports = imports
         self.is_public = bool(re.search(r"\bpub\s+(?:const\s+)?$", head))
         self.start, self.end, self.body = start, end, body
         self.is_method = False
@@ -91,7 +102,7 @@ def type_names(head):
 def functions_of(crate, path):
     """The functions of a file, and what stands outside of them."""
     text = blanked(path.read_text(encoding="utf-8"))
-    found, owners, place, outside = [], [], 0, list(text)
+    found, owners, place, outside, imports = [], [], 0, list(text), imported_by(path)
     while item := ITEM.search(text, place):
         owners = [owner for owner in owners if item.start() < owner[0]]
         if item[2]:
@@ -106,7 +117,7 @@ def functions_of(crate, path):
         end = closing(text, body) if body is not None else text.find(";", item.end())
         owner, trait = owners[-1][1:] if owners else (None, None)
         function = Function(crate, path, item[1], owner, trait, text[line:item.start()], line, end,
-                            text[body:end] if body is not None else "")
+                            text[body:end] if body is not None else "", imports)
         function.is_method = bool(re.match(r"\(\s*(?:&\s*(?:'\w+\s*)?)?(?:mut\s+)?self\b", text[parameters:]))
         found.append(function)
         outside[line:end + 1] = " " * (end + 1 - line)
@@ -129,8 +140,9 @@ def is_own_test(path):
     return "tests" in path.relative_to(CRATES).parts or path.name == "tests.rt"
 
 
-def reached_by(functions, outside):
-    """The functions that the programs' `main`s reach."""
+def reached_by(functions, outside, below):
+    """The functions that the programs' `main`s reach. A crate calls a function of a type of those below it alone, as `below` has
+    them; a method of a trait may be called by a crate further below."""
     by_name = {}
     for function in functions:
         by_name.setdefault(function.name, []).append(function)
@@ -139,17 +151,19 @@ def reached_by(functions, outside):
                or function.owner and function.trait and function.trait not in traits]
     reached, bodies = set(waiting), [(None, text) for text in outside]
     while waiting or bodies:
-        owner, body = bodies.pop() if bodies else (lambda function: (function.owner, function.body))(waiting.pop())
+        by, body = bodies.pop() if bodies else (lambda function: (function, function.body))(waiting.pop())
         for word in WORD.finditer(body):
             for other in by_name.get(word[3], ()):
-                if other not in reached and is_meant(other, owner, body, word, by_name):
+                is_near = not by or other.trait or other.crate in below[by.crate]
+                if other not in reached and is_near and is_meant(other, by, body, word, by_name):
                     reached.add(other)
                     waiting.append(other)
     return reached
 
 
-def is_meant(other, owner, body, word, by_name):
-    """Whether a word of a function's body may mean another function."""
+def is_meant(other, by, body, word, by_name):
+    """Whether a word of a function's body may mean another function. `by` is that function, and none outside of all."""
+    owner = by and by.owner
     if word[1]:
         own = [method for method in by_name[word[3]] if owner and method.owner == owner]
         is_own = own and re.search(r"\bself\s*$", body[:word.start()])
@@ -157,7 +171,9 @@ def is_meant(other, owner, body, word, by_name):
     if word[2] and word[2][0].isupper():
         named = owner if word[2] == "Self" else word[2]
         return bool(other.owner or other.trait) and (named in (other.owner, other.trait) or len(named) == 1)
-    return not other.owner and not other.trait
+    if other.owner or other.trait:
+        return False
+    return not by or ((word[2] or word[3]) in by.imports) == (other.crate != by.crate)
 
 
 def edits():
@@ -195,7 +211,7 @@ def main():
             found, rest = functions_of(crate, path)
             functions += found
             outside.append(rest)
-    reached = reached_by(functions, outside)
+    reached = reached_by(functions, outside, {crate: libraries(crate, stands_on) for crate in crates})
     dead = {f"{function.crate}::{function.owner or ''}::{function.name}".replace("::::", "::"): function
             for function in functions if function.is_public and function not in reached and function.crate not in TO_COME
             and function.path.name != "laws.rt" and not function.trait}
