@@ -81,8 +81,7 @@ fn a_server_has_a_line(rt: HostRuntime) {
     };
     let mut told = Vec::new(rt.alloc());
     tell_serving(rt.alloc(), &serving, &mut told);
-    assert!(rt;
-        told.as_slice()
-            == b"bridge_server: serves at 127.0.0.1:8080: 8 tables, 4 displays, 2 workers, journal evening.journal at version 17\n"
-    );
+    let line =
+        "bridge_server: serves at 127.0.0.1:8080: 8 tables, 4 displays, 2 workers, journal evening.journal at version 17\n";
+    assert!(rt; told.as_slice() == line.as_bytes());
 }
