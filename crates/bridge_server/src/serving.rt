@@ -9,13 +9,13 @@ ghost use Rattle.program.specs.Status.{IsStatus};
 ghost use Rattle.kept_sessions.specs.Kept.{KeepsJust};
 ghost use Rattle.operator_lines.specs.Telling.{TellsLine};
 ghost use Rattle.bridge_server.specs.Said.{
-    IsToldServed,
-    IsToldUnserved,
-    EndsKept,
-    EndsUnkept,
-    TellsServing,
-    TellsUnkept,
-    unkept_line,
+  IsToldServed,
+  IsToldUnserved,
+  EndsKept,
+  EndsUnkept,
+  TellsServing,
+  TellsUnkept,
+  unkept_line,
 };
 
 use crate::serving_fault::{ServingFault, status_of_serving_fault, status_of_source_fault};
