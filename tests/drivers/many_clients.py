@@ -35,7 +35,7 @@ sys.path[:0] = [str(pathlib.Path(__file__).resolve().parents[1] / folder) for fo
 from checks import check, status, tell
 from compared_talks import compare
 from random_session import BOARDS, CLIENTS, EDITIONS, USERS, deal_text, pbn_text, session_of, some_hands
-from raw_client import NOTHING_IS_KEPT
+from raw_client import NOTHING_IS_KEPT, without_serving
 from talking_clients import ask, conversations, signed_in, whole_audit
 from write_stored_runs import WHOLE_SUITS, text_of
 
@@ -187,7 +187,7 @@ async def closing(seed):
         left = time.monotonic()
         check("closing: it ends with status 0 within 10 s after the last one", 0, server.status_within(10))
         tell(f"{time.monotonic() - left:.2f} s after; {sum(waiting)} of 64 boards weren't solved then")
-        check("closing: and writes that nothing is kept", (b"", NOTHING_IS_KEPT), (server.process.stdout.read(), server.process.stderr.read()))
+        check("closing: and writes that nothing is kept", (b"", NOTHING_IS_KEPT), (server.process.stdout.read(), without_serving(server.process.stderr.read())))
 
 
 async def solver(seed):

@@ -109,6 +109,7 @@ def not_written(program, room):
         assert err.startswith(f"bridge_server: {said}"), (said, err)
     status, out, err = run(program, words(f"{room}/nobody.csv", f"{room}/evening", []))
     assert status == 3 and out == "" and not os.path.exists(f"{room}/evening"), (status, err)
+    assert err == f"bridge_server: Unread ({room}/nobody.csv: there is no such file or folder)\n", err
     return len(rows) + 1
 
 

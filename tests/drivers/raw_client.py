@@ -4,6 +4,7 @@ The tests of what no library would send are made of it: tests/drivers/hold_ups.p
 needed. A frame of the server is read strictly: unmasked, no reserved bit, its length in the shortest form (5.1, 5.2).
 """
 import pathlib
+import re
 import signal
 import socket
 import struct
@@ -27,8 +28,15 @@ FIELDS = {"Host": "127.0.0.1", "Upgrade": "websocket", "Connection": "Upgrade", 
 MASK = bytes.fromhex("37fa213d")
 # the program's status where another listens at its port
 PORT_IS_TAKEN = 3
-# what a server without a journal writes on standard error, once its session is open, and nothing else (docs/RUNNING.md)
+# what a server without a journal writes on standard error, once its session is open (docs/RUNNING.md)
 NOTHING_IS_KEPT = b"bridge_server: without --journal nothing is kept when the server ends\n"
+# how it serves, in a line behind that
+SERVES = re.compile(rb"^bridge_server: serves at 127\.0\.0\.1:\d+: \d+ tables, \d+ displays, \d+ workers, (no journal|journal .* at version \d+)\n", re.M)
+
+
+def without_serving(err):
+    """What a server wrote on standard error, without the line that tells how it serves."""
+    return SERVES.sub(b"", err, count=1)
 
 
 GIVEN, GIVING = set(), threading.Lock()
@@ -107,11 +115,11 @@ class Server:
         return next(int(line.split()[1]) for line in lines if line.startswith("VmRSS"))
 
     def ended(self):
-        """The status of the program, which is ended if it runs, and what it wrote."""
+        """The status of the program, which is ended if it runs, and what it wrote but for how it serves."""
         if self.process.poll() is None:
             self.process.terminate()
         out, err = self.process.communicate(timeout=30)
-        return self.process.returncode, out, err
+        return self.process.returncode, out, without_serving(err)
 
     def stopped(self):
         """The same, and the session's files go away."""

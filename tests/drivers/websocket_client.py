@@ -23,7 +23,7 @@ import websockets
 
 sys.path[:0] = [str(pathlib.Path(__file__).resolve().parents[1] / folder) for folder in ("runs",)]
 from checks import check, status
-from raw_client import NOTHING_IS_KEPT
+from raw_client import NOTHING_IS_KEPT, without_serving
 from write_stored_runs import BOARDS, FOUR_SPADES, USERS, confirm, enter, text_of
 
 PROGRAM = sys.argv[1] if len(sys.argv) > 1 else "crates/bridge_server/out/bridge_server"
@@ -81,7 +81,7 @@ class Server:
         except subprocess.TimeoutExpired:
             status = "still running"
         check(f"{what}: the program ends with status 0", 0, status)
-        check(f"{what}: and writes that nothing is kept", (b"", NOTHING_IS_KEPT), (self.process.stdout.read(), self.process.stderr.read()))
+        check(f"{what}: and writes that nothing is kept", (b"", NOTHING_IS_KEPT), (self.process.stdout.read(), without_serving(self.process.stderr.read())))
 
 
 async def connect(server):
@@ -286,19 +286,26 @@ def statuses():
         def fault(name):
             return 1, b"", f"bridge_server: {name}\n".encode()
 
-        check("no file of the session", (3, b"", b""), serve(folder / "nothing", deals))
-        check("no file of the deals", (3, b"", b""), serve(session, folder / "nothing"))
-        check("a folder", (3, b"", b""), serve(folder, deals))
-        check("neither file", (3, b"", b""), serve(folder / "nothing", folder / "nothing"))
-        check("a bad session and no deals", (3, b"", b""), serve(folder / "bad.json", folder / "nothing"))
+        def unread(path, why):
+            return 3, b"", f"bridge_server: Unread ({path}: {why})\n".encode()
+
+        nothing, missing, long = folder / "nothing", "there is no such file or folder", folder / "long.pbn"
+        serves = f"bridge_server: serves at 127.0.0.1:{port}: 3 tables, 4 displays, 2 workers, no journal\n"
+        taken = 3, b"", NOTHING_IS_KEPT + f"{serves}bridge_server: NotListening (port {port}: another program listens there)\n".encode()
+
+        check("no file of the session", unread(nothing, missing), serve(nothing, deals))
+        check("no file of the deals", unread(nothing, missing), serve(session, nothing))
+        check("a folder", unread(folder, "it is a folder"), serve(folder, deals))
+        check("neither file", unread(nothing, missing), serve(nothing, folder / "none"))
+        check("a bad session and no deals", unread(nothing, missing), serve(folder / "bad.json", nothing))
         check("a bad session", fault("Malformed"), serve(folder / "bad.json", deals))
         check("a session with deals in it", fault("BadField"), serve(folder / "pbn.json", deals))
         check("a session that is too long", fault("TooLong"), serve(folder / "long.json", deals))
         check("two tables", fault("BadTables"), serve(folder / "two.json", deals))
         check("no deals", fault("MissingBoard(1)"), serve(session, folder / "none.pbn"))
-        check("deals of 16,777,217 bytes", (3, b"", b""), serve(session, folder / "long.pbn"))
-        check("a port that is taken", (3, b"", NOTHING_IS_KEPT), serve(session, deals))
-        check("16,777,216 bytes, and a port that is taken", (3, b"", NOTHING_IS_KEPT), serve(session, folder / "full.pbn"))
+        check("deals of 16,777,217 bytes", unread(long, "it is too long"), serve(session, long))
+        check("a port that is taken", taken, serve(session, deals))
+        check("16,777,216 bytes, and a port that is taken", taken, serve(session, folder / "full.pbn"))
         for words in [("serve",), ("serve", "--session", "s", "--deals", "d", "--port", "0"), (), ("scripts",),
                       ("serve", "--session", "s", "--deals", "d", "--port", "1", "--displays", "33")]:
             status, out, err = run(*words)

@@ -28,7 +28,7 @@ import sys
 import tempfile
 
 sys.path[:0] = [str(pathlib.Path(__file__).resolve().parents[1] / folder) for folder in ("drivers", "runs")]
-from journal_files import copied, fault, integrity_of, ran, rows_of
+from journal_files import GOES_THROUGH, copied, fault, integrity_of, ran, rows_of, started
 from raw_client import BOARDS, SESSION, Client, Server
 from write_query_runs import hold, release
 from write_stored_runs import text_of
@@ -114,7 +114,7 @@ NOT_KEPT, UNSURE = {"error": "NotKept"}, {"error": "Unsure"}
 EIO, ENOSPC, EMFILE, ENOLCK = 5, 28, 24, 37
 WHILE_KEPT = [("write", EIO), ("write", ENOSPC), ("write", 0), ("sync", EIO), ("sync", ENOSPC), ("cut", EIO), ("read", EIO), ("read", 0)]
 AT_START = [*WHILE_KEPT, ("open", EMFILE), ("lock", ENOLCK)]
-GOES_THROUGH, UNREAD = (3, b"", b""), (3, b"", fault("JournalUnread"))
+UNREAD = (3, b"", fault("JournalUnread"))
 OTHER_FAULTS = [(3, b"", fault(name)) for name in ("JournalDamaged", "JournalBusy")]
 KEPT_BEFORE, BATCHES = 3, 4
 
@@ -174,8 +174,8 @@ def start(folder, journal, env=None):
     with socket.socket() as taken:
         taken.bind(("127.0.0.1", 0))
         taken.listen()
-        return ran(PROGRAM, "serve", "--session", session, "--deals", deals, "--journal", journal, "--displays", 1, "--workers", 0,
-                   "--port", taken.getsockname()[1], env=env)
+        words = ["--session", session, "--deals", deals, "--journal", journal, "--displays", 1, "--workers", 0]
+        return started(ran(PROGRAM, "serve", *words, "--port", taken.getsockname()[1], env=env))
 
 
 def outcome(ended):

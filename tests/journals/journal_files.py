@@ -5,6 +5,7 @@ others out. Debian's package sqlite3 is needed, for `PRAGMA integrity_check` by 
 """
 import json
 import pathlib
+import re
 import shutil
 import sqlite3
 import subprocess
@@ -130,6 +131,18 @@ def ran(program, *words, env=None, seconds=60):
     """The status of the program that ends by itself, and what it wrote on its two outputs."""
     done = subprocess.run([str(program), *map(str, words)], stdin=subprocess.DEVNULL, capture_output=True, env=env, timeout=seconds, check=False)
     return done.returncode, done.stdout, done.stderr
+
+
+# what a start says that isn't refused, where its port is taken (docs/RUNNING.md)
+TAKEN = re.compile(rb"bridge_server: serves at [^\n]*\nbridge_server: NotListening \(port \d+: another program listens there\)\n")
+GOES_THROUGH = (3, b"", b"")
+
+
+def started(ended):
+    """How a start ended whose port is taken: as `GOES_THROUGH` says where nothing else ended it."""
+    status, out, err = ended
+    assert status != 3 or err, "the status 3 says why"
+    return status, out, TAKEN.sub(b"", err, count=1)
 
 
 def fault(name):

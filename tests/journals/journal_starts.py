@@ -20,7 +20,7 @@ import time
 
 sys.path[:0] = [str(pathlib.Path(__file__).resolve().parents[1] / folder) for folder in ("drivers", "runs")]
 from checks import check, status
-from journal_files import change, contents_of, copied, fault, integrity_of, log_of, ran, rows_of, session_of_file
+from journal_files import GOES_THROUGH, change, contents_of, copied, fault, integrity_of, log_of, ran, rows_of, session_of_file, started
 from raw_client import BOARDS, SESSION, Client, Server, some_deals
 from write_movement_runs import SESSION as HOWELL
 from write_movement_runs import TOLD as HOWELL_ROWS
@@ -54,15 +54,12 @@ class Files:
         self.deals.write_text(deals)
 
     def start(self, journal, named=True):
-        """How a start ends; where it isn't refused, by a port that is taken: with status 3, and nothing is written."""
+        """How a start ends; where it isn't refused, by a port that is taken: with status 3, which is told."""
         words = ["--session", self.session, "--deals", self.deals] if named else []
         with socket.socket() as taken:
             taken.bind(("127.0.0.1", 0))
             taken.listen()
-            return ran(PROGRAM, "serve", *words, "--journal", journal, "--port", taken.getsockname()[1], *FEW)
-
-
-GOES_THROUGH = (3, b"", b"")
+            return started(ran(PROGRAM, "serve", *words, "--journal", journal, "--port", taken.getsockname()[1], *FEW))
 
 
 def refused(status, name):

@@ -44,6 +44,7 @@ It needs a C compiler (cc) for the allocator that refuses, which is loaded under
 import json
 import os
 import pathlib
+import re
 import subprocess
 import sys
 import tempfile
@@ -93,6 +94,8 @@ void _exit(int status) {
 """
 
 NO_MEMORY = b'{"error":"OutOfMemory"}\n'
+# what a script says that ends for want of memory (docs/RUNNING.md)
+NO_ROOM = re.compile(rb"bridge_server: OutOfMemory \(for the (words|script)\)\n")
 
 
 def compact(value):
@@ -164,7 +167,7 @@ class Growths:
 
     # what a run with one request refused did, in a word; `ample` is what it answers otherwise
     def kind_of(self, ample, status, out, err, asked_again):
-        assert err == b"", err
+        assert NO_ROOM.fullmatch(err) if status == 4 else err == b"", (status, err)
         if asked_again and (status, out) == (0, ample):
             return "less room was enough"
         at = next((k for k, pair in enumerate(zip(out, ample)) if pair[0] != pair[1]), len(out))

@@ -12,6 +12,7 @@ program (LD_PRELOAD).
 import json
 import os
 import pathlib
+import re
 import shutil
 import subprocess
 import sys
@@ -77,6 +78,8 @@ void _exit(int status) {
     __builtin_unreachable();
 }
 """
+# what it says where it finds no memory (docs/RUNNING.md)
+NO_ROOM = re.compile(rb"bridge_server: OutOfMemory \(for the (words|session)\)\n")
 # each kind, and the numbers of the errors with which it fails: input or output, no space, no permission, no memory; 0 moves a byte alone
 KINDS = {"read": (5, 0), "write": (5, 28, 0), "open": (13, 24), "mkdir": (13, 28), "random": (38,)}
 
@@ -121,7 +124,7 @@ def refuse_memory(room):
     found = {}
     for n in range(1, asked + 1):
         status, err, whole, there, _ = room.run("refusing", REFUSED_AT=n)
-        assert (status, whole) == (0, True) or (status, there, err) == (4, False, b""), f"request {n} of {asked}: {status}, {whole}, {there}, {err}"
+        assert (status, whole) == (0, True) or (status, there) == (4, False) and NO_ROOM.fullmatch(err), f"request {n} of {asked}: {status}, {whole}, {there}, {err}"
         found[status] = found.get(status, 0) + 1
     print(f"{asked} requests for memory, each refused in turn: status 4 and no folder {found.get(4, 0)}, less room was enough {found.get(0, 0)}", flush=True)
 

@@ -6,10 +6,11 @@
 A small session with a journal is reported in each form: first with ample memory, then with the Nth request refused, for each N. The whole
 report is written, and the status is 0, where less room was enough; else nothing is written, and the status is 4 where memory is told, or 3
 where the journal's file couldn't be read for want of it. Then the output takes at most 1,000 bytes a call, and the Nth call fails: exactly
-the first bytes are written, and the status is 3. It needs a C compiler (cc) for what is loaded under the program (LD_PRELOAD).
+the first bytes are written, and the status is 3. Both say why. It needs a C compiler (cc) for what is loaded under the program (LD_PRELOAD).
 """
 import os
 import pathlib
+import re
 import subprocess
 import sys
 import tempfile
@@ -22,6 +23,10 @@ from report import FORMS, kept, results_of_the_small, small_session
 
 PROGRAM = os.path.abspath(sys.argv[1] if len(sys.argv) > 1 else "crates/bridge_server/out/bridge_server")
 STEP = 1000
+# what it says where it finds no memory, where it can't read the journal for want of it, and where it can't write (docs/RUNNING.md)
+NO_ROOM = re.compile(rb"bridge_server: OutOfMemory \(for the (words|session|journal)\)\n")
+UNREAD = re.compile(rb"bridge_server: Journal[A-Z][a-z]+\n")
+UNWRITTEN = b"bridge_server: OutputUnwritten (the output can't be written)\n"
 FAILING = r"""
 #include <errno.h>
 #include <stdlib.h>
@@ -62,7 +67,8 @@ def refuse_memory(room, form, whole):
     for n in range(1, asked + 1):
         status, text, err = room.run(form, "refusing", REFUSED_AT=str(n))
         told = f"{form}, request {n} of {asked}: {status}, {len(text)} bytes, {err}"
-        assert (status, text, err) == (0, whole, b"") or (status, text, err) == (4, b"", b"") or (status, text) == (3, b""), told
+        said = {3: UNREAD, 4: NO_ROOM}.get(status)
+        assert (text == b"" and said.fullmatch(err)) if said else (status, text, err) == (0, whole, b""), told
         found[status] = found.get(status, 0) + 1
     assert found.get(4, 0) > found.get(3, 0), found
     print(f"{form}: {asked} requests for memory, each refused in turn: " + ", ".join(f"status {s} {count}" for s, count in sorted(found.items())), flush=True)
@@ -73,7 +79,7 @@ def fail_writes(room, form, whole):
     assert room.run(form, "failing", FAILED_AT="0") == (0, whole, b"")
     for n in range(1, calls + 1):
         got = room.run(form, "failing", FAILED_AT=str(n))
-        assert got == (3, whole[:STEP * (n - 1)], b""), f"{form}, write {n} of {calls}: {got[0]}, {len(got[1])} bytes, {got[2]}"
+        assert got == (3, whole[:STEP * (n - 1)], UNWRITTEN), f"{form}, write {n} of {calls}: {got[0]}, {len(got[1])} bytes, {got[2]}"
     print(f"{form}: {calls} writes, each failed in turn: its first part and status 3", flush=True)
 
 

@@ -26,6 +26,7 @@ import itertools
 import json
 import os
 import pathlib
+import re
 import shutil
 import socket
 import subprocess
@@ -35,7 +36,7 @@ import time
 
 sys.path[:0] = [str(pathlib.Path(__file__).resolve().parents[1] / folder) for folder in ("drivers", "journals", "runs")]
 from journal_files import rows_of
-from raw_client import NOTHING_IS_KEPT
+from raw_client import NOTHING_IS_KEPT, without_serving
 from refuse_growths import REFUSING
 from write_stored_runs import BOARDS, USERS, text_of
 
@@ -50,6 +51,8 @@ SESSIONS = ((None, 0), (None, 254), (0, 0), (6, 0), (0, 254))
 AT_ONCE = 2 * (os.cpu_count() or 2)
 ASK = {"ask": "analysis", "board": 1}
 NO_MEMORY, NOT_KEPT = {"error": "OutOfMemory"}, {"error": "NotKept"}
+# what a start says that finds no memory (docs/RUNNING.md)
+NO_ROOM = re.compile(rb"bridge_server: (OutOfMemory|NoPlace|NoThread) \([a-z ]+\)\n")
 HANDSHAKE = ("GET / HTTP/1.1\r\nHost: 127.0.0.1\r\nUpgrade: websocket\r\nConnection: Upgrade\r\n"
              "Sec-WebSocket-Key: dGhlIHNhbXBsZSBub25jZQ==\r\nSec-WebSocket-Version: 13\r\n\r\n").encode()
 
@@ -165,7 +168,7 @@ def run(program, room, kept, entered, n):
         told = [connection(process, port, [HELLO, batch, ASK], before, counted), connection(process, port, [HELLO, ASK])]
         out, err = process.communicate(timeout=60)
         asked = int(pathlib.Path(f"{own}/asked").read_text())
-        return told, process.returncode, out + err, asked, None if kept is None else len(rows_of(f"{own}/{TRIED}"))
+        return told, process.returncode, out + without_serving(err), asked, None if kept is None else len(rows_of(f"{own}/{TRIED}"))
 
 
 def standing(receipt, entered):
@@ -257,8 +260,11 @@ def refuse_each(program, room, kept, by_client):
         runs = pool.map(lambda n: run(program, room, kept, by_client, n), range(1, asked + 1))
     for n, (told, status, said, _asked, rows) in enumerate(runs, 1):
         try:
-            # a start that finds no memory may end before it says that nothing is kept, or find none for saying so
-            assert said in (wanted, b""), (status, said)
+            # a start that finds no memory says for what, maybe before it says that nothing is kept; else it may find none for saying how it serves
+            if status == 4:
+                assert NO_ROOM.fullmatch(said.removeprefix(wanted)), said
+            else:
+                assert said == wanted, (status, said)
             kind, stands = outcome(ample, told, status, entered, by_client > 0)
             if kept is not None:
                 assert rows in stands, (rows, "rows of the file, and not", stands)

@@ -150,6 +150,13 @@ def stored_texts(program, folder):
             yield None
 
 
+def without_path(ran):
+    """How the program ended, and why a file wasn't read, without its path."""
+    status, out, err = ran
+    found = re.fullmatch(r"bridge_server: Unread \(.*: ([a-z' ]+)\)\n", err)
+    return status, out, found[1] if found else err
+
+
 def other_files(program, folder):
     """What differs for the example, for files that can't be read, and for objects that are too long."""
     example, club = SESSION.read_bytes(), CLUB.read_bytes()
@@ -159,7 +166,7 @@ def other_files(program, folder):
         ("the example", told_of(program, folder, example, club), opens),
         ("a script", told_of(program, folder, script + b"\r\n{}\n"), opens),
         ("a script without a line end", told_of(program, folder, script), opens),
-        ("deals that are too long", told_of(program, folder, example, bytes(MOST_FILE_BYTES + 1)), (3, "", "")),
+        ("deals that are too long", without_path(told_of(program, folder, example, bytes(MOST_FILE_BYTES + 1))), (3, "", "it is too long")),
     )
     for name, got, wanted in rows:
         yield None if got == wanted else f"{name}: {got}, and not {wanted}"
@@ -167,9 +174,10 @@ def other_files(program, folder):
                       ("a first line", told_of(program, folder, b" " * (MOST_BYTES + 1) + b"\n"))):
         yield None if got[0] == 1 and got[1].startswith("TooLong: ") and not got[2] else f"{name} that is too long: {got}"
     missing = pathlib.Path(folder, "missing")
+    unread = f"bridge_server: Unread ({missing}: there is no such file or folder)\n".encode()
     for words in (["--session", missing], ["--session", missing, "--deals", CLUB], ["--session", SESSION, "--deals", missing]):
         ran = subprocess.run([program, "check", *words], capture_output=True, check=False)
-        yield None if (ran.returncode, ran.stdout, ran.stderr) == (3, b"", b"") else f"{words}: {ran}"
+        yield None if (ran.returncode, ran.stdout, ran.stderr) == (3, b"", unread) else f"{words}: {ran}"
     for words in ([], ["--deals", CLUB], ["--session", SESSION, "--port", "1"]):
         ran = subprocess.run([program, "check", *words], capture_output=True, check=False)
         yield None if (ran.returncode, ran.stdout) == (2, b"") and ran.stderr else f"{words}: {ran}"

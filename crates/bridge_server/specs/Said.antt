@@ -1,41 +1,50 @@
 -- What the program says besides: what it writes to the place for errors.
-use Rattle.std.specs.Prelude.{◌≡◌, ◌≢◌, ◌⊎◌, ℕ, Bool, false, Option, List, [], codes}
+use Rattle.std.specs.Prelude.{◌≡◌, ◌⊎◌, ℕ, Option, List, [], codes}
 use Rattle.std.specs.Io.KnownBytes.{Appends}
 use Rattle.clap.specs.Words.{Text}
-use Rattle.script_lines.specs.Writing.{WritesPart}
+use Rattle.operator_lines.specs.Obstacles.{ToldWhy}
+use Rattle.operator_lines.specs.Serving.{serving_line}
+use Rattle.operator_lines.specs.Telling.{TellsLine}
+use Rattle.operator_lines.specs.declared.serving_line.ServingLine.{ServingLine}
 use Rattle.server_words.specs.Words.{AsksFor}
 use Rattle.server_words.specs.declared.words.Words.{Words}
 use Rattle.server_words.specs.declared.words.Words.TheVariants.{Script, Serve, Audit, Copy, Check, Prepare, Report}
 use Rattle.server_words.specs.declared.words.Serving.{Serving}
 use Rattle.server_words.specs.declared.words.SessionSource.{SessionSource}
 use Rattle.server_words.specs.declared.words.SessionSource.TheVariants.{Files, Journal as Kept}
-use Rattle.kept_sessions.specs.Sources.{is_of_a_journal}
-use Rattle.bridge_server.specs.declared.serving_fault.ServingFault.{ServingFault}
-use Rattle.bridge_server.specs.declared.serving_fault.ServingFault.TheVariants.{Source}
 
 -- own: the line for who serves a session that nobody keeps
 abbrev pub unkept_line : List ℕ
 unkept_line = codes "bridge_server: without --journal nothing is kept when the server ends\n"
 
--- a text is written, or where it can't be, a first part of it
-abbrev pub TellsLine : Option (List ℕ) → Option (List ℕ) → List ℕ → Type 0
-TellsLine before after text = Appends before after text ⊎ WritesPart before after text
+-- how a session is served is told in a line, for which there may be no memory
+abbrev pub TellsServing : Option (List ℕ) → Option (List ℕ) → Type 0
+TellsServing before after =
+    ((serving : ServingLine) × TellsLine before after (serving_line serving)) ⊎ Appends before after []
 
--- own: the fault is one of a journal or of its copy, which is named also where the status is 3
-abbrev pub is_named_fault : ServingFault → Bool
-is_named_fault (Source fault) = is_of_a_journal fault
-is_named_fault _ = false
+-- the same of a session of files, of which is told first that nothing keeps it
+abbrev pub TellsUnkept : Option (List ℕ) → Option (List ℕ) → Type 0
+TellsUnkept before after = (told : Option (List ℕ)) × TellsLine before told unkept_line × TellsServing told after
 
--- what is said where a session was served to the end: that it was kept nowhere, if it was, and nothing else
-abbrev pub IsToldUnkept : SessionSource → Option (List ℕ) → Option (List ℕ) → Type 0
-IsToldUnkept (Files files) before after = TellsLine before after unkept_line
-IsToldUnkept (Kept path files) before after = Appends before after []
+-- what is said where a session was served to the end, and nothing else
+abbrev pub IsToldServed : SessionSource → Option (List ℕ) → Option (List ℕ) → Type 0
+IsToldServed (Files files) before after = TellsUnkept before after
+IsToldServed (Kept path files) before after = TellsServing before after
 
--- what is said where a session was to be served, with a status that isn't 1: of a session of files nothing, or that it is
--- kept nowhere; of a journal's nothing, but with 3 why the journal isn't opened
-abbrev pub SaysOf : SessionSource → ℕ → Option (List ℕ) → Option (List ℕ) → Type 0
-SaysOf (Files files) status before after = Appends before after [] ⊎ TellsLine before after unkept_line
-SaysOf (Kept path files) status before after = status ≢ 3 → Appends before after []
+-- why the program ends with this status is told, and before that nothing, or how a session of files was to be served
+abbrev pub EndsUnkept : ℕ → Option (List ℕ) → Option (List ℕ) → Type 0
+EndsUnkept status before after =
+    (told : Option (List ℕ)) × (Appends before told [] ⊎ TellsUnkept before told) × ToldWhy status told after
+
+-- the same of a journal's
+abbrev pub EndsKept : ℕ → Option (List ℕ) → Option (List ℕ) → Type 0
+EndsKept status before after = (told : Option (List ℕ)) × TellsServing before told × ToldWhy status told after
+
+-- what is said where a session was to be served, and the status is neither 0 nor 1: why, and before that nothing, or how it
+-- was to be served; of a journal's with 3 that, or why the journal isn't opened
+abbrev pub IsToldUnserved : SessionSource → ℕ → Option (List ℕ) → Option (List ℕ) → Type 0
+IsToldUnserved (Files files) status before after = EndsUnkept status before after
+IsToldUnserved (Kept path files) status before after = (status ≡ 3) ⊎ EndsKept status before after
 
 -- the session is a journal's
 abbrev pub IsKeptSource : SessionSource → Type 0
@@ -52,11 +61,16 @@ NamesJournal (Check checking) = ⊥
 NamesJournal (Prepare preparing) = Unit {0}
 NamesJournal (Report reporting) = Unit {0}
 
--- own: what is said by words with a status that is neither 1 nor 2. It is nothing; or, where a session of files is served
--- without a journal, that it is kept nowhere, and nothing else; or, with 3, why nothing comes of a journal or of a folder
+-- what is said before the program ends: nothing, or where words ask for a server how it serves
+abbrev pub IsSaidFirst : List Text → Option (List ℕ) → Option (List ℕ) → Type 0
+IsSaidFirst words before after =
+    Appends before after []
+    ⊎ ((serving : Serving) × AsksFor words (Serve serving) × IsToldServed serving.source before after)
+
+-- own: what is said by words with a status that is neither 1 nor 2. With 0 it is that and no more; with 3 and 4 why, behind
+-- that; or, with 3, why nothing comes of a journal or of a folder
 abbrev pub IsSaidOnErrors : List Text → ℕ → Option (List ℕ) → Option (List ℕ) → Type 0
 IsSaidOnErrors words status before after =
-    Appends before after []
-    ⊎ (((serving : Serving) × AsksFor words (Serve serving) × (¬ IsKeptSource serving.source))
-    × TellsLine before after unkept_line)
+    ((status ≡ 0) × IsSaidFirst words before after)
+    ⊎ ((told : Option (List ℕ)) × IsSaidFirst words before told × ToldWhy status told after)
     ⊎ ((status ≡ 3) × (asked : Words) × AsksFor words asked × NamesJournal asked)

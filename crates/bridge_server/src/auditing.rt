@@ -5,10 +5,12 @@ ghost use Rattle.std.specs.Io.KnownBytes.{Appends};
 ghost use Rattle.script_lines.specs.Writing.{WritesPart};
 ghost use Rattle.program.specs.Status.{IsStatus};
 ghost use Rattle.kept_sessions.specs.Audited.{TellsJournal};
+ghost use Rattle.operator_lines.specs.Obstacles.{ToldWhy};
 
 use crate::serving_fault::status_of_source_fault;
 use journal_store::JournalFiles;
 use kept_sessions::audit_of_journal;
+use operator_lines::{Obstacle, status_of_obstacle};
 use script_lines::write_text;
 use sqlite::Wary;
 use std::io::Write;
@@ -27,7 +29,8 @@ pub(crate) fn status_of_audit<
 >(rt: &R, path: &str, writer: &mut W, errors: &mut E) -> u8
     ensures statuses { IsStatus result }
     ensures understood { result ≢ 2 }
-    ensures silent { result ≢ 1 → result ≢ 3 → Appends (E.contents errors.old) (E.contents errors.new) [] }
+    ensures silent { result ≡ 0 → Appends (E.contents errors.old) (E.contents errors.new) [] }
+    ensures memory { result ≡ 4 → ToldWhy result (E.contents errors.old) (E.contents errors.new) }
     ensures told { result ≡ 0 → (text : List ℕ) × TellsJournal text
         × Appends (W.contents writer.old) (W.contents writer.new) text }
     ensures part { result ≡ 3 → Appends (W.contents writer.old) (W.contents writer.new) []
@@ -37,8 +40,8 @@ pub(crate) fn status_of_audit<
     match audit_of_journal(rt, path, Wary, WORKERS) {
         Ok(told) => match write_text(writer, told.audit.as_bytes()) {
             Ok(()) => 0,
-            Err(_) => 3,
+            Err(_) => status_of_obstacle(rt.alloc(), &Obstacle::OutputUnwritten, errors),
         },
-        Err((fault, _left)) => status_of_source_fault(fault, errors),
+        Err((fault, _left)) => status_of_source_fault(rt.alloc(), fault, None, errors),
     }
 }

@@ -17,17 +17,24 @@ ghost use Rattle.program.specs.Status.{IsStatus, status_of};
 ghost use Rattle.script_lines.specs.Writing.{WritesPart};
 ghost use Rattle.kept_sessions.specs.Audited.{TellsJournal};
 ghost use Rattle.bridge_server.specs.Reported.{IsReport};
-ghost use Rattle.bridge_server.specs.Said.{IsSaidOnErrors, IsToldUnkept};
+ghost use Rattle.bridge_server.specs.Said.{IsSaidOnErrors, IsToldServed};
+ghost use Rattle.operator_lines.specs.Obstacles.{ToldWhy};
+ghost use Rattle.clap.specs.Words.{kind_of};
+ghost use Rattle.clap.specs.declared.error.kind.ErrorKind.TheVariants as kind;
 
 use crate::auditing::status_of_audit;
 use crate::checking::status_of_check;
 use crate::copying::status_of_copy;
 use crate::reporting::status_of_report;
 use crate::serving::status_of_serving;
+use crate::serving_fault::status_of_no_memory;
 use crate::session_folder::status_of_preparing;
+use clap::Error;
 use journal_store::JournalFiles;
+use operator_lines::{MemoryFor, Obstacle, status_of_obstacle};
 use program::status_of_script;
 use server_words::{Words, called_with, read_words, status_of_words};
+use std::alloc::Global;
 use std::io::{self, BufReader, Read, Write};
 use std::net::Net;
 use std::random::RandomSource;
@@ -74,8 +81,8 @@ where
         × EndsWith fault input (I.remaining reader.new) (W.contents writer.old) (W.contents writer.new)) }
     ensures served { (serving : Serving) → AsksFor (map string_bytes words.now) (Serve serving) →
         Appends (W.contents writer.old) (W.contents writer.new) [] }
-    ensures unkept { (serving : Serving) → AsksFor (map string_bytes words.now) (Serve serving) → result ≡ 0 →
-        IsToldUnkept serving.source (E.contents errors.old) (E.contents errors.new) }
+    ensures told { (serving : Serving) → AsksFor (map string_bytes words.now) (Serve serving) → result ≡ 0 →
+        IsToldServed serving.source (E.contents errors.old) (E.contents errors.new) }
     ensures audited { (path : Bor (List ℕ)) → AsksFor (map string_bytes words.now) (Audit path) → result ≡ 0 →
         (text : List ℕ) × TellsJournal text × Appends (W.contents writer.old) (W.contents writer.new) text }
     ensures unaudited { (path : Bor (List ℕ)) → AsksFor (map string_bytes words.now) (Audit path) → result ≢ 0 →
@@ -89,7 +96,7 @@ where
         × WritesPart (W.contents writer.old) (W.contents writer.new) text) }
     ensures copied { (copy : JournalCopy) → AsksFor (map string_bytes words.now) (Copy copy) →
         Appends (W.contents writer.old) (W.contents writer.new) [] }
-    ensures checked { (checking : Checking) → AsksFor (map string_bytes words.now) (Check checking) → result ≢ 2 →
+    ensures checked { (checking : Checking) → AsksFor (map string_bytes words.now) (Check checking) → result ≡ 1 →
         Appends (E.contents errors.old) (E.contents errors.new) [] }
     ensures prepared { (preparing : Preparing) → AsksFor (map string_bytes words.now) (Prepare preparing) →
         Appends (W.contents writer.old) (W.contents writer.new) [] }
@@ -99,10 +106,34 @@ where
         Ok(Words::Serve(serving)) => status_of_serving(rt, &serving, errors),
         Ok(Words::Audit(path)) => status_of_audit(rt, path, writer, errors),
         Ok(Words::Copy(copy)) => status_of_copy(rt, &copy, errors),
-        Ok(Words::Check(checking)) => status_of_check(rt, &checking, writer),
+        Ok(Words::Check(checking)) => status_of_check(rt, &checking, writer, errors),
         Ok(Words::Prepare(preparing)) => status_of_preparing(rt, &preparing, errors),
         Ok(Words::Report(reporting)) => status_of_report(rt, &reporting, writer, errors),
-        Err(error) => status_of_words(rt.alloc(), &error, writer, errors),
+        Err(error) => status_of_untaken(rt.alloc(), &error, writer, errors),
+    }
+}
+
+// The status after words by which nothing is run. What can't be told of them is said.
+fn status_of_untaken<W: Write, E: Write>(
+    alloc: Global,
+    error: &Error,
+    writer: &mut W,
+    errors: &mut E,
+) -> u8
+    ensures statuses { IsStatus result }
+    ensures unwritten { result ≡ 2 → Appends (W.contents writer.old) (W.contents writer.new) [] }
+    ensures silent { result ≡ 0 → Appends (E.contents errors.old) (E.contents errors.new) [] }
+    ensures why { (result ≡ 3) ⊎ (result ≡ 4) → ToldWhy result (E.contents errors.old) (E.contents errors.new) }
+    ensures memory { kind_of error.now ≡ kind.OutOfMemory → result ≡ 4 }
+    ensures help { kind_of error.now ≡ kind.DisplayHelp → result ≢ 2 }
+    ensures version { kind_of error.now ≡ kind.DisplayVersion → result ≢ 2 }
+    ensures mistaken { kind_of error.now ≢ kind.DisplayHelp → kind_of error.now ≢ kind.DisplayVersion →
+        ((result ≡ 2) ⊎ (result ≡ 4)) × Appends (W.contents writer.old) (W.contents writer.new) [] }
+{
+    match status_of_words(alloc, error, writer, errors) {
+        3 => status_of_obstacle(alloc, &Obstacle::OutputUnwritten, errors),
+        4 => status_of_no_memory(alloc, MemoryFor::Words, errors),
+        status => status,
     }
 }
 
@@ -117,10 +148,10 @@ where
     ensures { IsStatus result }
 {
     let Ok(words) = called_with(rt) else {
-        return 4;
+        return status_of_no_memory(rt.alloc(), MemoryFor::Words, errors);
     };
     let Ok(mut reader) = BufReader::new(rt.alloc(), rt.reader()) else {
-        return 4;
+        return status_of_no_memory(rt.alloc(), MemoryFor::Script, errors);
     };
     run_words(
         rt,

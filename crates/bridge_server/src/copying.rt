@@ -3,6 +3,7 @@
 ghost use Rattle.std.specs.Prelude.{◌≡◌, ◌≢◌, []};
 ghost use Rattle.std.specs.Io.KnownBytes.{Appends};
 ghost use Rattle.program.specs.Status.{IsStatus};
+ghost use Rattle.operator_lines.specs.Obstacles.{ToldWhy};
 
 use crate::serving_fault::status_of_source_fault;
 use journal_store::JournalFiles;
@@ -20,10 +21,11 @@ pub(crate) fn status_of_copy<R: Files + JournalFiles + AllocGlobal, E: Write>(
 ) -> u8
     ensures statuses { IsStatus result }
     ensures understood { result ≢ 2 }
-    ensures silent { result ≢ 1 → result ≢ 3 → Appends (E.contents errors.old) (E.contents errors.new) [] }
+    ensures silent { result ≡ 0 → Appends (E.contents errors.old) (E.contents errors.new) [] }
+    ensures memory { result ≡ 4 → ToldWhy result (E.contents errors.old) (E.contents errors.new) }
 {
     match copy_journal(rt, copy.journal, Wary, copy.to) {
         Ok(()) => 0,
-        Err((fault, _left)) => status_of_source_fault(fault, errors),
+        Err((fault, _left)) => status_of_source_fault(rt.alloc(), fault, None, errors),
     }
 }

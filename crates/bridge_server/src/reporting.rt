@@ -4,11 +4,13 @@ ghost use Rattle.std.specs.Prelude.{◌≡◌, ◌≢◌, ◌⊎◌, ℕ, List, 
 ghost use Rattle.std.specs.Io.KnownBytes.{Appends};
 ghost use Rattle.script_lines.specs.Writing.{WritesPart};
 ghost use Rattle.program.specs.Status.{IsStatus};
+ghost use Rattle.operator_lines.specs.Obstacles.{ToldWhy};
 ghost use Rattle.bridge_server.specs.Reported.{IsReport, form_text};
 
 use crate::serving_fault::status_of_source_fault;
 use journal_store::JournalFiles;
 use kept_sessions::{KeptSessionFault, report_of_journal};
+use operator_lines::{Obstacle, status_of_obstacle};
 use pbn_report::pbn_text;
 use report_texts::{csv_text, html_text};
 use script_lines::write_text;
@@ -33,7 +35,8 @@ pub(crate) fn status_of_report<
 >(rt: &R, reporting: &Reporting<'_>, writer: &mut W, errors: &mut E) -> u8
     ensures statuses { IsStatus result }
     ensures understood { result ≢ 2 }
-    ensures silent { result ≢ 1 → result ≢ 3 → Appends (E.contents errors.old) (E.contents errors.new) [] }
+    ensures silent { result ≡ 0 → Appends (E.contents errors.old) (E.contents errors.new) [] }
+    ensures memory { result ≡ 4 → ToldWhy result (E.contents errors.old) (E.contents errors.new) }
     ensures told { result ≡ 0 → (text : List ℕ) × IsReport reporting.now.form text
         × Appends (W.contents writer.old) (W.contents writer.new) text }
     ensures part { result ≡ 3 → Appends (W.contents writer.old) (W.contents writer.new) []
@@ -44,9 +47,9 @@ pub(crate) fn status_of_report<
     match report_text(rt, reporting) {
         Ok(text) => match write_text(writer, text.as_slice()) {
             Ok(()) => 0,
-            Err(_) => 3,
+            Err(_) => status_of_obstacle(rt.alloc(), &Obstacle::OutputUnwritten, errors),
         },
-        Err(fault) => status_of_source_fault(fault, errors),
+        Err(fault) => status_of_source_fault(rt.alloc(), fault, None, errors),
     }
 }
 

@@ -1,14 +1,22 @@
 //! Clients that are served over WebSockets.
 
-ghost use Rattle.std.specs.Prelude.{◌≡◌, ◌≢◌, ◌⊎◌, [], false, map, IfOk, IfErr};
-ghost use Rattle.std.specs.Io.KnownBytes.{Appends};
+ghost use Rattle.std.specs.Prelude.{◌≡◌, ◌≢◌, ◌⊎◌, [], map, IfOk};
 ghost use Rattle.sqlite.specs.Files.{file_state};
 ghost use Rattle.sqlite.specs.Held.{state};
 ghost use Rattle.desks.specs.Kept.{LeavesJust};
 ghost use Rattle.kept_entries.specs.KeptRows.{lists_in};
 ghost use Rattle.program.specs.Status.{IsStatus};
 ghost use Rattle.kept_sessions.specs.Kept.{KeepsJust};
-ghost use Rattle.bridge_server.specs.Said.{SaysOf, IsToldUnkept, TellsLine, is_named_fault, unkept_line};
+ghost use Rattle.operator_lines.specs.Telling.{TellsLine};
+ghost use Rattle.bridge_server.specs.Said.{
+  IsToldServed,
+  IsToldUnserved,
+  EndsKept,
+  EndsUnkept,
+  TellsServing,
+  TellsUnkept,
+  unkept_line,
+};
 
 use crate::serving_fault::{ServingFault, status_of_serving_fault, status_of_source_fault};
 use entry_store::{EntryStore, NoStore};
@@ -17,14 +25,15 @@ use kept_sessions::{
     KeptSession, KeptSessionFault, kept_session, kept_session_of_files, session_of_files,
 };
 use opened_session::OpenedSession;
+use operator_lines::{KeptIn, PortFault, ServingLine, tell, tell_serving};
 use row_journal::OpenedJournal;
-use script_lines::write_text;
 use server_words::{Serving, SessionFiles, SessionSource};
 use session_commands::Entry;
 use session_threads::{ServingError, ServingPlan, serve_book};
 use sqlite::{Alter, FileFrom, FileStore, Leftover, Wary};
+use std::alloc::Global;
 use std::io::Write;
-use std::net::Net;
+use std::net::{Ipv4Addr, Net, TcpListener};
 use std::rt::Files;
 use std::sync::Wait;
 use std::thread::Threads;
@@ -47,8 +56,9 @@ where
     R::Listener: Sync,
     R::Stream: Send,
     ensures statuses { IsStatus result }
-    ensures silent { result ≢ 1 → SaysOf serving.now.source result (E.contents errors.old) (E.contents errors.new) }
-    ensures told { result ≡ 0 → IsToldUnkept serving.now.source (E.contents errors.old) (E.contents errors.new) }
+    ensures told { result ≡ 0 → IsToldServed serving.now.source (E.contents errors.old) (E.contents errors.new) }
+    ensures unserved { (result ≡ 3) ⊎ (result ≡ 4) →
+        IsToldUnserved serving.now.source result (E.contents errors.old) (E.contents errors.new) }
     ensures understood { result ≢ 2 }
 {
     match serving.source {
@@ -68,14 +78,13 @@ where
     R::Listener: Sync,
     R::Stream: Send,
     ensures statuses { IsStatus result }
-    ensures silent { result ≢ 1 → Appends (E.contents errors.old) (E.contents errors.new) []
-        ⊎ TellsLine (E.contents errors.old) (E.contents errors.new) unkept_line }
-    ensures told { result ≡ 0 → TellsLine (E.contents errors.old) (E.contents errors.new) unkept_line }
+    ensures told { result ≡ 0 → TellsUnkept (E.contents errors.old) (E.contents errors.new) }
+    ensures unserved { (result ≡ 3) ⊎ (result ≡ 4) → EndsUnkept result (E.contents errors.old) (E.contents errors.new) }
     ensures understood { result ≢ 2 }
 {
     match session_of_files(rt, files.session, files.deals) {
         Ok(session) => status_of_unkept(rt, serving, session, errors),
-        Err(fault) => status_of_source_fault(fault, errors),
+        Err(fault) => status_of_source_fault(rt.alloc(), fault, Some(files), errors),
     }
 }
 
@@ -91,25 +100,49 @@ where
     R::Stream: Send,
     requires { session.book.journal ≡ [] }
     ensures statuses { IsStatus result }
-    ensures silent { result ≢ 1 → TellsLine (E.contents errors.old) (E.contents errors.new) unkept_line }
+    ensures told { result ≡ 0 → TellsUnkept (E.contents errors.old) (E.contents errors.new) }
+    ensures unserved { (result ≡ 3) ⊎ (result ≡ 4) → EndsUnkept result (E.contents errors.old) (E.contents errors.new) }
     ensures understood { result ≢ 2 }
 {
     tell_unkept(errors);
+    tell_served(rt.alloc(), serving, &session, KeptIn::Nothing, errors);
     match serve_session(rt, serving, session, NoStore, Vec::new(rt.alloc())) {
         Ok(_store) => 0,
-        Err(fault) => status_of_serving_fault(fault, errors),
+        Err(fault) => status_of_serving_fault(rt.alloc(), fault, errors),
     }
 }
 
-// Tells that a session is kept nowhere. Where it can't be written, clients are served all the same.
+// Tells that a session is kept nowhere.
 fn tell_unkept<E: Write>(errors: &mut E)
     ensures { TellsLine (E.contents errors.old) (E.contents errors.new) unkept_line }
 {
-    let line = "bridge_server: without --journal nothing is kept when the server ends\n";
-    let _unwritten = write_text(errors, line.as_bytes());
+    tell(
+        errors,
+        "bridge_server: without --journal nothing is kept when the server ends\n",
+    );
 }
 
-// Serves clients in a session that a journal keeps.
+// Tells how a session is served.
+fn tell_served<E: Write>(
+    alloc: Global,
+    serving: &Serving<'_>,
+    session: &OpenedSession,
+    kept: KeptIn<'_>,
+    errors: &mut E,
+)
+    ensures { TellsServing (E.contents errors.old) (E.contents errors.new) }
+{
+    let line = ServingLine {
+        port: serving.port,
+        tables: session.book.state().public().movement.tables(),
+        displays: serving.displays,
+        workers: serving.workers,
+        kept,
+    };
+    tell_serving(alloc, &line, errors);
+}
+
+// Serves clients in a session that a journal keeps. What the solver found is found again even where nobody is to solve.
 fn status_of_journal<
     R: Files + Net + Clock + Wait + Threads + JournalFiles + AllocGlobal + Sync,
     E: Write,
@@ -118,29 +151,13 @@ where
     R::Listener: Sync,
     R::Stream: Send,
     ensures statuses { IsStatus result }
-    ensures silent { result ≢ 1 → result ≢ 3 → Appends (E.contents errors.old) (E.contents errors.new) [] }
+    ensures told { result ≡ 0 → TellsServing (E.contents errors.old) (E.contents errors.new) }
+    ensures unserved { result ≡ 4 → EndsKept result (E.contents errors.old) (E.contents errors.new) }
     ensures understood { result ≢ 2 }
 {
-    match serve_journal(rt, serving, path, files) {
-        Ok(()) => 0,
-        Err(fault) => status_of_serving_fault(fault, errors),
-    }
-}
-
-// Serves clients in a session that a journal keeps. What the solver found is found again even where nobody is to solve.
-fn serve_journal<R: Files + Net + Clock + Wait + Threads + JournalFiles + AllocGlobal + Sync>(
-    rt: &R,
-    serving: &Serving<'_>,
-    path: &str,
-    files: &Option<SessionFiles<'_>>,
-) -> Result<(), ServingFault>
-where
-    R::Listener: Sync,
-    R::Stream: Send,
-{
     match open_kept(rt, serving, path, files) {
-        Ok(kept) => serve_kept(rt, serving, kept),
-        Err((fault, _left)) => Err(ServingFault::Source(fault)),
+        Ok(kept) => status_of_kept(rt, serving, path, kept, errors),
+        Err((fault, _left)) => status_of_source_fault(rt.alloc(), fault, files.as_ref(), errors),
     }
 }
 
@@ -163,6 +180,40 @@ fn open_kept<R: Files + Threads + JournalFiles + AllocGlobal + Sync>(
         Some(files) => kept_session_of_files(rt, path, Wary, files.session, files.deals, workers),
         None => kept_session(rt, path, Wary, workers),
     }
+}
+
+// Tells how a session with a journal that was read is served, and serves clients in it.
+fn status_of_kept<
+    R: Net + Clock + Wait + Threads + AllocGlobal + Sync,
+    S: Alter + Drop + Send,
+    E: Write,
+>(rt: &R, serving: &Serving<'_>, path: &str, kept: KeptSession<S>, errors: &mut E) -> u8
+where
+    R::Listener: Sync,
+    R::Stream: Send,
+    requires opening { kept.session.book.journal ≡ [] }
+    requires kept { KeepsJust (state S.Store kept.journal.store.conn) (lists_in kept.journal.publications.items) }
+    ensures statuses { IsStatus result }
+    ensures told { result ≡ 0 → TellsServing (E.contents errors.old) (E.contents errors.new) }
+    ensures unserved { (result ≡ 3) ⊎ (result ≡ 4) → EndsKept result (E.contents errors.old) (E.contents errors.new) }
+    ensures understood { result ≢ 2 }
+{
+    let version = entries_in(kept.journal.publications.as_slice());
+    let keeper = KeptIn::Journal(path, version);
+    tell_served(rt.alloc(), serving, &kept.session, keeper, errors);
+    match serve_kept(rt, serving, kept) {
+        Ok(()) => 0,
+        Err(fault) => status_of_serving_fault(rt.alloc(), fault, errors),
+    }
+}
+
+// How many entries publications have.
+fn entries_in(publications: &[Vec<Entry>]) -> usize {
+    let mut count: usize = 0;
+    for publication in publications {
+        count = count.saturating_add(publication.len());
+    }
+    count
 }
 
 // Serves clients in a session with a journal that was read.
@@ -188,8 +239,7 @@ where
     }
 }
 
-// Serves clients in an open session, and gives its store back. For want of places or of threads it ends as for want of
-// memory.
+// Serves clients in an open session, and gives its store back.
 fn serve_session<R: Net + Clock + Wait + Threads + AllocGlobal + Sync, K: EntryStore + Send>(
     rt: &R,
     serving: &Serving<'_>,
@@ -202,18 +252,30 @@ where
     R::Stream: Send,
     requires journal { session.book.journal ≡ [] }
     requires kept { LeavesJust (map (λ publication. publication.items) publications.items) (K.doubt store) (K.leaves store) }
-    ensures { IfErr result (λ fault. is_named_fault fault ≡ false) }
 {
     let plan = plan_of(serving, &session);
     match serve_book(rt, rt.alloc(), session.book, plan, store, publications) {
         Ok(store) => Ok(store),
-        Err(ServingError::NotAccepted(number)) => {
-            Err(ServingFault::Source(KeptSessionFault::NotAccepted(number)))
-        }
-        Err(ServingError::NotListening) => Err(ServingFault::NotListening),
-        Err(ServingError::OutOfMemory | ServingError::NoPlace | ServingError::NoThread) => {
-            Err(ServingFault::NoRoom)
-        }
+        Err(fault) => Err(fault_of_serving(rt, serving.port, fault)),
+    }
+}
+
+// Why nobody is served. Of a port at which nothing can listen the system is asked once more.
+fn fault_of_serving<R: Net>(rt: &R, port: u16, fault: ServingError) -> ServingFault {
+    match fault {
+        ServingError::OutOfMemory => ServingFault::OutOfMemory,
+        ServingError::NoPlace => ServingFault::NoPlace,
+        ServingError::NotAccepted(number) => ServingFault::NotAccepted(number),
+        ServingError::NotListening => ServingFault::NotListening(port, why_not_listening(rt, port)),
+        ServingError::NoThread => ServingFault::NoThread,
+    }
+}
+
+// Why nothing can listen at a port of 127.0.0.1. Where something can by now, another program had it.
+fn why_not_listening<R: Net>(rt: &R, port: u16) -> PortFault {
+    match TcpListener::bind(rt, (Ipv4Addr::LOCALHOST, port)) {
+        Ok(_) => PortFault::Taken,
+        Err(error) => PortFault::of_kind(error.kind()),
     }
 }
 

@@ -3,13 +3,14 @@
 ghost use Rattle.std.specs.Prelude.{◌≡◌, ◌≢◌, ◌⊎◌, []};
 ghost use Rattle.std.specs.Io.KnownBytes.{Appends};
 ghost use Rattle.program.specs.Status.{IsStatus};
+ghost use Rattle.operator_lines.specs.Obstacles.{ToldWhy};
 
-use crate::folder_fault::{FolderFault, status_of_folder_fault};
+use crate::folder_fault::{FolderFault, FolderPart, status_of_folder_fault};
 use kept_sessions::{SourceTexts, texts_of_files};
 use named_movements::MovementWord;
+use operator_lines::FileFault;
 use people_list::{Person, read_people};
 use preparing::{Plan, Prepared, prepare};
-use script_lines::write_text;
 use server_words::Preparing;
 use sign_ins::SignInToken;
 use std::fs::{self, OpenFile, OpenOptions};
@@ -27,11 +28,12 @@ pub(crate) fn status_of_preparing<R: Files + RandomSource + AllocGlobal, E: Writ
 ) -> u8
     ensures statuses { IsStatus result }
     ensures understood { result ≢ 2 }
-    ensures silent { result ≢ 1 → result ≢ 3 → Appends (E.contents errors.old) (E.contents errors.new) [] }
+    ensures silent { result ≡ 0 → Appends (E.contents errors.old) (E.contents errors.new) [] }
+    ensures memory { result ≡ 4 → ToldWhy result (E.contents errors.old) (E.contents errors.new) }
 {
     match prepare_folder(rt, preparing) {
         Ok(()) => 0,
-        Err(fault) => status_of_folder_fault(fault, errors),
+        Err(fault) => status_of_folder_fault(rt.alloc(), fault, preparing, errors),
     }
 }
 
@@ -139,7 +141,7 @@ fn write_folder<R: Files + AllocGlobal>(
         Err(error) if error.kind() == ErrorKind::AlreadyExists => {
             return Err(FolderFault::FolderExists);
         }
-        Err(_) => return Err(FolderFault::Unwritten),
+        Err(error) => return Err(unwritten(FolderPart::Folder, error.kind())),
     }
     let Ok(paths) = paths_in(rt, folder) else {
         let _left = fs::remove_dir(rt, folder);
@@ -176,35 +178,64 @@ fn write_files<R: Files>(
 ) -> Result<(), FolderFault> {
     write_new(
         rt,
+        FolderPart::Session,
         paths.session.as_str(),
         0o644,
         prepared.session.as_bytes(),
     )?;
     write_new(
         rt,
+        FolderPart::Tokens,
         paths.tokens.as_str(),
         0o600,
         prepared.sign_ins.as_bytes(),
     )?;
-    write_new(rt, paths.cards.as_str(), 0o600, prepared.cards.as_bytes())
+    write_new(
+        rt,
+        FolderPart::Cards,
+        paths.cards.as_str(),
+        0o600,
+        prepared.cards.as_bytes(),
+    )
 }
 
 // Writes a file that isn't there yet, and has it on the disk.
-fn write_new<R: Files>(rt: &R, path: &str, mode: u32, bytes: &[u8]) -> Result<(), FolderFault> {
+fn write_new<R: Files>(
+    rt: &R,
+    part: FolderPart,
+    path: &str,
+    mode: u32,
+    bytes: &[u8],
+) -> Result<(), FolderFault> {
     match OpenOptions::new()
         .write(true)
         .create_new(true)
         .mode(mode)
         .open(rt, path)
     {
-        Ok(mut file) => {
-            if write_text(&mut file, bytes).is_err() || file.sync_all().is_err() {
-                return Err(FolderFault::Unwritten);
-            }
-            Ok(())
-        }
-        Err(_) => Err(FolderFault::Unwritten),
+        Ok(mut file) => write_and_sync(part, &mut file, bytes),
+        Err(error) => Err(unwritten(part, error.kind())),
     }
+}
+
+// Writes a file whole, and has it on the disk.
+fn write_and_sync<F: Write + OpenFile>(
+    part: FolderPart,
+    file: &mut F,
+    bytes: &[u8],
+) -> Result<(), FolderFault> {
+    if let Err(error) = file.write_all(bytes) {
+        return Err(unwritten(part, error.kind()));
+    }
+    match file.sync_all() {
+        Ok(()) => Ok(()),
+        Err(error) => Err(unwritten(part, error.kind())),
+    }
+}
+
+// What an error of the system is to one who writes a part of the folder.
+fn unwritten(part: FolderPart, kind: ErrorKind) -> FolderFault {
+    FolderFault::Unwritten(part, FileFault::of_kind(kind))
 }
 
 // Removes what was made. What isn't there can't be removed, and what can't be removed is left.

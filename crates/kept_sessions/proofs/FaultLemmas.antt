@@ -78,7 +78,7 @@ module _ {D : Type 0} {g : Ghosts D} where
 pub texts_not_taken : (image : Image) (object boards : List ℕ) (fault : KeptSessionFault)
     → WhyNoSession object boards fault → WhyNotTakenUp image object boards fault
 texts_not_taken image object boards OutOfMemory why = tt
-texts_not_taken image object boards Unread why = absurd why
+texts_not_taken image object boards (Unread file cause) why = absurd why
 texts_not_taken image object boards (Unopened fault) why = why
 texts_not_taken image object boards (Journal fault) why = absurd why
 texts_not_taken image object boards NoJournal why = absurd why
@@ -89,7 +89,7 @@ texts_not_taken image object boards CopyUnwritten why = absurd why
 pub texts_not_reopened : (image : Image) (object boards : List ℕ) (rows : List _) (fault : KeptSessionFault)
     → HeldRows image object boards rows → WhyNoSession object boards fault → WhyNotReopened image fault
 texts_not_reopened image object boards rows OutOfMemory held why = tt
-texts_not_reopened image object boards rows Unread held why = absurd why
+texts_not_reopened image object boards rows (Unread file cause) held why = absurd why
 texts_not_reopened image object boards rows (Unopened fault) held why = record {
   object = object;
   boards = boards;
@@ -136,7 +136,7 @@ rows_not_reopened image object boards rows fault held (cause, is, why) =
 pub not_reopened_told : (image : Image) (fault : KeptSessionFault) → WhyNotReopened image fault
     → WhyJournalNotTold image fault
 not_reopened_told image OutOfMemory why = tt
-not_reopened_told image Unread why = absurd why
+not_reopened_told image (Unread file cause) why = absurd why
 not_reopened_told image (Unopened fault) why = why
 not_reopened_told image (Journal fault) why = why
 not_reopened_told image NoJournal why = tt
@@ -149,7 +149,7 @@ pub entries_not_told : (image : Image) (object boards : List ℕ) (opening : Ses
     → IsSessionOf object boards opening journal budget → HeldRows image object boards (rows_of publications)
     → WhyNotTold opening (entries_of publications) fault → WhyJournalNotTold image fault
 entries_not_told image object boards opening journal budget publications OutOfMemory session held why = tt
-entries_not_told image object boards opening journal budget publications Unread session held why = absurd why
+entries_not_told image object boards opening journal budget publications (Unread file cause) session held why = absurd why
 entries_not_told image object boards opening journal budget publications (Unopened fault) session held why = absurd why
 entries_not_told image object boards opening journal budget publications (Journal fault) session held why = absurd why
 entries_not_told image object boards opening journal budget publications NoJournal session held why = absurd why
@@ -170,7 +170,7 @@ entries_not_told image object boards opening journal budget publications CopyUnw
 
 pub failed_not_copied : (image : Image) (fault : KeptSessionFault) → IsFailedCopy fault → WhyNotCopied image fault
 failed_not_copied image OutOfMemory why = tt
-failed_not_copied image Unread why = absurd why
+failed_not_copied image (Unread file cause) why = absurd why
 failed_not_copied image (Unopened fault) why = absurd why
 failed_not_copied image (Journal fault) why = failure_kept image fault why
 failed_not_copied image NoJournal why = absurd why
@@ -186,7 +186,7 @@ pub start_fails : (image : Image) (object boards : List ℕ) (opening : SessionS
     → HoldsRows image (session_row object boards ∷ []) (rows_of published) → WhyNotTakenUp image object boards fault
     → WhyNoSession object boards fault ⊎ IsStartFailure fault
 start_fails image object boards opening published OutOfMemory keepable accepted holds why = inr tt
-start_fails image object boards opening published Unread keepable accepted holds why = absurd why
+start_fails image object boards opening published (Unread file cause) keepable accepted holds why = absurd why
 start_fails image object boards opening published (Unopened fault) keepable accepted holds why = inl why
 start_fails image object boards opening published (Journal fault) keepable accepted holds why =
     let session = session_row object boards ∷ [] in

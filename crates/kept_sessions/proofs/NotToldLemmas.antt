@@ -41,7 +41,7 @@ use Rattle.kept_sessions.specs.declared.source_fault.KeptSessionFault.TheVariant
 pub not_told_inside : (opening : SessionState) (first later all : List Entry) (fault : KeptSessionFault)
     → all ≡ first ++ later → WhyNotTold opening first fault → WhyNotTold opening all fault
 not_told_inside opening first later all OutOfMemory is why = tt
-not_told_inside opening first later all Unread is why = absurd why
+not_told_inside opening first later all (Unread file fault) is why = absurd why
 not_told_inside opening first later all (Unopened fault) is why = absurd why
 not_told_inside opening first later all (Journal fault) is why = absurd why
 not_told_inside opening first later all NoJournal is why = absurd why

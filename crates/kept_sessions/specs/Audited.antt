@@ -52,7 +52,7 @@ pub record IsNotAccepted (opening : SessionState) (entries : List Entry) (number
 -- why entries aren't told: one isn't accepted where it stands, or memory was refused, which says nothing of them
 abbrev pub WhyNotTold : SessionState → List Entry → KeptSessionFault → Type 0
 WhyNotTold opening entries OutOfMemory = Unit {0}
-WhyNotTold opening entries Unread = ⊥
+WhyNotTold opening entries (Unread file fault) = ⊥
 WhyNotTold opening entries (Unopened fault) = ⊥
 WhyNotTold opening entries (Journal fault) = ⊥
 WhyNotTold opening entries NoJournal = ⊥

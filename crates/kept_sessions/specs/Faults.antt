@@ -46,7 +46,7 @@ pub record AreFoundUnread (image : Image) (object boards : List ℕ) (fault : Jo
 -- why no session is opened by two texts with the journal that the files held, or that is made
 abbrev pub WhyNotTakenUp : Image → List ℕ → List ℕ → KeptSessionFault → Type 0
 WhyNotTakenUp image object boards OutOfMemory = ⊤
-WhyNotTakenUp image object boards Unread = ⊥
+WhyNotTakenUp image object boards (Unread file cause) = ⊥
 WhyNotTakenUp image object boards (Unopened fault) = WhyNoSession object boards (Unopened fault)
 WhyNotTakenUp image object boards (Journal fault) =
     WhyNotTaken image (session_row object boards ∷ []) fault ⊎ AreFoundUnread image object boards fault
@@ -94,7 +94,7 @@ pub record KeepsNotAccepted (image : Image) (number : ℕ) : Type 0 where
 -- why the session of the journal that the files held isn't opened
 abbrev pub WhyNotReopened : Image → KeptSessionFault → Type 0
 WhyNotReopened image OutOfMemory = ⊤
-WhyNotReopened image Unread = ⊥
+WhyNotReopened image (Unread file cause) = ⊥
 WhyNotReopened image (Unopened fault) = KeepsNoSession image (Unopened fault)
 WhyNotReopened image (Journal fault) = WhyNotKept image fault ⊎ AreKeptUnread image fault
 WhyNotReopened image NoJournal = ⊤
@@ -105,7 +105,7 @@ WhyNotReopened image CopyUnwritten = ⊥
 -- why the journal that the files held isn't told or reported: its session isn't opened, or it doesn't accept an entry
 abbrev pub WhyJournalNotTold : Image → KeptSessionFault → Type 0
 WhyJournalNotTold image OutOfMemory = ⊤
-WhyJournalNotTold image Unread = ⊥
+WhyJournalNotTold image (Unread file cause) = ⊥
 WhyJournalNotTold image (Unopened fault) = KeepsNoSession image (Unopened fault)
 WhyJournalNotTold image (Journal fault) = WhyNotKept image fault ⊎ AreKeptUnread image fault
 WhyJournalNotTold image NoJournal = ⊤
@@ -118,7 +118,7 @@ WhyJournalNotTold image CopyUnwritten = ⊥
 -- memory, the disk or another program at the file is the cause that a journal isn't copied, or what is at the path of the copy
 abbrev pub IsFailedCopy : KeptSessionFault → Type 0
 IsFailedCopy OutOfMemory = ⊤
-IsFailedCopy Unread = ⊥
+IsFailedCopy (Unread file cause) = ⊥
 IsFailedCopy (Unopened fault) = ⊥
 IsFailedCopy (Journal fault) = is_file_failure fault ≡ true
 IsFailedCopy NoJournal = ⊥
@@ -129,7 +129,7 @@ IsFailedCopy CopyUnwritten = ⊤
 -- why the journal that the files held isn't copied
 abbrev pub WhyNotCopied : Image → KeptSessionFault → Type 0
 WhyNotCopied image OutOfMemory = ⊤
-WhyNotCopied image Unread = ⊥
+WhyNotCopied image (Unread file cause) = ⊥
 WhyNotCopied image (Unopened fault) = ⊥
 WhyNotCopied image (Journal fault) = WhyNotKept image fault
 WhyNotCopied image NoJournal = ⊤
@@ -142,7 +142,7 @@ WhyNotCopied image CopyUnwritten = ⊤
 -- want of memory or of visits, the disk, or another program at the file
 abbrev pub IsStartFailure : KeptSessionFault → Type 0
 IsStartFailure OutOfMemory = ⊤
-IsStartFailure Unread = ⊥
+IsStartFailure (Unread file cause) = ⊥
 IsStartFailure (Unopened fault) = ⊥
 IsStartFailure (Journal fault) = (is_file_failure fault ≡ true) ⊎ IsOpeningWant fault
 IsStartFailure NoJournal = ⊥

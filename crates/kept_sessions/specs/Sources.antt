@@ -1,10 +1,12 @@
 -- What a session is opened from.
-use Rattle.std.specs.Prelude.{◌≡◌, ℕ, Bool, true, false, List, [], Some}
+use Rattle.std.specs.Prelude.{◌≡◌, ◌<◌, ℕ, Bool, true, false, Option, List, [], Some, IfSome, length}
 use Rattle.session_state.specs.SessionState.{SessionState}
 use Rattle.session_commands.specs.declared.entry.Entry.{Entry}
 use Rattle.opened_session.specs.Opened.{OpensWith, OpensNoneWith, GivesBudget, is_want_of_memory}
 use Rattle.opened_session.specs.declared.opening_fault.OpeningFault.{OpeningFault}
+use Rattle.operator_lines.specs.declared.file_fault.FileFault.TheVariants.{TooLong}
 use Rattle.kept_sessions.specs.declared.source_texts.TheConstants.{MOST_FILE_BYTES}
+use Rattle.kept_sessions.specs.declared.source_fault.SessionFile.{SessionFile}
 use Rattle.kept_sessions.specs.declared.source_fault.KeptSessionFault.{KeptSessionFault}
 use Rattle.kept_sessions.specs.declared.source_fault.KeptSessionFault.TheVariants.{OutOfMemory, Unread, Unopened, Journal, NoJournal, NotAccepted, CopyExists, CopyUnwritten}
 
@@ -24,7 +26,7 @@ pub record IsSessionOf (object boards : List ℕ) (opening : SessionState) (jour
 abbrev pub WhyNoSession : List ℕ → List ℕ → KeptSessionFault → Type 0
 WhyNoSession object boards OutOfMemory =
     (fault : OpeningFault) × (is_want_of_memory fault ≡ true) × OpensNoneWith (Some boards) fault object
-WhyNoSession object boards Unread = ⊥
+WhyNoSession object boards (Unread file fault) = ⊥
 WhyNoSession object boards (Unopened fault) =
     (is_want_of_memory fault ≡ false) × OpensNoneWith (Some boards) fault object
 WhyNoSession object boards (Journal fault) = ⊥
@@ -36,7 +38,7 @@ WhyNoSession object boards CopyUnwritten = ⊥
 -- own: a file isn't read, or memory is refused
 abbrev pub IsUnread : KeptSessionFault → Type 0
 IsUnread OutOfMemory = Unit {0}
-IsUnread Unread = Unit {0}
+IsUnread (Unread file fault) = Unit {0}
 IsUnread (Unopened fault) = ⊥
 IsUnread (Journal fault) = ⊥
 IsUnread NoJournal = ⊥
@@ -50,3 +52,18 @@ is_of_a_journal (Journal fault) = true
 is_of_a_journal NoJournal = true
 is_of_a_journal CopyUnwritten = true
 is_of_a_journal _ = false
+
+-- the fault is want of memory, or one of this file
+abbrev pub IsOfFile : SessionFile → KeptSessionFault → Type 0
+IsOfFile file OutOfMemory = Unit {0}
+IsOfFile file (Unread named fault) = named ≡ file
+IsOfFile file (Unopened fault) = ⊥
+IsOfFile file (Journal fault) = ⊥
+IsOfFile file NoJournal = ⊥
+IsOfFile file (NotAccepted number) = ⊥
+IsOfFile file CopyExists = ⊥
+IsOfFile file CopyUnwritten = ⊥
+
+-- a file that is called too long has more bytes than are read
+abbrev pub SaysTooLong : SessionFile → KeptSessionFault → Option (List ℕ) → Type 0
+SaysTooLong file fault known = fault ≡ Unread file TooLong → IfSome known (λ all. most_file_bytes < length all)

@@ -21,6 +21,6 @@ pub use journal_session::{
 };
 pub use paths::{session_of_files, texts_of_files};
 pub use reporting::{ReportedJournal, report_of_journal};
-pub use source_fault::KeptSessionFault;
+pub use source_fault::{KeptSessionFault, SessionFile};
 pub use source_texts::{MOST_FILE_BYTES, SourceTexts, read_texts};
 pub use texts_session::session_of_texts;

@@ -1,16 +1,19 @@
 //! Files at paths: those of a session, and whether one may hold a database.
 
-ghost use Rattle.std.specs.Prelude.{◌≡◌, ◌≤◌, ℕ, List, length, false, true, IfOk, IfErr};
+ghost use Rattle.std.specs.Prelude.{◌≡◌, ◌≢◌, ◌≤◌, ℕ, List, length, false, true, IfOk, IfErr};
+ghost use Rattle.operator_lines.specs.declared.file_fault.FileFault.TheVariants.{TooLong};
 ghost use Rattle.row_journal.specs.Faults.{is_file_failure};
-ghost use Rattle.kept_sessions.specs.Sources.{IsSessionOf, IsUnread, most_file_bytes, is_of_a_journal};
+ghost use Rattle.kept_sessions.specs.declared.source_fault.KeptSessionFault.TheVariants.{Unread};
+ghost use Rattle.kept_sessions.specs.Sources.{IsSessionOf, IsOfFile, IsUnread, most_file_bytes, is_of_a_journal};
 
-use crate::source_fault::KeptSessionFault;
+use crate::source_fault::{KeptSessionFault, SessionFile};
 use crate::source_texts::{SourceTexts, read_texts};
 use crate::texts_session::session_of_texts;
 use opened_session::OpenedSession;
+use operator_lines::FileFault;
 use row_journal::JournalFault;
 use std::fs;
-use std::io::{self, ErrorKind};
+use std::io::ErrorKind;
 use std::rt::Files;
 
 // How many bytes a page of a database has at least.
@@ -29,11 +32,11 @@ pub fn texts_of_files<R: Files + AllocGlobal>(
 {
     let object = match fs::open(rt, object_path) {
         Ok(file) => file,
-        Err(error) => return Err(fault_of_reading(error)),
+        Err(error) => return Err(fault_of_reading(SessionFile::Object, error.kind())),
     };
     match fs::open(rt, boards_path) {
         Ok(boards) => read_texts(rt.alloc(), object, boards),
-        Err(error) => Err(fault_of_reading(error)),
+        Err(error) => Err(fault_of_reading(SessionFile::Boards, error.kind())),
     }
 }
 
@@ -57,14 +60,16 @@ pub fn session_of_files<R: Files + AllocGlobal>(
     }
 }
 
-// What an error of the system is to one who reads a session's file.
-fn fault_of_reading(error: io::Error) -> KeptSessionFault
-    ensures fault { is_of_a_journal result ≡ false }
+/// What an error of the system is to one who reads a session's file.
+pub(crate) fn fault_of_reading(file: SessionFile, kind: ErrorKind) -> KeptSessionFault
+    ensures source { is_of_a_journal result ≡ false }
+    ensures file { IsOfFile file result }
+    ensures short { result ≢ Unread file TooLong }
     ensures unread { IsUnread result }
 {
-    match error.kind() {
+    match kind {
         ErrorKind::OutOfMemory => KeptSessionFault::OutOfMemory,
-        _ => KeptSessionFault::Unread,
+        kind => KeptSessionFault::Unread(file, FileFault::of_kind(kind)),
     }
 }
 

@@ -1,15 +1,25 @@
 use opened_session::OpeningFault;
+use operator_lines::FileFault;
 use row_journal::JournalFault;
 use std::fmt;
 use thiserror::Error;
+
+/// One of a session's two files.
+#[derive(Clone, Copy, Debug, PartialEq, Eq)]
+pub enum SessionFile {
+    /// The session object's.
+    Object,
+    /// The boards'.
+    Boards,
+}
 
 /// Why a session isn't opened from its files, or its journal isn't told or copied.
 #[derive(Clone, Copy, Debug, Error)]
 pub enum KeptSessionFault {
     /// There is no memory.
     OutOfMemory,
-    /// A file of the session can't be read, or is too long.
-    Unread,
+    /// This file of the session isn't read.
+    Unread(SessionFile, FileFault),
     /// The texts open no session.
     Unopened(OpeningFault),
     /// The journal isn't opened.
@@ -29,7 +39,7 @@ impl fmt::Display for KeptSessionFault {
     fn fmt<W: fmt::Write>(&self, f: &mut fmt::Formatter<W>) -> fmt::Result {
         match self {
             KeptSessionFault::OutOfMemory => f.write_str("out of memory"),
-            KeptSessionFault::Unread => f.write_str("a file can't be read"),
+            KeptSessionFault::Unread(_, _) => f.write_str("a file can't be read"),
             KeptSessionFault::Unopened(fault) => write!(f, "{fault}"),
             KeptSessionFault::Journal(fault) => write!(f, "{fault}"),
             KeptSessionFault::NoJournal => f.write_str("NotAJournal"),

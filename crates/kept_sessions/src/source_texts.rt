@@ -1,11 +1,14 @@
 //! The texts of a session's two files.
 
 ghost use Rattle.std.specs.Prelude.{◌≡◌, ◌≤◌, length, false, IfOk, IfErr, IfSome};
-ghost use Rattle.kept_sessions.specs.Sources.{IsUnread, most_file_bytes, is_of_a_journal};
+ghost use Rattle.kept_sessions.specs.declared.source_fault.SessionFile.TheVariants.{Object, Boards};
+ghost use Rattle.kept_sessions.specs.Sources.{IsOfFile, IsUnread, SaysTooLong, most_file_bytes, is_of_a_journal};
 
-use crate::source_fault::KeptSessionFault;
+use crate::paths::fault_of_reading;
+use crate::source_fault::{KeptSessionFault, SessionFile};
+use operator_lines::FileFault;
 use std::alloc::Global;
-use std::io::{ErrorKind, Read};
+use std::io::Read;
 
 /// How many bytes a file has at most.
 pub const MOST_FILE_BYTES: usize = 16_777_216;
@@ -31,23 +34,31 @@ pub fn read_texts<I: Read + Drop, J: Read + Drop>(
         × (length texts.boards.items ≤ most_file_bytes)) }
     ensures fault { IfErr result (λ fault. is_of_a_journal fault ≡ false) }
     ensures unread { IfErr result IsUnread }
+    ensures long_object { IfErr result (λ fault. SaysTooLong Object fault (I.remaining object)) }
+    ensures long_boards { IfErr result (λ fault. SaysTooLong Boards fault (J.remaining boards)) }
 {
-    let object = match read_whole(alloc, object) {
+    let object = match read_whole(alloc, SessionFile::Object, object) {
         Ok(bytes) => bytes,
         Err(fault) => return Err(fault),
     };
-    match read_whole(alloc, boards) {
+    match read_whole(alloc, SessionFile::Boards, boards) {
         Ok(boards) => Ok(SourceTexts { object, boards }),
         Err(fault) => Err(fault),
     }
 }
 
 // All bytes of a reader, unless there are too many.
-fn read_whole<I: Read + Drop>(alloc: Global, reader: I) -> Result<Vec<u8>, KeptSessionFault>
+fn read_whole<I: Read + Drop>(
+    alloc: Global,
+    file: SessionFile,
+    reader: I,
+) -> Result<Vec<u8>, KeptSessionFault>
     ensures whole { IfOk result (λ bytes. IfSome (I.remaining reader) (λ all. bytes.items ≡ all)) }
     ensures few { IfOk result (λ bytes. length bytes.items ≤ most_file_bytes) }
     ensures fault { IfErr result (λ fault. is_of_a_journal fault ≡ false) }
     ensures unread { IfErr result IsUnread }
+    ensures file { IfErr result (IsOfFile file) }
+    ensures long { IfErr result (λ fault. SaysTooLong file fault (I.remaining reader)) }
 {
     let mut bytes = Vec::new(alloc);
     match reader
@@ -55,7 +66,7 @@ fn read_whole<I: Read + Drop>(alloc: Global, reader: I) -> Result<Vec<u8>, KeptS
         .read_to_end(&mut bytes)
     {
         Ok(_) if bytes.len() <= MOST_FILE_BYTES => Ok(bytes),
-        Err(error) if error.kind() == ErrorKind::OutOfMemory => Err(KeptSessionFault::OutOfMemory),
-        Ok(_) | Err(_) => Err(KeptSessionFault::Unread),
+        Ok(_) => Err(KeptSessionFault::Unread(file, FileFault::TooLong)),
+        Err(error) => Err(fault_of_reading(file, error.kind())),
     }
 }

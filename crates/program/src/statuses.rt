@@ -5,18 +5,20 @@ ghost use Rattle.std.specs.Io.KnownBytes.{Appends};
 ghost use Rattle.program.specs.declared.fault.Fault.TheVariants.{Input, Output};
 ghost use Rattle.program.specs.declared.fault.Fault.{Fault};
 ghost use Rattle.program.specs.Status.{IsStatus, status_of};
+ghost use Rattle.operator_lines.specs.Obstacles.{ToldWhy};
 ghost use Rattle.program.specs.Writes.{IsDone, EndsWith};
 
 use crate::fault::Fault;
 use crate::script::run_script;
+use operator_lines::{MemoryFor, Obstacle, status_of_obstacle};
 use session_object::SessionFault;
 use session_opening::OpeningRefusal;
 use std::alloc::Global;
 use std::io::{Read, Write};
 
 /// Runs a script and answers the status after it: 0 where it was answered whole, 1 where its first line opens no
-/// session, which is named on the place for errors, 3 where something couldn't be read or written, 4 where there was no
-/// memory.
+/// session, 3 where something couldn't be read or written, 4 where there was no memory. What isn't 0 is told on the place
+/// for errors.
 pub fn status_of_script<I: Read, W: Write, E: Write>(
     alloc: Global,
     reader: &mut I,
@@ -24,7 +26,8 @@ pub fn status_of_script<I: Read, W: Write, E: Write>(
     errors: &mut E,
 ) -> u8
     ensures statuses { IsStatus result }
-    ensures silent { result ≢ 1 → Appends (E.contents errors.old) (E.contents errors.new) [] }
+    ensures silent { result ≡ 0 → Appends (E.contents errors.old) (E.contents errors.new) [] }
+    ensures why { (result ≡ 3) ⊎ (result ≡ 4) → ToldWhy result (E.contents errors.old) (E.contents errors.new) }
     ensures understood { result ≢ 2 }
     ensures refused { result ≡ 1 →
         IfSome (I.remaining reader.old) (λ input. (fault : Fault)
@@ -50,24 +53,27 @@ pub fn status_of_script<I: Read, W: Write, E: Write>(
     let _ = &*sink;
     match ended {
         Ok(()) => 0,
-        Err(fault) => status_of_fault(fault, errors),
+        Err(fault) => status_of_fault(alloc, fault, errors),
     }
 }
 
-/// The status after a fault. One of the session is named.
-pub fn status_of_fault<E: Write>(fault: Fault, errors: &mut E) -> u8
+/// The status after a fault, which is told.
+pub fn status_of_fault<E: Write>(alloc: Global, fault: Fault, errors: &mut E) -> u8
     ensures status { result ≡ status_of fault }
-    ensures silent { result ≢ 1 → Appends (E.contents errors.old) (E.contents errors.new) [] }
+    ensures why { (result ≡ 3) ⊎ (result ≡ 4) → ToldWhy result (E.contents errors.old) (E.contents errors.new) }
 {
     match fault {
         Fault::OutOfMemory
         | Fault::Session(SessionFault::OutOfMemory)
-        | Fault::Opening(OpeningRefusal::OutOfMemory) => 4,
+        | Fault::Opening(OpeningRefusal::OutOfMemory) => {
+            status_of_obstacle(alloc, &Obstacle::OutOfMemory(MemoryFor::Script), errors)
+        }
         Fault::Session(_) | Fault::Opening(_) => {
             // Where it can't be written, the status still tells.
             let _unwritten = writeln!(errors, "bridge_server: {fault}");
             1
         }
-        Fault::Input | Fault::Output => 3,
+        Fault::Input => status_of_obstacle(alloc, &Obstacle::ScriptUnread, errors),
+        Fault::Output => status_of_obstacle(alloc, &Obstacle::OutputUnwritten, errors),
     }
 }

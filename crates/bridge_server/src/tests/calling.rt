@@ -75,8 +75,16 @@ const MALFORMED: Ending = (1, "", "bridge_server: Malformed\n");
 // The session's deals are nowhere.
 const WITHOUT_DEALS: Ending = (1, "", "bridge_server: BadField\n");
 
-// Something can't be read.
-const FAULT: Ending = (3, "", "");
+// A file isn't there, is a folder, or is too long.
+const MISSING_FILE: Ending = (
+    3,
+    "",
+    "bridge_server: Unread (/nothing: there is no such file or folder)\n",
+);
+
+const FOLDER: Ending = (3, "", "bridge_server: Unread (/: it is a folder)\n");
+
+const TOO_LONG: Ending = (3, "", "bridge_server: Unread (/dev/zero: it is too long)\n");
 
 // Words by which nothing is run, and how the program ends: they aren't understood, they ask for help, or their files
 // are no session.
@@ -201,13 +209,19 @@ static WORDS: &[(&str, Ending)] = &[
     ("copy -h", COPY_HELP),
     ("check -h", CHECK_HELP),
     // There is no such file, or it is a folder, or too long. Both files are read before either is judged.
-    ("serve --session /nothing --deals /nothing --port 1", FAULT),
-    ("serve --session / --deals /dev/null --port 1", FAULT),
+    (
+        "serve --session /nothing --deals /nothing --port 1",
+        MISSING_FILE,
+    ),
+    ("serve --session / --deals /dev/null --port 1", FOLDER),
     (
         "serve --session /dev/zero --deals /dev/null --port 1",
-        FAULT,
+        TOO_LONG,
     ),
-    ("serve --session /dev/null --deals /nothing --port 1", FAULT),
+    (
+        "serve --session /dev/null --deals /nothing --port 1",
+        MISSING_FILE,
+    ),
     (
         "serve --session /dev/null --deals /dev/null --port 1",
         MALFORMED,
@@ -215,7 +229,7 @@ static WORDS: &[(&str, Ending)] = &[
     // The files are read and judged before the journal is opened.
     (
         "serve --session /dev/null --deals /nothing --journal / --port 1",
-        FAULT,
+        MISSING_FILE,
     ),
     (
         "serve --session /dev/null --deals /dev/null --journal / --port 1",
@@ -227,10 +241,10 @@ static WORDS: &[(&str, Ending)] = &[
     ("audit --journal /", UNREAD_JOURNAL),
     ("copy --journal /nothing --to /nothing", NO_JOURNAL),
     ("copy --journal / --to /nothing", UNREAD_JOURNAL),
-    ("check --session /nothing", FAULT),
-    ("check --session /", FAULT),
-    ("check --session /nothing --deals /dev/null", FAULT),
-    ("check --session /dev/null --deals /nothing", FAULT),
+    ("check --session /nothing", MISSING_FILE),
+    ("check --session /", FOLDER),
+    ("check --session /nothing --deals /dev/null", MISSING_FILE),
+    ("check --session /dev/null --deals /nothing", MISSING_FILE),
     ("check --session /dev/null", LOOKED_AT),
     ("check --session /dev/null --deals /dev/null", LOOKED_AT),
 ];
@@ -329,11 +343,11 @@ where
 }
 
 /// What is said of words can't be written: of bad ones the status tells all the same, and help that isn't given is a
-/// fault.
+/// fault, which can't be told either.
 #[test]
 fn ends_with_the_status_of_words_that_nobody_hears_of(rt: HostRuntime) {
     assert!(rt; ends_in_little_room(&rt, "again", (2, 0, 7)));
-    assert!(rt; ends_in_little_room(&rt, "help", (3, 7, 0)));
+    assert!(rt; ends_in_little_room(&rt, "help", (3, 7, 7)));
 }
 
 /// A test is called with words that the program doesn't understand.

@@ -3,7 +3,7 @@
 use super::client::Turn::{Says, ShakesHands};
 use super::client::{Client, is_served};
 use super::running::{Ending, ends};
-use super::serving::port_and_line;
+use super::serving::{KEPT, port_and_line};
 use journal_store::JournalFiles;
 use std::net::Net;
 use std::random::RandomSource;
@@ -68,15 +68,15 @@ fn remove_files<R: Files>(rt: &R) {
     }
 }
 
-// Whether a server that is called with the words of a line ends, and says nothing.
-fn ends_in_silence<
+// Whether a server that is called with the words of a line ends, and tells how it served.
+fn ends_as_served<
     R: Files + Net + Clock + Wait + Threads + JournalFiles + RandomSource + AllocGlobal + Sync,
 >(rt: &R, line: &str) -> bool
 where
     R::Listener: Sync,
     R::Stream: Send,
 {
-    ends(rt, line, &mut io::empty(), &(0, "", ""))
+    ends(rt, line, &mut io::empty(), &(0, "", KEPT))
 }
 
 /// Where a client isn't served so, the test stops: the server would wait for another.
@@ -85,12 +85,12 @@ fn keeps_a_session_in_a_journal(rt: HostRuntime) -> Result<(), Fail> {
     remove_files(&rt);
     let (port, line) = port_and_line(&rt, WITH_FILES)?;
     let server_rt = rt.clone()?;
-    let server = thread::spawn(&rt, move || ends_in_silence(&server_rt, line.as_str()))?;
+    let server = thread::spawn(&rt, move || ends_as_served(&server_rt, line.as_str()))?;
     assert!(rt; is_served(&rt, port, &DIRECTOR));
     assert!(rt; server.join(&rt));
     let (port, line) = port_and_line(&rt, ALONE)?;
     let server_rt = rt.clone()?;
-    let server = thread::spawn(&rt, move || ends_in_silence(&server_rt, line.as_str()))?;
+    let server = thread::spawn(&rt, move || ends_as_served(&server_rt, line.as_str()))?;
     assert!(rt; is_served(&rt, port, &PLAYER));
     assert!(rt; server.join(&rt));
     for (words, ending) in ENDINGS {

@@ -160,13 +160,24 @@ fn write_files<R: Files>(rt: &R) -> io::Result<()> {
     Ok(())
 }
 
-/// What is told where what is served is kept nowhere.
+/// How what is told begins where what is served is kept nowhere.
 pub(super) const UNKEPT: &str =
-    "bridge_server: without --journal nothing is kept when the server ends\n";
+    "bridge_server: without --journal nothing is kept when the server ends
+bridge_server: serves at 127.0.0.1:";
+
+/// What is told where it is kept.
+pub(super) const KEPT: &str = "bridge_server: serves at 127.0.0.1:";
 
 // Words by which nobody is served where another listens at the port, and how they end.
 static ENDINGS: &[(&str, Ending)] = &[
-    ("serve --session out/session --deals /nothing", (3, "", "")),
+    (
+        "serve --session out/session --deals /nothing",
+        (
+            3,
+            "",
+            "bridge_server: Unread (/nothing: there is no such file or folder)\n",
+        ),
+    ),
     (
         "serve --session out/session --deals /dev/null",
         (1, "", "bridge_server: MissingBoard(1)\n"),
@@ -186,7 +197,7 @@ static ENDINGS: &[(&str, Ending)] = &[
     // A journal is made, or one is damaged.
     (
         "serve --session out/session --deals out/deals --journal out/new_journal",
-        (3, "", ""),
+        (3, "", KEPT),
     ),
     (
         "serve --session out/session --deals out/deals --journal out/longest",
@@ -212,7 +223,11 @@ static ENDINGS: &[(&str, Ending)] = &[
     ),
     (
         "serve --session out/with_deals --deals out/too_long",
-        (3, "", ""),
+        (
+            3,
+            "",
+            "bridge_server: Unread (out/too_long: it is too long)\n",
+        ),
     ),
 ];
 
@@ -240,7 +255,18 @@ fn serves_nobody_where_another_listens(rt: HostRuntime) -> Result<(), Fail> {
     for row in ENDINGS {
         assert!(rt; ends_at(&rt, port, row), "{}", row.0);
     }
+    let told = told_of_taken(rt.alloc(), port)?;
+    let row = ("serve --journal out/new_journal", (3, "", told.as_str()));
+    assert!(rt; ends_at(&rt, port, &row), "{told}");
     Ok(())
+}
+
+// What is told of a port at which another listens, where a journal is served again.
+fn told_of_taken(alloc: Global, port: u16) -> Result<String, AllocError> {
+    format!(in alloc;
+        "bridge_server: serves at 127.0.0.1:{port}: 3 tables, 4 displays, 2 workers, journal out/new_journal at version 0
+bridge_server: NotListening (port {port}: another program listens there)\n"
+    )
 }
 
 // A port at which nothing listens.

@@ -1,0 +1,4 @@
+pub mod Telling
+pub mod Faults
+pub mod Obstacles
+pub mod Serving
