@@ -10,6 +10,7 @@ mod checking;
 mod copying;
 mod folder_fault;
 mod reporting;
+mod opened_page;
 mod serving;
 mod serving_fault;
 mod session_folder;

@@ -10,6 +10,7 @@ ghost use Rattle.program.specs.Status.{IsStatus};
 ghost use Rattle.kept_sessions.specs.Kept.{KeepsJust};
 ghost use Rattle.bridge_server.specs.Said.{SaysOf, IsToldUnkept, TellsLine, is_named_fault, unkept_line};
 
+use crate::opened_page::{open_page, status_of_opening_fault};
 use crate::serving_fault::{ServingFault, status_of_serving_fault, status_of_source_fault};
 use entry_store::{EntryStore, NoStore};
 use journal_store::JournalFiles;
@@ -25,11 +26,12 @@ use session_threads::{ServingError, ServingPlan, serve_book};
 use sqlite::{Alter, FileFrom, FileStore, Wary};
 use std::io::Write;
 use std::net::Net;
+use std::random::RandomSource;
 use std::rt::Files;
 use std::sync::Wait;
 use std::thread::Threads;
 use std::time::Clock;
-use websocket_server::{ClientTerms, LONGEST_MESSAGE};
+use websocket_server::{ClientTerms, LONGEST_MESSAGE, PageTerms};
 use wire::MOST_MESSAGE_BYTES;
 
 // A message that is one byte too long is read whole, so that it can be answered.
@@ -40,7 +42,7 @@ const _: () = prove!(server_words::DISPLAYS_AT_MOST as usize == displays::MOST_D
 
 /// Serves clients in a session, and answers the status after it, or where none could be served.
 pub(crate) fn status_of_serving<
-    R: Files + Net + Clock + Wait + Threads + JournalFiles + AllocGlobal + Sync,
+    R: Files + Net + Clock + Wait + Threads + RandomSource + JournalFiles + AllocGlobal + Sync,
     E: Write,
 >(rt: &R, serving: &Serving<'_>, errors: &mut E) -> u8
 where
@@ -51,9 +53,31 @@ where
     ensures told { result ≡ 0 → IsToldUnkept serving.now.source (E.contents errors.old) (E.contents errors.new) }
     ensures understood { result ≢ 2 }
 {
+    match open_page(rt, serving.page) {
+        Ok(Some(page)) => status_of_source(rt, serving, Some(page.terms()), errors),
+        Ok(None) => status_of_source(rt, serving, None, errors),
+        Err(fault) => status_of_opening_fault(&fault, errors),
+    }
+}
+
+// Serves clients in a session, with the page that was opened before, if there is one.
+fn status_of_source<
+    R: Files + Net + Clock + Wait + Threads + JournalFiles + AllocGlobal + Sync,
+    E: Write,
+>(rt: &R, serving: &Serving<'_>, page: Option<PageTerms<'_>>, errors: &mut E) -> u8
+where
+    R::Listener: Sync,
+    R::Stream: Send,
+    ensures statuses { IsStatus result }
+    ensures silent { result ≢ 1 → SaysOf serving.now.source result (E.contents errors.old) (E.contents errors.new) }
+    ensures told { result ≡ 0 → IsToldUnkept serving.now.source (E.contents errors.old) (E.contents errors.new) }
+    ensures understood { result ≢ 2 }
+{
     match serving.source {
-        SessionSource::Files(files) => status_of_files(rt, serving, &files, errors),
-        SessionSource::Journal(path, files) => status_of_journal(rt, serving, path, &files, errors),
+        SessionSource::Files(files) => status_of_files(rt, serving, page, &files, errors),
+        SessionSource::Journal(path, files) => {
+            status_of_journal(rt, serving, page, path, &files, errors)
+        }
     }
 }
 
@@ -61,6 +85,7 @@ where
 fn status_of_files<R: Files + Net + Clock + Wait + Threads + AllocGlobal + Sync, E: Write>(
     rt: &R,
     serving: &Serving<'_>,
+    page: Option<PageTerms<'_>>,
     files: &SessionFiles<'_>,
     errors: &mut E,
 ) -> u8
@@ -74,7 +99,7 @@ where
     ensures understood { result ≢ 2 }
 {
     match session_of_files(rt, files.session, files.deals) {
-        Ok(session) => status_of_unkept(rt, serving, session, errors),
+        Ok(session) => status_of_unkept(rt, serving, page, session, errors),
         Err(fault) => status_of_source_fault(fault, errors),
     }
 }
@@ -83,6 +108,7 @@ where
 fn status_of_unkept<R: Net + Clock + Wait + Threads + AllocGlobal + Sync, E: Write>(
     rt: &R,
     serving: &Serving<'_>,
+    page: Option<PageTerms<'_>>,
     session: OpenedSession,
     errors: &mut E,
 ) -> u8
@@ -95,7 +121,7 @@ where
     ensures understood { result ≢ 2 }
 {
     tell_unkept(errors);
-    match serve_session(rt, serving, session, NoStore, Vec::new(rt.alloc())) {
+    match serve_session(rt, serving, page, session, NoStore, Vec::new(rt.alloc())) {
         Ok(_store) => 0,
         Err(fault) => status_of_serving_fault(fault, errors),
     }
@@ -113,7 +139,14 @@ fn tell_unkept<E: Write>(errors: &mut E)
 fn status_of_journal<
     R: Files + Net + Clock + Wait + Threads + JournalFiles + AllocGlobal + Sync,
     E: Write,
->(rt: &R, serving: &Serving<'_>, path: &str, files: &Option<SessionFiles<'_>>, errors: &mut E) -> u8
+>(
+    rt: &R,
+    serving: &Serving<'_>,
+    page: Option<PageTerms<'_>>,
+    path: &str,
+    files: &Option<SessionFiles<'_>>,
+    errors: &mut E,
+) -> u8
 where
     R::Listener: Sync,
     R::Stream: Send,
@@ -121,7 +154,7 @@ where
     ensures silent { result ≢ 1 → result ≢ 3 → Appends (E.contents errors.old) (E.contents errors.new) [] }
     ensures understood { result ≢ 2 }
 {
-    match serve_journal(rt, serving, path, files) {
+    match serve_journal(rt, serving, page, path, files) {
         Ok(()) => 0,
         Err(fault) => status_of_serving_fault(fault, errors),
     }
@@ -131,6 +164,7 @@ where
 fn serve_journal<R: Files + Net + Clock + Wait + Threads + JournalFiles + AllocGlobal + Sync>(
     rt: &R,
     serving: &Serving<'_>,
+    page: Option<PageTerms<'_>>,
     path: &str,
     files: &Option<SessionFiles<'_>>,
 ) -> Result<(), ServingFault>
@@ -139,7 +173,7 @@ where
     R::Stream: Send,
 {
     match open_kept(rt, serving, path, files) {
-        Ok(kept) => serve_kept(rt, serving, kept),
+        Ok(kept) => serve_kept(rt, serving, page, kept),
         Err(fault) => Err(ServingFault::Source(fault)),
     }
 }
@@ -166,6 +200,7 @@ fn open_kept<R: Files + Threads + JournalFiles + AllocGlobal + Sync>(
 fn serve_kept<R: Net + Clock + Wait + Threads + AllocGlobal + Sync, S: Alter + Drop + Send>(
     rt: &R,
     serving: &Serving<'_>,
+    page: Option<PageTerms<'_>>,
     kept: KeptSession<S>,
 ) -> Result<(), ServingFault>
 where
@@ -179,7 +214,7 @@ where
         store,
         publications,
     } = journal;
-    match serve_session(rt, serving, session, store, publications) {
+    match serve_session(rt, serving, page, session, store, publications) {
         Ok(_store) => Ok(()),
         Err(fault) => Err(fault),
     }
@@ -190,6 +225,7 @@ where
 fn serve_session<R: Net + Clock + Wait + Threads + AllocGlobal + Sync, K: EntryStore + Send>(
     rt: &R,
     serving: &Serving<'_>,
+    page: Option<PageTerms<'_>>,
     session: OpenedSession,
     store: K,
     publications: Vec<Vec<Entry>>,
@@ -201,7 +237,7 @@ where
     requires kept { LeavesJust (map (λ publication. publication.items) publications.items) (K.doubt store) (K.leaves store) }
     ensures { IfErr result (λ fault. is_named_fault fault ≡ false) }
 {
-    let plan = plan_of(serving, &session);
+    let plan = plan_of(serving, page, &session);
     match serve_book(rt, rt.alloc(), session.book, plan, store, publications) {
         Ok(store) => Ok(store),
         Err(ServingError::NotAccepted(number)) => {
@@ -215,7 +251,11 @@ where
 }
 
 // How an open session is served: as the words ask for it, and with its own visits.
-fn plan_of<'a>(serving: &Serving<'a>, session: &OpenedSession) -> ServingPlan<'a>
+fn plan_of<'a>(
+    serving: &Serving<'a>,
+    page: Option<PageTerms<'a>>,
+    session: &OpenedSession,
+) -> ServingPlan<'a>
     ensures { result.budget ≡ session.now.budget }
 {
     ServingPlan {
@@ -227,6 +267,7 @@ fn plan_of<'a>(serving: &Serving<'a>, session: &OpenedSession) -> ServingPlan<'a
         terms: ClientTerms {
             idle: serving.idle,
             origin: serving.origin,
+            page,
         },
     }
 }
