@@ -5,23 +5,29 @@
 
 What is wanted is read off the folder and off docs/RUNNING.md, "The page", never off what the program did: the bytes of each file of client/,
 their type by a table of this script's own, their SHA-256 by Python's. Paths of more than twenty kinds that would lead elsewhere if they were
-decoded or taken step by step, methods, heads of 100 kB, clients that say half of what they want; the same port for WebSockets; a
-folder that changes while it is served; folders that are no page. Python alone is needed. Each line is a check: 'ok', or 'FAILED' with what came. The status is 1
-where one failed.
+decoded or taken step by step, methods, heads of 100 kB, clients that say half of what they want; what `make page` compresses, which is to
+be the file once more, and to nobody who doesn't ask for it; the same port for WebSockets; a folder that changes while it is served; folders that
+are no page; the page through nginx and through Caddy as docs/RUNNING.md has them, where they are installed. Python, make and gzip alone are needed. Each
+line is a check: 'ok', or 'FAILED' with what came. The status is 1 where one failed.
 """
+import gzip
 import hashlib
 import pathlib
+import shutil
 import subprocess
 import sys
 import tempfile
 import time
 
-from checks import check, status
+from checks import check, status, tell
 from raw_client import NOT_SIGNED_IN, STATUS, Client, Server, free_port, head
 
 PROGRAM = sys.argv[1] if len(sys.argv) > 1 else "crates/bridge_server/out/bridge_server"
 ROOT = pathlib.Path(__file__).resolve().parents[2]
 CLIENT = ROOT / "client"
+PAGE = ROOT / "out/page"
+# what a browser says of codings
+BROWSERS = b"Accept-Encoding: gzip, deflate, br, zstd"
 TYPES = {".html": "text/html; charset=utf-8", ".css": "text/css; charset=utf-8", ".js": "text/javascript; charset=utf-8", ".json": "application/json",
          ".svg": "image/svg+xml", ".md": "text/plain; charset=utf-8", ".py": "application/octet-stream", ".txt": "text/plain; charset=utf-8"}
 GUARDS = {"cache-control": "no-cache", "x-content-type-options": "nosniff", "referrer-policy": "no-referrer"}
@@ -76,8 +82,10 @@ def policy():
     return text.partition('Content-Security-Policy" content="')[2].partition('"')[0] + "; frame-ancestors 'none'"
 
 
-def wanted(path, data, method="GET"):
-    fields = {**GUARDS, "content-security-policy": policy(), "etag": digest(data), "content-type": TYPES[path.suffix], "connection": "close"}
+def wanted(path, data, method="GET", coding=None):
+    fields = {**GUARDS, "content-security-policy": policy(), "vary": "accept-encoding", "etag": digest(data), "content-type": TYPES[path.suffix], "connection": "close"}
+    if coding:
+        fields["content-encoding"] = coding
     if method == "GET" or data:
         fields["content-length"] = str(len(data))
     return "200 OK", fields, data if method == "GET" else b""
@@ -104,6 +112,32 @@ def files_of_the_page(server):
     lists = [b'"x", ' + digest(index.read_bytes()).encode(), b"W/" + digest(index.read_bytes()).encode(), b"*"]
     check("a list of tags, a weak one and a star are", ["304 Not Modified"] * 3,
           [answer(server, request(b"/", fields=[b"If-None-Match: " + tag]))[0] for tag in lists])
+
+
+def compressed_files(server):
+    """Each file of the page that `make page` lays out, as a browser gets it and as whoever doesn't understand gzip does."""
+    names = sorted(path.relative_to(PAGE) for path in PAGE.rglob("*") if path.is_file() and path.suffix != ".gz")
+    own = [path.relative_to(CLIENT) for path in [*CLIENT.glob("*"), *CLIENT.glob("styles/*"), *CLIENT.glob("views/*")] if path.suffix in (".html", ".js", ".css", ".svg")]
+    check("all of the page is laid out", sorted(own), names)
+    wrong = []
+    for name in names:
+        path, target = CLIENT / name, b"/" + str(name).encode()
+        data, packed = path.read_bytes(), (PAGE / f"{name}.gz").read_bytes()
+        if gzip.decompress(packed) != data:
+            wrong.append((name, "is compressed otherwise"))
+        got = {method: answer(server, request(target, method.encode(), [BROWSERS])) for method in ("GET", "HEAD")}
+        if got != {method: wanted(path, packed, method, "gzip") for method in got}:
+            wrong.append((name, "to a browser"))
+        if answer(server, request(target)) != wanted(path, data):
+            wrong.append((name, "to whoever says nothing of codings"))
+        tags = [answer(server, request(target, fields=[BROWSERS, b"If-None-Match: " + digest(tagged).encode()]))[0] for tagged in (packed, data)]
+        if tags != ["304 Not Modified", "200 OK"]:
+            wrong.append((name, f"with the tags of both forms: {tags}"))
+    check(f"each of {len(names)} files goes compressed to a browser, under a tag of its own, and as it is to others", [], wrong)
+    packed = (PAGE / "index.html.gz").read_bytes()
+    check("fewer bytes than half", True, 2 * len(packed) < len((CLIENT / "index.html").read_bytes()))
+    for said, is_packed in ((b"gzip", True), (b"GZIP", True), (b"br,gzip", True), (b"gzip;q=0", False), (b"gzip ; q=0", False), (b"identity", False), (b"x-gzip", False), (b"*", False)):
+        check(f"Accept-Encoding: {said.decode()}", is_packed, answer(server, request(b"/", fields=[b"Accept-Encoding: " + said]))[2] == packed)
 
 
 def ways_out(server):
@@ -149,7 +183,7 @@ def slow_ones(server):
         began = time.monotonic()
         got = answer(server, request(b"/")) if what.startswith("a whole") else heard(server, request(b"/"), 60)[:15]
         took = time.monotonic() - began
-        check(f"after a client who sends {what}", True, took < 30 and b"200" in (got[0].encode() if isinstance(got, tuple) else got))
+        check(f"after a client who sends {what}", True, took < 45 and b"200" in (got[0].encode() if isinstance(got, tuple) else got))
         stream.close()
 
 
@@ -193,7 +227,83 @@ def no_pages():
         server.folder.cleanup()
 
 
+class Front:
+    """A web server before the program, at a port of its own."""
+
+    def __init__(self, words, port):
+        self.port, self.process = port, subprocess.Popen(words, stdin=subprocess.DEVNULL, stdout=subprocess.DEVNULL, stderr=subprocess.DEVNULL)
+        deadline = time.monotonic() + 30
+        while not self.listens() and self.process.poll() is None and time.monotonic() < deadline:
+            time.sleep(0.05)
+
+    stream = Server.stream
+
+    def listens(self):
+        try:
+            self.stream().close()
+            return True
+        except OSError:
+            return False
+
+    def __enter__(self):
+        return self
+
+    def __exit__(self, *_):
+        self.process.terminate()
+        self.process.wait(30)
+
+
+def written(heading, begin):
+    """The code of docs/RUNNING.md under a heading, from the block that begins so."""
+    part = (ROOT / "docs/RUNNING.md").read_text(encoding="utf-8").partition(f"{heading}\n")[2]
+    lines = part[part.index(f"\n    {begin}"):].splitlines()[1:]
+    block = []
+    for line in lines:
+        if line and not line.startswith("    "):
+            break
+        block.append(line[4:])
+    return "\n".join(block).rstrip() + "\n"
+
+
+def nginx(folder, port, server_port):
+    text = written("## Behind a web server", "map $http_upgrade").replace("location /session {", "location / {").replace(":8080", f":{server_port}")
+    text = "\n".join(line for line in text.splitlines() if "ssl_certificate" not in line).replace("listen 443 ssl http2", f"listen 127.0.0.1:{port}")
+    paths = "\n".join(f"{name}_temp_path {folder / name};" for name in ("client_body", "proxy", "fastcgi", "uwsgi", "scgi"))
+    (folder / "nginx.conf").write_text(f"daemon off;\nworker_processes 1;\nuser root;\npid {folder}/pid;\nerror_log {folder}/errors;\n"
+                                       f"events {{ worker_connections 256; }}\nhttp {{\naccess_log off;\n{paths}\n{text}\n}}\n")
+    return ["nginx", "-p", folder, "-e", folder / "errors", "-c", folder / "nginx.conf"]
+
+
+def caddy(folder, port, server_port):
+    text = written("### The page from the program", "bridge.example.org {").replace("bridge.example.org", f"http://127.0.0.1:{port}").replace(":8080", f":{server_port}")
+    (folder / "Caddyfile").write_text("{\n    admin off\n}\n" + text)
+    return ["caddy", "run", "--config", folder / "Caddyfile", "--adapter", "caddyfile"]
+
+
+def in_front(server):
+    """The page and the session through a web server."""
+    for name, configured in (("nginx", nginx), ("caddy", caddy)):
+        if not shutil.which(name):
+            tell(f"{name} isn't installed, so its lines aren't tried")
+            continue
+        with tempfile.TemporaryDirectory() as folder, Front(configured(pathlib.Path(folder), port := free_port(), server.port), port) as front:
+            close = [BROWSERS, b"Connection: close"]
+            got = answer(front, request(b"/", fields=close))
+            fields = {field.lower(): value for field, value in got[1].items()}
+            packed = (PAGE / "index.html.gz").read_bytes()
+            check(f"{name} passes the page on", ("200 OK", packed, "gzip", digest(packed), policy()),
+                  (got[0], got[2], *(fields.get(field) for field in ("content-encoding", "etag", "content-security-policy"))))
+            check(f"{name} passes on that there is no such file", "404 Not Found", answer(front, request(b"/nothing", fields=close))[0])
+            client = Client(front, request=head(request="GET /session HTTP/1.1"))
+            check(f"{name} passes a session on", NOT_SIGNED_IN, client.ask(STATUS))
+            client.stream.close()
+
+
 if __name__ == "__main__":
+    subprocess.run(["make", "-s", "-C", ROOT, "page"], check=True)
+    with Server(PROGRAM, "--page", PAGE, "--displays", 2, "--workers", 0) as server:
+        compressed_files(server)
+        in_front(server)
     with Server(PROGRAM, "--page", CLIENT, "--displays", 2, "--workers", 0) as server:
         for part in (files_of_the_page, methods, long_heads, beside_the_session):
             part(server)

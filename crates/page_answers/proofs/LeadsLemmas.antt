@@ -6,8 +6,8 @@ use Rattle.std.proofs.lemmas.Slice.Eq.{bytes_eq-Decides}
 use Rattle.http_uri.specs.Uri.{uri_path}
 use Rattle.http.specs.declared.request.Parts.{Parts}
 use Rattle.page_files.specs.declared.page_file.PageFile.{PageFile}
-use Rattle.page_answers.specs.PageAnswer.{FileAnswer, name_asked, file_named, file_asked, found_answer, given, is_held, get_answer, unchanged_answer, whole_answer, not_allowed_answer}
-use Rattle.page_answers.specs.Laws.{LeadsInside}
+use Rattle.page_answers.specs.PageAnswer.{FileAnswer, name_asked, packed_name, file_named, file_asked, accepts_gzip, packed_for, form_answer, found_answer, given, is_held, get_answer, unchanged_answer, whole_answer, not_allowed_answer}
+use Rattle.page_answers.specs.Laws.{IsFormOf, LeadsInside}
 
 -- a file is among the files, and has the name
 abbrev IsFound : List PageFile → List ℕ → PageFile → Type 0
@@ -43,20 +43,39 @@ is_asked files None file is = absurd (cc)
 is_asked files (Some name) file is =
     let found = is_found files name file is in (found.0, ap Some found.1)
 
--- what is sent of a file stays inside
-file_stays : (files : List PageFile) (head : Parts) (file : PageFile) (held : Bool)
-    → file_asked files (uri_path head.uri) ≡ Some file
-    → LeadsInside files head (cond held (unchanged_answer file) (whole_answer file))
-file_stays files head file true is = inl (inl refl)
-file_stays files head file false is =
+-- a compressed form that is found by the name of its file
+is_form : (files : List PageFile) (name : List ℕ) (accepts : Bool) (packed : PageFile)
+    → cond accepts (file_named files (packed_name name)) None ≡ Some packed → IsFound files (packed_name name) packed
+is_form files name false packed is = absurd (cc)
+is_form files name true packed is = is_found files (packed_name name) packed is
+
+-- what is sent for a file stays inside
+sent_stays : (files : List PageFile) (head : Parts) (file sent : PageFile) (is_packed held : Bool)
+    → Contains files file → name_asked (uri_path head.uri) ≡ Some (string_bytes file.name) → Contains files sent
+    → IsFormOf file sent
+    → LeadsInside files head (cond held (unchanged_answer sent) (whole_answer (string_bytes file.name) is_packed sent))
+sent_stays files head file sent is_packed true among named beside form = inl (inl refl)
+sent_stays files head file sent is_packed false among named beside form =
+    inr (record { file = file; among = among; named = named; sent = sent; beside = beside; form = form; whole = refl })
+
+-- and so does the file in its form
+form_stays : (files : List PageFile) (head : Parts) (file : PageFile) (packed : Option PageFile)
+    → file_asked files (uri_path head.uri) ≡ Some file → packed_for files head (string_bytes file.name) ≡ packed
+    → LeadsInside files head (form_answer head file packed)
+form_stays files head file None is none =
     let asked = is_asked files (name_asked (uri_path head.uri)) file is in
-    inr (record { file = file; among = asked.0; named = asked.1; whole = refl })
+    sent_stays files head file file false (is_held file head) asked.0 asked.1 asked.0 (inl refl)
+form_stays files head file (Some packed) is found =
+    let asked = is_asked files (name_asked (uri_path head.uri)) file is in
+    let form = is_form files (string_bytes file.name) (accepts_gzip head) packed found in
+    sent_stays files head file packed true (is_held packed head) asked.0 asked.1 form.0 (inr (sym form.1))
 
 -- and so does what is found
 found_stays : (files : List PageFile) (head : Parts) (found : Option PageFile)
-    → file_asked files (uri_path head.uri) ≡ found → LeadsInside files head (found_answer head found)
+    → file_asked files (uri_path head.uri) ≡ found → LeadsInside files head (found_answer files head found)
 found_stays files head None is = inl (inr (inl refl))
-found_stays files head (Some file) is = file_stays files head file (is_held file head) is
+found_stays files head (Some file) is =
+    form_stays files head file (packed_for files head (string_bytes file.name)) is refl
 
 -- and so does what is answered, by whatever method it is asked for
 pub stays_inside : (files : List PageFile) (head : Parts) (gets heads : Bool)

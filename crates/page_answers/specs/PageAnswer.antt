@@ -1,9 +1,10 @@
 -- What is answered to a request for a file of the page (RFC 9110: GET and HEAD 9.3.1 and 9.3.2, the statuses 15.3.1, 15.4.5, 15.5.5
--- and 15.5.6, the condition 13.1.2). That a path is compared with the files' names as it was sent is this project's own.
+-- and 15.5.6, the condition 13.1.2, codings 8.4 and 12.5.3, `Vary` 12.5.5). That a path is compared with the files' names as it was
+-- sent, and that a file's compressed form stands beside it under its name with `.gz` behind, is this project's own.
 use Rattle.std.specs.Prelude.{◌≡◌, ℕ, ◌+◌, Bool, true, false, not, ◌||◌, ◌==◌, List, [], ◌∷◌, ◌++◌, map, length, codes, decimal, string_bytes, Option, Some, None, option_and_then, if◌then◌else◌}
 use Rattle.std.specs.List.{find, list_any}
 use Rattle.std.specs.Str.{bytes_eq}
-use Rattle.http1.specs.Fields.{Header}
+use Rattle.http1.specs.Fields.{Header, elements, has_option}
 use Rattle.http_header.specs.FieldValue.{FieldValue}
 use Rattle.http_header.specs.HeaderMap.{get_all}
 use Rattle.http_uri.specs.Uri.{uri_path}
@@ -41,19 +42,44 @@ pub record FileAnswer : Type 0 where
   pub fields : List Header
   pub body : List ℕ
 
--- a file, whole
-abbrev pub whole_answer : PageFile → FileAnswer
-whole_answer file = record {
+-- the name of a file's compressed form
+abbrev pub packed_name : List ℕ → List ℕ
+packed_name name = name ++ codes ".gz"
+
+-- a list of codings has gzip among them, without a weight
+abbrev pub lists_gzip : FieldValue → Bool
+lists_gzip value = has_option (codes "gzip") (elements value.bytes)
+
+-- whoever asks understands gzip
+abbrev pub accepts_gzip : Parts → Bool
+accepts_gzip head = list_any lists_gzip (get_all head.headers (codes "accept-encoding"))
+
+-- the compressed form of the file of a name, if there is one, and whoever asks understands it
+abbrev pub packed_for : List PageFile → Parts → List ℕ → Option PageFile
+packed_for files head name = if accepts_gzip head then file_named files (packed_name name) else None
+
+-- what is sent may be another for whoever understands other codings; and by what it is known again
+abbrev pub tag_fields : PageFile → List Header
+tag_fields sent = (codes "vary", codes "accept-encoding") ∷ (codes "etag", file_tag sent.bytes) ∷ []
+
+-- how what is sent was made of the file
+abbrev pub coding_fields : Bool → List Header
+coding_fields true = (codes "content-encoding", codes "gzip") ∷ []
+coding_fields false = []
+
+-- the file of a name, whole: as it is, or compressed
+abbrev pub whole_answer : List ℕ → Bool → PageFile → FileAnswer
+whole_answer name is_packed sent = record {
   status = 200;
-  fields = guards ++ ((codes "etag", file_tag file.bytes) ∷ (codes "content-type", content_type_of (string_bytes file.name)) ∷ []);
-  body = file.bytes;
+  fields = guards ++ tag_fields sent ++ ((codes "content-type", content_type_of name) ∷ coding_fields is_packed);
+  body = sent.bytes;
 }
 
--- that a file is still what it was
+-- that it is still what it was
 abbrev pub unchanged_answer : PageFile → FileAnswer
-unchanged_answer file = record {
+unchanged_answer sent = record {
   status = 304;
-  fields = guards ++ ((codes "etag", file_tag file.bytes) ∷ []);
+  fields = guards ++ tag_fields sent;
   body = [];
 }
 
@@ -85,22 +111,27 @@ is_any (first ∷ rest) = true
 abbrev pub tells_tag : List ℕ → FieldValue → Bool
 tells_tag tag value = bytes_eq value.bytes (codes "*") || is_any (matches value.bytes tag 0)
 
--- whoever asks tells that he has the file as it is
+-- whoever asks tells that he has what is sent
 abbrev pub is_held : PageFile → Parts → Bool
-is_held file head = list_any (tells_tag (file_tag file.bytes)) (get_all head.headers (codes "if-none-match"))
+is_held sent head = list_any (tells_tag (file_tag sent.bytes)) (get_all head.headers (codes "if-none-match"))
 
--- a file, unless whoever asks has it
-abbrev pub file_answer : PageFile → Parts → FileAnswer
-file_answer file head = if is_held file head then unchanged_answer file else whole_answer file
+-- what is sent, unless whoever asks has it
+abbrev pub sent_answer : Parts → List ℕ → Bool → PageFile → FileAnswer
+sent_answer head name is_packed sent = if is_held sent head then unchanged_answer sent else whole_answer name is_packed sent
 
--- the file that was found, or that there is none
-abbrev pub found_answer : Parts → Option PageFile → FileAnswer
-found_answer head None = not_found_answer
-found_answer head (Some file) = file_answer file head
+-- a file, in its compressed form if that was found
+abbrev pub form_answer : Parts → PageFile → Option PageFile → FileAnswer
+form_answer head file None = sent_answer head (string_bytes file.name) false file
+form_answer head file (Some packed) = sent_answer head (string_bytes file.name) true packed
+
+-- the file that was found, in its form, or that there is none
+abbrev pub found_answer : List PageFile → Parts → Option PageFile → FileAnswer
+found_answer files head None = not_found_answer
+found_answer files head (Some file) = form_answer head file (packed_for files head (string_bytes file.name))
 
 -- the answer to GET
 abbrev pub get_answer : List PageFile → Parts → FileAnswer
-get_answer files head = found_answer head (file_asked files (uri_path head.uri))
+get_answer files head = found_answer files head (file_asked files (uri_path head.uri))
 
 -- how long the body is that GET gets, unless it is empty
 abbrev pub length_fields : List ℕ → List Header

@@ -1,6 +1,7 @@
 //! What is answered to a request for a file of the page.
 #![tactic(auto)]
 
+mod codings;
 mod content_type;
 mod fixed_answers;
 mod guards;

@@ -1,10 +1,11 @@
 //! The answers from the files of a page.
 
-ghost use Rattle.std.specs.Prelude.{◌≡◌, IfOk, OnOk, option_map};
+ghost use Rattle.std.specs.Prelude.{◌≡◌, bytes_eq, IfOk, OnOk, Some, option_map};
 ghost use Rattle.http.specs.Request.{head_of};
 ghost use Rattle.http_server.specs.Response.{IsBlank};
-ghost use Rattle.page_answers.specs.PageAnswer.{files_of, name_asked, file_named, file_asked, get_answer, given, IsAnswer, HasGuards, IsPageAnswer};
+ghost use Rattle.page_answers.specs.PageAnswer.{files_of, name_asked, file_named, file_asked, found_answer, packed_for, packed_name, get_answer, given, IsAnswer, HasGuards, IsPageAnswer};
 
+use crate::codings::accepts_gzip;
 use crate::fixed_answers::{refuse_method, say_not_found};
 use crate::guards::add_guards;
 use crate::tagged_file::TaggedFile;
@@ -64,9 +65,49 @@ impl PageAnswers {
             (IsAnswer (given is_head (get_answer (files_of self.now) (head_of request.now))) response.new) }
     {
         match self.file_asked(request.uri().path()) {
-            Some(file) => file.give(request, is_head, response),
+            Some(file) => self.give_form(file, request, is_head, response),
             None => say_not_found(is_head, response),
         }
+    }
+
+    // Answers with a file, in its compressed form if there is one that whoever asks understands.
+    fn give_form(
+        &self,
+        file: &TaggedFile,
+        request: &Request<Bytes>,
+        is_head: bool,
+        response: &mut Response,
+    ) -> Result<(), AllocError>
+        requires { HasGuards response.old }
+        ensures { OnOk result (IsAnswer
+            (given is_head (found_answer (files_of self.now) (head_of request.now) (Some file.now.file))) response.new) }
+    {
+        let name = file.file.name.as_str();
+        match self.packed_for(request, name) {
+            Some(packed) => packed.give(name, true, request, is_head, response),
+            None => file.give(name, false, request, is_head, response),
+        }
+    }
+
+    // The compressed form of the file of a name, if there is one, and whoever asks understands it.
+    fn packed_for(&self, request: &Request<Bytes>, name: &str) -> Option<&TaggedFile>
+        ensures { option_map (λ tagged. tagged.now.file) result
+            ≡ packed_for (files_of self.now) (head_of request.now) name.now }
+    {
+        if accepts_gzip(request) {
+            self.packed_named(name.as_bytes())
+        } else {
+            None
+        }
+    }
+
+    // What stands under a name with `.gz` behind it.
+    fn packed_named(&self, name: &[u8]) -> Option<&TaggedFile>
+        ensures { option_map (λ tagged. tagged.now.file) result ≡ file_named (files_of self.now) (packed_name name.now) }
+    {
+        self.files
+            .iter()
+            .find(|tagged| is_packed_name(tagged.file.name.as_bytes(), name))
     }
 
     // The file that a path asks for.
@@ -86,6 +127,16 @@ impl PageAnswers {
         self.files
             .iter()
             .find(|tagged| tagged.file.name.as_bytes() == name)
+    }
+}
+
+// Whether the first name is the second with `.gz` behind it.
+fn is_packed_name(packed: &[u8], name: &[u8]) -> bool
+    ensures { result ≡ bytes_eq packed.now (packed_name name.now) }
+{
+    match packed.strip_suffix(b".gz") {
+        Some(front) => front == name,
+        None => false,
     }
 }
 

@@ -1,8 +1,9 @@
 //! A file of the page with what is told of it.
 
-ghost use Rattle.std.specs.Prelude.{◌≡◌, ◌<◌, ◌^◌, length, decimal, IfOk};
+ghost use Rattle.std.specs.Prelude.{◌≡◌, ◌<◌, ◌^◌, ◌++◌, length, decimal, IfOk, OnOk};
 ghost use Rattle.http_header.specs.FieldValue.{plain_value};
 ghost use Rattle.http.specs.Request.{head_of};
+ghost use Rattle.http_server.specs.Response.{fields_of};
 ghost use Rattle.page_answers.specs.FileTag.{file_tag};
 
 use crate::content_type::content_type_of;
@@ -40,27 +41,29 @@ impl TaggedFile {
 }
 
 impl TaggedFile {
-    ghost use Rattle.page_answers.specs.PageAnswer.{file_answer, given, is_held, unchanged_answer, whole_answer, IsAnswer, HasGuards};
+    ghost use Rattle.page_answers.specs.PageAnswer.{coding_fields, sent_answer, given, is_held, unchanged_answer, whole_answer, IsAnswer, HasGuards};
 
-    /// Answers with the file, or that it is still what it was.
+    /// Answers with this file for the one of a name, whose compressed form it may be, or that it is still what it was.
     pub(crate) fn give(
         &self,
+        name: &str,
+        is_packed: bool,
         request: &Request<Bytes>,
         is_head: bool,
         response: &mut Response,
     ) -> Result<(), AllocError>
         requires { HasGuards response.old }
-        ensures { OnOk result (IsAnswer (given is_head (file_answer self.now.file (head_of request.now))) response.new) }
+        ensures { OnOk result
+            (IsAnswer (given is_head (sent_answer (head_of request.now) name.now is_packed self.now.file)) response.new) }
     {
+        response.add_header(header::VARY, HeaderValue::from_static("accept-encoding"))?;
         response.add_header(header::ETAG, self.tag.clone()?)?;
         if self.is_held(request) {
             response.status = StatusCode::NOT_MODIFIED;
             return Ok(());
         }
-        response.add_header(
-            header::CONTENT_TYPE,
-            content_type_of(self.file.name.as_bytes()),
-        )?;
+        response.add_header(header::CONTENT_TYPE, content_type_of(name.as_bytes()))?;
+        add_coding(is_packed, response)?;
         put_body(
             self.file.bytes.clone()?,
             self.size.clone()?,
@@ -69,7 +72,7 @@ impl TaggedFile {
         )
     }
 
-    // Whether whoever asks tells that he has the file as it is.
+    // Whether whoever asks tells that he has what is sent.
     fn is_held(&self, request: &Request<Bytes>) -> bool
         ensures { result ≡ is_held self.now.file (head_of request.now) }
     {
@@ -79,6 +82,21 @@ impl TaggedFile {
             .iter()
             .any(|value| tells_tag(value, self.tag.as_bytes()))
     }
+}
+
+// Says how what is sent was made of the file.
+fn add_coding(is_packed: bool, response: &mut Response) -> Result<(), AllocError>
+    ensures fields { OnOk result (fields_of response.new ≡ fields_of response.old ++ coding_fields is_packed) }
+    ensures status { response.new.status ≡ response.old.status }
+    ensures body { response.new.body ≡ response.old.body }
+{
+    if !is_packed {
+        return Ok(());
+    }
+    response.add_header(
+        header::CONTENT_ENCODING,
+        HeaderValue::from_static("gzip"),
+    )
 }
 
 // Whether a field's value tells a tag. A tag has quotes at both ends and none between, so it stands in no other.

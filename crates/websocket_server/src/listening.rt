@@ -6,7 +6,7 @@ ghost use Rattle.websocket_server.specs.Conversation.{ServesStream};
 use crate::client_terms::ClientTerms;
 use crate::conversation::serve_stream;
 use crate::message_server::MessageServer;
-use crate::page_visit::{asks_for_session, serve_visit};
+use crate::page_visit::{Asked, serve_visit, wait_for_request};
 use std::alloc::Global;
 use std::io::{self, Read, Write};
 use std::net::{Ipv4Addr, Net, OpenListener, OpenStream, SocketAddr, TcpListener};
@@ -93,7 +93,7 @@ where
     }
 }
 
-// Serves a client who asks for a session; one who asks for the page, where there is one, gets his answer.
+// Serves a client who asks for a session; where there is a page, one who asks for it gets his answer, and one who asks for nothing none.
 fn serve_visitor<R: Wait + Clock, S: Read + Write + OpenStream + Drop, A: MessageServer<R>>(
     rt: &R,
     alloc: Global,
@@ -103,8 +103,13 @@ fn serve_visitor<R: Wait + Clock, S: Read + Write + OpenStream + Drop, A: Messag
 )
     ensures { ServesStream S.remaining S.contents A.answers A.binary_text A.memory_text A.nobody server.old server.new }
 {
-    match terms.page {
-        Some(page) if !asks_for_session(rt, &stream) => serve_visit(rt, alloc, page, stream),
-        _ => serve_stream(rt, rt, alloc, stream, terms, server),
+    let Some(page) = terms.page else {
+        serve_stream(rt, rt, alloc, stream, terms, server);
+        return;
+    };
+    match wait_for_request(rt, &stream) {
+        Asked::Session => serve_stream(rt, rt, alloc, stream, terms, server),
+        Asked::Page => serve_visit(rt, alloc, page, stream),
+        Asked::More | Asked::Nothing => {}
     }
 }

@@ -15,7 +15,7 @@ use page_answers::PageAnswers;
 use std::alloc::{AllocError, Global};
 use std::hash::RandomState;
 use std::io::{Read, Write};
-use std::net::{OpenStream, Shutdown};
+use std::net::OpenStream;
 use std::thread;
 use std::time::{Clock, Duration};
 
@@ -41,36 +41,37 @@ const REQUEST_SECONDS: u64 = 10;
 
 const LINGER_SECONDS: u64 = 2;
 
-// What the beginning of a request asks for.
+/// What is asked for by the beginning of a request.
 #[derive(Clone, Copy, PartialEq, Eq)]
-enum Asked {
+pub(crate) enum Asked {
     Session,
     Page,
-    // Its head hasn't come whole.
+    /// Its head hasn't come whole.
     More,
+    /// It doesn't come.
+    Nothing,
 }
 
-/// Whether the client of a stream asks for a WebSocket. Its request stays in the stream.
-pub(crate) fn asks_for_session<R: Clock, S: OpenStream>(rt: &R, stream: &S) -> bool {
+/// What the client of a stream asks for, once its head is whole, or too long: then it gets the answer of HTTP. It stays in the stream.
+pub(crate) fn wait_for_request<R: Clock, S: OpenStream>(rt: &R, stream: &S) -> Asked {
     let limit = Duration::from_secs(REQUEST_SECONDS);
     if stream.set_read_timeout(Some(limit)).is_err() {
-        return false;
+        return Asked::Nothing;
     }
     for _ in 0..LOOKS {
         match look(stream) {
-            Asked::Session => return true,
-            Asked::Page => return false,
             Asked::More => thread::sleep(rt, Duration::from_millis(LOOK_PAUSE)),
+            asked => return asked,
         }
     }
-    false
+    Asked::Nothing
 }
 
-// What is asked for by what has come of a request. Who says nothing more, and whose head is too long, gets the answer of HTTP.
+// What is asked for by what has come of a request.
 fn look<S: OpenStream>(stream: &S) -> Asked {
     let mut head = [0; MOST_HEAD];
     match stream.peek(&mut head[..]) {
-        Ok(0) | Err(_) => Asked::Page,
+        Ok(0) | Err(_) => Asked::Nothing,
         Ok(count) if count >= MOST_HEAD => Asked::Page,
         Ok(count) => what_is_asked(&head[..count]),
     }
