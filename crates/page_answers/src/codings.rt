@@ -1,16 +1,31 @@
-//! Which codings whoever asks understands (RFC 9110, section 12.5.3).
+//! How a file is coded (RFC 9110, sections 8.4 and 12.5.3).
 
-ghost use Rattle.std.specs.Prelude.{◌≡◌, reverse};
+ghost use Rattle.std.specs.Prelude.{◌≡◌, ◌++◌, reverse, OnOk};
 ghost use Rattle.http.specs.Request.{head_of};
 ghost use Rattle.http1.specs.Fields.{elements, has_option};
 ghost use Rattle.http1.specs.Text.{eq_ignore_case};
+ghost use Rattle.http_server.specs.Response.{fields_of};
 ghost use Rattle.httparse.specs.Grammar.{skip_ows, trim_ows};
-ghost use Rattle.page_answers.specs.PageAnswer.{accepts_gzip, lists_gzip};
+ghost use Rattle.page_answers.specs.PageAnswer.{accepts_gzip, coding_fields, lists_gzip};
 
 use bytes::Bytes;
 use http::{HeaderValue, Request, header};
+use http_server::Response;
 use http1::text::eq_ignore_case;
 use httparse::is_space_or_tab;
+use std::alloc::AllocError;
+
+/// Says how what is sent was made of the file.
+pub(crate) fn add_coding(is_packed: bool, response: &mut Response) -> Result<(), AllocError>
+    ensures fields { OnOk result (fields_of response.new ≡ fields_of response.old ++ coding_fields is_packed) }
+    ensures status { response.new.status ≡ response.old.status }
+    ensures body { response.new.body ≡ response.old.body }
+{
+    if !is_packed {
+        return Ok(());
+    }
+    response.add_header(header::CONTENT_ENCODING, HeaderValue::from_static("gzip"))
+}
 
 /// Whether whoever asks understands gzip, and gives it no weight.
 pub(crate) fn accepts_gzip(request: &Request<Bytes>) -> bool

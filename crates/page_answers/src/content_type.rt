@@ -2,7 +2,7 @@
 
 ghost use Rattle.std.specs.Prelude.{◌≡◌};
 ghost use Rattle.http_header.specs.FieldValue.{plain_value};
-ghost use Rattle.page_answers.specs.ContentType.{content_type_of};
+ghost use Rattle.page_answers.specs.ContentType.{content_type_of, picture_type_of};
 
 use http::HeaderValue;
 

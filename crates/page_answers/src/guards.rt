@@ -1,6 +1,6 @@
 //! What each answer says of itself.
 
-ghost use Rattle.std.specs.Prelude.{◌≡◌, ◌++◌, OnOk};
+ghost use Rattle.std.specs.Prelude.{◌≡◌, [], ◌∷◌, ◌++◌, codes, OnOk};
 ghost use Rattle.http_server.specs.Response.{fields_of};
 ghost use Rattle.page_answers.specs.Guards.{guards};
 
@@ -28,6 +28,17 @@ pub(crate) fn add_guards(response: &mut Response) -> Result<(), AllocError>
         header::REFERRER_POLICY,
         HeaderValue::from_static("no-referrer"),
     )?;
+    add_policy(response)?;
+    Ok(())
+}
+
+// Adds the policy.
+fn add_policy(response: &mut Response) -> Result<(), AllocError>
+    ensures fields { OnOk result
+        (fields_of response.new ≡ fields_of response.old ++ (codes "content-security-policy", POLICY.now) ∷ []) }
+    ensures status { response.new.status ≡ response.old.status }
+    ensures body { response.new.body ≡ response.old.body }
+{
     response.add_header(
         header::CONTENT_SECURITY_POLICY,
         HeaderValue::from_static(POLICY),

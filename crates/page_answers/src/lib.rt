@@ -11,6 +11,7 @@ mod page_service;
 mod tagged_file;
 #[cfg(test)]
 mod tests;
+mod told_tags;
 
 pub use page_answers::PageAnswers;
 pub use page_service::PageService;

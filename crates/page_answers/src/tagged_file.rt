@@ -1,17 +1,17 @@
 //! A file of the page with what is told of it.
 
-ghost use Rattle.std.specs.Prelude.{◌≡◌, ◌<◌, ◌^◌, ◌++◌, length, decimal, IfOk, OnOk};
+ghost use Rattle.std.specs.Prelude.{◌≡◌, ◌<◌, ◌^◌, length, decimal, IfOk, OnOk};
 ghost use Rattle.http_header.specs.FieldValue.{plain_value};
 ghost use Rattle.http.specs.Request.{head_of};
-ghost use Rattle.http_server.specs.Response.{fields_of};
 ghost use Rattle.page_answers.specs.FileTag.{file_tag};
 
+use crate::codings::add_coding;
 use crate::content_type::content_type_of;
 use crate::fixed_answers::put_body;
+use crate::told_tags::tells_tag;
 use bytes::Bytes;
 use http::{HeaderValue, Request, StatusCode, header};
 use http_server::Response;
-use memchr::memmem;
 use page_files::PageFile;
 use sha2::{Digest, Sha256};
 use std::alloc::{AllocError, Global};
@@ -41,7 +41,7 @@ impl TaggedFile {
 }
 
 impl TaggedFile {
-    ghost use Rattle.page_answers.specs.PageAnswer.{coding_fields, sent_answer, given, is_held, unchanged_answer, whole_answer, IsAnswer, HasGuards};
+    ghost use Rattle.page_answers.specs.PageAnswer.{sent_answer, given, is_held, unchanged_answer, whole_answer, IsAnswer, HasGuards};
 
     /// Answers with this file for the one of a name, whose compressed form it may be, or that it is still what it was.
     pub(crate) fn give(
@@ -81,38 +81,6 @@ impl TaggedFile {
             .get_all(header::IF_NONE_MATCH)
             .iter()
             .any(|value| tells_tag(value, self.tag.as_bytes()))
-    }
-}
-
-// Says how what is sent was made of the file.
-fn add_coding(is_packed: bool, response: &mut Response) -> Result<(), AllocError>
-    ensures fields { OnOk result (fields_of response.new ≡ fields_of response.old ++ coding_fields is_packed) }
-    ensures status { response.new.status ≡ response.old.status }
-    ensures body { response.new.body ≡ response.old.body }
-{
-    if !is_packed {
-        return Ok(());
-    }
-    response.add_header(
-        header::CONTENT_ENCODING,
-        HeaderValue::from_static("gzip"),
-    )
-}
-
-// Whether a field's value tells a tag. A tag has quotes at both ends and none between, so it stands in no other.
-fn tells_tag(value: &HeaderValue, tag: &[u8]) -> bool
-    ensures { result ≡ tells_tag tag.now value.now }
-{
-    value.as_bytes() == b"*".as_slice() || stands_in(value.as_bytes(), tag)
-}
-
-// Whether some bytes stand somewhere in others.
-fn stands_in(all: &[u8], some: &[u8]) -> bool
-    ensures { result ≡ is_any (matches all.now some.now 0) }
-{
-    match memmem::find_iter(all, some).next() {
-        Some(_) => true,
-        None => false,
     }
 }
 

@@ -170,7 +170,9 @@ static CODINGS: &[(&str, bool)] = &[
 fn a_compressed_form_is_for_whoever_understands_it(rt: HostRuntime) -> Result<(), Fail> {
     let page = small_page(rt.alloc())?;
     for (said, is_understood) in CODINGS {
-        let request = format!(in rt.alloc(); "GET / HTTP/1.1\r\nHost: h\r\nAccept-Encoding: {said}\r\n\r\n")?;
+        let request = format!(in rt.alloc();
+            "GET / HTTP/1.1\r\nHost: h\r\nAccept-Encoding: {said}\r\n\r\n"
+        )?;
         let sent = sent_for(&rt, &page, request.as_bytes())?;
         let is_packed = sent.as_slice().ends_with(PACKED.as_bytes());
         assert_eq!(&rt; is_packed, *is_understood, "where {said} is said");
