@@ -1,12 +1,12 @@
 -- Where a path leads.
-use Rattle.std.proofs.Common.{◌≡◌, ◌⊎◌, ℕ, Bool, true, false, cond, List, [], ◌∷◌, ◌++◌, Option, Some, None, Contains, string_bytes, bytes_eq, option_and_then, refl, sym, ap, subst, inl, inr}
+use Rattle.std.proofs.Common.{◌≡◌, ℕ, Bool, true, false, cond, List, [], ◌∷◌, Option, Some, None, Contains, string_bytes, bytes_eq, option_and_then, refl, sym, ap, subst, inl, inr}
 use Rattle.std.specs.Option.{unwrap_or}
 use Rattle.std.proofs.lemmas.List.Elements.{Contains-append_left, Contains-append_right, Contains-push}
 use Rattle.std.proofs.lemmas.Slice.Eq.{bytes_eq-Decides}
 use Rattle.http_uri.specs.Uri.{uri_path}
 use Rattle.http.specs.declared.request.Parts.{Parts}
 use Rattle.page_files.specs.declared.page_file.PageFile.{PageFile}
-use Rattle.page_answers.specs.PageAnswer.{FileAnswer, name_asked, packed_name, file_named, file_asked, accepts_gzip, packed_for, form_answer, found_answer, given, is_held, get_answer, unchanged_answer, whole_answer, not_allowed_answer}
+use Rattle.page_answers.specs.PageAnswer.{name_asked, packed_name, file_named, file_asked, accepts_gzip, packed_for, form_answer, found_answer, given, is_held, get_answer, unchanged_answer, whole_answer, not_allowed_answer}
 use Rattle.page_answers.specs.Laws.{IsFormOf, LeadsInside}
 
 -- a file is among the files, and has the name

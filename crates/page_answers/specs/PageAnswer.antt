@@ -1,7 +1,7 @@
 -- What is answered to a request for a file of the page (RFC 9110: GET and HEAD 9.3.1 and 9.3.2, the statuses 15.3.1, 15.4.5, 15.5.5
 -- and 15.5.6, the condition 13.1.2, codings 8.4 and 12.5.3, `Vary` 12.5.5). That a path is compared with the files' names as it was
 -- sent, and that a file's compressed form stands beside it under its name with `.gz` behind, is this project's own.
-use Rattle.std.specs.Prelude.{◌≡◌, ℕ, ◌+◌, Bool, true, false, not, ◌||◌, ◌==◌, List, [], ◌∷◌, ◌++◌, map, length, codes, decimal, string_bytes, Option, Some, None, option_and_then, if◌then◌else◌}
+use Rattle.std.specs.Prelude.{ℕ, Bool, true, false, ◌||◌, ◌==◌, List, [], ◌∷◌, ◌++◌, map, length, codes, decimal, string_bytes, Option, Some, None, option_and_then, if◌then◌else◌}
 use Rattle.std.specs.List.{find, list_any}
 use Rattle.std.specs.Str.{bytes_eq}
 use Rattle.http1.specs.Fields.{Header, elements, has_option}

@@ -1,4 +1,4 @@
-use Rattle.std.proofs.Common.{◌≡◌, ◌∙◌, rules, ap, sym}
+use Rattle.std.proofs.Common.{◌∙◌, rules, ap, sym}
 use Rattle.http1.specs.Fields.{elements, has_option}
 use Rattle.http1.proofs.FieldsLemmas.{elements_at, elements_whole}
 use Rattle.page_answers.proofs.ElementLemmas.{first_or_other, only_one, behind}

@@ -1,4 +1,4 @@
-use Rattle.std.proofs.Common.{◌≡◌, ◌∙◌, [], ◌∷◌, ◌++◌, codes, ap}
+use Rattle.std.proofs.Common.{◌∙◌, [], ◌∷◌, ◌++◌, codes, ap}
 use Rattle.http_server.specs.Response.{fields_of}
 use Rattle.page_answers.specs.declared.guards.TheConstants.{POLICY}
 use Rattle.page_answers.proofs.GuardsLemmas.{one_by_one}
