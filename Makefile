@@ -7,7 +7,7 @@ PORT ?= 8080
 JOURNAL ?= out/serve.journal
 PAGE_PORT ?= 8000
 
-.PHONY: demo quick serve demo-page test test-fast test-page
+.PHONY: demo quick page serve demo-page test test-fast test-page
 
 # Proves and builds all that the program stands on, answers the two example scripts, and says what was seen. The gate counts
 # what this proved on the same machine.
@@ -25,14 +25,24 @@ quick:
 	python3 examples/say_answers.py examples/first_round.script out/first_round.answers
 	@echo "Nothing was proved: make demo proves it all."
 
-# The example session for clients over WebSocket, on this computer, until Ctrl-C.
-serve: $(PROGRAM)
-	mkdir -p out
-	$(PROGRAM) serve --session examples/session.json --deals examples/club.pbn --journal $(JOURNAL) --port $(PORT)
+# The page's files as they are served, each with its compressed form beside it, which is handed out to browsers in its place.
+page:
+	rm -rf out/page
+	mkdir -p out/page
+	cp -r client/index.html client/icon.svg client/*.js client/styles client/views out/page
+	find out/page -type f -exec gzip -9nk {} +
 
-# The page with the example session, on this computer, until Ctrl-C.
-demo-page: $(PROGRAM)
-	python3 client/demo.py $(PROGRAM) $(PAGE_PORT)
+# The example session with the page, on this computer, until Ctrl-C.
+serve: $(PROGRAM) page
+	$(PROGRAM) serve --session examples/session.json --deals examples/club.pbn --journal $(JOURNAL) --port $(PORT) --displays 16 --page out/page
+
+# The same to try the page out: nothing is kept, and it is said who signs in.
+demo-page: $(PROGRAM) page
+	@echo "The page is at http://127.0.0.1:$(PAGE_PORT)/ until you press Ctrl-C. Sign in as anna (North in NS1), rosa (East in EW1),"
+	@echo "carla (North in NS2), vera (watches), sam (enters and confirms results), dora (directs) or ada (administers); the token of"
+	@echo "each is the name with -example behind it, as sam-example. Open it in two windows, as sam and as anna: enter and confirm"
+	@echo "board 1 at table 1, and see it open for anna."
+	$(PROGRAM) serve --session examples/session.json --deals examples/club.pbn --port $(PAGE_PORT) --displays 16 --workers 1 --page out/page
 
 $(PROGRAM):
 	@echo "make demo builds $(PROGRAM)."; exit 1

@@ -46,6 +46,7 @@ CHECKS = (
     ("tests/pages/decisions_index.py", "--check"),
     ("tests/pages/house_map.py", "--check"),
     ("tests/pages/client_exports.py",),
+    ("tests/pages/page_policy.py",),
 )
 # the page's functions, file by file, since versions of Node.js differ in how they read a folder
 PAGE = ("--test", *sorted(str(path.relative_to(ROOT)) for path in ROOT.glob("client/tests/*.test.js")))
@@ -82,6 +83,7 @@ LONG = (
     (PYTHON, ("tests/drivers/report.py", SERVER, "--browser")),
     (PYTHON, ("tests/drivers/hold_ups.py", SERVER)),
     (PYTHON, ("tests/drivers/jobs_in_turn.py", SERVER)),
+    (PYTHON, ("tests/drivers/page_files.py", SERVER)),
     (PYTHON, ("tests/drivers/conformance.py", SERVER)),
     (PYTHON, ("tests/drivers/failing_calls.py", SERVER)),
     (PYTHON, ("tests/journals/journal_starts.py", SERVER)),

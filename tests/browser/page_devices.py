@@ -194,7 +194,7 @@ class Nginx:
         self.folder = pathlib.Path(tempfile.mkdtemp(prefix="page_session_"))
         self.port, self.tls_port, self.process = free_port(), free_port(), None
         text = (TOP / "docs/RUNNING.md").read_text()
-        written, page = code_of(text, "## Behind a web server"), code_of(text, "## The page")
+        written, page = code_of(text, "## Behind a web server"), code_of(text, "### The page from nginx")
         upgrade, server = written[:written.index("server {")], written[written.index("server {"):].rstrip()
         location = re.search(r"location /session \{.*?\n    \}", server, re.S).group()
         hostile = location.replace("location /session", "location /hostile/session").replace(":8080", f":{hostile_port}")

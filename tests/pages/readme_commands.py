@@ -36,7 +36,7 @@ def request(port):
     """The first line of what is answered to a request for the page, or nothing."""
     try:
         with socket.create_connection(("127.0.0.1", port), timeout=5) as stream:
-            # a handshake too (RFC 6455, 1.3): the server ends what is none, and a page's server answers with the page
+            # a handshake (RFC 6455, 1.3): a server without a page ends what is none
             stream.sendall(b"GET / HTTP/1.1\r\nHost: 127.0.0.1\r\nUpgrade: websocket\r\nConnection: Upgrade\r\n"
                            b"Sec-WebSocket-Key: dGhlIHNhbXBsZSBub25jZQ==\r\nSec-WebSocket-Version: 13\r\n\r\n")
             return stream.recv(1000).split(b"\r\n")[0].decode()

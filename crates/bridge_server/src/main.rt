@@ -9,6 +9,7 @@ mod calling;
 mod checking;
 mod copying;
 mod folder_fault;
+mod opened_page;
 mod reporting;
 mod serving;
 mod serving_fault;

@@ -18,6 +18,7 @@ ghost use Rattle.bridge_server.specs.Said.{
   unkept_line,
 };
 
+use crate::opened_page::{open_page, status_of_opening_fault};
 use crate::serving_fault::{ServingFault, status_of_serving_fault, status_of_source_fault};
 use entry_store::{EntryStore, NoStore};
 use journal_store::JournalFiles;
@@ -34,11 +35,12 @@ use sqlite::{Alter, FileFrom, FileStore, Leftover, Wary};
 use std::alloc::Global;
 use std::io::Write;
 use std::net::{Ipv4Addr, Net, TcpListener};
+use std::random::RandomSource;
 use std::rt::Files;
 use std::sync::Wait;
 use std::thread::Threads;
 use std::time::Clock;
-use websocket_server::{ClientTerms, LONGEST_MESSAGE};
+use websocket_server::{ClientTerms, LONGEST_MESSAGE, PageTerms};
 use wire::MOST_MESSAGE_BYTES;
 
 // A message that is one byte too long is read whole, so that it can be answered.
@@ -47,9 +49,10 @@ const _: () = prove!(LONGEST_MESSAGE == MOST_MESSAGE_BYTES + 1);
 // The words may ask for as many displays as a server has at most, and for no more.
 const _: () = prove!(server_words::DISPLAYS_AT_MOST as usize == displays::MOST_DISPLAYS);
 
-/// Serves clients in a session, and answers the status after it, or where none could be served.
+/// Serves clients in a session, and answers the status after it, or where none could be served. The page is read first, if one
+/// is asked for.
 pub(crate) fn status_of_serving<
-    R: Files + Net + Clock + Wait + Threads + JournalFiles + AllocGlobal + Sync,
+    R: Files + Net + Clock + Wait + Threads + RandomSource + JournalFiles + AllocGlobal + Sync,
     E: Write,
 >(rt: &R, serving: &Serving<'_>, errors: &mut E) -> u8
 where
@@ -61,9 +64,32 @@ where
         IsToldUnserved serving.now.source result (E.contents errors.old) (E.contents errors.new) }
     ensures understood { result ≢ 2 }
 {
+    match open_page(rt, serving.page) {
+        Ok(Some(page)) => status_of_source(rt, serving, Some(page.terms()), errors),
+        Ok(None) => status_of_source(rt, serving, None, errors),
+        Err(fault) => status_of_opening_fault(rt.alloc(), &fault, errors),
+    }
+}
+
+// Serves clients in a session, with the page that was opened before, if there is one.
+fn status_of_source<
+    R: Files + Net + Clock + Wait + Threads + JournalFiles + AllocGlobal + Sync,
+    E: Write,
+>(rt: &R, serving: &Serving<'_>, page: Option<PageTerms<'_>>, errors: &mut E) -> u8
+where
+    R::Listener: Sync,
+    R::Stream: Send,
+    ensures statuses { IsStatus result }
+    ensures told { result ≡ 0 → IsToldServed serving.now.source (E.contents errors.old) (E.contents errors.new) }
+    ensures unserved { (result ≡ 3) ⊎ (result ≡ 4) →
+        IsToldUnserved serving.now.source result (E.contents errors.old) (E.contents errors.new) }
+    ensures understood { result ≢ 2 }
+{
     match serving.source {
-        SessionSource::Files(files) => status_of_files(rt, serving, &files, errors),
-        SessionSource::Journal(path, files) => status_of_journal(rt, serving, path, &files, errors),
+        SessionSource::Files(files) => status_of_files(rt, serving, page, &files, errors),
+        SessionSource::Journal(path, files) => {
+            status_of_journal(rt, serving, page, path, &files, errors)
+        }
     }
 }
 
@@ -71,6 +97,7 @@ where
 fn status_of_files<R: Files + Net + Clock + Wait + Threads + AllocGlobal + Sync, E: Write>(
     rt: &R,
     serving: &Serving<'_>,
+    page: Option<PageTerms<'_>>,
     files: &SessionFiles<'_>,
     errors: &mut E,
 ) -> u8
@@ -83,7 +110,7 @@ where
     ensures understood { result ≢ 2 }
 {
     match session_of_files(rt, files.session, files.deals) {
-        Ok(session) => status_of_unkept(rt, serving, session, errors),
+        Ok(session) => status_of_unkept(rt, serving, page, session, errors),
         Err(fault) => status_of_source_fault(rt.alloc(), fault, Some(files), errors),
     }
 }
@@ -92,6 +119,7 @@ where
 fn status_of_unkept<R: Net + Clock + Wait + Threads + AllocGlobal + Sync, E: Write>(
     rt: &R,
     serving: &Serving<'_>,
+    page: Option<PageTerms<'_>>,
     session: OpenedSession,
     errors: &mut E,
 ) -> u8
@@ -106,7 +134,7 @@ where
 {
     tell_unkept(errors);
     tell_served(rt.alloc(), serving, &session, KeptIn::Nothing, errors);
-    match serve_session(rt, serving, session, NoStore, Vec::new(rt.alloc())) {
+    match serve_session(rt, serving, page, session, NoStore, Vec::new(rt.alloc())) {
         Ok(_store) => 0,
         Err(fault) => status_of_serving_fault(rt.alloc(), fault, errors),
     }
@@ -146,7 +174,14 @@ fn tell_served<E: Write>(
 fn status_of_journal<
     R: Files + Net + Clock + Wait + Threads + JournalFiles + AllocGlobal + Sync,
     E: Write,
->(rt: &R, serving: &Serving<'_>, path: &str, files: &Option<SessionFiles<'_>>, errors: &mut E) -> u8
+>(
+    rt: &R,
+    serving: &Serving<'_>,
+    page: Option<PageTerms<'_>>,
+    path: &str,
+    files: &Option<SessionFiles<'_>>,
+    errors: &mut E,
+) -> u8
 where
     R::Listener: Sync,
     R::Stream: Send,
@@ -156,7 +191,7 @@ where
     ensures understood { result ≢ 2 }
 {
     match open_kept(rt, serving, path, files) {
-        Ok(kept) => status_of_kept(rt, serving, path, kept, errors),
+        Ok(kept) => status_of_kept(rt, serving, page, path, kept, errors),
         Err((fault, _left)) => status_of_source_fault(rt.alloc(), fault, files.as_ref(), errors),
     }
 }
@@ -187,7 +222,14 @@ fn status_of_kept<
     R: Net + Clock + Wait + Threads + AllocGlobal + Sync,
     S: Alter + Drop + Send,
     E: Write,
->(rt: &R, serving: &Serving<'_>, path: &str, kept: KeptSession<S>, errors: &mut E) -> u8
+>(
+    rt: &R,
+    serving: &Serving<'_>,
+    page: Option<PageTerms<'_>>,
+    path: &str,
+    kept: KeptSession<S>,
+    errors: &mut E,
+) -> u8
 where
     R::Listener: Sync,
     R::Stream: Send,
@@ -201,7 +243,7 @@ where
     let version = entries_in(kept.journal.publications.as_slice());
     let keeper = KeptIn::Journal(path, version);
     tell_served(rt.alloc(), serving, &kept.session, keeper, errors);
-    match serve_kept(rt, serving, kept) {
+    match serve_kept(rt, serving, page, kept) {
         Ok(()) => 0,
         Err(fault) => status_of_serving_fault(rt.alloc(), fault, errors),
     }
@@ -220,6 +262,7 @@ fn entries_in(publications: &[Vec<Entry>]) -> usize {
 fn serve_kept<R: Net + Clock + Wait + Threads + AllocGlobal + Sync, S: Alter + Drop + Send>(
     rt: &R,
     serving: &Serving<'_>,
+    page: Option<PageTerms<'_>>,
     kept: KeptSession<S>,
 ) -> Result<(), ServingFault>
 where
@@ -233,7 +276,7 @@ where
         store,
         publications,
     } = journal;
-    match serve_session(rt, serving, session, store, publications) {
+    match serve_session(rt, serving, page, session, store, publications) {
         Ok(_store) => Ok(()),
         Err(fault) => Err(fault),
     }
@@ -243,6 +286,7 @@ where
 fn serve_session<R: Net + Clock + Wait + Threads + AllocGlobal + Sync, K: EntryStore + Send>(
     rt: &R,
     serving: &Serving<'_>,
+    page: Option<PageTerms<'_>>,
     session: OpenedSession,
     store: K,
     publications: Vec<Vec<Entry>>,
@@ -253,7 +297,7 @@ where
     requires journal { session.book.journal ≡ [] }
     requires kept { LeavesJust (map (λ publication. publication.items) publications.items) (K.doubt store) (K.leaves store) }
 {
-    let plan = plan_of(serving, &session);
+    let plan = plan_of(serving, page, &session);
     match serve_book(rt, rt.alloc(), session.book, plan, store, publications) {
         Ok(store) => Ok(store),
         Err(fault) => Err(fault_of_serving(rt, serving.port, fault)),
@@ -280,7 +324,11 @@ fn why_not_listening<R: Net>(rt: &R, port: u16) -> PortFault {
 }
 
 // How an open session is served: as the words ask for it, and with its own visits.
-fn plan_of<'a>(serving: &Serving<'a>, session: &OpenedSession) -> ServingPlan<'a>
+fn plan_of<'a>(
+    serving: &Serving<'a>,
+    page: Option<PageTerms<'a>>,
+    session: &OpenedSession,
+) -> ServingPlan<'a>
     ensures { result.budget ≡ session.now.budget }
 {
     ServingPlan {
@@ -292,6 +340,7 @@ fn plan_of<'a>(serving: &Serving<'a>, session: &OpenedSession) -> ServingPlan<'a
         terms: ClientTerms {
             idle: serving.idle,
             origin: serving.origin,
+            page,
         },
     }
 }

@@ -4,7 +4,7 @@ use Rattle.std.specs.Fmt.{decimal}
 use Rattle.operator_lines.specs.Telling.{TellsLine, named_line, untold_line}
 use Rattle.operator_lines.specs.Faults.{file_fault_text, port_fault_text}
 use Rattle.operator_lines.specs.declared.obstacle.MemoryFor.{MemoryFor}
-use Rattle.operator_lines.specs.declared.obstacle.MemoryFor.TheVariants.{Words, Script, Session, Journal, Threads}
+use Rattle.operator_lines.specs.declared.obstacle.MemoryFor.TheVariants.{Words, Script, Session, Journal, Page, Threads}
 use Rattle.operator_lines.specs.declared.obstacle.Obstacle.{Obstacle}
 use Rattle.operator_lines.specs.declared.obstacle.Obstacle.TheVariants.{
   Unread,
@@ -25,6 +25,7 @@ memory_line Words = codes "bridge_server: OutOfMemory (for the words)\n"
 memory_line Script = codes "bridge_server: OutOfMemory (for the script)\n"
 memory_line Session = codes "bridge_server: OutOfMemory (for the session)\n"
 memory_line Journal = codes "bridge_server: OutOfMemory (for the journal)\n"
+memory_line Page = codes "bridge_server: OutOfMemory (for the page)\n"
 memory_line Threads = codes "bridge_server: OutOfMemory (for displays and workers)\n"
 
 -- the line of each

@@ -48,6 +48,8 @@ pub enum MemoryFor {
     Session,
     /// A journal.
     Journal,
+    /// A page and its files.
+    Page,
     /// Displays and workers, and what they share.
     Threads,
 }
@@ -159,6 +161,7 @@ fn memory_line(purpose: MemoryFor) -> &'static str
         MemoryFor::Script => "bridge_server: OutOfMemory (for the script)\n",
         MemoryFor::Session => "bridge_server: OutOfMemory (for the session)\n",
         MemoryFor::Journal => "bridge_server: OutOfMemory (for the journal)\n",
+        MemoryFor::Page => "bridge_server: OutOfMemory (for the page)\n",
         MemoryFor::Threads => "bridge_server: OutOfMemory (for displays and workers)\n",
     }
 }

@@ -74,9 +74,10 @@ with_counts line = with_rule (with_rule (with_rule line displays_rule) workers_r
 abbrev pub idle_rule : Rule
 idle_rule = default_rule (codes "idle") (pos least_idle) (pos most_idle) (codes "300")
 
--- what is asked of each client: an option that may be left out stands last
+-- what is asked of each client, and what is handed out: options that may be left out stand last
 abbrev pub with_clients : App → App
-with_clients line = with_rule (with_rule line idle_rule) (option_rule (codes "origin"))
+with_clients line =
+    with_rule (with_rule (with_rule line idle_rule) (option_rule (codes "origin"))) (option_rule (codes "page"))
 
 -- how clients are served, where the files of the session may be needed
 abbrev pub serve_line : Bool → App

@@ -80,6 +80,7 @@ IsSourceGiven options (Journal path None) =
 pub record IsServingGiven (options : List Row) (serving : Serving) : Type 0 where
   pub source : IsSourceGiven options serving.source
   pub origin : first_of (codes "origin") options ≡ option_map (λ o. o.now) serving.origin
+  pub page : first_of (codes "page") options ≡ option_map (λ o. o.now) serving.page
   pub range : AreNumbersInRange serving
   pub numbers : AreNumbersGiven options serving
 

@@ -458,7 +458,14 @@ fn add_clients(alloc: Global, command: &mut Command<'_>) -> Result<(), AllocErro
         "URL",
         "The origin that a page has to come from, as https://bridge.example.org",
     );
-    add(alloc, command, origin)
+    add(alloc, command, origin)?;
+    let page = option(
+        alloc,
+        "page",
+        "DIR",
+        "The folder of the page, which is handed out at the same port",
+    );
+    add(alloc, command, page)
 }
 
 // Adds an option that names a file, and that may have to be there.

@@ -115,6 +115,7 @@ fn serving_of<'a>(given: &ArgMatches<'a>) -> Option<Serving<'a>>
         connections: given.get_one("connections")?,
         idle: given.get_one("idle")?,
         origin: text_of(given, "origin"),
+        page: text_of(given, "page"),
     };
     if serving.is_in_range() {
         Some(serving)

@@ -148,6 +148,8 @@ pub struct Serving<'a> {
     pub idle: u32,
     /// The origin that a page has to come from, if only one may connect.
     pub origin: Option<&'a str>,
+    /// The folder of the page that is handed out at the same port, if there is one.
+    pub page: Option<&'a str>,
 }
 
 impl Serving<'_> {

@@ -1,3 +1,4 @@
 pub mod Conversation
 pub mod Clients
 pub mod Origins
+pub mod Visits

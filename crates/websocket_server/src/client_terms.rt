@@ -4,6 +4,7 @@ ghost use Rattle.std.specs.Prelude.{◌≡◌, option_map};
 ghost use Rattle.http.specs.Response.{head_of};
 ghost use Rattle.websocket_server.specs.Origins.{origins_of, is_origin, are_all_of, is_let_in};
 
+use crate::page_visit::PageTerms;
 use http::{HeaderValue, Request, Response, StatusCode};
 use std::alloc::Global;
 use tungstenite::Callback;
@@ -16,6 +17,8 @@ pub struct ClientTerms<'a> {
     pub idle: u32,
     /// The origin that a handshake has to name if it names one, as a browser's does. With none any will do.
     pub origin: Option<&'a str>,
+    /// The page that is handed out at the same port, if there is one. With none each request has to ask for a WebSocket.
+    pub page: Option<PageTerms<'a>>,
 }
 
 // Looks at the origin that a request names (RFC 6455, 10.2).

@@ -6,6 +6,7 @@ ghost use Rattle.websocket_server.specs.Conversation.{ServesStream};
 use crate::client_terms::ClientTerms;
 use crate::conversation::serve_stream;
 use crate::message_server::MessageServer;
+use crate::page_visit::{Asked, serve_visit, wait_for_request};
 use std::alloc::Global;
 use std::io::{self, Read, Write};
 use std::net::{Ipv4Addr, Net, OpenListener, OpenStream, SocketAddr, TcpListener};
@@ -83,11 +84,32 @@ where
             // Each answer is sent at once, and not only when the client has acknowledged the one before it. Where the
             // stream can't, the client is served all the same.
             let _unheard = stream.set_nodelay(true);
-            serve_stream(rt, rt, alloc, stream, terms, server);
+            serve_visitor(rt, alloc, stream, terms, server);
         }
         Err(_) => {
             // Where there is no room for one more file, say, so that the next try isn't made at once.
             thread::sleep(rt, Duration::from_millis(PAUSE));
         }
+    }
+}
+
+// Serves a client who asks for a session; where there is a page, one who asks for it gets his answer, and one who asks for nothing none.
+fn serve_visitor<R: Wait + Clock, S: Read + Write + OpenStream + Drop, A: MessageServer<R>>(
+    rt: &R,
+    alloc: Global,
+    stream: S,
+    terms: ClientTerms<'_>,
+    server: &mut A,
+)
+    ensures { ServesStream S.remaining S.contents A.answers A.binary_text A.memory_text A.nobody server.old server.new }
+{
+    let Some(page) = terms.page else {
+        serve_stream(rt, rt, alloc, stream, terms, server);
+        return;
+    };
+    match wait_for_request(rt, &stream) {
+        Asked::Session => serve_stream(rt, rt, alloc, stream, terms, server),
+        Asked::Page => serve_visit(rt, alloc, page, stream),
+        Asked::More | Asked::Nothing => {}
     }
 }

@@ -5,7 +5,7 @@ ghost use Rattle.std.specs.Prelude.{◌≡◌, IfOk};
 use std::cell::Cell;
 use std::io::{self, ErrorKind, Read, Write};
 use std::marker::Model;
-use std::net::OpenStream;
+use std::net::{OpenStream, Shutdown};
 use std::time::{Clock, Duration, Instant};
 
 /// Within how many seconds a client has to take an answer.
@@ -46,6 +46,14 @@ impl<C: Clock + Drop, S: Drop> TimedStream<C, S> {
     pub(crate) fn allow(&self, seconds: u64) -> io::Result<()> {
         self.until.set(time_after(&self.clock, seconds)?);
         Ok(())
+    }
+
+    /// Says to the other end that nothing more is sent.
+    pub(crate) fn shut_down(&self) -> io::Result<()>
+    where
+        S: OpenStream,
+    {
+        self.stream.shutdown(Shutdown::Write)
     }
 
     // How long is left until a time.

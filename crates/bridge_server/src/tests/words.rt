@@ -20,6 +20,7 @@ const DEFAULTS: Serving<'static> = Serving {
     connections: 0,
     idle: 300,
     origin: None,
+    page: None,
 };
 
 const LEAST: Serving<'static> = Serving {
@@ -37,6 +38,7 @@ const MOST: Serving<'static> = Serving {
     connections: 1_000_000,
     idle: 86_400,
     origin: Some("https://bridge.example.org"),
+    page: Some("client"),
     ..DEFAULTS
 };
 
@@ -80,7 +82,7 @@ static LINES: &[(&str, Words<'static>)] = &[
         Words::Serve(LEAST),
     ),
     (
-        "serve --origin https://bridge.example.org --idle 86400 --connections 1000000 --workers 16 --displays 32 --port 65535 --deals d.pbn --session s.json",
+        "serve --page client --origin https://bridge.example.org --idle 86400 --connections 1000000 --workers 16 --displays 32 --port 65535 --deals d.pbn --session s.json",
         Words::Serve(MOST),
     ),
     (

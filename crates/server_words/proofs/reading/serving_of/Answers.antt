@@ -8,6 +8,7 @@ returns-then-is_in_range c =
     record {
       source = c.in_ok-source_of.ensures;
       origin = c.text_of.ensures;
+      page = c.text_of-2.ensures;
       range = c.is_in_range.ensures c.if-is_in_range.true;
       numbers = record {
         port = number_in_rows m (codes "port") 16 c.get_one.result c.in_ok-get_one.field-0 c.in_ok-get_one.was

@@ -1,0 +1,5 @@
+mod LeadsLemmas
+mod LookingLemmas
+mod PackedLemmas
+mod ElementLemmas
+mod GuardsLemmas

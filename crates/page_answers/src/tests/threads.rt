@@ -1,0 +1,22 @@
+//! Threads that hand out one page.
+
+use super::answers::{sent_for, small_page};
+use crate::PageAnswers;
+use std::random::RandomSource;
+use std::test::Fail;
+use std::thread;
+
+fn is_found<R: RandomSource + AllocGlobal>(rt: &R, page: &PageAnswers) -> bool {
+    match sent_for(rt, page, b"GET / HTTP/1.1\r\nHost: h\r\n\r\n") {
+        Ok(sent) => sent.as_slice().starts_with(b"HTTP/1.1 200 "),
+        Err(_) => false,
+    }
+}
+
+#[test]
+fn threads_share_a_page(rt: HostRuntime) -> Result<(), Fail> {
+    let page = small_page(rt.alloc())?;
+    let (one, other) = thread::join(&rt, || is_found(&rt, &page), || is_found(&rt, &page));
+    assert!(&rt; one && other);
+    Ok(())
+}

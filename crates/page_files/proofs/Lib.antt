@@ -1,0 +1,2 @@
+mod WholeLemmas
+mod PageLemmas

@@ -1,0 +1,2 @@
+pub mod PageFiles
+pub mod PageReading

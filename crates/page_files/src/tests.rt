@@ -1,0 +1,2 @@
+mod folders;
+mod readers;
