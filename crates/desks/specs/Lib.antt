@@ -2,3 +2,4 @@ pub mod Batch
 pub mod Kept
 pub mod Places
 pub mod Reentry
+pub mod Work

@@ -18,6 +18,7 @@ ghost use Rattle.session_keeper.specs.Keeping.{EntersJust};
 ghost use Rattle.session_keeper.specs.declared.submit_fault.SubmitFault.TheVariants.{OutOfMemory};
 ghost use Rattle.desks.specs.Batch.{IsSubmitted, IsEntered};
 ghost use Rattle.desks.specs.Kept.{IsKeptBy, LeavesJust};
+ghost use Rattle.desks.specs.Work.{IsWorkLeft};
 
 use crate::desk_places::DeskPlace;
 use crate::locked_book::LockedBook;
@@ -169,11 +170,14 @@ impl<'a, N: Server, K: EntryStore> Desk<'a, N, K> {
         locked.audit(actor, from, limit)
     }
 
-    /// The work that is left at a cell: the costs of a confirmed result with a contract and a play, which aren't there
-    /// yet. It takes no memory.
-    pub fn work_of<R: Wait>(&self, rt: &R, cell: Cell) -> Option<Work> {
-        let locked = self.lock.lock(rt);
-        work_of(locked.state(), cell)
+    /// The work that is left at a cell, after a journal that begins with all that a display of this server has seen: the
+    /// costs of a confirmed result with a contract and a play, which aren't there yet. It takes no memory.
+    pub fn work_of<R: Wait>(&self, rt: &R, display: &Display<N>, cell: Cell) -> Option<Work>
+        ensures { (before : List Entry) × IsPrefix (entries_of display.now) before
+            × IsWorkLeft (replay N.opening before) cell result }
+    {
+        let book = lock_behind(rt, self.lock, display);
+        work_of(book.state(), cell)
     }
 }
 

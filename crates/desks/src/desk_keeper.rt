@@ -1,6 +1,11 @@
 //! A desk and a display of one server, as a connection sees them.
 
-ghost use Rattle.std.specs.Prelude.{◌≡◌};
+ghost use Rattle.std.specs.Prelude.{◌≡◌, List};
+ghost use mathlib.Core.List.{IsPrefix};
+ghost use Rattle.session_commands.specs.declared.entry.Entry.{Entry};
+ghost use Rattle.session_book.specs.Journal.{replay};
+ghost use Rattle.history.specs.Prefixes.{entries_of};
+ghost use Rattle.desks.specs.Work.{IsWorkLeft};
 
 use crate::desk::Desk;
 use displays::{Display, Server};
@@ -35,9 +40,12 @@ impl<'a, N: Server, K: EntryStore> DeskKeeper<'a, N, K> {
         DeskKeeper { desk, display }
     }
 
-    /// The work that is left at a cell.
-    pub fn work_of<R: Wait>(&self, rt: &R, cell: Cell) -> Option<Work> {
-        self.desk.work_of(rt, cell)
+    /// The work that is left at a cell, after a journal that begins with all that the display has seen.
+    pub fn work_of<R: Wait>(&self, rt: &R, cell: Cell) -> Option<Work>
+        ensures { (before : List Entry) × IsPrefix (entries_of self.now.display) before
+            × IsWorkLeft (replay N.opening before) cell result }
+    {
+        self.desk.work_of(rt, &self.display, cell)
     }
 }
 

@@ -93,7 +93,10 @@ impl<N: Server, K: EntryStore> LockedBook<N, K> {
     }
 
     /// The state to which the journal leads.
-    pub(crate) fn state(&self) -> &State {
+    pub(crate) fn state(&self) -> &State
+        ensures { result.now ≡ replay N.opening (entries_of self.now.published) }
+    {
+        let _published = self.publisher.tell();
         self.book.state()
     }
 

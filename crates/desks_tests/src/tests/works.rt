@@ -134,7 +134,10 @@ fn leaves<N: Server, R: Wait>(
     if told(rt, alloc, beside, message).is_none() {
         return false;
     }
-    match beside.desk.work_of(rt, Cell { table, board }) {
+    match beside
+        .desk
+        .work_of(rt, &beside.display, Cell { table, board })
+    {
         Some(work) => is_left && is_of_the_lead(work),
         None => !is_left,
     }
@@ -169,7 +172,7 @@ fn is_found<N: Server, R: Wait>(
     };
     let cell = Cell { table: 1, board: 1 };
     let (answer, _) = beside.desk.submit_analysed(rt, cell, costs);
-    matches!(answer, Answer::Accepted) && beside.desk.work_of(rt, cell).is_none()
+    matches!(answer, Answer::Accepted) && beside.desk.work_of(rt, &beside.display, cell).is_none()
 }
 
 #[test]
