@@ -30,7 +30,6 @@ KEPT = {
     "session_state::State::decide": "the policy for a user by name; programs ask it for a user whom they looked up once",
     "denials::check": "a denial is checked by whoever holds it, without the server: the page has code of its own for it, and a stored run asks",
     "session_book::Book::exposed": "who was shown what, by name; a check goes over the accounts and asks by their places",
-    "row_journal::RowJournal::into_connection": "the law of what a crash leaves speaks of the database that it gives back",
 }
 
 BLANKS = re.compile(r'//[^\n]*|r#"(?s:.*?)"#|b?"(?:\\.|[^"\\])*"|b?\'(?:\\[^\']+|[^\\\'])\'')

@@ -54,15 +54,15 @@ is_of_a_journal CopyUnwritten = true
 is_of_a_journal _ = false
 
 -- the fault is want of memory, or one of this file
-abbrev pub IsOfFile : SessionFile → KeptSessionFault → Type 0
-IsOfFile file OutOfMemory = Unit {0}
-IsOfFile file (Unread named fault) = named ≡ file
-IsOfFile file (Unopened fault) = ⊥
-IsOfFile file (Journal fault) = ⊥
-IsOfFile file NoJournal = ⊥
-IsOfFile file (NotAccepted number) = ⊥
-IsOfFile file CopyExists = ⊥
-IsOfFile file CopyUnwritten = ⊥
+abbrev pub IsFaultOfFile : SessionFile → KeptSessionFault → Type 0
+IsFaultOfFile file OutOfMemory = Unit {0}
+IsFaultOfFile file (Unread named fault) = named ≡ file
+IsFaultOfFile file (Unopened fault) = ⊥
+IsFaultOfFile file (Journal fault) = ⊥
+IsFaultOfFile file NoJournal = ⊥
+IsFaultOfFile file (NotAccepted number) = ⊥
+IsFaultOfFile file CopyExists = ⊥
+IsFaultOfFile file CopyUnwritten = ⊥
 
 -- a file that is called too long has more bytes than are read
 abbrev pub SaysTooLong : SessionFile → KeptSessionFault → Option (List ℕ) → Type 0

@@ -4,7 +4,7 @@ ghost use Rattle.std.specs.Prelude.{◌≡◌, ◌≢◌, ◌≤◌, ℕ, List, 
 ghost use Rattle.operator_lines.specs.declared.file_fault.FileFault.TheVariants.{TooLong};
 ghost use Rattle.row_journal.specs.Faults.{is_file_failure};
 ghost use Rattle.kept_sessions.specs.declared.source_fault.KeptSessionFault.TheVariants.{Unread};
-ghost use Rattle.kept_sessions.specs.Sources.{IsSessionOf, IsOfFile, IsUnread, most_file_bytes, is_of_a_journal};
+ghost use Rattle.kept_sessions.specs.Sources.{IsSessionOf, IsFaultOfFile, IsUnread, most_file_bytes, is_of_a_journal};
 
 use crate::source_fault::{KeptSessionFault, SessionFile};
 use crate::source_texts::{SourceTexts, read_texts};
@@ -63,7 +63,7 @@ pub fn session_of_files<R: Files + AllocGlobal>(
 /// What an error of the system is to one who reads a session's file.
 pub(crate) fn fault_of_reading(file: SessionFile, kind: ErrorKind) -> KeptSessionFault
     ensures source { is_of_a_journal result ≡ false }
-    ensures file { IsOfFile file result }
+    ensures file { IsFaultOfFile file result }
     ensures short { result ≢ Unread file TooLong }
     ensures unread { IsUnread result }
 {

@@ -2,7 +2,7 @@
 
 ghost use Rattle.std.specs.Prelude.{◌≡◌, ◌≤◌, length, false, IfOk, IfErr, IfSome};
 ghost use Rattle.kept_sessions.specs.declared.source_fault.SessionFile.TheVariants.{Object, Boards};
-ghost use Rattle.kept_sessions.specs.Sources.{IsOfFile, IsUnread, SaysTooLong, most_file_bytes, is_of_a_journal};
+ghost use Rattle.kept_sessions.specs.Sources.{IsFaultOfFile, IsUnread, SaysTooLong, most_file_bytes, is_of_a_journal};
 
 use crate::paths::fault_of_reading;
 use crate::source_fault::{KeptSessionFault, SessionFile};
@@ -57,7 +57,7 @@ fn read_whole<I: Read + Drop>(
     ensures few { IfOk result (λ bytes. length bytes.items ≤ most_file_bytes) }
     ensures fault { IfErr result (λ fault. is_of_a_journal fault ≡ false) }
     ensures unread { IfErr result IsUnread }
-    ensures file { IfErr result (IsOfFile file) }
+    ensures file { IfErr result (IsFaultOfFile file) }
     ensures long { IfErr result (λ fault. SaysTooLong file fault (I.remaining reader)) }
 {
     let mut bytes = Vec::new(alloc);
