@@ -1,14 +1,27 @@
 //! Threads that hand out one page.
 
-use super::answers::{sent_for, small_page};
-use crate::PageAnswers;
+use super::answers::small_page;
+use crate::{PageAnswers, PageService};
+use http_server::{Config, Connection, serve};
+use std::hash::RandomState;
 use std::random::RandomSource;
 use std::test::Fail;
 use std::thread;
 
 fn is_found<R: RandomSource + AllocGlobal>(rt: &R, page: &PageAnswers) -> bool {
-    match sent_for(rt, page, b"GET / HTTP/1.1\r\nHost: h\r\n\r\n") {
-        Ok(sent) => sent.as_slice().starts_with(b"HTTP/1.1 200 "),
+    let Ok(keys) = RandomState::new(rt) else {
+        return false;
+    };
+    let mut connection = Connection::new(rt.alloc(), keys, Config::default());
+    let mut unread = b"GET / HTTP/1.1\r\nHost: h\r\n\r\n".as_slice();
+    let mut sent = Vec::new(rt.alloc());
+    match serve(
+        &mut connection,
+        &mut PageService { page },
+        &mut unread,
+        &mut sent,
+    ) {
+        Ok(_) => sent.as_slice().starts_with(b"HTTP/1.1 200 "),
         Err(_) => false,
     }
 }
