@@ -1,7 +1,7 @@
 -- own: why the session of a journal isn't opened, told, reported or copied: for each fault what it says of the texts, of what the
 -- files held, or of the rows that were found there. Want of memory, a disk that fails and another program at the file say
 -- nothing of them; that there is no file is the system's word.
-use Rattle.std.specs.Prelude.{◌≡◌, ◌≤◌, ◌⊎◌, ⊤, true, ℕ, List, [], ◌∷◌, length, map, MatchOption, Option}
+use Rattle.std.specs.Prelude.{◌≡◌, ◌⊎◌, ⊤, true, ℕ, List, [], ◌∷◌, map, MatchOption, Option}
 use Rattle.sqlite.specs.Tree.{Trees}
 use Rattle.sqlite.specs.Recovery.{Image}
 use Rattle.sqlite.specs.Files.{HoldsDatabase, IsCleanLeft}
@@ -18,7 +18,7 @@ use Rattle.kept_entries.specs.KeptRows.{rows_of}
 use Rattle.row_journal.specs.declared.journal_fault.JournalFault.{JournalFault}
 use Rattle.row_journal.specs.Faults.{WhyNotTaken, WhyNotKept, WhyRowsNotRead, IsOpeningWant, is_file_failure}
 use Rattle.kept_sessions.specs.Audited.{IsNotAccepted}
-use Rattle.kept_sessions.specs.Sources.{IsSessionOf, IsUnread, WhyNoSession, most_file_bytes}
+use Rattle.kept_sessions.specs.Sources.{AreOfFiles, IsSessionOf, IsUnread, WhyNoSession}
 use Rattle.kept_sessions.specs.declared.source_fault.KeptSessionFault.{KeptSessionFault}
 use Rattle.kept_sessions.specs.declared.source_fault.KeptSessionFault.TheVariants.{OutOfMemory, Unread, Unopened, Journal, NoJournal, NotAccepted, CopyExists, CopyUnwritten}
 
@@ -56,11 +56,10 @@ WhyNotTakenUp image object boards CopyExists = ⊥
 WhyNotTakenUp image object boards CopyUnwritten = ⊥
 
 -- the same of the texts of two files, which may be unread
-abbrev pub WhyFilesNotTakenUp : Image → KeptSessionFault → Type 0
-WhyFilesNotTakenUp image fault =
+abbrev pub WhyFilesNotTakenUp : {S : Type 0} → (S → Option (List ℕ)) → Image → KeptSessionFault → Type 0
+WhyFilesNotTakenUp remaining image fault =
     IsUnread fault
-    ⊎ ((object boards : List ℕ) × (length object ≤ most_file_bytes) × (length boards ≤ most_file_bytes)
-    × WhyNotTakenUp image object boards fault)
+    ⊎ ((object boards : List ℕ) × AreOfFiles remaining object boards × WhyNotTakenUp image object boards fault)
 
 -- ---- where the journal has its texts
 

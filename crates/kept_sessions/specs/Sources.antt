@@ -1,5 +1,5 @@
 -- What a session is opened from.
-use Rattle.std.specs.Prelude.{◌≡◌, ◌<◌, ℕ, Bool, true, false, Option, List, [], Some, IfSome, length}
+use Rattle.std.specs.Prelude.{◌≡◌, ◌<◌, ◌≤◌, ℕ, Bool, true, false, Option, List, [], Some, IfSome, length}
 use Rattle.session_state.specs.SessionState.{SessionState}
 use Rattle.session_commands.specs.declared.entry.Entry.{Entry}
 use Rattle.opened_session.specs.Opened.{OpensWith, OpensNoneWith, GivesBudget, is_want_of_memory}
@@ -20,6 +20,17 @@ pub record IsSessionOf (object boards : List ℕ) (opening : SessionState) (jour
   pub opens : OpensWith (Some boards) object opening
   pub gives : GivesBudget (Some boards) object budget
   pub empty : journal ≡ []
+
+-- some reader gave all of this text
+abbrev pub IsAllOf : {S : Type 0} → (S → Option (List ℕ)) → List ℕ → Type 0
+IsAllOf {S} remaining text = (reader : S) × IfSome (remaining reader) (λ all. text ≡ all)
+
+-- two files gave all of these texts, and of no more bytes than a file has at most
+pub record AreOfFiles {S : Type 0} (remaining : S → Option (List ℕ)) (object boards : List ℕ) : Type 0 where
+  pub object_whole : IsAllOf remaining object
+  pub boards_whole : IsAllOf remaining boards
+  pub object_few : length object ≤ most_file_bytes
+  pub boards_few : length boards ≤ most_file_bytes
 
 -- why two texts open no session: for each fault what the session object's own opening says of them, and want of memory where
 -- that says so

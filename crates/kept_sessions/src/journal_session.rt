@@ -1,6 +1,6 @@
 //! A session with the journal that keeps it.
 
-ghost use Rattle.std.specs.Prelude.{◌≡◌, ◌≤◌, ◌∷◌, [], ℕ, List, length, map, IfOk, IfErr};
+ghost use Rattle.std.specs.Prelude.{◌≡◌, ◌∷◌, [], ℕ, List, map, IfOk, IfErr};
 ghost use Rattle.sqlite.specs.Files.{file_state};
 ghost use Rattle.sqlite.specs.State.{HasCleanDisk};
 ghost use Rattle.sqlite.specs.WalFiles.{image_at};
@@ -8,7 +8,7 @@ ghost use Rattle.journal_store.specs.Kept.{row_of_session, texts_of};
 ghost use Rattle.journal_store.specs.Restart.{IsKeptAt};
 ghost use Rattle.kept_entries.specs.KeptRows.{lists_in, rows_of};
 ghost use Rattle.kept_sessions.specs.Faults.{AreCleanlyLeft, IsRowsFault, WhyFilesNotTakenUp, WhyNotReopened, WhyNotTakenUp};
-ghost use Rattle.kept_sessions.specs.Sources.{most_file_bytes};
+ghost use Rattle.kept_sessions.specs.Sources.{AreOfFiles};
 ghost use Rattle.kept_sessions.specs.Kept.{IsKeptSession, IsTakenSession, KeepsJust};
 
 use crate::left_files::left_of;
@@ -79,14 +79,13 @@ pub fn kept_session_of_files<R: Files + JournalFiles + Threads + AllocGlobal + S
     boards_path: &str,
     workers: usize,
 ) -> Result<KeptSession<FileStore<FileFrom<S>>>, (KeptSessionFault, Option<Leftover<FileFrom<S>>>)>
-    ensures taken { IfOk result (λ kept. (object boards : List ℕ)
-        × (length object ≤ most_file_bytes) × (length boards ≤ most_file_bytes)
+    ensures taken { IfOk result (λ kept. (object boards : List ℕ) × AreOfFiles R.File.remaining object boards
         × IsTakenSession (image_at S.Start) object boards
         kept.session.book.opening kept.session.book.journal kept.session.budget
         (lists_in kept.journal.publications.items) (file_state kept.journal.store.conn)) }
     ensures leaves { IfOk result (λ kept. KeepsJust (file_state kept.journal.store.conn)
         (lists_in kept.journal.publications.items)) }
-    ensures why { IfErr result (λ e. AreCleanlyLeft e.1 → WhyFilesNotTakenUp (image_at S.Start) e.0) }
+    ensures why { IfErr result (λ e. AreCleanlyLeft e.1 → WhyFilesNotTakenUp R.File.remaining (image_at S.Start) e.0) }
 {
     match texts_of_files(rt, object_path, boards_path) {
         Ok(texts) => kept_session_of_texts(rt, path, start, &texts, workers),

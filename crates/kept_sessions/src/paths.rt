@@ -1,10 +1,10 @@
 //! Files at paths: those of a session, and whether one may hold a database.
 
-ghost use Rattle.std.specs.Prelude.{◌≡◌, ◌≢◌, ◌≤◌, ℕ, List, length, false, true, IfOk, IfErr};
+ghost use Rattle.std.specs.Prelude.{◌≡◌, ◌≢◌, ℕ, List, false, true, IfOk, IfErr};
 ghost use Rattle.operator_lines.specs.declared.file_fault.FileFault.TheVariants.{TooLong};
 ghost use Rattle.row_journal.specs.Faults.{is_file_failure};
 ghost use Rattle.kept_sessions.specs.declared.source_fault.KeptSessionFault.TheVariants.{Unread};
-ghost use Rattle.kept_sessions.specs.Sources.{IsSessionOf, IsFaultOfFile, IsUnread, most_file_bytes, is_of_a_journal};
+ghost use Rattle.kept_sessions.specs.Sources.{AreOfFiles, IsFaultOfFile, IsSessionOf, IsUnread, is_of_a_journal};
 
 use crate::source_fault::{KeptSessionFault, SessionFile};
 use crate::source_texts::{SourceTexts, read_texts};
@@ -25,8 +25,7 @@ pub fn texts_of_files<R: Files + AllocGlobal>(
     object_path: &str,
     boards_path: &str,
 ) -> Result<SourceTexts, KeptSessionFault>
-    ensures few { IfOk result (λ texts. (length texts.object.items ≤ most_file_bytes)
-        × (length texts.boards.items ≤ most_file_bytes)) }
+    ensures texts { IfOk result (λ texts. AreOfFiles R.File.remaining texts.object.items texts.boards.items) }
     ensures fault { IfErr result (λ fault. is_of_a_journal fault ≡ false) }
     ensures unread { IfErr result IsUnread }
 {
@@ -46,8 +45,7 @@ pub fn session_of_files<R: Files + AllocGlobal>(
     object_path: &str,
     boards_path: &str,
 ) -> Result<OpenedSession, KeptSessionFault>
-    ensures session { IfOk result (λ session. (object boards : List ℕ)
-        × (length object ≤ most_file_bytes) × (length boards ≤ most_file_bytes)
+    ensures session { IfOk result (λ session. (object boards : List ℕ) × AreOfFiles R.File.remaining object boards
         × IsSessionOf object boards session.book.opening session.book.journal session.budget) }
     ensures fault { IfErr result (λ fault. is_of_a_journal fault ≡ false) }
 {

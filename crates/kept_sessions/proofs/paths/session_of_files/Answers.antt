@@ -4,13 +4,11 @@ use Rattle.kept_sessions.proofs.paths.session_of_files.Goals as goal
 pub returns-in-Ok-clause-session : goal.returns-in-Ok-clause-session
 returns-in-Ok-clause-session g c =
     let texts = c.in-Ok.texts in
-    let few = c.in-Ok.ensures.few in
     IfOk-weaker c.session_of_texts.result _ _
     (λ session is. (
       texts.object.items,
       texts.boards.items,
-      few.0,
-      few.1,
+      c.in-Ok.ensures.texts,
       rw (c.as_slice.ensures.value, c.as_slice-boards.ensures.value) at is,
     ))
     c.session_of_texts.ensures.session
