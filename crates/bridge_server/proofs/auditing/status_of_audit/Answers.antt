@@ -4,7 +4,7 @@ use Rattle.std.proofs.KnownBytes.{Appends-nil}
 use Rattle.bridge_server.proofs.auditing.status_of_audit.Goals as goal
 
 pub returns-in-Ok-write_text-clause-silent : goal.returns-in-Ok-write_text-clause-silent
-returns-in-Ok-write_text-clause-silent g c = λ _ _. Appends-nil (g.E.Write.contents c.args.errors.now)
+returns-in-Ok-write_text-clause-silent g c = λ _. Appends-nil (g.E.Write.contents c.args.errors.now)
 
 pub returns-in-Ok-clause-part : goal.returns-in-Ok-clause-part
 returns-in-Ok-clause-part g c = λ _.
