@@ -12,6 +12,7 @@ line is a check: 'ok', or 'FAILED' with what came. The status is 1 where one fai
 """
 import gzip
 import hashlib
+import os
 import pathlib
 import shutil
 import subprocess
@@ -29,7 +30,7 @@ PAGE = ROOT / "out/page"
 # what a browser says of codings
 BROWSERS = b"Accept-Encoding: gzip, deflate, br, zstd"
 TYPES = {".html": "text/html; charset=utf-8", ".css": "text/css; charset=utf-8", ".js": "text/javascript; charset=utf-8", ".json": "application/json",
-         ".svg": "image/svg+xml", ".md": "text/plain; charset=utf-8", ".py": "application/octet-stream", ".txt": "text/plain; charset=utf-8"}
+         ".svg": "image/svg+xml", ".md": "text/plain; charset=utf-8", ".txt": "text/plain; charset=utf-8"}
 GUARDS = {"cache-control": "no-cache", "x-content-type-options": "nosniff", "referrer-policy": "no-referrer"}
 SECRET = b"nobody may read this"
 # targets of requests, as bytes; none names a file
@@ -83,7 +84,7 @@ def policy():
 
 
 def wanted(path, data, method="GET", coding=None):
-    fields = {**GUARDS, "content-security-policy": policy(), "vary": "accept-encoding", "etag": digest(data), "content-type": TYPES[path.suffix], "connection": "close"}
+    fields = {**GUARDS, "content-security-policy": policy(), "vary": "accept-encoding", "etag": digest(data), "content-type": TYPES.get(path.suffix, "application/octet-stream"), "connection": "close"}
     if coding:
         fields["content-encoding"] = coding
     if method == "GET" or data:
@@ -271,22 +272,23 @@ def nginx(folder, port, server_port):
     paths = "\n".join(f"{name}_temp_path {folder / name};" for name in ("client_body", "proxy", "fastcgi", "uwsgi", "scgi"))
     (folder / "nginx.conf").write_text(f"daemon off;\nworker_processes 1;\nuser root;\npid {folder}/pid;\nerror_log {folder}/errors;\n"
                                        f"events {{ worker_connections 256; }}\nhttp {{\naccess_log off;\n{paths}\n{text}\n}}\n")
-    return ["nginx", "-p", folder, "-e", folder / "errors", "-c", folder / "nginx.conf"]
+    return ["-p", folder, "-e", folder / "errors", "-c", folder / "nginx.conf"]
 
 
 def caddy(folder, port, server_port):
     text = written("### The page from the program", "bridge.example.org {").replace("bridge.example.org", f"http://127.0.0.1:{port}").replace(":8080", f":{server_port}")
     (folder / "Caddyfile").write_text("{\n    admin off\n}\n" + text)
-    return ["caddy", "run", "--config", folder / "Caddyfile", "--adapter", "caddyfile"]
+    return ["run", "--config", folder / "Caddyfile", "--adapter", "caddyfile"]
 
 
 def in_front(server):
     """The page and the session through a web server."""
     for name, configured in (("nginx", nginx), ("caddy", caddy)):
-        if not shutil.which(name):
+        program = shutil.which(name, path=f"{os.environ['PATH']}:/usr/sbin")
+        if not program:
             tell(f"{name} isn't installed, so its lines aren't tried")
             continue
-        with tempfile.TemporaryDirectory() as folder, Front(configured(pathlib.Path(folder), port := free_port(), server.port), port) as front:
+        with tempfile.TemporaryDirectory() as folder, Front([program, *configured(pathlib.Path(folder), port := free_port(), server.port)], port) as front:
             close = [BROWSERS, b"Connection: close"]
             got = answer(front, request(b"/", fields=close))
             fields = {field.lower(): value for field, value in got[1].items()}
