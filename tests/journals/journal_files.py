@@ -136,13 +136,15 @@ def ran(program, *words, env=None, seconds=60):
 # what a start says that isn't refused, where its port is taken (docs/RUNNING.md)
 TAKEN = re.compile(rb"bridge_server: serves at [^\n]*\nbridge_server: NotListening \(port \d+: another program listens there\)\n")
 GOES_THROUGH = (3, b"", b"")
+# how it was to serve is told before the entries are entered again, of which one may not be accepted
+REFUSED_LATER = re.compile(rb"\Abridge_server: serves at [^\n]*\n(?=bridge_server: NotAccepted\(\d+\)\n\Z)")
 
 
 def started(ended):
-    """How a start ended whose port is taken: as `GOES_THROUGH` says where nothing else ended it."""
+    """How a start ended whose port is taken: as `GOES_THROUGH` says where nothing else ended it, and else by its fault alone."""
     status, out, err = ended
     assert status != 3 or err, "the status 3 says why"
-    return status, out, TAKEN.sub(b"", err, count=1)
+    return status, out, REFUSED_LATER.sub(b"", TAKEN.sub(b"", err, count=1))
 
 
 def fault(name):

@@ -79,7 +79,8 @@ void _exit(int status) {
 }
 """
 # what it says where it finds no memory (docs/RUNNING.md)
-NO_ROOM = re.compile(rb"bridge_server: OutOfMemory \(for the (words|session)\)\n")
+# room to read a script is asked for before the words are read
+NO_ROOM = re.compile(rb"bridge_server: OutOfMemory \(for the (words|script|session)\)\n")
 # each kind, and the numbers of the errors with which it fails: input or output, no space, no permission, no memory; 0 moves a byte alone
 KINDS = {"read": (5, 0), "write": (5, 28, 0), "open": (13, 24), "mkdir": (13, 28), "random": (38,)}
 

@@ -24,7 +24,8 @@ from report import FORMS, kept, results_of_the_small, small_session
 PROGRAM = os.path.abspath(sys.argv[1] if len(sys.argv) > 1 else "crates/bridge_server/out/bridge_server")
 STEP = 1000
 # what it says where it finds no memory, where it can't read the journal for want of it, and where it can't write (docs/RUNNING.md)
-NO_ROOM = re.compile(rb"bridge_server: OutOfMemory \(for the (words|session|journal)\)\n")
+# room to read a script is asked for before the words are read
+NO_ROOM = re.compile(rb"bridge_server: OutOfMemory \(for the (words|script|session|journal)\)\n")
 UNREAD = re.compile(rb"bridge_server: Journal[A-Z][a-z]+\n")
 UNWRITTEN = b"bridge_server: OutputUnwritten (the output can't be written)\n"
 FAILING = r"""
