@@ -34,15 +34,16 @@ page:
 
 # The example session with the page, on this computer, until Ctrl-C.
 serve: $(PROGRAM) page
-	$(PROGRAM) serve --session examples/session.json --deals examples/club.pbn --journal $(JOURNAL) --port $(PORT) --displays 16 --page out/page
+	$(PROGRAM) serve --session examples/session.json --deals examples/club.pbn --journal $(JOURNAL) --port $(PORT) --page out/page
 
-# The same to try the page out: nothing is kept, and it is said who signs in.
+# The same to try the page out: it begins anew each time, and it is said who signs in.
 demo-page: $(PROGRAM) page
+	rm -f out/demo.journal out/demo.journal-wal
 	@echo "The page is at http://127.0.0.1:$(PAGE_PORT)/ until you press Ctrl-C. Sign in as anna (North in NS1), rosa (East in EW1),"
 	@echo "carla (North in NS2), vera (watches), sam (enters and confirms results), dora (directs) or ada (administers); the token of"
 	@echo "each is the name with -example behind it, as sam-example. Open it in two windows, as sam and as anna: enter and confirm"
 	@echo "board 1 at table 1, and see it open for anna."
-	$(PROGRAM) serve --session examples/session.json --deals examples/club.pbn --port $(PAGE_PORT) --displays 16 --workers 1 --page out/page
+	$(PROGRAM) serve --session examples/session.json --deals examples/club.pbn --journal out/demo.journal --port $(PAGE_PORT) --workers 1 --page out/page
 
 $(PROGRAM):
 	@echo "make demo builds $(PROGRAM)."; exit 1

@@ -37,12 +37,14 @@ TAPPED = """const [id, done] = arguments;
 const [begun, hash] = [performance.now(), location.hash];
 const afterFrame = (act) => requestAnimationFrame(() => {
     const heard = new MessageChannel();
-    heard.port1.onmessage = act;
+    const isWhole = !document.querySelector("main.begun");
+    heard.port1.onmessage = () => act(performance.now() - begun, isWhole);
     heard.port2.postMessage(null);
 });
-const passed = () => performance.now() - begun;
-const whenWhole = (first) => (document.querySelector("main.begun") ? afterFrame(() => whenWhole(first)) : afterFrame(() => done([first, passed()])));
-const drawn = () => afterFrame(() => whenWhole(passed()));
+const drawn = () => afterFrame((first, isWhole) => {
+    const later = (passed, isWhole) => (isWhole ? done([first, passed]) : afterFrame(later));
+    later(first, isWhole);
+});
 document.getElementById(id).click();
 if (location.hash === hash) drawn();
 else addEventListener("hashchange", drawn, { once: true });"""

@@ -23,7 +23,7 @@ import { signInView } from "./views/sign_in.js";
 
 const toldBackFor = 15_000;
 // as many elements of a view that is opened fill a phone's window, and are drawn before the others
-const drawnFirst = 150;
+const drawnFirst = 80;
 const part = (id) => document.getElementById(id);
 
 function storageOfTab() {
@@ -65,6 +65,7 @@ export class Page {
   #isPressed = false;
   #isFromTop = false;
   #drawRest = null;
+  #madeOf = new Map();
   #store;
 
   /** It goes on with what was typed before it was loaded (begin.js). */
@@ -181,6 +182,7 @@ export class Page {
   staySignedIn(stays) {
     if (!stays) forgetAccount(storageOfTab());
     else if (!keepAccount(storageOfTab(), this.#account)) this.refuse(texts.signIn.staysNot);
+    this.#madeOf.delete("foot"); // where it can't be kept, what was ticked is cleared
     this.draw();
   }
 
@@ -443,8 +445,16 @@ export class Page {
    */
   #stateChanged() {
     if (this.state.facts?.phase === "Final") forgetAccount(storageOfTab());
-    if (this.#isPressed || this.#drawRest !== null || document.activeElement?.tagName === "SELECT") this.#isStale = true;
-    else if (this.#isFromTop) this.drawAnew();
+    if (this.#drawRest !== null || this.#isHeldBack()) this.#isStale = true;
+    else this.#drawChanged();
+  }
+
+  #isHeldBack() {
+    return this.#isPressed || document.activeElement?.tagName === "SELECT";
+  }
+
+  #drawChanged() {
+    if (this.#isFromTop) this.drawAnew();
     else this.draw();
   }
 
@@ -466,8 +476,8 @@ export class Page {
 
   draw() {
     this.#isStale = false;
-    this.#isWhole();
-    patchContent(part("top"), fragmentOf(headView(this)));
+    this.#drawRest = null;
+    this.#drawHead();
     const hadFocus = part("content").contains(document.activeElement) && document.activeElement !== part("content");
     const scrollAgain = keepScrolled(part("content"));
     const content = fragmentOf(this.#content());
@@ -475,9 +485,8 @@ export class Page {
     patchContent(part("content"), content);
     scrollAgain();
     if (hadFocus && document.activeElement === document.body) part("heading")?.focus({ preventScroll: true });
-    this.#drawFoot();
     this.#drawStrips();
-    this.#announce();
+    this.#isDrawn();
   }
 
   /** What was open is open before it is put in, so that who types in it stays there. */
@@ -494,36 +503,68 @@ export class Page {
   drawAnew() {
     this.#isFromTop = false;
     this.#isStale = false;
-    const { begun, putRest } = beginningOf([this.#content()], drawnFirst);
+    const { begun, isWhole, putRest } = beginningOf(() => this.#content(), drawnFirst);
     this.#openDetailsOf(begun);
-    patchContent(part("top"), fragmentOf(headView(this)));
-    part("content").classList.add("begun");
+    // a browser lays out what has changed before it takes away what has the focus
     part("content").replaceChildren(begun);
-    this.#drawFoot();
+    part("content").classList.toggle("begun", !isWhole);
+    this.#drawHead();
     this.#drawStrips();
     document.title = texts.windowTitle(part("heading")?.textContent ?? "");
     scrollTo(0, 0);
     part("heading")?.focus({ preventScroll: true });
+    if (isWhole) this.#isDrawn();
+    else this.#drawAfterFrame(putRest);
+  }
+
+  /** The rest of a view, or all of it anew where the server has answered meanwhile. */
+  #drawAfterFrame(putRest) {
     const drawRest = () => {
       if (this.#drawRest !== drawRest) return;
-      putRest(part("content"));
-      this.#openDetailsOf(part("content"));
-      this.#isWhole();
-      this.#drawFoot();
-      this.#announce();
-      if (this.#isStale) this.#stateChanged();
+      if (this.#isStale && !this.#isHeldBack()) this.#drawChanged();
+      else this.#putRest(putRest);
     };
     this.#drawRest = drawRest;
     afterFrame(drawRest);
   }
 
-  #isWhole() {
+  #putRest(putRest) {
+    try {
+      putRest(part("content"));
+    } catch (fault) {
+      // an answer can't be read: the view says so where it is drawn at once
+      if (!(fault instanceof TypeError)) throw fault;
+      this.draw();
+      return;
+    }
+    this.#openDetailsOf(part("content"));
+    this.#isDrawn();
+  }
+
+  /** The view is whole, and what stands around it is drawn with it. */
+  #isDrawn() {
     this.#drawRest = null;
     part("content").classList.remove("begun");
+    this.#drawFoot();
+    this.#announce();
+  }
+
+  #drawHead() {
+    const { facts, user, permissions } = this.state;
+    this.#drawAround("top", [facts, user, permissions, this.route.view], () => headView(this));
   }
 
   #drawFoot() {
-    patchContent(part("foot"), fragmentOf(footView(this)));
+    const { facts, version } = this.state;
+    this.#drawAround("foot", [facts, version, this.heardAt, this.staysSignedIn, this.hasLetters], () => footView(this));
+  }
+
+  /** Draws what stands around each view, where anything of what it is made of is another than it was. */
+  #drawAround(id, madeOf, make) {
+    const before = this.#madeOf.get(id) ?? [];
+    if (before.length > 0 && madeOf.every((each, index) => each === before[index])) return;
+    this.#madeOf.set(id, madeOf);
+    patchContent(part(id), fragmentOf(make()));
   }
 
   #content() {
@@ -539,7 +580,8 @@ export class Page {
   }
 
   #drawStrips() {
-    patchContent(part("offline"), fragmentOf(offlineView(this), restartView(this)));
+    const { permissions, wasRestarted } = this.state;
+    this.#drawAround("offline", [this.isSlow, this.offlineFor, this.backAfter, permissions, wasRestarted], () => [offlineView(this), restartView(this)]);
   }
 
   /** Tells who listens what was denied, when it changes. */

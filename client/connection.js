@@ -1,5 +1,5 @@
-// The connection to the server: opened when something is asked, closed when nothing is. Each open connection holds one of
-// the server's displays, of which there are 32 at most, so none is kept for later.
+// The connection to the server: opened when something is asked, closed when nothing is. Each open connection is one of the
+// clients for whom the server has places, and ends where it says nothing for some minutes, so none is kept for later.
 
 /** Why an answer is missing. `notSent`: the server never got the message. `unanswered`: it may have. */
 export class ConnectionFault extends Error {
@@ -30,7 +30,7 @@ export class Connection {
    * @param {object} options
    * @param {(address: string) => WebSocket} [options.makeSocket] for tests
    * @param {Partial<typeof usualTimes>} [options.times] in milliseconds
-   * @param {(isSlow: boolean) => void} [options.onSlow] told when the handshake takes long, since all displays are taken
+   * @param {(isSlow: boolean) => void} [options.onSlow] told when the handshake takes long
    */
   constructor(address, { makeSocket = (at) => new WebSocket(at), times = {}, onSlow = () => {} } = {}) {
     this.#address = address;

@@ -16,7 +16,8 @@ const listeners = { onClick: "click", onInput: "input", onChange: "change", onSu
  */
 export function element(tag, attributes = {}, ...children) {
   const made = document.createElement(tag);
-  for (const [name, value] of Object.entries(attributes ?? {})) setAttribute(made, name, value);
+  if (beginning !== null) beginning.wanted -= 1;
+  for (const name in attributes) setAttribute(made, name, attributes[name]);
   put(made, children);
   return made;
 }
@@ -43,11 +44,23 @@ function listen(made, type, listener) {
   made.addEventListener(type, entry.hear);
 }
 
+/** What is made to be drawn first, while it is: how many elements are still wanted, and for each place that has them what is made later. */
+let beginning = null;
+
+/** @param {Content} child */
 function put(made, child) {
+  const nodes = [];
+  gather(nodes, made, child);
+  made.append(...nodes);
+}
+
+/** The nodes and texts of some content, of which as much as is made now. */
+function gather(nodes, made, child) {
   if (child === null || child === undefined || child === false) return;
-  if (Array.isArray(child)) for (const each of child) put(made, each);
-  else if (typeof child === "function") put(made, child());
-  else made.append(child instanceof Node ? child : document.createTextNode(String(child)));
+  if (Array.isArray(child)) for (const each of child) gather(nodes, made, each);
+  else if (beginning !== null && isForLater(made, child)) beginning.later.get(made).push(child);
+  else if (typeof child === "function") gather(nodes, made, child());
+  else nodes.push(child instanceof Node ? child : String(child));
 }
 
 /** Elements and texts that stand in no place yet. */
@@ -115,35 +128,54 @@ const idOf = (node) => node.id;
 
 /** Into these a cut goes; any other is drawn whole or not at all. */
 const divided = new Set(["SECTION", "DIV", "UL", "TABLE", "TBODY"]);
+/** What is in these stands side by side, and would move where only some of it is drawn. */
+const sideBySide = new Set(["diagram", "fields"]);
+
+const isDivided = (node) => divided.has(node.nodeName) && !sideBySide.has(node.getAttribute("class"));
+
+/** Once there are enough elements, what is a function isn't made yet, and what is to stand behind it waits too. */
+function isForLater(place, child) {
+  const { begun, wanted, later } = beginning;
+  const isEnough = later.size > 0 || wanted <= 0;
+  const canWait = isEnough && typeof child === "function" && (place === begun || isDivided(place));
+  if (canWait && !later.has(place)) later.set(place, []);
+  return later.has(place);
+}
 
 /**
  * Makes the first elements of some content, so that they can be drawn before the rest of it.
- * @param {Content[]} content its parts; one that is a function is made when its turn comes
+ * @param {() => Content} makeContent parts of it that are functions, in whatever depth, are made when their turn comes
  * @param {number} most how many elements are made, or a few more
- * @returns {{begun: DocumentFragment, putRest: (place: Element) => void}} with what puts the rest behind them, where they stand by then
+ * @returns {{begun: DocumentFragment, isWhole: boolean, putRest: (place: Element) => void}} whether there is no rest, and what puts it
+ *   where it belongs, once the others stand in a place of the page
  */
-export function beginningOf(content, most) {
+export function beginningOf(makeContent, most) {
   const begun = document.createDocumentFragment();
-  /** @type {Content[]} */
-  const parts = content.flat(Infinity);
-  while (parts.length > 0 && begun.querySelectorAll("*").length < most) put(begun, parts.shift());
-  const putCut = cutBehind(begun, most);
+  const later = new Map();
+  beginning = { begun, wanted: most, later };
+  try {
+    put(begun, makeContent);
+  } finally {
+    beginning = null;
+  }
+  const cut = cutBehind(begun, most, later);
   return {
     begun,
+    isWhole: cut.length === 0 && later.size === 0,
     putRest: (place) => {
-      putCut(place);
-      put(place, parts);
+      for (const [container, nodes] of [...cut, ...later]) put(container === begun ? place : container, nodes);
     },
   };
 }
 
 /**
- * Takes out of new content what stands behind its first elements.
+ * Takes out of new content what stands behind its first elements, or behind a place in which more is made later.
  * @param {Node} fresh an element or a fragment
  * @param {number} most how many elements stay, or a few more
- * @returns {(place: Node) => void} puts the rest where it belongs, in the element in which the others stand by then
+ * @param {Map<Node, Content[]>} later
+ * @returns {[Node, Node[]][]} what was taken out, and of what
  */
-function cutBehind(fresh, most) {
+function cutBehind(fresh, most, later) {
   const rest = [];
   let count = 0;
   const cut = (container) => {
@@ -153,23 +185,25 @@ function cutBehind(fresh, most) {
         for (const each of siblingsOf(node)) container.removeChild(each);
         return;
       }
-      if ("setAttribute" in node) count += 1;
-      if (divided.has(node.nodeName)) cut(node);
-      else if ("setAttribute" in node) count += node.querySelectorAll("*").length;
+      if (!("setAttribute" in node)) continue;
+      count += 1;
+      if (isDivided(node)) cut(node);
+      else count += node.querySelectorAll("*").length;
+      if (later.has(node)) count = Infinity;
     }
   };
   cut(fresh);
-  return (place) => rest.forEach(([container, nodes]) => (container === fresh ? place : container).append(...nodes));
+  return rest;
 }
 
-/** After the frame that is drawn next; where nobody sees the page, none is. */
+/** In the frame behind the one that is drawn next; where nobody sees the page, none is. */
 export function afterFrame(act) {
   let isOver = false;
   const once = () => {
     if (!isOver) act();
     isOver = true;
   };
-  requestAnimationFrame(() => setTimeout(once, 0));
+  requestAnimationFrame(() => requestAnimationFrame(once));
   setTimeout(once, longestFrame);
 }
 
@@ -187,9 +221,21 @@ function patchNode(node, fresh) {
     if (node.textContent !== fresh.textContent) node.textContent = fresh.textContent;
     return;
   }
-  patchAttributes(node, fresh);
+  if (node.isEqualNode(fresh)) {
+    const [there, now] = [node, fresh].map((each) => each.querySelectorAll(active));
+    there.forEach((each, index) => patchWhatIsDone(each, now[index]));
+  } else {
+    patchAttributes(node, fresh);
+    patchContent(node, fresh);
+  }
+  patchWhatIsDone(node, fresh);
+}
+
+/** These alone hear anything: what looks the same may do something else than before, or have been typed into. */
+const active = "button, input, select, textarea, form";
+
+function patchWhatIsDone(node, fresh) {
   patchListeners(node, fresh);
-  patchContent(node, fresh);
   for (const property of properties[node.nodeName] ?? []) {
     if (node[property] !== fresh[property]) node[property] = fresh[property];
   }
@@ -260,15 +306,10 @@ export function choice(id, label, options, chosen, onChange, more = {}) {
     element("select", { id, onChange: (event) => onChange(event.target.value), ...more }, items));
 }
 
-/** A table with a caption, heads of columns, and rows of cells; the first cell of a row is its head. */
+/** A table with a caption, heads of columns, and rows of cells, each of which may be made by a function; the first cell of a row is its head. */
 export function table(caption, heads, rows, more = {}) {
   const head = heads.map((text) => (text instanceof Node ? text : element("th", { scope: "col" }, text)));
-  const body = rows.map((cells) => element("tr", {}, cells.map((cell, index) =>
-    cell instanceof Node && ["TD", "TH"].includes(cell.nodeName) ? cell : element(
-      index ? "td" : "th",
-      index ? {} : { scope: "row" },
-      cell,
-    ))));
+  const body = rows.map((cells) => (typeof cells === "function" ? () => tableRow(cells()) : tableRow(cells)));
   return element("div", { class: "scrolls", tabindex: "0", role: "region", "aria-label": caption },
     element(
       "table",
@@ -278,6 +319,13 @@ export function table(caption, heads, rows, more = {}) {
       element("tbody", {}, body),
     ));
 }
+
+const tableRow = (cells) => element("tr", {}, cells.map((cell, index) =>
+  cell instanceof Node && ["TD", "TH"].includes(cell.nodeName) ? cell : element(
+    index ? "td" : "th",
+    index ? {} : { scope: "row" },
+    cell,
+  )));
 
 /** Buttons of which one is chosen: radio buttons, drawn as tiles. */
 export const tiles = (name, legend, options, chosen, onChoose, more = {}) =>

@@ -142,7 +142,7 @@ export const texts = {
     letters: "Suits as letters",
     offline: (seconds) => `No connection to the server. The page tries again within ${plural(seconds, "second", "seconds")}; what you see is what it knew last.`,
     tryNow: "Try now",
-    slow: "All places at the server are taken. Waiting for one …",
+    slow: "The server takes long to answer. Waiting …",
     embargo: "The session is under embargo: until it is lifted, nobody but directors sees a board.",
     restarted: "The server was started again without what was entered before: results, rulings, seats. What you entered or confirmed in this tab is marked, and what you typed is kept: enter it again.",
     restartedElsewhere: "The server was started again without what was entered before. Whoever enters the results sees it too.",

@@ -101,7 +101,7 @@ test("an answer that doesn't come, or is no object, ends the connection", async 
   assert.equal(await asked, "unanswered");
 });
 
-test("a handshake that waits for a display is said to be slow, and given up in the end", async () => {
+test("a handshake that isn't answered is said to be slow, and given up in the end", async () => {
   const { connection, sockets, slow } = connected();
   const known = faultOf(connection.signIn("anna", "secret"));
   await pause(35);

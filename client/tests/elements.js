@@ -16,7 +16,7 @@ class FakeNode {
   }
 
   append(...nodes) {
-    for (const node of nodes) this.insertBefore(node, null);
+    for (const node of nodes) this.insertBefore(typeof node === "string" ? new FakeNode("", node) : node, null);
   }
 
   replaceChildren(...nodes) {
@@ -33,6 +33,13 @@ class FakeNode {
   removeChild(node) {
     this.childNodes.splice(this.childNodes.indexOf(node), 1);
     node.parent = null;
+  }
+
+  isEqualNode(other) {
+    const same = (one, two) => one.nodeName === two.nodeName && one.text === two.text && one.childNodes.length === two.childNodes.length
+      && JSON.stringify(Object.entries(one.attributes).sort()) === JSON.stringify(Object.entries(two.attributes).sort())
+      && one.childNodes.every((node, index) => same(node, two.childNodes[index]));
+    return same(this, other);
   }
 
   get nextSibling() {

@@ -2,7 +2,7 @@
 import assert from "node:assert/strict";
 import { test } from "node:test";
 import { byId, nodeOf, textOf } from "./elements.js";
-import { beginningOf, button, element, fragmentOf, patchContent } from "../dom.js";
+import { beginningOf, button, element, fragmentOf, patchContent, table } from "../dom.js";
 
 function drawn(...content) {
   const container = nodeOf("main");
@@ -74,25 +74,66 @@ function sectionsOf(count, rows, onMade = () => {}) {
   return [element("h1", {}), ["words", null], Array.from({ length: count }, (_, index) => (index < 2 ? section(index) : () => section(index)))];
 }
 
+/** What is drawn first of a view, in a place, and what puts the rest there. */
+function begin(makeContent, most) {
+  const { begun, isWhole, putRest } = beginningOf(makeContent, most);
+  const container = nodeOf("main");
+  container.append(...begun.childNodes);
+  return { container, isWhole, putRest: () => putRest(container) };
+}
+
+const countIn = (container) => container.querySelectorAll("*").length;
+
 test("what is drawn first and the rest are together what would be drawn at once, wherever the first ends", () => {
-  const whole = fragmentOf(sectionsOf(4, 5)).childNodes.map(shape);
+  const [whole, count] = [fragmentOf(sectionsOf(4, 5)).childNodes.map(shape), countIn(fragmentOf(sectionsOf(4, 5)))];
   for (let most = 1; most < 140; most += 1) {
-    const { begun, putRest } = beginningOf(sectionsOf(4, 5), most);
-    const [container, first] = [nodeOf("main"), begun.querySelectorAll("*").length];
-    container.append(...begun.childNodes);
-    assert.ok(first >= Math.min(most, 97) && first < most + 4, `${first} elements where ${most} were asked for`);
+    const { container, isWhole, putRest } = begin(() => sectionsOf(4, 5), most);
+    const first = countIn(container);
+    assert.ok(first >= Math.min(most, count) && first < most + 4, `${first} elements where ${most} were asked for`);
     assert.ok(container.querySelectorAll("*").filter(({ tagName }) => tagName === "TR").every((row) => row.childNodes.length === 2), "no row is cut");
-    putRest(container);
+    assert.equal(isWhole, first === count);
+    putRest();
     assert.deepEqual(container.childNodes.map(shape), whole);
   }
 });
 
 test("what isn't drawn first isn't made first", () => {
   const made = [];
-  const { begun, putRest } = beginningOf(sectionsOf(4, 5, (index) => made.push(index)), 30);
+  const { putRest } = begin(() => sectionsOf(4, 5, (index) => made.push(index)), 30);
   assert.deepEqual(made, [0, 1]);
-  const container = nodeOf("main");
-  container.append(...begun.childNodes);
-  putRest(container);
+  putRest();
   assert.deepEqual(made, [0, 1, 2, 3]);
+});
+
+/** A list and then a table of so many rows, each made when its turn comes, and words behind both. */
+function listAndTable(count, onMade) {
+  const numbers = Array.from({ length: count }, (_, index) => index);
+  const made = (number, content) => {
+    onMade(number);
+    return content;
+  };
+  return [
+    element("section", {}, element("ul", {}, numbers.map((number) => () => made(number, element("li", {}, number)))), element("p", {}, "behind the list")),
+    element("section", {}, table("caption", ["one", "two"], numbers.map((number) => () => made(number, [number, "text"]))), element("p", {}, "behind the table")),
+    "behind all",
+  ];
+}
+
+test("of a list or a table so much is made first as is drawn first, however long it is", () => {
+  const whole = fragmentOf(listAndTable(500, () => {})).childNodes.map(shape);
+  for (const most of [1, 20, 80, 499, 520, 700]) {
+    const made = [];
+    const { container, putRest } = begin(() => listAndTable(500, (number) => made.push(number)), most);
+    assert.ok(made.length <= most + 2, `${made.length} rows are made where ${most} elements were asked for`);
+    assert.ok(countIn(container) <= most + 4, `${countIn(container)} elements where ${most} were asked for`);
+    putRest();
+    assert.equal(made.length, 1000);
+    assert.deepEqual(container.childNodes.map(shape), whole);
+  }
+});
+
+test("what stands side by side is drawn together or not at all, since it would move", () => {
+  const view = (name) => () => [element("h1", {}), element("div", { class: name }, Array.from({ length: 40 }, () => element("p", {})))];
+  for (const name of ["diagram", "fields"]) assert.equal(countIn(begin(view(name), 10).container), 42);
+  assert.equal(countIn(begin(view("paper"), 10).container), 10);
 });

@@ -3,9 +3,12 @@ import assert from "node:assert/strict";
 import { test } from "node:test";
 import { emptyDraft } from "../results.js";
 import { newForms } from "../forms.js";
-import { byClass, byId, byTag, pageOf, textOf } from "./elements.js";
+import { ask } from "../messages.js";
+import { beginningOf, element } from "../dom.js";
+import { byClass, byId, byTag, nodeOf, pageOf, textOf } from "./elements.js";
 import { howell, mitchell, withoutEw3 } from "./movements.js";
 import { boardsView } from "../views/boards.js";
+import { answerView } from "../views/denial.js";
 import { directorView } from "../views/director.js";
 import { scorerView } from "../views/scorer.js";
 import { seatsSection } from "../views/director_seats.js";
@@ -76,4 +79,17 @@ test("a director chooses among the tables that play a board", () => {
   assert.deepEqual(optionsOf(directorView(director(howell(), forms), {}), "cell-board"), [1, 2, 3, 4, 5]);
   const cell = directorView({ ...director(howell(), forms), drafts }, { table: 2, board: 2 });
   assert.equal(textOf(byTag(cell, "p")[0]), "e1 (EW1) against EW2 · round 4");
+});
+
+test("an answer of another shape takes nothing else away, whenever its parts are made", () => {
+  const page = pageOf(mitchell(3, 3), "v", { answer: () => ({ value: null, denied: null, error: null }) });
+  const view = (show) => [element("h1", {}, "title"), answerView(page, ask.accounts(), show), element("p", {}, "behind")];
+  const unreadable = /^title.*read.*behind$/u;
+  assert.match(textOf(view(({ users }) => users)), unreadable);
+  assert.match(textOf(view((value) => [element("p", {}, "first"), () => value.users])), /^titlefirst.*read.*behind$/u);
+  const list = (value) => element("ul", {}, element("li", {}), () => value.users);
+  assert.match(textOf(view(list)), unreadable);
+  const { begun, putRest } = beginningOf(() => view(list), 2);
+  assert.equal(textOf([begun]), "title");
+  assert.throws(() => putRest(nodeOf("main")), TypeError, "so that the page draws all of the view at once");
 });

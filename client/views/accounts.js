@@ -25,7 +25,7 @@ export function accountsView(page) {
 function usersSection(page, accounts) {
   return section(
     texts.accounts.users,
-    element("ul", { class: "rows users" }, accounts.users.map(([name, assigned]) => userItem(page, name, assigned))),
+    element("ul", { class: "rows users" }, accounts.users.map(([name, assigned]) => () => userItem(page, name, assigned))),
   );
 }
 

@@ -52,7 +52,7 @@ function turns(page, { first, last, newer, older }, rows) {
 /** @param {any} page @param {import("../messages.js").AuditRow[]} rows @param {{first: number, last: number}} shown */
 function auditTable(page, rows, { first, last }) {
   if (rows.length === 0) return element("p", {}, texts.audit.empty);
-  const cells = [...rows].reverse().map(([number, user, word, target]) =>
+  const cells = [...rows].reverse().map(([number, user, word, target]) => () =>
     [number, user === null ? texts.audit.solver : accountMark(page.state.facts, user), wordText(word), aboutView(page, aboutOf(word, target))]);
   return table(texts.audit.caption(first, last), texts.audit.heads, cells, { class: "audit" });
 }

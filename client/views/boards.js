@@ -19,7 +19,7 @@ export function boardsView(page) {
   return [
     heading(texts.boards.title),
     element("p", {}, texts.boards.explained),
-    [...now, ...others].map((row) => roundView(facts, row, seat.pair)),
+    [...now, ...others].map((row) => () => roundView(facts, row, seat.pair)),
   ];
 }
 

@@ -72,10 +72,18 @@ export function answerView(page, query, show) {
   if (!answer) return element("p", { class: "waiting" }, texts.waiting);
   if (answer.denied) return denialView(page, query, answer.denied, answer.version);
   if (answer.error) return element("p", { class: "error" }, texts.error(answer.error));
+  return readable(() => show(answer.value));
+}
+
+/**
+ * What is made of an answer, as are its parts whose turn comes later: one of another shape than docs/PROTOCOL.md's must not take the
+ * whole page away.
+ * @param {() => import("../dom.js").Content} make
+ */
+function readable(make) {
   try {
-    return show(answer.value);
+    return [make()].flat(Infinity).map((part) => (typeof part === "function" ? () => readable(part) : part));
   } catch (fault) {
-    // An answer of another shape than docs/PROTOCOL.md's must not take the whole page away.
     if (!(fault instanceof TypeError)) throw fault;
     return element("p", { class: "error" }, texts.error("Unreadable"));
   }

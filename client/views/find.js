@@ -123,6 +123,6 @@ function foundView(page, boards) {
   };
   return [
     element("p", { id: "found-count", role: "status" }, texts.find.count(boards.length)),
-    element("ul", { class: "board-list" }, boards.map(item)),
+    element("ul", { class: "board-list" }, boards.map((board) => () => item(board))),
   ];
 }

@@ -8,7 +8,7 @@ import { occasionOfCard, pairMark, playersMark } from "./marks.js";
 
 const boardsMark = (boards) => element("span", { class: "range" }, texts.guide.boards(boards));
 
-export const pairCards = (facts, ownPair) => facts.pairs.map((pair) => pairCard(facts, pair, pair === ownPair));
+export const pairCards = (facts, ownPair) => facts.pairs.map((pair) => () => pairCard(facts, pair, pair === ownPair));
 
 function pairCard(facts, pair, isOwn) {
   const players = playersMark(facts, pair);
@@ -25,7 +25,7 @@ function pairCard(facts, pair, isOwn) {
   );
 }
 
-export const tableCards = (facts) => tablesOf(facts).map((number) => tableCard(facts, number));
+export const tableCards = (facts) => tablesOf(facts).map((number) => () => tableCard(facts, number));
 
 function tableCard(facts, number) {
   const rows = cardOfTable(facts, number).map(({ round, ns, ew, boards, others }) => (ns

@@ -87,10 +87,10 @@ function paper(page, kind) {
   if (kind === "table_cards") return tableCards(facts);
   return listView(page, null, (boards) => {
     if (boards.length === 0) return element("p", {}, texts.papers.noBoards);
-    if (kind === "records") return boards.map((board) => recordView(page, board));
-    if (kind === "travellers") return boards.map((board) => travellerOf(page, board, pair));
+    if (kind === "records") return boards.map((board) => () => recordView(page, board));
+    if (kind === "travellers") return boards.map((board) => () => travellerOf(page, board, pair));
     const travellers = travellersOf(page, boards);
-    return pairsOfCards(facts, kind, pair).map((each) =>
+    return pairsOfCards(facts, kind, pair).map((each) => () =>
       sheet(occasionOfCard(facts), scoreCardView(facts, scoreCardOf(facts, travellers, each), each)));
   });
 }

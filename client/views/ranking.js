@@ -72,13 +72,13 @@ export function rankingTables(facts, ranking, ownPair) {
   const lists = rankingLists(facts, ranking);
   return [
     element("p", { class: "winners" }, texts.ranking.winners[lists.length === 1 ? "one" : "two"]),
-    lists.map((list) => rankingTable(facts, list, ownPair)),
+    lists.map((list) => () => rankingTable(facts, list, ownPair)),
   ];
 }
 
 function rankingTable(facts, { side, ranking }, ownPair) {
   const places = placesOf(ranking);
-  const rows = ranking.map(([pair, earned, tops], index) => {
+  const rows = ranking.map(([pair, earned, tops], index) => () => {
     const { place, shared } = places[index];
     const head = element(
       "th",

@@ -17,7 +17,7 @@ export function roomSection(page) {
     page.answer(ask.traveller(board))?.value?.rows?.some?.((row) => row.table === number && row.ruling) ?? false;
   const { rounds, tables } = roomOf(facts, isRuled);
   const heads = [texts.room.table, ...rounds.map((round) => texts.room.round(round, round === facts.round))];
-  const rows = tables.map(({ table: number, rounds: cells }) => [
+  const rows = tables.map(({ table: number, rounds: cells }) => () => [
     number,
     ...cells.map((each) => element("td", {}, element("div", { class: "room-cells" }, each.map(cellLink)))),
   ]);
@@ -25,8 +25,7 @@ export function roomSection(page) {
     texts.room.title,
     element("p", {}, texts.session.roundOf(facts.round, facts.rounds), " · ", texts.phase[facts.phase]),
     table(texts.room.caption, heads, rows, { class: "room" }),
-    legend(),
-    awaitedView(facts),
+    () => [legend(), awaitedView(facts)],
   );
 }
 
@@ -67,6 +66,6 @@ function awaitedView(facts) {
   );
   return [
     element("p", { id: "awaited" }, texts.director.awaited(awaited.length)),
-    element("ul", { class: "awaited" }, awaited.map(item)),
+    element("ul", { class: "awaited" }, awaited.map((cell) => () => item(cell))),
   ];
 }

@@ -27,7 +27,7 @@ export function scorerView(page, { table, board }) {
 
 function chooseTable(page) {
   const { facts } = page.state;
-  return [element("p", {}, texts.scorer.explained), element("ul", { class: "table-grid" }, tablesToScore(facts).map((table) => {
+  return [element("p", {}, texts.scorer.explained), element("ul", { class: "table-grid" }, tablesToScore(facts).map((table) => () => {
     const left = cellsOfTable(facts, table).filter((cell) => !cell.live).length;
     return element(
       "li",

@@ -61,7 +61,7 @@ function rankView(rank) {
 }
 
 function tablesView(facts, seat) {
-  const rows = roundOf(facts, facts.round).map((row) => {
+  const rows = roundOf(facts, facts.round).map((row) => () => {
     const own = seat && isIn(row, seat.pair);
     const head = element("th", { scope: "row", class: own ? "own" : null }, row.table);
     const boards = row.boards.map((board) => [boardLink(facts, row.table, board), " "]);
@@ -78,7 +78,7 @@ function boardLink(facts, tableNumber, board) {
 }
 
 function boardsGrid(facts) {
-  return element("ul", { class: "board-grid" }, facts.boards.map((board) => {
+  return element("ul", { class: "board-grid" }, facts.boards.map((board) => () => {
     const of = rowsOfBoard(facts.rows, board, facts.per_set).length;
     const count = of - awaitedTables(facts, board).length;
     const state = isHeld(facts, board) ? "held" : isComplete(facts, board) ? "complete" : count ? "waits" : "to_play";

@@ -75,6 +75,10 @@ def stays(page, nginx, server):
     holds("it can be asked for later", "anna-example" in page.script(STORED))
     page.press("stays-on")
     check("and be taken back", False, "anna-example" in page.script(STORED))
+    page.script("Storage.prototype.setItem = () => { throw new Error('it is full'); };")
+    page.press("stays-on")
+    holds("where a browser keeps nothing that is told", page.shows("lets the page keep nothing", "#refusal"))
+    check("and what was ticked is cleared", False, page.script("return document.getElementById('stays-on').checked"))
     page.press("sign-out")
 
 

@@ -100,7 +100,7 @@ class Server:
         return self.ask(name, message)[0]
 
     def hold(self, count):
-        """Strangers who have each shaken hands, and so hold a display."""
+        """Strangers who have each shaken hands, and so hold a place."""
         head = ("GET / HTTP/1.1\r\nHost: 127.0.0.1\r\nUpgrade: websocket\r\nConnection: Upgrade\r\n"
                 "Sec-WebSocket-Key: dGhlIHNhbXBsZSBub25jZQ==\r\nSec-WebSocket-Version: 13\r\n\r\n").encode()
         strangers = []

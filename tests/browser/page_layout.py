@@ -54,7 +54,8 @@ return [...new Set(faint)];
 """
 
 SMALL = """
-const small = (each) => each.getBoundingClientRect().height < 43.5 || each.getBoundingClientRect().width < 36;
+const widthOf = (each) => (each.matches(".boards a") ? 43.5 : 36);
+const small = (each) => each.getBoundingClientRect().height < 43.5 || each.getBoundingClientRect().width < widthOf(each);
 return [...document.querySelectorAll("button, nav a, .tile, select, .board-list a, .table-grid a, .room a, .awaited a, .boards a")]
     .filter((each) => each.getClientRects().length && small(each)).map((each) => each.id || each.className);
 """
@@ -81,6 +82,45 @@ def laid_out(window, routes):
             check(f"{name}: each text is seen against its ground", [], window.script(CONTRAST))
             if pixels < 600:
                 check(f"{name}: a thumb meets what is to be pressed", [], window.script(SMALL))
+
+
+# Opens a view, and looks at what of it is in the window in the frame that is drawn first, and where that is once all of it is there.
+OPENED = """
+const [hash, isPrinted, done] = arguments;
+const main = document.querySelector("main");
+const whereIs = (each) => { const { left, top } = each.getBoundingClientRect(); return [left, top]; };
+addEventListener("hashchange", () => requestAnimationFrame(() => {
+    if (isPrinted) {
+        dispatchEvent(new Event("beforeprint"));
+        return void done([main.matches(".begun"), main.querySelectorAll("*").length]);
+    }
+    const first = [...main.querySelectorAll("*")].map((each) => [each, whereIs(each)]);
+    const isMoved = ([each, [left, top]]) => top < innerHeight && each.isConnected && whereIs(each).some((at, index) => Math.abs(at - [left, top][index]) > 0.5);
+    const told = () => {
+        if (main.matches(".begun")) return void setTimeout(told, 10);
+        done([first.length, main.querySelectorAll("*").length, first.filter(isMoved).map(([each]) => `${each.tagName} ${each.id || each.textContent}`)]);
+    };
+    told();
+}), { once: true });
+location.hash = hash;
+"""
+MOST_FIRST = 135  # the four hands of a board, which stand together, and what is above them
+
+
+@part
+def drawn_from_the_top(window, routes):
+    """A view is opened with what a phone's window holds; nothing of it moves when the rest comes, and nothing lacks on paper."""
+    for wanted in (390, 1000):
+        window.width(wanted)
+        for route in routes:
+            for each in (route, "session" if route != "session" else "ranking", route):  # the first time the server may still have to answer
+                first, whole, moved = window.here().execute_async_script(OPENED, f"#/{each}", False)
+            check(f"{route} at {wanted} pixels: what is drawn first stays where it is", [], moved)
+            holds(f"{route} at {wanted} pixels: it is no more than a phone's window holds", first <= MOST_FIRST)
+            if whole > MOST_FIRST:
+                window.go("boards")
+                check(f"{route}: printed at once it is whole", [False, whole], window.here().execute_async_script(OPENED, f"#/{route}", True))
+    window.width(1000, 900)
 
 
 @part

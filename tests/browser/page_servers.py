@@ -158,16 +158,17 @@ def hostile_texts(page, nginx):
 
 
 @part
-def all_displays_taken(page, server):
-    """Four strangers hold the four displays: the page waits, says so, and goes on once one has left."""
-    strangers = server.hold(4)
+def no_room_for_strangers(page, server):
+    """Strangers hold the tenth of all places that they may: the page says that it has no connection, and has one once a place is free."""
+    strangers = server.hold(100)
     page.type("name", "vera")
     page.type("token", "vera-example")
     page.press("sign-in-button")
-    holds("where all displays are taken the page says so", page.shows("All places at the server are taken", "#offline"))
+    holds("where there is no room for one stranger more the page says that nothing was sent", page.shows("There is no connection to the server", "#notices"))
     strangers[0].close()
+    page.press("sign-in-button")
     until("vera is signed in", lambda: page.find("as-of"))
-    holds("and goes on with the first that is free", page.shows("Signed in as vera", "#top"))
+    holds("and signs in once a place is free", page.shows("Signed in as vera", "#top"))
     for stranger in strangers[1:]:
         stranger.close()
     page.press("sign-out")
@@ -175,11 +176,11 @@ def all_displays_taken(page, server):
 
 @part
 def connections(server):
-    """Pages that are looked at hold no display while nothing is asked."""
+    """Pages that are looked at hold no place while nothing is asked."""
     def held():
         ports = [line.split()[1:4] for line in pathlib.Path("/proc/net/tcp").read_text().splitlines()[1:]]
         return sum(1 for local, _, state in ports if int(local.split(":")[1], 16) == server.port and state == "01")
-    holds("there are moments at which no page holds a display", until("no connection is open", lambda: held() == 0, 15) if held() else True)
+    holds("there are moments at which no page holds a place", until("no connection is open", lambda: held() == 0, 15) if held() else True)
 
 
 @part

@@ -24,13 +24,13 @@ from page_cards import cards
 from page_desks import administrator, audit, clock, correct_and_void, director, end_of_play, ruling, seats, spoiled
 from page_devices import Browser, Hostile, Keys, Nginx, Server, until
 from page_edition import second_edition
-from page_layout import enlarged, keyboard_player, laid_out, narrow, on_paper
+from page_layout import drawn_from_the_top, enlarged, keyboard_player, laid_out, narrow, on_paper
 from page_movements import howell
 from page_names import names
 from page_papers import many_boards
 from page_schemes import SCHEMES, schemes, seen_in
 from page_scorer import on_a_phone, others_desks, percentage, scrolled_sideways
-from page_servers import all_displays_taken, connections, hostile_texts, killed_with_its_journal, over_tls, played_numbers, restart
+from page_servers import connections, hostile_texts, killed_with_its_journal, no_room_for_strangers, over_tls, played_numbers, restart
 
 
 def by_direction(ranking):
@@ -430,6 +430,8 @@ def play(server, nginx, downloads, has_workers):
     keyboard_player(anna)
     laid_out(anna, ("session", "boards", "board/1/1", "board/4", "ranking", "find", "papers"))
     laid_out(dora, ("scorer", "scorer/3", "scorer/3/11", "director", "director/1/1", "accounts", "audit"))
+    drawn_from_the_top(anna, ("session", "ranking", "board/4", "find"))
+    drawn_from_the_top(dora, ("session", "ranking", "director", "accounts", "audit", "scorer/3/11", "board/13/5"))
     schemes(dora, "scorer/3/13", "enter", ("session", "director/1/1", "ranking"))
     for scheme in SCHEMES:
         seen_in(scheme, dora, ("scorer/3", "scorer/1/1", "director", "accounts", "audit", "papers", "find", "board/1/1"))
@@ -438,9 +440,11 @@ def play(server, nginx, downloads, has_workers):
     enlarged(dora, ("scorer", "scorer/3/11", "director", "director/1/1", "accounts", "audit"))
     others_desks(vera)
     administrator(vera, nginx, server)
-    all_displays_taken(vera, server)
-    connections(server)
     check("the consoles are empty", [], console(windows))
+    no_room_for_strangers(vera, server)
+    spoken = [text for text in console(windows) if "WebSocket connection to" not in text]
+    check("where there was no room, the browser alone spoke of it", [], spoken)
+    connections(server)
     restart(sam, server)
     seats(dora, server)
     end_of_play(dora, anna, server)

@@ -1,7 +1,7 @@
 #!/usr/bin/python3
 """A server by the plain model of tests/models, for the page's tests while there is no built program; it is called as that is:
 
-    tests/browser/plain_server.py serve --session FILE --deals FILE --port N [--displays N] [--journal FILE] [--workers 0]
+    tests/browser/plain_server.py serve --session FILE --deals FILE --port N [--displays N] [--clients N] [--journal FILE] [--workers 0]
 
     /usr/bin/python3 tests/browser/page_session.py tests/browser/plain_server.py 0    # the whole session over it
 
@@ -11,6 +11,7 @@ has no workers. What it accepted goes into the journal as lines of JSON, which n
 import argparse
 import asyncio
 import hashlib
+import http
 import json
 import pathlib
 import sys
@@ -31,7 +32,7 @@ class PlainServer:
         line = json.dumps({**json.loads(words.session.read_text()), "pbn": deals})
         self.session = opened(line)
         self.digests = {user["name"]: user["digest"] for user in json.loads(line)["users"]}
-        self.displays = asyncio.Semaphore(words.displays)
+        self.strangers, self.most_strangers = 0, max(1, words.clients // 10)
         if words.journal and words.journal.exists():
             for kept in words.journal.read_text().splitlines():
                 self.do(*json.loads(kept))
@@ -70,20 +71,23 @@ class PlainServer:
         return user, receipt
 
     async def shake_hands(self, path, head):
-        """A connection holds a display; where all are taken, the answer to its handshake waits."""
-        await self.displays.acquire()
+        """There is room for so many strangers, and one more is told so."""
+        return (http.HTTPStatus.SERVICE_UNAVAILABLE, [], b"") if self.strangers >= self.most_strangers else None
 
     async def talk(self, client):
         user = None
+        self.strangers += 1
         try:
             async for text in client:
+                was = user
                 try:
                     user, answer = self.answer(user, text)
                 except Fault as fault:
                     answer = {"error": str(fault)}
+                self.strangers -= was is None and user is not None
                 await client.send(json.dumps(answer))
         finally:
-            self.displays.release()
+            self.strangers -= user is None
 
 
 async def serve(words):
@@ -96,7 +100,7 @@ def main():
     parser = argparse.ArgumentParser()
     parser.add_argument("word", choices=["serve"])
     for word, kind, usual in (("session", pathlib.Path, None), ("deals", pathlib.Path, None), ("port", int, None), ("journal", pathlib.Path, None),
-                              ("displays", int, 4), ("workers", int, 0)):
+                              ("displays", int, 4), ("clients", int, 1000), ("workers", int, 0)):
         parser.add_argument(f"--{word}", type=kind, default=usual, required=word in ("session", "deals", "port"))
     asyncio.run(serve(parser.parse_args()))
 

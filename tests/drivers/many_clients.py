@@ -155,8 +155,8 @@ async def is_served(address, seconds):
 
 
 async def silent(seed):
-    """Clients that say nothing keep a display each until they are late, and no more."""
-    with Server(small_session(), some_deals(seed, 3), "--displays", 4, "--workers", 0) as server:
+    """Clients that say nothing keep nobody from anything, though there is one display."""
+    with Server(small_session(), some_deals(seed, 3), "--displays", 1, "--workers", 0) as server:
         streams = [server.stream() for _ in range(3)]
         streams[1].sendall(HANDSHAKE[:60])
         streams[2].sendall(HANDSHAKE + b"\r\n")
@@ -164,9 +164,9 @@ async def silent(seed):
         await asyncio.sleep(0.2)
         fourth = await signed_in(server.address(), "d")
         check("silent: beside three clients that say nothing a fourth is served", True, "status" in await ask(fourth, {"ask": "status"}))
-        check("silent: a fifth isn't, as long as four displays are kept", False, await is_served(server.address(), 1))
+        check("silent: and a fifth", True, await is_served(server.address(), 5))
         streams[0].close()
-        check("silent: and is once one of the silent clients has left", True, await is_served(server.address(), 5))
+        check("silent: and the next, once one of the silent clients has left", True, await is_served(server.address(), 5))
         check("silent: the fourth is served still", True, "status" in await ask(fourth, {"ask": "status"}))
         await fourth.close()
         for stream in streams[1:]:
@@ -237,14 +237,21 @@ async def as_many_as_there_can(address, most):
     return clients, "no more tried"
 
 
+def threads_of(process):
+    """How many threads a program has."""
+    lines = pathlib.Path(f"/proc/{process.pid}/status").read_text().splitlines()
+    return next(int(line.split()[1]) for line in lines if line.startswith("Threads:"))
+
+
 async def memory(seed):
-    """Without room for every thread fewer clients are served, or the program ends with status 4; it never crashes."""
-    seen = []
+    """Without room for every thread there are fewer displays, which serve all clients, or the program ends with status 4; it never crashes."""
+    most, seen = 33, []
     for megabytes in (3, 4, 8, 9, 10, 12, 16, 20, 24, 28, 32, 36, 40, 64, 128):
         with Server(small_session(), some_deals(seed, 3), "--displays", 32, "--workers", 2, most_addresses=megabytes << 20) as server:
-            clients, more = [], ""
+            clients, more, threads = [], "", 0
             if server.listens():
-                clients, more = await as_many_as_there_can(server.address(), 33)
+                clients, more = await as_many_as_there_can(server.address(), most)
+                threads = threads_of(server.process)
             told = {text_of(await ask(client, {"ask": "status"})) for client in clients} - {'{"error":"OutOfMemory"}'}
             for client in clients:
                 await client.close()
@@ -256,24 +263,29 @@ async def memory(seed):
             check(f"memory: with {megabytes} MiB of addresses it runs on, and tells all the same, or it "
                   + ("never began" if megabytes < 8 else "ended with status 4"), (True, True),
                   (status is None or (status in ended and not clients), len(told) <= 1))
-            seen.append((megabytes, status, len(clients), more))
-    for megabytes, status, count, more in seen:
-        tell(f"{megabytes:3} MiB: " + (f"{count} clients at once, {more}" if status is None else f"status {status}"))
-    counts = {megabytes: count for megabytes, status, count, _ in seen if status is None}
-    check("memory: a limit leaves clients out, and with room for all threads none is", (True, 32, 32),
-          (any(0 < count < 32 for count in counts.values()), counts.get(64), counts.get(128)))
+            seen.append((megabytes, status, len(clients), threads, more))
+    for megabytes, status, count, threads, more in seen:
+        tell(f"{megabytes:3} MiB: " + (f"{threads} threads, {count} clients at once, {more}" if status is None else f"status {status}"))
+    # the program's own thread, its displays and workers, and one that enters what these find
+    all_threads = 1 + 32 + 2 + 1
+    counts = {megabytes: (count, threads) for megabytes, status, count, threads, _ in seen if status is None}
+    check("memory: a limit leaves displays out, and the others serve all clients", True,
+          any(count == most and threads < all_threads for count, threads in counts.values()))
+    check("memory: with room for all threads all run", [(most, all_threads)] * 2, [counts.get(64), counts.get(128)])
 
 
 async def handshake(seed):
-    """The longest head is answered on a display's thread, and the next client is served."""
-    lines = [b"X-%03d: " % number + b"v" * 492 + b"\r\n" for number in range(119)]
+    """The longest head is answered on a display's thread, and the next client is served. It has 64 fields and 16 KiB."""
+    lines = [b"X-%03d: " % number + b"v" * 264 + b"\r\n" for number in range(59)]
+    lines[-1] = b"X-last: " + b"v" * (16_384 - len(HANDSHAKE) - len(b"".join(lines[:-1])) - 12) + b"\r\n"
     head = HANDSHAKE + b"".join(lines) + b"\r\n"
+    assert len(head) == 16_384, len(head)
     with Server(small_session(), some_deals(seed, 3), "--displays", 2, "--workers", 0, "--connections", 4) as server:
         for turn in (1, 2):
             streams = [server.stream() for _ in range(2)]
             for stream in streams:
                 stream.sendall(head)
-            check(f"handshake: a head of 124 lines and {len(head)} bytes is answered, on both displays, turn {turn}", [True] * 2,
+            check(f"handshake: a head of 64 fields and {len(head)} bytes is answered, beside another, turn {turn}", [True] * 2,
                   [head_of(stream).startswith(b"HTTP/1.1 101 ") for stream in streams])
             for stream in streams:
                 stream.close()

@@ -6,22 +6,21 @@
 What is wanted is read off the folder and off docs/RUNNING.md, "The page", never off what the program did: the bytes of each file of client/,
 their type by a table of this script's own, their SHA-256 by Python's. Paths of more than twenty kinds that would lead elsewhere if they were
 decoded or taken step by step, methods, heads of 100 kB, clients that say half of what they want; what `make page` compresses, which is to
-be the file once more, and to nobody who doesn't ask for it; the same port for WebSockets; a folder that changes while it is served; folders that
-are no page; the page through nginx and through Caddy as docs/RUNNING.md has them, where they are installed. Python, make and gzip alone are needed. Each
-line is a check: 'ok', or 'FAILED' with what came. The status is 1 where one failed.
+be the file once more, and to nobody who doesn't ask for it; the same port for WebSockets; connections that ask on, that stay and that are more
+than a display has room for; a folder that changes while it is served; folders that are no page. Python, make and gzip alone are needed; it takes
+three quarters of a minute. Each line is a check: 'ok', or 'FAILED' with what came. The status is 1 where one failed.
 """
 import gzip
 import hashlib
-import os
 import pathlib
-import shutil
 import subprocess
 import sys
 import tempfile
+import threading
 import time
 
 from checks import check, status, tell
-from raw_client import NOT_SIGNED_IN, STATUS, Client, Server, free_port, head
+from raw_client import NOT_SIGNED_IN, STATUS, Client, Server, files_allowed, free_port, head
 
 PROGRAM = sys.argv[1] if len(sys.argv) > 1 else "crates/bridge_server/out/bridge_server"
 ROOT = pathlib.Path(__file__).resolve().parents[2]
@@ -60,8 +59,9 @@ def heard(server, data, seconds=10):
     return got
 
 
-def request(target, method=b"GET", fields=()):
-    lines = [method + b" " + target + b" HTTP/1.1", b"Host: 127.0.0.1", *fields]
+def request(target, method=b"GET", fields=(), is_last=True):
+    """A request, behind which the connection is to end, or not."""
+    lines = [method + b" " + target + b" HTTP/1.1", b"Host: 127.0.0.1", *fields, *([b"Connection: close"] if is_last else [])]
     return b"\r\n".join(lines) + b"\r\n\r\n"
 
 
@@ -176,15 +176,137 @@ def beside_the_session(server):
     check("and the page after it", "200 OK", answer(server, request(b"/"))[0])
 
 
+def one_answer(stream, got=b""):
+    """The next answer on a connection that goes on, its first line and its body, and what came behind it."""
+    while b"\r\n\r\n" not in got:
+        more = stream.recv(65_536)
+        if not more:
+            return got, None, b""
+        got += more
+    whole, _, body = got.partition(b"\r\n\r\n")
+    length = next(int(line.split(b":")[1]) for line in whole.lower().split(b"\r\n") if line.startswith(b"content-length:"))
+    while len(body) < length:
+        body += stream.recv(65_536)
+    return whole.split(b"\r\n")[0], body[:length], body[length:]
+
+
+def asks_on(server):
+    """Several requests on one connection, one after another and all at once, and then a session."""
+    index, icon = (CLIENT / "index.html").read_bytes(), (CLIENT / "icon.svg").read_bytes()
+    stream = server.stream(10)
+    heard_in_turn = []
+    for target in (b"/", b"/icon.svg", b"/nothing", b"/"):
+        stream.sendall(request(target, is_last=False))
+        heard_in_turn.append(one_answer(stream)[:2])
+    check("a connection asks on", [(b"HTTP/1.1 200 OK", index), (b"HTTP/1.1 200 OK", icon), (b"HTTP/1.1 404 Not Found", b""), (b"HTTP/1.1 200 OK", index)],
+          [(line, b"" if b"404" in line else body) for line, body in heard_in_turn])
+    stream.sendall(request(b"/icon.svg", is_last=False) * 20 + head(request="GET /session HTTP/1.1"))
+    bodies, rest = [], b""
+    for _ in range(20):
+        _line, body, rest = one_answer(stream, rest)
+        bodies.append(body)
+    while b"\r\n\r\n" not in rest:
+        rest += stream.recv(65_536)
+    check("twenty requests at once are answered in turn, and the session behind them begins", ([icon] * 20, True), (bodies, rest.startswith(b"HTTP/1.1 101 ")))
+    stream.close()
+
+
+def takes_nothing(stream):
+    """Asks on and on, until the server takes no more, and reads nothing."""
+    stream.settimeout(1)
+    try:
+        while True:
+            stream.sendall(request(b"/texts.js", is_last=False) * 100)
+    except (TimeoutError, ConnectionError):
+        stream.settimeout(90)
+
+
+def is_over(stream):
+    """Whether a stream has ended or was reset, by what the system knows: nothing is read of it."""
+    try:
+        ends = f":{stream.getsockname()[1]:04X}", f":{stream.getpeername()[1]:04X}"
+    except OSError:
+        return True
+    rows = [line.split() for line in pathlib.Path("/proc/net/tcp").read_text().splitlines()[1:]]
+    return not any(row[1].endswith(ends[0]) and row[2].endswith(ends[1]) and row[3] == "01" for row in rows)
+
+
+def until_over(stream, is_read):
+    if is_read:
+        try:
+            while stream.recv(262_144):
+                pass
+        except ConnectionResetError:
+            pass
+    else:
+        while not is_over(stream):
+            time.sleep(0.1)
+
+
+# who it is, what it does, and after how many seconds it is ended, on a machine that has much to do
+SLOW = (("says nothing", lambda stream: None, True, 9, 18), ("sends half a request", lambda stream: stream.sendall(b"GET / HTTP/1.1\r\nHost:"), True, 9, 18),
+        ("asks once and stays", lambda stream: stream.sendall(request(b"/", is_last=False)), True, 9, 18), ("takes no answer", takes_nothing, False, 25, 90))
+
+
 def slow_ones(server):
-    """The server has one display: who says nothing, or half of what he wants, is ended, and the next is served."""
-    for what, data in (("nothing", b""), ("half a request", b"GET / HTTP/1.1\r\nHost:"), ("a whole one, and he takes no answer", request(b"/texts.js"))):
-        stream = server.stream(60)
-        stream.sendall(data)
-        began = time.monotonic()
-        got = answer(server, request(b"/")) if what.startswith("a whole") else heard(server, request(b"/"), 60)[:15]
+    """The server has one display: who says nothing, half of what he wants, or takes no answer, is ended, and others are answered at once."""
+    def slow(what, begin, is_read, least, most):
+        stream, began = server.stream(90), time.monotonic()
+        begin(stream)
+        until_over(stream, is_read)
         took = time.monotonic() - began
-        check(f"after a client who sends {what}", True, took < 45 and b"200" in (got[0].encode() if isinstance(got, tuple) else got))
+        check(f"a client who {what} is ended after {least} to {most} s ({took:.1f} s)", True, least <= took <= most)
+        stream.close()
+
+    tasks = [threading.Thread(target=slow, args=row) for row in SLOW]
+    for task in tasks:
+        task.start()
+    waits = []
+    while any(task.is_alive() for task in tasks):
+        began = time.monotonic()
+        line = answer(server, request(b"/"))[0]
+        waits.append(time.monotonic() - began if line == "200 OK" else line)
+        time.sleep(0.1)
+    check(f"and meanwhile others get the page at once ({len(waits)} times)", [], [wait for wait in waits if isinstance(wait, str) or wait > 2])
+
+
+def is_gone(stream):
+    """Whether a stream has ended of which all was read."""
+    stream.setblocking(False)
+    try:
+        return stream.recv(1) == b""
+    except BlockingIOError:
+        return False
+    except OSError:
+        return True
+
+
+def many_who_stay(server):
+    """Connections that were answered and stay are more than a display has room for: the oldest make room, and a client is let in beside."""
+    most, more = 512, 20
+    if files_allowed() < 2 * most:
+        raise SystemExit("this script may have too few files open (ulimit -Hn)")
+    begun = time.monotonic()
+    streams = [server.stream(10) for _ in range(most + more)]
+    for stream in streams:
+        stream.sendall(request(b"/icon.svg", is_last=False))
+    for stream in streams:
+        try:
+            one_answer(stream)
+        except OSError:
+            pass
+    client = Client(server)
+    check(f"beside {most} connections that stay a client is let in", NOT_SIGNED_IN, client.ask(STATUS))
+    client.stream.close()
+    gone = [place for place, stream in enumerate(streams) if is_gone(stream)]
+    took = time.monotonic() - begun
+    # all of them are ended ten seconds after they came; and who came within a millisecond came at once
+    if took < 9:
+        check(f"of the older ones one made room for each that was one too many, and the others stay: {gone}", True,
+              more <= len(gone) <= more + 1 and max(gone) < most // 2)
+    else:
+        tell(f"it took {took:.1f} s to ask them all, by which time they had to go: who made room isn't seen")
+    for stream in streams:
         stream.close()
 
 
@@ -228,90 +350,17 @@ def no_pages():
         server.folder.cleanup()
 
 
-class Front:
-    """A web server before the program, at a port of its own."""
-
-    def __init__(self, words, port):
-        self.port, self.process = port, subprocess.Popen(words, stdin=subprocess.DEVNULL, stdout=subprocess.DEVNULL, stderr=subprocess.DEVNULL)
-        deadline = time.monotonic() + 30
-        while not self.listens() and self.process.poll() is None and time.monotonic() < deadline:
-            time.sleep(0.05)
-
-    stream = Server.stream
-
-    def listens(self):
-        try:
-            self.stream().close()
-            return True
-        except OSError:
-            return False
-
-    def __enter__(self):
-        return self
-
-    def __exit__(self, *_):
-        self.process.terminate()
-        self.process.wait(30)
-
-
-def written(heading, begin):
-    """The code of docs/RUNNING.md under a heading, from the block that begins so."""
-    part = (ROOT / "docs/RUNNING.md").read_text(encoding="utf-8").partition(f"{heading}\n")[2]
-    lines = part[part.index(f"\n    {begin}"):].splitlines()[1:]
-    block = []
-    for line in lines:
-        if line and not line.startswith("    "):
-            break
-        block.append(line[4:])
-    return "\n".join(block).rstrip() + "\n"
-
-
-def nginx(folder, port, server_port):
-    text = written("## Behind a web server", "map $http_upgrade").replace("location /session {", "location / {").replace(":8080", f":{server_port}")
-    text = "\n".join(line for line in text.splitlines() if "ssl_certificate" not in line).replace("listen 443 ssl http2", f"listen 127.0.0.1:{port}")
-    paths = "\n".join(f"{name}_temp_path {folder / name};" for name in ("client_body", "proxy", "fastcgi", "uwsgi", "scgi"))
-    (folder / "nginx.conf").write_text(f"daemon off;\nworker_processes 1;\nuser root;\npid {folder}/pid;\nerror_log {folder}/errors;\n"
-                                       f"events {{ worker_connections 256; }}\nhttp {{\naccess_log off;\n{paths}\n{text}\n}}\n")
-    return ["-p", folder, "-e", folder / "errors", "-c", folder / "nginx.conf"]
-
-
-def caddy(folder, port, server_port):
-    text = written("### The page from the program", "bridge.example.org {").replace("bridge.example.org", f"http://127.0.0.1:{port}").replace(":8080", f":{server_port}")
-    (folder / "Caddyfile").write_text("{\n    admin off\n}\n" + text)
-    return ["run", "--config", folder / "Caddyfile", "--adapter", "caddyfile"]
-
-
-def in_front(server):
-    """The page and the session through a web server."""
-    for name, configured in (("nginx", nginx), ("caddy", caddy)):
-        program = shutil.which(name, path=f"{os.environ['PATH']}:/usr/sbin")
-        if not program:
-            tell(f"{name} isn't installed, so its lines aren't tried")
-            continue
-        with tempfile.TemporaryDirectory() as folder, Front([program, *configured(pathlib.Path(folder), port := free_port(), server.port)], port) as front:
-            close = [BROWSERS, b"Connection: close"]
-            got = answer(front, request(b"/", fields=close))
-            fields = {field.lower(): value for field, value in got[1].items()}
-            packed = (PAGE / "index.html.gz").read_bytes()
-            check(f"{name} passes the page on", ("200 OK", packed, "gzip", digest(packed), policy()),
-                  (got[0], got[2], *(fields.get(field) for field in ("content-encoding", "etag", "content-security-policy"))))
-            check(f"{name} passes on that there is no such file", "404 Not Found", answer(front, request(b"/nothing", fields=close))[0])
-            client = Client(front, request=head(request="GET /session HTTP/1.1"))
-            check(f"{name} passes a session on", NOT_SIGNED_IN, client.ask(STATUS))
-            client.stream.close()
-
-
 if __name__ == "__main__":
     subprocess.run(["make", "-s", "-C", ROOT, "page"], check=True)
     with Server(PROGRAM, "--page", PAGE, "--displays", 2, "--workers", 0) as server:
         compressed_files(server)
-        in_front(server)
     with Server(PROGRAM, "--page", CLIENT, "--displays", 2, "--workers", 0) as server:
-        for part in (files_of_the_page, methods, long_heads, beside_the_session):
+        for part in (files_of_the_page, methods, long_heads, beside_the_session, asks_on):
             part(server)
         check("and the server goes on", None, server.process.poll())
     with Server(PROGRAM, "--page", CLIENT, "--displays", 1, "--workers", 0) as server:
         slow_ones(server)
+        many_who_stay(server)
     a_folder_that_changes()
     no_pages()
     sys.exit(status())

@@ -3,8 +3,10 @@
 The tests of what no library would send are made of it: tests/drivers/hold_ups.py, tests/drivers/conformance.py and tests/drivers/load.py. Python alone is
 needed. A frame of the server is read strictly: unmasked, no reserved bit, its length in the shortest form (5.1, 5.2).
 """
+import os
 import pathlib
 import re
+import resource
 import signal
 import socket
 import struct
@@ -65,6 +67,13 @@ def waiting(port):
     return None
 
 
+def files_allowed():
+    """As many open files as the system lets this process and what it starts have, each client being one; and how many that are."""
+    _soft, hard = resource.getrlimit(resource.RLIMIT_NOFILE)
+    resource.setrlimit(resource.RLIMIT_NOFILE, (hard, hard))
+    return hard
+
+
 def heeds_signals():
     """A shell in the background lets what it starts ignore SIGINT."""
     signal.signal(signal.SIGINT, signal.SIG_DFL)
@@ -111,8 +120,20 @@ class Server:
 
     def resident(self):
         """How many KiB of memory the program has."""
+        return self.counted("VmRSS")
+
+    def threads(self):
+        """How many threads the program has."""
+        return self.counted("Threads")
+
+    def counted(self, name):
+        """A number of the program's that the system tells."""
         lines = pathlib.Path(f"/proc/{self.process.pid}/status").read_text().splitlines()
-        return next(int(line.split()[1]) for line in lines if line.startswith("VmRSS"))
+        return next(int(line.split()[1]) for line in lines if line.startswith(f"{name}:"))
+
+    def files(self):
+        """How many files the program has open, each client being one."""
+        return len(os.listdir(f"/proc/{self.process.pid}/fd"))
 
     def ended(self):
         """The status of the program, which is ended if it runs, and what it wrote but for how it serves."""

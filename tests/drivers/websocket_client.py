@@ -224,7 +224,8 @@ def broken_frames():
 
 
 def failed_handshakes():
-    """What is no handshake ends its own connection; the last connection is served, and then the program ends."""
+    """What is no handshake lets nobody in; the last connection is served, with a message in one packet with its request, and then the
+    program ends."""
     requests = [
         ("a page", b"GET / HTTP/1.1\r\nHost: 127.0.0.1\r\n\r\n"),
         ("another method", HANDSHAKE.replace(b"GET", b"POST")),
@@ -234,7 +235,6 @@ def failed_handshakes():
         ("nothing", b""),
         ("a head that is cut", HANDSHAKE[:60]),
         ("a head of 100,000 bytes", HANDSHAKE[:-2] + b"A: " + b"a" * 100_000 + b"\r\n\r\n"),
-        ("a frame right behind the head", HANDSHAKE + frame(1, b"{}")),
     ]
     with Server(len(requests) + 1) as server:
         for what, request in requests:
@@ -247,10 +247,16 @@ def failed_handshakes():
             got, _ = rest_of(stream)
             check(f"{what}: no handshake", False, got.startswith(b"HTTP/1.1 101 "))
             stream.close()
-        stream, _ = shaken(server)
-        stream.sendall(frame(1, text_of({"hello": "n1", "token": "abc"}).encode()))
-        text = stream.recv(4096)
-        check("the next connection is served", b'\x81\x0e{"hello":"n1"}', text)
+        stream = server.socket()
+        stream.sendall(HANDSHAKE + frame(1, text_of({"hello": "n1", "token": "abc"}).encode()))
+        head = b""
+        while b"\r\n\r\n" not in head:
+            head += stream.recv(1)
+        check("a frame right behind a head is read after it", True, head.startswith(b"HTTP/1.1 101 "))
+        text = b""
+        while len(text) < 16:
+            text += stream.recv(16 - len(text))
+        check("and the next connection is served", b'\x81\x0e{"hello":"n1"}', text)
         stream.sendall(frame(8, struct.pack(">H", 1000)))
         got, _ = rest_of(stream)
         check("its close is answered", b"\x88\x02\x03\xe8", got)
@@ -290,8 +296,7 @@ def statuses():
             return 3, b"", f"bridge_server: Unread ({path}: {why})\n".encode()
 
         nothing, missing, long = folder / "nothing", "there is no such file or folder", folder / "long.pbn"
-        serves = f"bridge_server: serves at 127.0.0.1:{port}: 3 tables, 4 displays, 2 workers, no journal\n"
-        taken = 3, b"", NOTHING_IS_KEPT + f"{serves}bridge_server: NotListening (port {port}: another program listens there)\n".encode()
+        taken = 3, b"", NOTHING_IS_KEPT + f"bridge_server: NotListening (port {port}: another program listens there)\n".encode()
 
         check("no file of the session", unread(nothing, missing), serve(nothing, deals))
         check("no file of the deals", unread(nothing, missing), serve(session, nothing))
@@ -307,7 +312,8 @@ def statuses():
         check("a port that is taken", taken, serve(session, deals))
         check("16,777,216 bytes, and a port that is taken", taken, serve(session, folder / "full.pbn"))
         for words in [("serve",), ("serve", "--session", "s", "--deals", "d", "--port", "0"), (), ("scripts",),
-                      ("serve", "--session", "s", "--deals", "d", "--port", "1", "--displays", "33")]:
+                      *(("serve", "--session", "s", "--deals", "d", "--port", "1", *more) for more in (
+                          ("--displays", "33"), ("--clients", "0"), ("--clients", "10001"), ("--listen", "localhost"), ("--listen", "127.0.0")))]:
             status, out, err = run(*words)
             check(f"bad words: {' '.join(words)}", (2, b"", True), (status, out, err.startswith(b"error: ")))
         for words in [("--help",), ("serve", "--help"), ("help",)]:
@@ -316,11 +322,47 @@ def statuses():
         busy.close()
 
 
+def addresses():
+    """Where clients can come: at the address that the words name and no other, and that others can is told."""
+    in_clear = b"bridge_server: other computers can come: without TLS in front of it tokens travel in clear\n"
+    for listened, reached, text in (("127.0.0.1", "127.0.0.1", "127.0.0.1"), ("127.0.0.2", "127.0.0.2", "127.0.0.2"),
+                                    ("0.0.0.0", "127.0.0.3", "0.0.0.0"), ("::1", "::1", "[::1]"), ("::", "::1", "[::]")):
+        if ":" in listened and not pathlib.Path("/proc/net/if_inet6").exists():
+            print(f"        this computer has no IPv6, so {listened} isn't tried")
+            continue
+        with Server(1, "--listen", listened) as server:
+            for _ in range(500):
+                try:
+                    stream = socket.create_connection((reached, server.port), timeout=10)
+                    break
+                except OSError:
+                    time.sleep(0.01)
+            elsewhere = socket.socket()
+            came = elsewhere.connect_ex(("127.0.0.9", server.port)) == 0
+            elsewhere.close()
+            stream.close()
+            try:
+                server.process.wait(timeout=10)
+            except subprocess.TimeoutExpired:
+                server.process.terminate()
+            out, err = server.process.communicate()
+            told = in_clear if listened in ("0.0.0.0", "::") else b""
+            serves = f"bridge_server: serves at {text}:{server.port}: 3 tables, 1 displays, 2 workers, no journal\n".encode()
+            check(f"--listen {listened}: who comes to {reached} is taken, and what it serves at is told", (b"", NOTHING_IS_KEPT + told + serves), (out, err))
+            check(f"--listen {listened}: whether who comes to another address is taken", told != b"", came)
+    # 192.0.2.0/24 is nobody's (RFC 5737)
+    with Server(1, "--listen", "192.0.2.1") as server:
+        out, err = server.process.communicate(timeout=60)
+        check("an address that this computer hasn't", (3, b"", NOTHING_IS_KEPT + f"bridge_server: NotListening (port {server.port}: this computer hasn't that address)\n".encode()),
+              (server.process.returncode, out, err))
+
+
 async def main():
     await a_session()
     await hostile_messages()
     broken_frames()
     failed_handshakes()
+    addresses()
     statuses()
 
 

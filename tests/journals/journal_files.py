@@ -53,10 +53,15 @@ def copied(journal, folder, log=None):
     return copy
 
 
+def is_there(journal):
+    """Whether there is a file that a program takes for a database: of one whose making was cut the first byte of its head is wanting,
+    which comes last."""
+    return pathlib.Path(journal).exists() and pathlib.Path(journal).read_bytes()[:1] != b"\0"
+
+
 def rows_of(journal):
-    """All entries of the file, in their order; none where it has no tables yet, or there is none. A file whose making was cut has none
-    either: the first byte of its head comes last, so that no program takes it for a database before."""
-    if not pathlib.Path(journal).exists() or pathlib.Path(journal).read_bytes()[:1] == b"\0":
+    """All entries of the file, in their order; none where it has no tables yet, or there is none."""
+    if not is_there(journal):
         return []
     with tempfile.TemporaryDirectory() as folder:
         connection = sqlite3.connect(copied(journal, folder))
@@ -134,17 +139,15 @@ def ran(program, *words, env=None, seconds=60):
 
 
 # what a start says that isn't refused, where its port is taken (docs/RUNNING.md)
-TAKEN = re.compile(rb"bridge_server: serves at [^\n]*\nbridge_server: NotListening \(port \d+: another program listens there\)\n")
+TAKEN = re.compile(rb"bridge_server: NotListening \(port \d+: another program listens there\)\n")
 GOES_THROUGH = (3, b"", b"")
-# how it was to serve is told before the entries are entered again, of which one may not be accepted
-REFUSED_LATER = re.compile(rb"\Abridge_server: serves at [^\n]*\n(?=bridge_server: NotAccepted\(\d+\)\n\Z)")
 
 
 def started(ended):
     """How a start ended whose port is taken: as `GOES_THROUGH` says where nothing else ended it, and else by its fault alone."""
     status, out, err = ended
     assert status != 3 or err, "the status 3 says why"
-    return status, out, REFUSED_LATER.sub(b"", TAKEN.sub(b"", err, count=1))
+    return status, out, TAKEN.sub(b"", err, count=1)
 
 
 def fault(name):

@@ -13,7 +13,7 @@ Then the journal's rows are read by SQLite, and the model goes on by them. What 
   the model accepts is there, or nothing.
 - Each reply, from the first one after the start, is the model's at the version that it names, byte for byte, and so is each audit and each
   refusal: what was shown before a kill is there after it, and who was shown a board is refused it as before.
-- The server starts, and writes nothing; the file is whole to `PRAGMA integrity_check`.
+- The server starts, and writes nothing but how it serves; the file is whole to `PRAGMA integrity_check`.
 
 What the clients send comes from the seed; how they fall among one another, and where a kill meets them, doesn't. It takes two minutes or
 three. The status is 1 where something isn't so.

@@ -78,9 +78,12 @@ def is_first_batches(rows):
 
 
 def read(journal, log, again=False):
-    """What is read of the file with this log; if so wanted also whether that is so of a second look, and the file whole for SQLite."""
+    """What is read of the file with this log, or without any; if so wanted also whether that is so of a second look, and the file whole
+    for SQLite."""
     with tempfile.TemporaryDirectory() as folder:
-        copy = copied(journal, folder, log)
+        copy = copied(journal, folder, log or b"")
+        if log is None:
+            log_of(copy).unlink()
         rows = audit(copy)
         if not is_first_batches(rows):
             return f"wrong: {rows}"
@@ -135,7 +138,7 @@ def logs(folder, pool):
     tell("a bit changed anywhere in the log", 0, pool.map(lambda place: read(journal, changed(place)), rng.sample(range(len(log)), CHANGED)))
     tell("the log cut anywhere", 0, pool.map(lambda cut: read(journal, log[:cut]), rng.sample(range(len(log)), CHANGED)))
     tell("bytes behind the log", last + 1, pool.map(lambda count: read(journal, log + rng.randbytes(count)), (1, 24, 4120, 9000)))
-    tell("the file without its log", 0, [read(journal, b""), f"{last + 1} batches"])
+    tell("the file without its log, and with an empty one", 0, [read(journal, None), read(journal, b""), f"{last + 1} batches"])
     closed = folder / "closed.journal"
     assert ran(PROGRAM, "copy", "--journal", journal, "--to", closed)[0] == 0 and audit(closed) == ENTRIES
     whole = closed.read_bytes()
@@ -147,7 +150,7 @@ def logs(folder, pool):
             rows = audit(copy)
             return rows if isinstance(rows, str) else "4 batches" if rows == ENTRIES else f"wrong: {rows}"
 
-    tell("a bit changed anywhere in the file", last + 1, [*pool.map(read_changed, rng.sample(range(len(whole)), CHANGED)), read(closed, b"")])
+    tell("a bit changed anywhere in the file", last + 1, [*pool.map(read_changed, rng.sample(range(len(whole)), CHANGED)), read(closed, None), read(closed, b"")])
 
 
 def words(folder):

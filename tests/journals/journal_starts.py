@@ -161,6 +161,27 @@ def moved_on(folder):
     check("its rows in another order", refused(1, "OtherSession"), other.start(journal))
 
 
+def full(folder):
+    """A journal of as many entries as there may be is taken up in seconds, and takes no more; with a row more it is none."""
+    journal, count = folder / "full.journal", 60_000
+    play(journal)
+    insert = "INSERT INTO entry (number, publication, actor, command) VALUES (?, ?, 'user d', ?)"
+    commands = text_of(release(1)), text_of(hold(1))
+    change(journal, *((insert, (number, number, commands[number % 2])) for number in range(1, count + 1)))
+    begun = time.monotonic()
+    with Server(PROGRAM, "--journal", journal, *FEW) as server:
+        seconds, client = time.monotonic() - begun, signed_in(server)
+        check(f"a start with {count} entries, in {seconds:.1f} s", True, seconds < 30)
+        check("all of them are there", count, told(client, {"ask": "status"})["version"])
+        check("the last of them too", [[count, "d", "Release", "1"]], told(client, {"audit": {"from": count, "limit": 1000}})["audit"])
+        check("and one more is refused", {"answers": ["JournalFull"], "first": 0, "last": 0, "version": count}, told(client, {"do": [hold(1)]}))
+        server.process.kill()
+        server.stopped()
+    check("it is whole, and has just these", ("ok", count), (integrity_of(journal), len(rows_of(journal))))
+    change(journal, (insert, (count + 1, count + 1, commands[1])))
+    check("a row more than there may be", refused(1, "Misnumbered"), Files(folder).start(journal))
+
+
 # ---- what is refused
 
 def refusals(folder):
@@ -233,7 +254,7 @@ def refusals(folder):
 
 def main():
     with tempfile.TemporaryDirectory() as name:
-        for part in (goes_on, solved_again, moved_on, refusals):
+        for part in (goes_on, solved_again, moved_on, full, refusals):
             part(pathlib.Path(name))
     return status()
 

@@ -17,9 +17,10 @@ before the batch, from that on. Several runs go on at once, each with files and 
   {"error":"NotKept"} too, and then nothing of it stands. All else is as with ample
   memory: the second connection is served, unless it is the one that ended, and names the version that stands. The program then ends with
   status 0.
-- In the end a file has just the entries that stand, by SQLite's own reading; after a start that was refused, those from before.
+- In the end a file has just the entries that stand, by SQLite's own reading, and is whole to `PRAGMA integrity_check`; after a start that
+  was refused, those from before.
 
-It needs a C compiler, as refuse_growths.py does.
+It needs a C compiler, as refuse_growths.py does, and Debian's package sqlite3.
 """
 import concurrent.futures
 import itertools
@@ -35,7 +36,7 @@ import tempfile
 import time
 
 sys.path[:0] = [str(pathlib.Path(__file__).resolve().parents[1] / folder) for folder in ("drivers", "journals", "runs")]
-from journal_files import rows_of
+from journal_files import integrity_of, is_there, rows_of
 from raw_client import NOTHING_IS_KEPT, without_serving
 from refuse_growths import REFUSING
 from write_stored_runs import BOARDS, USERS, text_of
@@ -154,7 +155,8 @@ def prepare(program, room, kept):
 
 
 def run(program, room, kept, entered, n):
-    """What the two clients are told, the status, what is written, how often memory was asked for, and how many rows a file has then."""
+    """What the two clients are told, the status, what is written, how often memory was asked for, and how many rows a file has then, if it
+    is whole; else what is wrong with it."""
     with tempfile.TemporaryDirectory(dir=room) as own:
         env = {**os.environ, "LD_PRELOAD": f"{room}/refusing.so", "ASKED_TO": f"{own}/asked", "REFUSED_AT": str(n)}
         batch, counted, before = batches(COMMANDS)[0], None, []
@@ -168,7 +170,12 @@ def run(program, room, kept, entered, n):
         told = [connection(process, port, [HELLO, batch, ASK], before, counted), connection(process, port, [HELLO, ASK])]
         out, err = process.communicate(timeout=60)
         asked = int(pathlib.Path(f"{own}/asked").read_text())
-        return told, process.returncode, out + without_serving(err), asked, None if kept is None else len(rows_of(f"{own}/{TRIED}"))
+        return told, process.returncode, out + without_serving(err), asked, None if kept is None else rows_if_whole(f"{own}/{TRIED}")
+
+
+def rows_if_whole(journal):
+    found = integrity_of(journal) if is_there(journal) else "ok"
+    return len(rows_of(journal)) if found == "ok" else found
 
 
 def standing(receipt, entered):

@@ -18,10 +18,7 @@ PROGRAMS = ("bridge_server", "pbn_boards", "deal_tables", "par_tables")
 TESTING = ("test_devices",)
 
 # crates whose functions no program calls yet (its laws may be used), each with what it waits for
-TO_COME = {
-    "many_clients": "a display's thread that serves many clients at once",
-    "hall_terms": "the same thread, which asks it who is late and who may come",
-}
+TO_COME = {}
 
 # public functions that no program reaches, each with the reason why it stays
 KEPT = {
@@ -30,6 +27,7 @@ KEPT = {
     "session_state::State::decide": "the policy for a user by name; programs ask it for a user whom they looked up once",
     "denials::check": "a denial is checked by whoever holds it, without the server: the page has code of its own for it, and a stored run asks",
     "session_book::Book::exposed": "who was shown what, by name; a check goes over the accounts and asks by their places",
+    "many_clients::serve_all": "turns of several clients as one call; a thread's loop takes one at a time, and notes its end",
 }
 
 BLANKS = re.compile(r'//[^\n]*|r#"(?s:.*?)"#|b?"(?:\\.|[^"\\])*"|b?\'(?:\\[^\']+|[^\\\'])\'')

@@ -3,7 +3,7 @@ use Rattle.std.specs.Prelude.{◌≡◌, ◌⊎◌, ℕ, Option, List, [], codes
 use Rattle.std.specs.Io.KnownBytes.{Appends}
 use Rattle.clap.specs.Words.{Text}
 use Rattle.operator_lines.specs.Obstacles.{ToldWhy}
-use Rattle.operator_lines.specs.Serving.{serving_line}
+use Rattle.operator_lines.specs.Serving as line
 use Rattle.operator_lines.specs.Telling.{TellsLine}
 use Rattle.operator_lines.specs.declared.serving_line.ServingLine.{ServingLine}
 use Rattle.server_words.specs.Words.{AsksFor}
@@ -17,19 +17,19 @@ use Rattle.server_words.specs.declared.words.SessionSource.TheVariants.{Files, J
 abbrev pub unkept_line : List ℕ
 unkept_line = codes "bridge_server: without --journal nothing is kept when the server ends\n"
 
--- how a session is served is told in a line, for which there may be no memory
-abbrev pub TellsServing : Option (List ℕ) → Option (List ℕ) → Type 0
-TellsServing before after =
-    ((serving : ServingLine) × TellsLine before after (serving_line serving)) ⊎ Appends before after []
+-- how a session is served is told, once its port is open
+abbrev pub TellsServed : Option (List ℕ) → Option (List ℕ) → Type 0
+TellsServed before after =
+    ((serving : ServingLine) × line.TellsServing serving before after) ⊎ Appends before after []
 
 -- the same of a session of files, of which is told first that nothing keeps it
 abbrev pub TellsUnkept : Option (List ℕ) → Option (List ℕ) → Type 0
-TellsUnkept before after = (told : Option (List ℕ)) × TellsLine before told unkept_line × TellsServing told after
+TellsUnkept before after = (told : Option (List ℕ)) × TellsLine before told unkept_line × TellsServed told after
 
 -- what is said where a session was served to the end, and nothing else
 abbrev pub IsToldServed : SessionSource → Option (List ℕ) → Option (List ℕ) → Type 0
 IsToldServed (Files files) before after = TellsUnkept before after
-IsToldServed (Kept path files) before after = TellsServing before after
+IsToldServed (Kept path files) before after = TellsServed before after
 
 -- why the program ends with this status is told, and before that nothing, or how a session of files was to be served
 abbrev pub EndsUnkept : ℕ → Option (List ℕ) → Option (List ℕ) → Type 0
@@ -38,7 +38,7 @@ EndsUnkept status before after =
 
 -- the same of a journal's
 abbrev pub EndsKept : ℕ → Option (List ℕ) → Option (List ℕ) → Type 0
-EndsKept status before after = (told : Option (List ℕ)) × TellsServing before told × ToldWhy status told after
+EndsKept status before after = (told : Option (List ℕ)) × TellsServed before told × ToldWhy status told after
 
 -- what is said where a session was to be served, and the status is neither 0 nor 1: why, and before that nothing, or how it
 -- was to be served; of a journal's with 3 that, or why the journal isn't opened

@@ -30,6 +30,7 @@ use crate::serving::status_of_serving;
 use crate::serving_fault::status_of_no_memory;
 use crate::session_folder::status_of_preparing;
 use clap::Error;
+use event_log::LogFiles;
 use journal_store::JournalFiles;
 use operator_lines::{MemoryFor, Obstacle, status_of_obstacle};
 use program::status_of_script;
@@ -45,7 +46,16 @@ use std::time::Clock;
 
 /// Runs the program with these words, its name first, and answers the status with which it ends.
 pub(crate) fn run_words<
-    R: Files + Net + Clock + Wait + Threads + JournalFiles + RandomSource + AllocGlobal + Sync,
+    R: Files
+        + Net
+        + Clock
+        + Wait
+        + Threads
+        + JournalFiles
+        + LogFiles
+        + RandomSource
+        + AllocGlobal
+        + Sync,
     I: Read,
     W: Write,
     E: Write,
@@ -139,7 +149,7 @@ fn status_of_untaken<W: Write, E: Write>(
 
 /// Hands over the words that the program was called with, and its standard streams but the one for errors.
 pub(crate) fn run_program<
-    R: Runtime + Net + Wait + Threads + JournalFiles + RandomSource + AllocGlobal + Sync,
+    R: Runtime + Net + Wait + Threads + JournalFiles + LogFiles + RandomSource + AllocGlobal + Sync,
     E: Write,
 >(rt: &R, errors: &mut E) -> u8
 where

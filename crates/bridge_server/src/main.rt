@@ -9,10 +9,11 @@ mod calling;
 mod checking;
 mod copying;
 mod folder_fault;
-mod opened_page;
 mod reporting;
 mod serving;
+mod serving_announcement;
 mod serving_fault;
+mod serving_means;
 mod session_folder;
 #[cfg(test)]
 mod tests;

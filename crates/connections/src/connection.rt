@@ -21,6 +21,8 @@ use wire::{ConnectionFault, UserRequest};
 pub struct Connection<K: Keeper> {
     keeper: K,
     user: Option<Name>,
+    // Whose token the last greeting that was refused didn't have.
+    mistaken: Option<Name>,
 }
 
 impl<K: Keeper> Model for Connection<K> {
@@ -46,7 +48,11 @@ impl<K: Keeper> Connection<K> {
         ensures own { result.own_entries ≡ K.own_entries keeper }
         ensures user { result.user ≡ None }
     {
-        Connection { keeper, user: None }
+        Connection {
+            keeper,
+            user: None,
+            mistaken: None,
+        }
     }
 
     /// The keeper, for the next connection.
@@ -71,6 +77,11 @@ impl<K: Keeper> Connection<K> {
         ensures { result ≡ self.now.user }
     {
         self.user
+    }
+
+    /// The user whom the last greeting named that was refused, if there is such a user: the token was another.
+    pub fn mistaken(&self) -> Option<Name> {
+        self.mistaken
     }
 
     /// From here on messages are answered for this user, or where there is none as those of somebody who isn't signed in.
@@ -101,7 +112,10 @@ impl<K: Keeper> Connection<K> {
                 self.user = Some(name);
                 Ok(())
             }
-            Ok(_) => Err(ConnectionFault::NotKnown),
+            Ok(digest) => {
+                self.mistaken = named_if(digest.is_some(), name);
+                Err(ConnectionFault::NotKnown)
+            }
             Err(_) => Err(ConnectionFault::NoEntry),
         }
     }
@@ -125,6 +139,11 @@ impl<K: Keeper> Connection<K> {
             None => Err(ConnectionFault::NotSignedIn),
         }
     }
+}
+
+// A name that was given, if it is a user's.
+fn named_if(is_user: bool, name: Name) -> Option<Name> {
+    if is_user { Some(name) } else { None }
 }
 
 // Whether an account's digest has these bytes.

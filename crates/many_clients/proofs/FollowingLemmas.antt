@@ -1,10 +1,10 @@
 -- One server follows another in a hall: where each answer of the first has one of the second beside it, to the same guest,
 -- whatever steps the first takes with its clients the second takes as well, with the same clients at the same keys.
-use Rattle.std.proofs.Common.{◌≡◌, inl, inr, ℕ, Bool, true, false, List, [], ◌∷◌, refl, sym, subst}
+use Rattle.std.proofs.Common.{◌≡◌, ◌+◌, inl, inr, ℕ, Bool, true, false, List, [], ◌∷◌, refl, sym, ap, subst}
 use Rattle.std.specs.Prelude.{Option}
 use Rattle.tungstenite.specs.Content.{Content, text, binary, ping, pong, close}
 use Rattle.tungstenite.specs.Socket.{Socket, content_of}
-use Rattle.many_clients.specs.Hall.{HallStep, AreTaken, HasTaken, IsHallStep}
+use Rattle.many_clients.specs.Hall.{HallStep, AreTaken, HasTaken, newcomers, arrivals, IsHallStep}
 use Rattle.many_clients.specs.Talker.{Talker}
 use Rattle.many_clients.specs.Turns.{Gets, Hears, ReadsOne, SendsOrReads}
 use Rattle.many_clients.specs.declared.turn_end.TurnEnd.{TurnEnd}
@@ -70,10 +70,10 @@ module _ {S A B G : Type 0} (remaining contents : S → Option (List ℕ)) (bina
     },
     stays_too one other at none.server_same follows,
   )
-  reads_too Closed socket sent guest guest_after one other at (inl (same, still)) follows =
+  reads_too (Closed why) socket sent guest guest_after one other at (inl (same, still)) follows =
       (at, inl (same, refl), stays_too one other at still follows)
-  reads_too Closed socket sent guest guest_after one other at (inr hears) follows =
-      let (after, heard, still) = hears_too Closed socket sent guest guest_after one other at hears follows in
+  reads_too (Closed why) socket sent guest guest_after one other at (inr hears) follows =
+      let (after, heard, still) = hears_too (Closed why) socket sent guest guest_after one other at hears follows in
       (after, inr heard, still)
 
   goes_too : (is_sending : Bool) (end : TurnEnd) (socket sent : Socket S) (guest guest_after : G) (one other : A) (at : B) →
@@ -114,7 +114,13 @@ module _ {S A B G : Type 0} (remaining contents : S → Option (List ℕ)) (bina
   step_too step at (inr (inl arrival)) follows = (
     at,
     inr
-        (inl (record { socket = arrival.socket; free = arrival.free; comes = arrival.comes; unheard = refl })),
+        (inl (record {
+          socket = arrival.socket;
+          starts = arrival.starts;
+          free = arrival.free;
+          comes = arrival.comes;
+          unheard = refl;
+        })),
     stays_too step.server step.server_after at arrival.unheard follows,
   )
   step_too step at (inr (inr departure)) follows = (
@@ -123,18 +129,18 @@ module _ {S A B G : Type 0} (remaining contents : S → Option (List ℕ)) (bina
     stays_too step.server step.server_after at departure.unheard follows,
   )
 
-  -- all steps of the first, and where the second comes to
+  -- all steps of the first, in which as many come, and where the second comes to
   pub taken_too : (steps : List (HallStep (Talker S G) A)) (places places_after : ℕ → Option (Talker S G))
       (one other : A) (at : B) →
       AreTaken (IsHallStep remaining contents answers binary_text memory_text nobody) steps places one places_after other →
       Follows one at →
       (after : B)
-      × HasTaken (IsHallStep remaining contents told binary_text memory_text nobody) places at places_after after
-      × Follows other after
+      × (taken : HasTaken (IsHallStep remaining contents told binary_text memory_text nobody) places at places_after after)
+      × (arrivals taken.0 ≡ arrivals steps) × Follows other after
   taken_too [] places places_after one other at (same, still) follows =
-      (at, ([], (same, refl)), stays_too one other at still follows)
+      (at, ([], (same, refl)), refl, stays_too one other at still follows)
   taken_too (step ∷ earlier) places places_after one other at (between, middle, before, last) follows =
-      let (then, (steps, taken), still) = taken_too earlier places between one middle at before follows in
+      let (then, (steps, taken), as_many, still) = taken_too earlier places between one middle at before follows in
       let begins = subst (λ a. Follows a then) (sym last.begins) still in
       let (after, holds, now) = step_too step then last.holds begins in (
         after,
@@ -154,5 +160,6 @@ module _ {S A B G : Type 0} (remaining contents : S → Option (List ℕ)) (bina
             },
           ),
         ),
+        ap (λ n. newcomers step.was step.is + n) as_many,
         subst (λ a. Follows a after) last.leaves now,
       )

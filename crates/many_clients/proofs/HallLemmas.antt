@@ -4,6 +4,7 @@ use Rattle.std.proofs.Common.{
   ◌≡◌,
   ◌≢◌,
   ◌==◌,
+  ◌+◌,
   inl,
   inr,
   ℕ,
@@ -23,7 +24,10 @@ use Rattle.std.proofs.Common.{
   arith,
   refl,
   sym,
+  ap,
   ◌∙◌,
+  add_assoc,
+  zero-add,
 }
 use Rattle.std.proofs.lemmas.Bool.Decides.{nat_tests}
 use Rattle.std.proofs.lemmas.Option.{none-some}
@@ -34,12 +38,14 @@ use Rattle.many_clients.specs.Hall.{
   IsTaken,
   AreTaken,
   HasTaken,
+  newcomers,
+  arrivals,
   steps_at,
   FollowAtOne,
   IsHallStep,
   HasVisited,
 }
-use Rattle.many_clients.specs.Talker.{Talker, newcomer_on}
+use Rattle.many_clients.specs.Talker.{Talker, IsAtStart, newcomer_on}
 use Rattle.many_clients.specs.Turns.{IsTurnOf}
 use Rattle.many_clients.specs.declared.turn_end.TurnEnd.{TurnEnd}
 
@@ -91,16 +97,22 @@ same_taken Is (step ∷ earlier) places server middle server_middle places_after
       },
     )
 
--- steps and then steps are steps
+-- steps and then steps are steps, in which as many came as in both
 pub taken_on : {P A : Type 0} (Is : HallStep P A → Type 0) (places : ℕ → Option P) (server : A) (middle : ℕ → Option P)
-    (server_middle : A) (later : List (HallStep P A)) (places_after : ℕ → Option P) (server_after : A) →
-    HasTaken Is places server middle server_middle → AreTaken Is later middle server_middle places_after server_after →
-    HasTaken Is places server places_after server_after
-taken_on Is places server middle server_middle [] places_after server_after (steps, taken) (same, still) =
-    (steps, same_taken Is steps places server middle server_middle places_after server_after taken same still)
+    (server_middle : A) (later : List (HallStep P A)) (places_after : ℕ → Option P) (server_after : A)
+    (first : HasTaken Is places server middle server_middle) →
+    AreTaken Is later middle server_middle places_after server_after →
+    (both : HasTaken Is places server places_after server_after) × (arrivals both.0 ≡ arrivals later + arrivals first.0)
+taken_on Is places server middle server_middle [] places_after server_after (steps, taken) (same, still) = (
+  (steps, same_taken Is steps places server middle server_middle places_after server_after taken same still),
+  sym (zero-add (arrivals steps)),
+)
 taken_on Is places server middle server_middle (step ∷ later) places_after server_after first (between, at, before, last) =
-    let (steps, taken) = taken_on Is places server middle server_middle later between at first before in
-    (step ∷ steps, (between, at, taken, last))
+    let (both, sum) = taken_on Is places server middle server_middle later between at first before in (
+      (step ∷ both.0, (between, at, both.1, last)),
+      ap (λ n. newcomers step.was step.is + n) sum
+          ∙ sym (add_assoc (newcomers step.was step.is) (arrivals later) (arrivals first.0)),
+    )
 
 module _ {S A G : Type 0} (remaining contents : S → Option (List ℕ))
     (answers : A → G → List ℕ → Option (List ℕ) → A → G → Type 0) (binary_text memory_text : List ℕ) (nobody : G) where
@@ -111,83 +123,101 @@ module _ {S A G : Type 0} (remaining contents : S → Option (List ℕ))
 
   one_turn : (end : TurnEnd) (start : ℕ → Option (Talker S G)) (first : A) (old : Slab (Talker S G)) (server : A)
       (new : Slab (Talker S G)) (after : A) (key : ℕ) (was is : Option (Talker S G)) → get old key ≡ was →
-      get new key ≡ is → Are start first (get old) server →
+      get new key ≡ is → (trace : Are start first (get old) server) →
       ((other : ℕ) → other ≢ key → get new other ≡ get old other) →
       IfSome was (λ p. IfSome is (λ q. IsTurnOf remaining contents answers binary_text memory_text end p server q after)) →
-      IsSome was → IsSome is → Are start first (get new) after
+      IsSome was → IsSome is → (taken : Are start first (get new) after) × (arrivals taken.0 ≡ arrivals trace.0)
   one_turn end start first old server new after key (Some p) (Some q) before now trace others turn is_was is_now = (
-    record { key = key; was = Some p; is = Some q; server = server; server_after = after } ∷ trace.0,
     (
-      get old,
-      server,
-      trace.1,
-      record {
-        was = before;
-        is = now;
-        others = others;
-        begins = refl;
-        leaves = refl;
-        holds = inl (record { before = p; after = q; end = end; began = refl; ended = refl; turn = turn });
-      },
+      record { key = key; was = Some p; is = Some q; server = server; server_after = after } ∷ trace.0,
+      (
+        get old,
+        server,
+        trace.1,
+        record {
+          was = before;
+          is = now;
+          others = others;
+          begins = refl;
+          leaves = refl;
+          holds = inl (record { before = p; after = q; end = end; began = refl; ended = refl; turn = turn });
+        },
+      ),
     ),
+    zero-add (arrivals trace.0),
   )
   one_turn end start first old server new after key None is before now trace others turn is_was is_now =
       absurd (false≢true is_was)
   one_turn end start first old server new after key (Some p) None before now trace others turn is_was is_now =
       absurd (false≢true is_now)
 
+  -- a turn is a step in which nobody comes
   pub one_more : (result : Option TurnEnd) (start : ℕ → Option (Talker S G)) (first : A) (old : Slab (Talker S G))
-      (server : A) (new : Slab (Talker S G)) (after : A) (key : ℕ) → Are start first (get old) server →
+      (server : A) (new : Slab (Talker S G)) (after : A) (key : ℕ) (trace : Are start first (get old) server) →
       ((other : ℕ) → other ≢ key → get new other ≡ get old other) →
       IfSome result (λ end. IfSome (get old key) (λ p. IfSome (get new key) (λ q.
       IsTurnOf remaining contents answers binary_text memory_text end p server q after))) →
       OnSome result (IsSome (get old key) × IsSome (get new key)) →
-      IfNone result ((new ≡ old) × (after ≡ server)) → Are start first (get new) after
+      IfNone result ((new ≡ old) × (after ≡ server)) →
+      (taken : Are start first (get new) after) × (arrivals taken.0 ≡ arrivals trace.0)
   one_more None start first old server new after key trace others turn stays nobody_there =
-      rw nobody_there.0 (rw nobody_there.1 trace)
+      ((trace.0, rw nobody_there.0 (rw nobody_there.1 trace.1)), refl)
   one_more (Some end) start first old server new after key trace others turn stays nobody_there =
       one_turn end start first old server new after key (get old key) (get new key) refl refl trace others turn stays.0
       stays.1
 
   -- a coming is a step
-  pub arrival_taken : (old new : Slab (Talker S G)) (server : A) (key : ℕ) (socket : Socket S) → get old key ≡ None →
-      get new key ≡ Some (newcomer_on socket nobody) →
-      ((other : ℕ) → other ≢ key → get new other ≡ get old other) → Are (get old) server (get new) server
-  arrival_taken old new server key socket free comes others = (
-    record { key = key; was = None; is = Some (newcomer_on socket nobody); server = server; server_after = server } ∷ [],
+  pub arrival_taken : (old new : Slab (Talker S G)) (server : A) (key : ℕ) (socket : Socket S) → IsAtStart socket →
+      get old key ≡ None → get new key ≡ Some (newcomer_on socket nobody) →
+      ((other : ℕ) → other ≢ key → get new other ≡ get old other) →
+      (taken : Are (get old) server (get new) server) × (arrivals taken.0 ≡ 1)
+  arrival_taken old new server key socket starts free comes others = (
     (
-      get old,
-      server,
-      ((λ k. refl), refl),
-      record {
-        was = free;
-        is = comes;
-        others = others;
-        begins = refl;
-        leaves = refl;
-        holds = inr (inl (record { socket = socket; free = refl; comes = refl; unheard = refl }));
-      },
+      record { key = key; was = None; is = Some (newcomer_on socket nobody); server = server; server_after = server } ∷ [],
+      (
+        get old,
+        server,
+        ((λ k. refl), refl),
+        record {
+          was = free;
+          is = comes;
+          others = others;
+          begins = refl;
+          leaves = refl;
+          holds = inr (inl (record { socket = socket; starts = starts; free = refl; comes = refl; unheard = refl }));
+        },
+      ),
     ),
+    refl,
   )
 
-  -- so is a going
+  -- nobody comes where nobody is then
+  goes_alone : (was : Option (Talker S G)) → newcomers was None + 0 ≡ 0
+  goes_alone None = refl
+  goes_alone (Some client) = refl
+
+  -- a going is a step, in which nobody comes
   pub departure_taken : (old new : Slab (Talker S G)) (server : A) (key : ℕ) → get new key ≡ None →
-      ((other : ℕ) → other ≢ key → get new other ≡ get old other) → Are (get old) server (get new) server
+      ((other : ℕ) → other ≢ key → get new other ≡ get old other) →
+      (taken : Are (get old) server (get new) server) × (arrivals taken.0 ≡ 0)
   departure_taken old new server key goes others = (
-    record { key = key; was = get old key; is = None; server = server; server_after = server } ∷ [],
     (
-      get old,
-      server,
-      ((λ k. refl), refl),
-      record {
-        was = refl;
-        is = goes;
-        others = others;
-        begins = refl;
-        leaves = refl;
-        holds = inr (inr (record { goes = refl; unheard = refl }));
-      },
+      record { key = key; was = get old key; is = None; server = server; server_after = server } ∷ [],
+      (
+        get old,
+        server,
+        ((λ k. refl), refl),
+        record {
+          was = refl;
+          is = goes;
+          others = others;
+          begins = refl;
+          leaves = refl;
+          holds = inr (inr (record { goes = refl; unheard = refl }));
+        },
+      ),
     ),
+    goes_alone (get old key),
   )
 
   -- ---- who is there came as nobody

@@ -14,7 +14,7 @@ module _ {S : Type 0} (contents : S → Option (List ℕ)) where
   puts_of Sending message before clear after flushed empty h =
       record { clear = clear; flushed = flushed; nothing_waits = empty; writes = h }
   puts_of Reading message before clear after flushed empty h = h
-  puts_of Closed message before clear after flushed empty h = tt
+  puts_of (Closed why) message before clear after flushed empty h = tt
 
 module _ {S A G : Type 0} (remaining contents : S → Option (List ℕ))
     (answers : A → G → List ℕ → Option (List ℕ) → A → G → Type 0) (binary_text memory_text : List ℕ) where
@@ -34,4 +34,4 @@ module _ {S A G : Type 0} (remaining contents : S → Option (List ℕ))
   reads_one Sending socket guest server sent guest_after after h = h
   reads_one Reading socket guest server sent guest_after after h =
       absurd (never (content_of h.message) h.read guest server sent guest_after after h.gets)
-  reads_one Closed socket guest server sent guest_after after h = inr h
+  reads_one (Closed why) socket guest server sent guest_after after h = inr h

@@ -1,8 +1,8 @@
 -- The clients of one thread, each at a key of its own, who take turns over one server. Whoever's turn it is, the others'
 -- places stay as they are; so each client's turns follow one another as if it were alone.
-use Rattle.std.specs.Prelude.{◌≡◌, ◌≢◌, ◌⊎◌, ◌==◌, ℕ, Bool, true, false, List, [], ◌∷◌, Option, Some, None}
+use Rattle.std.specs.Prelude.{◌≡◌, ◌≢◌, ◌⊎◌, ◌==◌, ◌+◌, ℕ, Bool, true, false, List, [], ◌∷◌, Option, Some, None}
 use Rattle.tungstenite.specs.Socket.{Socket}
-use Rattle.many_clients.specs.Talker.{Talker, newcomer_on}
+use Rattle.many_clients.specs.Talker.{Talker, IsAtStart, newcomer_on}
 use Rattle.many_clients.specs.Turns.{IsTurnOf}
 use Rattle.many_clients.specs.declared.turn_end.TurnEnd.{TurnEnd}
 
@@ -13,6 +13,12 @@ pub record HallStep (P A : Type 0) : Type 0 where
   pub is : Option P
   pub server : A
   pub server_after : A
+
+-- how many come in a step, by who was at its place and who is: one, where somebody is and nobody was
+abbrev pub newcomers : {P : Type 0} → Option P → Option P → ℕ
+newcomers None None = 0
+newcomers None (Some client) = 1
+newcomers (Some client) is = 0
 
 module _ {P A : Type 0} where
   -- a step that is so, from these places and this server to those: no other place is touched
@@ -37,6 +43,11 @@ module _ {P A : Type 0} where
   abbrev pub HasTaken : (HallStep P A → Type 0) → (ℕ → Option P) → A → (ℕ → Option P) → A → Type 0
   HasTaken Is places server places_after server_after =
       (steps : List (HallStep P A)) × AreTaken Is steps places server places_after server_after
+
+  -- how many came in these steps
+  abbrev pub arrivals : List (HallStep P A) → ℕ
+  arrivals [] = 0
+  arrivals (step ∷ earlier) = newcomers step.was step.is + arrivals earlier
 
   abbrev pub kept_if : Bool → HallStep P A → List (HallStep P A) → List (HallStep P A)
   kept_if true step steps = step ∷ steps
@@ -65,9 +76,11 @@ module _ {S A G : Type 0} (remaining contents : S → Option (List ℕ))
     pub ended : step.is ≡ Some after
     pub turn : IsTurnOf remaining contents answers binary_text memory_text end before step.server after step.server_after
 
-  -- a client comes to a place where nobody was, and nobody is signed in on its connection
+  -- a client comes to a place where nobody was, with a socket of its own that has read and written no message, and nobody is
+  -- signed in on its connection
   pub record IsArrival (step : HallStep (Talker S G) A) : Type 0 where
     pub socket : Socket S
+    pub starts : IsAtStart socket
     pub free : step.was ≡ None
     pub comes : step.is ≡ Some (newcomer_on socket nobody)
     pub unheard : step.server_after ≡ step.server

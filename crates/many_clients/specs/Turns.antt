@@ -7,7 +7,7 @@ use Rattle.tungstenite.specs.Failure.{IsIo}
 use Rattle.tungstenite.specs.Socket.{Socket, Reads, Writes, Flushed, content_of}
 use Rattle.tungstenite.specs.declared.error.Error.{Error}
 use Rattle.tungstenite.specs.declared.message.Message.{Message}
-use Rattle.websocket_server.specs.Conversation.{sent_text}
+use Rattle.websocket_server.specs.Messages.{sent_text}
 use Rattle.many_clients.specs.Talker.{Talker}
 use Rattle.many_clients.specs.declared.turn_end.TurnEnd.{TurnEnd}
 use Rattle.many_clients.specs.declared.turn_end.TurnEnd.TheVariants.{Answered, Sending, Reading, Closed}
@@ -17,7 +17,7 @@ abbrev pub is_sending_after : TurnEnd → Bool
 is_sending_after Answered = false
 is_sending_after Sending = true
 is_sending_after Reading = false
-is_sending_after Closed = false
+is_sending_after (Closed why) = false
 
 module _ {S : Type 0} (contents : S → Option (List ℕ)) where
   -- one message is written once nothing waits any more: so what waits after it is the end of its frame, and no more
@@ -33,21 +33,21 @@ module _ {S : Type 0} (contents : S → Option (List ℕ)) where
       Writes contents before after (write_step before.conn message) × (after.output ≡ [])
   WritesAsFar Sending message before after = Writes contents before after (write_step before.conn message)
   WritesAsFar Reading message before after = ⊥
-  WritesAsFar Closed message before after = ⊤
+  WritesAsFar (Closed why) message before after = ⊤
 
   -- one message, and no other, joins what was sent: all of it is sent, or a part waits, or it isn't known
   abbrev pub Puts : TurnEnd → Content → Socket S → Socket S → Type 0
   Puts Answered message before after = IsWrittenAlone message before after × (after.output ≡ [])
   Puts Sending message before after = IsWrittenAlone message before after
   Puts Reading message before after = ⊥
-  Puts Closed message before after = ⊤
+  Puts (Closed why) message before after = ⊤
 
   -- no message joins it: what waited is sent, or a part of it waits, or it isn't known
   abbrev pub SendsRest : TurnEnd → Socket S → Socket S → Type 0
   SendsRest Answered before after = Flushed contents before after × (after.output ≡ [])
   SendsRest Sending before after = Flushed contents before after
   SendsRest Reading before after = ⊥
-  SendsRest Closed before after = ⊤
+  SendsRest (Closed why) before after = ⊤
 
 -- over streams whose bytes are known so, for a server that answers a text of a guest's connection so, a binary message so,
 -- and so without memory
@@ -93,9 +93,9 @@ module _ {S A G : Type 0} (remaining contents : S → Option (List ℕ))
       Hears Sending socket guest server socket_after guest_after server_after
   ReadsOne Reading socket guest server socket_after guest_after server_after =
       HearsNone socket guest server socket_after guest_after server_after
-  ReadsOne Closed socket guest server socket_after guest_after server_after =
+  ReadsOne (Closed why) socket guest server socket_after guest_after server_after =
       ((guest_after ≡ guest) × (server_after ≡ server))
-      ⊎ Hears Closed socket guest server socket_after guest_after server_after
+      ⊎ Hears (Closed why) socket guest server socket_after guest_after server_after
 
   -- a client's turn: where a part of an answer waits that is sent on, and nothing is read; else one message is read
   abbrev pub SendsOrReads : Bool → TurnEnd → Socket S → G → A → Socket S → G → A → Type 0

@@ -3,7 +3,7 @@
 ghost use Rattle.std.specs.Prelude.{◌≡◌, ◌≢◌, ℕ, Some, None, IsSome, IfOk, IfSome, IfNone, OnErr, OnSome};
 ghost use Rattle.slab.specs.Slab.{get, SameValues};
 ghost use Rattle.many_clients.specs.Hall.{HasTaken, IsHallStep};
-ghost use Rattle.many_clients.specs.Talker.{newcomer_on};
+ghost use Rattle.many_clients.specs.Talker.{IsAtStart, newcomer_on};
 ghost use Rattle.many_clients.specs.Turns.{IsTurnOf};
 
 use crate::client::Client;
@@ -16,12 +16,13 @@ use std::sync::Wait;
 use tungstenite::{NoMask, WebSocket};
 use websocket_server::MessageServer;
 
-/// Takes in a client whose handshake is done, on whose connection nobody is signed in, and gives its key. Where there is no
-/// memory for one more it is let go.
+/// Takes in a client whose handshake is done, on whose connection nobody is signed in, and gives its key. Its socket has read and
+/// written no message, and reads none that is too long. Where there is no memory for one more it is let go.
 pub fn admit<H, S: Read + Write + Drop, A: MessageServer<H>>(
     clients: &mut Slab<Client<S, A::Guest>>,
     socket: WebSocket<S, NoMask>,
 ) -> Result<usize, AllocError>
+    requires { IsAtStart socket }
     ensures free { IfOk result (λ key. get clients.old key ≡ None) }
     ensures comes { IfOk result (λ key. get clients.new key ≡ Some (newcomer_on socket A.nobody)) }
     ensures others { IfOk result (λ key. (other : ℕ) → other ≢ key → get clients.new other ≡ get clients.old other) }

@@ -1,12 +1,14 @@
-ghost use Rattle.std.specs.Prelude.{codes};
+ghost use Rattle.std.specs.Prelude.{◌≡◌, Some, codes};
+ghost use Rattle.many_clients.specs.Talker.{IsAtStart};
+ghost use Rattle.websocket_server.specs.Messages.{longest_message};
 
 use crate::{Client, ReadyStream, TurnEnd, admit, dismiss, serve_all, serve_at};
 use slab::Slab;
 use std::alloc::{AllocError, Global};
 use std::borrow::CowStr;
 use std::io::{self, ErrorKind, Read, Write};
-use tungstenite::{NoMask, Role, WebSocket};
-use websocket_server::MessageServer;
+use tungstenite::{NoMask, Role, WebSocket, WebSocketConfig};
+use websocket_server::{LONGEST_MESSAGE, MessageServer};
 
 // Answers the first text of each connection by a word, the second by another, and the rest by a third: the guest is how many
 // texts have come there.
@@ -95,8 +97,27 @@ impl Write for Slow {
     }
 }
 
-fn socket<S: Drop>(alloc: Global, stream: S) -> WebSocket<S, NoMask> {
-    WebSocket::from_raw_socket(alloc, stream, NoMask, Role::Server, None)
+// The longest message of a client here.
+fn limits() -> WebSocketConfig
+    ensures message { result.max_message_size ≡ Some longest_message }
+    ensures frame { result.max_frame_size ≡ Some longest_message }
+{
+    WebSocketConfig::default()
+        .max_message_size(Some(LONGEST_MESSAGE))
+        .max_frame_size(Some(LONGEST_MESSAGE))
+}
+
+fn socket<S: Drop>(alloc: Global, stream: S) -> WebSocket<S, NoMask>
+    ensures { IsAtStart result }
+{
+    WebSocket::from_partially_read(
+        alloc,
+        stream,
+        NoMask,
+        Vec::new(alloc),
+        Role::Server,
+        Some(limits()),
+    )
 }
 
 fn slow_stream(alloc: Global, input: &'static [u8]) -> Slow {

@@ -1,16 +1,19 @@
 //! A turn of one client: what has come is read as far as one message, which is answered.
 
 ghost use Rattle.std.specs.Prelude.{◌≡◌, ◌⊎◌, true};
+ghost use Rattle.hall_terms.specs.declared.client_end.ClientEnd.{ClientEnd};
 ghost use Rattle.many_clients.specs.declared.turn_end.TurnEnd.TheVariants.{Sending, Closed};
 ghost use Rattle.tungstenite.specs.Failure.{IsIo};
 ghost use Rattle.tungstenite.specs.Socket.{content_of};
 ghost use Rattle.many_clients.specs.Turns.{Gets, SendsOrReads, Puts, ReadsOne, SendsRest, WritesAsFar};
 
 use crate::turn_end::TurnEnd;
+use hall_terms::ClientEnd;
 use std::alloc::Global;
 use std::io::{ErrorKind, Read, Write};
 use std::sync::Wait;
 use tungstenite::{Error, Message, NoMask, WebSocket};
+use websocket::error::ProtocolError;
 use websocket_server::{MessageServer, answer_message, close_frame, fixed_message};
 
 // A turn of a client, of whose answers a part waits or none does.
@@ -50,7 +53,7 @@ fn serve_next<R: Wait, S: Read + Write + Drop, A: MessageServer<R>>(
                 TurnEnd::Reading
             } else {
                 say_why(socket, &error);
-                TurnEnd::Closed
+                TurnEnd::Closed(end_of(&error))
             }
         }
     }
@@ -71,7 +74,7 @@ fn serve_message<R: Wait, S: Read + Write + Drop, A: MessageServer<R>>(
     match message {
         Message::Text(text) => match answer_message(rt, alloc, guest, text.as_bytes(), server) {
             Ok(answer) => put(socket, answer),
-            Err(_) => TurnEnd::Closed,
+            Err(_) => TurnEnd::Closed(ClientEnd::OutOfMemory),
         },
         Message::Binary(_) => put(socket, fixed_message(A::binary_answer())),
         // tungstenite has a pong or a close ready, which is sent.
@@ -86,7 +89,7 @@ fn put<S: Read + Write + Drop>(socket: &mut WebSocket<S, NoMask>, message: Messa
 {
     match socket.flush() {
         Ok(()) => send(socket, message),
-        Err(_) => TurnEnd::Closed,
+        Err(error) => TurnEnd::Closed(end_of(&error)),
     }
 }
 
@@ -113,12 +116,12 @@ fn send_rest<S: Read + Write + Drop>(socket: &mut WebSocket<S, NoMask>) -> TurnE
 // What becomes of a connection whose stream didn't take all.
 fn after_error(error: &Error) -> TurnEnd
     ensures waits { result ≡ Sending → IsIo error.now }
-    ensures other { (result ≡ Sending) ⊎ (result ≡ Closed) }
+    ensures other { (result ≡ Sending) ⊎ ((why : ClientEnd) × (result ≡ Closed why)) }
 {
     if would_block(error) {
         TurnEnd::Sending
     } else {
-        TurnEnd::Closed
+        TurnEnd::Closed(end_of(error))
     }
 }
 
@@ -129,6 +132,19 @@ fn would_block(error: &Error) -> bool
     match error {
         Error::Io(cause) => cause.kind() == ErrorKind::WouldBlock,
         _ => false,
+    }
+}
+
+// Why a connection ends whose socket can't go on.
+fn end_of(error: &Error) -> ClientEnd {
+    match error {
+        Error::ConnectionClosed | Error::AlreadyClosed => ClientEnd::Closed,
+        // The other side went without a close.
+        Error::Protocol(ProtocolError::ResetWithoutClosingHandshake) => ClientEnd::Failed,
+        Error::Protocol(_) | Error::Utf8 => ClientEnd::BrokeRule,
+        Error::Capacity(_) => ClientEnd::TooLong,
+        Error::OutOfMemory => ClientEnd::OutOfMemory,
+        _ => ClientEnd::Failed,
     }
 }
 

@@ -1,6 +1,8 @@
 ghost use Rattle.std.specs.Prelude.{◌≡◌};
 ghost use Rattle.many_clients.specs.Turns.{is_sending_after};
 
+use hall_terms::ClientEnd;
+
 /// What a client's turn came to, and so what it waits for.
 #[derive(Clone, Copy, Debug, PartialEq, Eq)]
 pub enum TurnEnd {
@@ -10,8 +12,8 @@ pub enum TurnEnd {
     Sending,
     /// No message has come whole.
     Reading,
-    /// The connection is over.
-    Closed,
+    /// The connection is over, for this reason.
+    Closed(ClientEnd),
 }
 
 impl TurnEnd {

@@ -18,4 +18,5 @@ file_fault_text file.Failed = codes "the system can't do it"
 abbrev pub port_fault_text : PortFault → List ℕ
 port_fault_text port.Taken = codes "another program listens there"
 port_fault_text port.Forbidden = codes "the system doesn't allow it"
+port_fault_text port.Elsewhere = codes "this computer hasn't that address"
 port_fault_text port.Failed = codes "the system can't do it"

@@ -19,7 +19,7 @@ pub enum Obstacle<'a> {
     Unread(&'a str, FileFault),
     /// A folder isn't made at this path, or a file in it isn't written.
     Unwritten(&'a str, FileFault),
-    /// Nothing can listen at this port of 127.0.0.1.
+    /// Nothing can listen at this port.
     NotListening(u16, PortFault),
     /// The script can't be read, or is too long.
     ScriptUnread,

@@ -12,6 +12,8 @@ pub enum PortFault {
     Taken,
     /// The system doesn't allow it, as below 1024.
     Forbidden,
+    /// The address is another computer's.
+    Elsewhere,
     /// Anything else that the system says.
     Failed,
 }
@@ -22,6 +24,7 @@ impl PortFault {
         match kind {
             ErrorKind::AddrInUse => PortFault::Taken,
             ErrorKind::PermissionDenied => PortFault::Forbidden,
+            ErrorKind::AddrNotAvailable => PortFault::Elsewhere,
             _ => PortFault::Failed,
         }
     }
@@ -33,6 +36,7 @@ impl PortFault {
         match self {
             PortFault::Taken => "another program listens there",
             PortFault::Forbidden => "the system doesn't allow it",
+            PortFault::Elsewhere => "this computer hasn't that address",
             PortFault::Failed => "the system can't do it",
         }
     }

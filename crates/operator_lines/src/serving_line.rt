@@ -3,17 +3,18 @@
 ghost use Rattle.std.specs.Prelude.{◌≡◌, ◌⊎◌, [], IfOk, string_bytes};
 ghost use Rattle.std.specs.Io.KnownBytes.{Appends};
 ghost use Rattle.operator_lines.specs.Telling.{TellsLine};
-ghost use Rattle.operator_lines.specs.Serving.{serving_line, kept_text, journal_text};
+ghost use Rattle.operator_lines.specs.Serving.{serving_line, kept_text, journal_text, TellsInClear, TellsServing};
 
 use crate::telling::tell;
 use std::alloc::{AllocError, Global};
 use std::io::Write;
+use std::net::{IpAddr, SocketAddr};
 
 /// How a session is served.
 #[derive(Clone, Copy)]
 pub struct ServingLine<'a> {
-    /// The port on 127.0.0.1.
-    pub port: u16,
+    /// The address and the port at which clients come.
+    pub address: SocketAddr,
     /// How many tables the session has.
     pub tables: u8,
     /// How many displays serve.
@@ -33,8 +34,28 @@ pub enum KeptIn<'a> {
     Journal(&'a str, usize),
 }
 
-/// Tells how a session is served. Where there is no memory for the line, or it can't be written, it is served all the same.
+/// Tells how a session is served, and before that, where other computers can come, what that means. Where there is no memory for
+/// the line, or it can't be written, the session is served all the same.
 pub fn tell_serving<E: Write>(alloc: Global, serving: &ServingLine<'_>, errors: &mut E)
+    ensures { TellsServing serving.now (E.contents errors.old) (E.contents errors.new) }
+{
+    tell_in_clear(serving.address.ip(), errors);
+    tell_line(alloc, serving, errors);
+}
+
+// Tells what it means that other computers can come, if they can.
+fn tell_in_clear<E: Write>(address: IpAddr, errors: &mut E)
+    ensures { TellsInClear address (E.contents errors.old) (E.contents errors.new) }
+{
+    if !address.is_loopback() {
+        tell(
+            errors,
+            "bridge_server: other computers can come: without TLS in front of it tokens travel in clear\n",
+        );
+    }
+}
+
+fn tell_line<E: Write>(alloc: Global, serving: &ServingLine<'_>, errors: &mut E)
     ensures { TellsLine (E.contents errors.old) (E.contents errors.new) (serving_line serving.now)
         ⊎ Appends (E.contents errors.old) (E.contents errors.new) [] }
 {
@@ -47,11 +68,11 @@ pub fn tell_serving<E: Write>(alloc: Global, serving: &ServingLine<'_>, errors: 
 fn serving_line(alloc: Global, serving: &ServingLine<'_>) -> Result<String, AllocError>
     ensures { IfOk result (λ line. string_bytes line ≡ serving_line serving.now) }
 {
-    let (port, tables) = (serving.port, serving.tables);
+    let (address, tables) = (serving.address, serving.tables);
     let (displays, workers) = (serving.displays, serving.workers);
     let kept = kept_text(alloc, &serving.kept)?;
     format!(in alloc;
-        "bridge_server: serves at 127.0.0.1:{port}: {tables} tables, {displays} displays, {workers} workers, {kept}\n"
+        "bridge_server: serves at {address}: {tables} tables, {displays} displays, {workers} workers, {kept}\n"
     )
 }
 

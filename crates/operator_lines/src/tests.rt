@@ -6,6 +6,7 @@ use crate::{
 };
 use std::alloc::Global;
 use std::io::ErrorKind;
+use std::net::{IpAddr, Ipv4Addr, Ipv6Addr, SocketAddr};
 
 static FILES: &[(ErrorKind, FileFault)] = &[
     (ErrorKind::NotFound, FileFault::Missing),
@@ -21,7 +22,8 @@ static FILES: &[(ErrorKind, FileFault)] = &[
 static PORTS: &[(ErrorKind, PortFault)] = &[
     (ErrorKind::AddrInUse, PortFault::Taken),
     (ErrorKind::PermissionDenied, PortFault::Forbidden),
-    (ErrorKind::AddrNotAvailable, PortFault::Failed),
+    (ErrorKind::AddrNotAvailable, PortFault::Elsewhere),
+    (ErrorKind::Interrupted, PortFault::Failed),
 ];
 
 #[test]
@@ -70,18 +72,35 @@ fn obstacles_have_lines(rt: HostRuntime) {
     }
 }
 
+// Where a server serves, and what it tells then.
+static SERVED: &[(IpAddr, &str)] = &[
+    (
+        IpAddr::V4(Ipv4Addr::LOCALHOST),
+        "bridge_server: serves at 127.0.0.1:8080: 8 tables, 4 displays, 2 workers, journal evening.journal at version 17\n",
+    ),
+    (
+        IpAddr::V4(Ipv4Addr::UNSPECIFIED),
+        "bridge_server: other computers can come: without TLS in front of it tokens travel in clear
+bridge_server: serves at 0.0.0.0:8080: 8 tables, 4 displays, 2 workers, journal evening.journal at version 17\n",
+    ),
+    (
+        IpAddr::V6(Ipv6Addr::LOCALHOST),
+        "bridge_server: serves at [::1]:8080: 8 tables, 4 displays, 2 workers, journal evening.journal at version 17\n",
+    ),
+];
+
 #[test]
 fn a_server_has_a_line(rt: HostRuntime) {
-    let serving = ServingLine {
-        port: 8080,
-        tables: 8,
-        displays: 4,
-        workers: 2,
-        kept: KeptIn::Journal("evening.journal", 17),
-    };
-    let mut told = Vec::new(rt.alloc());
-    tell_serving(rt.alloc(), &serving, &mut told);
-    let line =
-        "bridge_server: serves at 127.0.0.1:8080: 8 tables, 4 displays, 2 workers, journal evening.journal at version 17\n";
-    assert!(rt; told.as_slice() == line.as_bytes());
+    for &(address, lines) in SERVED {
+        let serving = ServingLine {
+            address: SocketAddr::from((address, 8080)),
+            tables: 8,
+            displays: 4,
+            workers: 2,
+            kept: KeptIn::Journal("evening.journal", 17),
+        };
+        let mut told = Vec::new(rt.alloc());
+        tell_serving(rt.alloc(), &serving, &mut told);
+        assert!(rt; told.as_slice() == lines.as_bytes(), "{lines}");
+    }
 }

@@ -4,7 +4,7 @@ use Rattle.std.specs.Prelude.{Bool, ℕ, ℤ, List, [], ◌∷◌, ◌||◌, Som
 use Rattle.std.specs.List.{list_any, starts_with}
 use Rattle.std.specs.Str.{bytes_eq}
 use Rattle.clap.specs.Words.{App, Rule, Text, new_app, new_rule, with_rule, with_subcommand}
-use Rattle.server_words.specs.declared.words.TheConstants.{DISPLAYS_AT_MOST, MOST_WORKERS, MOST_CONNECTIONS, MOST_BUDGET}
+use Rattle.server_words.specs.declared.words.TheConstants.{DISPLAYS_AT_MOST, MOST_WORKERS, MOST_CONNECTIONS, MOST_BUDGET, CLIENTS_AT_MOST}
 use Rattle.clap.specs.declared.builder.value_parser.ValueParser.TheVariants.{Signed}
 
 -- own: each number's limits
@@ -25,6 +25,12 @@ most_workers = MOST_WORKERS
 
 abbrev pub most_connections : ℕ
 most_connections = MOST_CONNECTIONS
+
+abbrev pub least_clients : ℕ
+least_clients = 1
+
+abbrev pub most_clients : ℕ
+most_clients = CLIENTS_AT_MOST
 
 abbrev pub least_idle : ℕ
 least_idle = 1
@@ -74,10 +80,20 @@ with_counts line = with_rule (with_rule (with_rule line displays_rule) workers_r
 abbrev pub idle_rule : Rule
 idle_rule = default_rule (codes "idle") (pos least_idle) (pos most_idle) (codes "300")
 
--- what is asked of each client, and what is handed out: options that may be left out stand last
+abbrev pub clients_rule : Rule
+clients_rule = default_rule (codes "clients") (pos least_clients) (pos most_clients) (codes "1000")
+
+-- how many clients there may be, what is asked of each, what is handed out, where, and where it is logged: options that may
+-- be left out stand last
 abbrev pub with_clients : App → App
 with_clients line =
-    with_rule (with_rule (with_rule line idle_rule) (option_rule (codes "origin"))) (option_rule (codes "page"))
+    with_rule
+    (with_rule
+    (with_rule
+    (with_rule (with_rule (with_rule line clients_rule) idle_rule) (option_rule (codes "origin")))
+    (option_rule (codes "page")))
+    (option_rule (codes "listen")))
+    (option_rule (codes "log"))
 
 -- how clients are served, where the files of the session may be needed
 abbrev pub serve_line : Bool → App

@@ -1,6 +1,10 @@
 -- What the program's words ask for.
-use Rattle.std.specs.Prelude.{◌≡◌, ◌≢◌, ◌≤◌, ℕ, List, [], Option, Some, None, IsSomeAnd, codes, option_map}
+use Rattle.std.specs.Prelude.{◌≡◌, ◌≢◌, ◌≤◌, ℕ, List, [], ◌∷◌, Option, Some, None, IsSomeAnd, codes, option_map}
+use Rattle.std.specs.Net.Addr.{ipv4_octets}
+use Rattle.std.specs.Net.Grammar.{IsIpText}
 use Rattle.std.specs.Option.{option_map_or}
+use Rattle.std.specs.declared.net.ip_addr.IpAddr.{IpAddr}
+use Rattle.std.specs.declared.net.ip_addr.IpAddr.TheVariants.{V4, V6}
 use Rattle.std.specs.Str.Parse.{digits_value, without_leading_plus}
 use Rattle.clap.specs.Words.{IsAmong, Kinds, Row, Text, fault_of, first_of, one_of, subcommand_of, subcommand_rows_of}
 use Rattle.clap.specs.declared.error.kind.ErrorKind.TheVariants.{DisplayHelp, DisplayVersion}
@@ -13,6 +17,8 @@ use Rattle.server_words.specs.CommandLine.{
   most_displays,
   most_workers,
   most_connections,
+  least_clients,
+  most_clients,
   least_idle,
   most_idle,
 }
@@ -30,6 +36,7 @@ pub record AreNumbersInRange (serving : Serving) : Type 0 where
   pub displays : (least_displays ≤ serving.displays) × (serving.displays ≤ most_displays)
   pub workers : serving.workers ≤ most_workers
   pub connections : serving.connections ≤ most_connections
+  pub clients : (least_clients ≤ serving.clients) × (serving.clients ≤ most_clients)
   pub idle : (least_idle ≤ serving.idle) × (serving.idle ≤ most_idle)
 
 -- own: the option has a text, from the words or by default, and its digits write the number
@@ -43,6 +50,7 @@ pub record AreNumbersGiven (options : List Row) (serving : Serving) : Type 0 whe
   pub displays : IsGiven options (codes "displays") serving.displays
   pub workers : IsGiven options (codes "workers") serving.workers
   pub connections : IsGiven options (codes "connections") serving.connections
+  pub clients : IsGiven options (codes "clients") serving.clients
   pub idle : IsGiven options (codes "idle") serving.idle
 
 -- the subcommand that the words name, with its options
@@ -76,11 +84,27 @@ IsSourceGiven options (Journal path None) =
     × (first_of (codes "session") options ≡ None)
     × (first_of (codes "deals") options ≡ None)
 
+-- the address 127.0.0.1
+abbrev pub IsThisComputer : IpAddr → Type 0
+IsThisComputer (V4 address) = ipv4_octets address ≡ 127 ∷ 0 ∷ 0 ∷ 1 ∷ []
+IsThisComputer (V6 address) = ⊥
+
+-- own: the address is that of a text, or this computer's own where there is none
+abbrev pub IsAddressOf : Option Text → IpAddr → Type 0
+IsAddressOf (Some text) address = IsIpText text address
+IsAddressOf None address = IsThisComputer address
+
+-- own: the address is the one that the option names
+abbrev pub IsAddressGiven : List Row → IpAddr → Type 0
+IsAddressGiven options address = IsAddressOf (first_of (codes "listen") options) address
+
 -- own: each option of `serve` is as it is given
 pub record IsServingGiven (options : List Row) (serving : Serving) : Type 0 where
   pub source : IsSourceGiven options serving.source
+  pub address : IsAddressGiven options serving.address
   pub origin : first_of (codes "origin") options ≡ option_map (λ o. o.now) serving.origin
   pub page : first_of (codes "page") options ≡ option_map (λ o. o.now) serving.page
+  pub log : first_of (codes "log") options ≡ option_map (λ o. o.now) serving.log
   pub range : AreNumbersInRange serving
   pub numbers : AreNumbersGiven options serving
 

@@ -6,7 +6,9 @@ ghost use Rattle.clap.specs.declared.builder.command.Command.TheViews.{out-Comma
 ghost use Rattle.server_words.specs.CommandLine.{command_line, needing_one, serve_line, audit_line, copy_line, check_line, prepare_line, report_line, with_prepared_files, with_movement_numbers, with_movement_words, with_notice_words, with_session_words, needed_number, default_option, with_files, with_counts, with_clients, option_rule, port_rule, file_rule, number_rule, default_rule};
 
 use crate::version::VERSION;
-use crate::words::{DISPLAYS_AT_MOST, MOST_BUDGET, MOST_CONNECTIONS, MOST_IDLE, MOST_WORKERS};
+use crate::words::{
+    CLIENTS_AT_MOST, DISPLAYS_AT_MOST, MOST_BUDGET, MOST_CONNECTIONS, MOST_IDLE, MOST_WORKERS,
+};
 use clap::builder::ValueParser;
 use clap::{Arg, Command};
 use std::alloc::{AllocError, Global};
@@ -54,9 +56,7 @@ fn add_script(alloc: Global, command: &mut Command<'_>) -> Result<(), AllocError
 fn add_serve(alloc: Global, command: &mut Command<'_>, needed: bool) -> Result<(), AllocError>
     ensures { OnOk result (app_of command.new ≡ with_subcommand (app_of command.old) (serve_line needed).top) }
 {
-    let mut serve = Command::new(alloc, "serve").about(
-        "Serves clients over WebSockets on 127.0.0.1",
-    );
+    let mut serve = Command::new(alloc, "serve").about("Serves clients over WebSockets");
     let filled = add_options(alloc, &mut serve, needed);
     let added = add_subcommand(alloc, command, serve);
     match filled {
@@ -419,7 +419,7 @@ fn add_counts(alloc: Global, command: &mut Command<'_>) -> Result<(), AllocError
         "displays",
         (1, DISPLAYS_AT_MOST as i64),
         "4",
-        "How many clients are served at once",
+        "How many threads serve clients",
     )?;
     add_count(
         alloc,
@@ -439,11 +439,19 @@ fn add_counts(alloc: Global, command: &mut Command<'_>) -> Result<(), AllocError
     )
 }
 
-// Adds what is asked of each client.
+// Adds how many clients there may be, what is asked of each, and what else may be said.
 fn add_clients(alloc: Global, command: &mut Command<'_>) -> Result<(), AllocError>
     ensures line { OnOk result (app_of command.new ≡ with_clients (app_of command.old)) }
     ensures local { OnOk result ((out-Command command.new).has_globals ≡ (out-Command command.old).has_globals) }
 {
+    add_count(
+        alloc,
+        command,
+        "clients",
+        (1, CLIENTS_AT_MOST as i64),
+        "1000",
+        "How many clients are served at once",
+    )?;
     add_count(
         alloc,
         command,
@@ -452,20 +460,34 @@ fn add_clients(alloc: Global, command: &mut Command<'_>) -> Result<(), AllocErro
         "300",
         "Within how many seconds a client has to send a message or a ping",
     )?;
-    let origin = option(
+    add_option(
         alloc,
+        command,
         "origin",
         "URL",
         "The origin that a page has to come from, as https://bridge.example.org",
-    );
-    add(alloc, command, origin)?;
-    let page = option(
+    )?;
+    add_option(
         alloc,
+        command,
         "page",
         "DIR",
         "The folder of the page, which is handed out at the same port",
-    );
-    add(alloc, command, page)
+    )?;
+    add_option(
+        alloc,
+        command,
+        "listen",
+        "ADDRESS",
+        "The address at which clients come, in place of 127.0.0.1, as 0.0.0.0",
+    )?;
+    add_option(
+        alloc,
+        command,
+        "log",
+        "FILE",
+        "The file to which a line is added for each event, or - for standard error",
+    )
 }
 
 // Adds an option that names a file, and that may have to be there.
@@ -488,7 +510,7 @@ fn add_port(alloc: Global, command: &mut Command<'_>) -> Result<(), AllocError>
     ensures line { OnOk result (app_of command.new ≡ with_rule (app_of command.old) port_rule) }
     ensures local { OnOk result ((out-Command command.new).has_globals ≡ (out-Command command.old).has_globals) }
 {
-    let port = number(alloc, "port", (1, 65_535), "The port on 127.0.0.1").required(true);
+    let port = number(alloc, "port", (1, 65_535), "The port").required(true);
     add(alloc, command, port)
 }
 

@@ -15,6 +15,6 @@ pub use reading::read_words;
 pub use statuses::status_of_words;
 pub use version::VERSION;
 pub use words::{
-    Checking, DISPLAYS_AT_MOST, JournalCopy, Preparing, ReportForm, Reporting, Serving,
-    SessionFiles, SessionSource, Words,
+    CLIENTS_AT_MOST, Checking, DISPLAYS_AT_MOST, JournalCopy, Preparing, ReportForm, Reporting,
+    Serving, SessionFiles, SessionSource, Words,
 };

@@ -5,7 +5,7 @@ ghost use Rattle.clap.specs.Words.{HasKind, app_of, first_of, found_of, kind_of,
 ghost use Rattle.clap.specs.declared.error.kind.ErrorKind.TheVariants.{InvalidValue, OutOfMemory};
 ghost use Rattle.server_words.specs.CommandLine.{needing_one};
 ghost use Rattle.server_words.specs.ReportForm.{form_word};
-ghost use Rattle.server_words.specs.Words.{AsksFor, IsPreparingGiven, IsReadFrom, IsServingGiven, IsSourceGiven, faults_in};
+ghost use Rattle.server_words.specs.Words.{AsksFor, IsAddressGiven, IsPreparingGiven, IsReadFrom, IsServingGiven, IsSourceGiven, faults_in};
 
 use crate::command_line::{add_subcommands, plain_line};
 use crate::options_named::need_files;
@@ -16,6 +16,7 @@ use crate::words::{
 use clap::error::ErrorKind;
 use clap::{ArgMatches, Command, Error};
 use std::alloc::Global;
+use std::net::{IpAddr, Ipv4Addr};
 
 /// What the words ask for, the program's name first. The error has the text for who called the program: of a mistake,
 /// or the help that was asked for.
@@ -46,7 +47,7 @@ fn words_by<'a>(
     match matches_of(alloc, command, words) {
         Ok(matches) => match words_of(&matches) {
             Some(words) => Ok(words),
-            None => Err(out_of_range(command)),
+            None => Err(out_of_range(command, &matches)),
         },
         Err(error) => Err(error),
     }
@@ -109,13 +110,16 @@ fn serving_of<'a>(given: &ArgMatches<'a>) -> Option<Serving<'a>>
 {
     let serving = Serving {
         source: source_of(given)?,
+        address: address_of(given)?,
         port: given.get_one("port")?,
         displays: given.get_one("displays")?,
         workers: given.get_one("workers")?,
         connections: given.get_one("connections")?,
+        clients: given.get_one("clients")?,
         idle: given.get_one("idle")?,
         origin: text_of(given, "origin"),
         page: text_of(given, "page"),
+        log: text_of(given, "log"),
     };
     if serving.is_in_range() {
         Some(serving)
@@ -142,6 +146,19 @@ fn source_of<'a>(given: &ArgMatches<'a>) -> Option<SessionSource<'a>>
         }
         (Some(path), None, None) => Some(SessionSource::Journal(path, None)),
         _ => None,
+    }
+}
+
+// At which address clients are to come, where what names it is one.
+fn address_of(given: &ArgMatches<'_>) -> Option<IpAddr>
+    ensures { IfSome result (IsAddressGiven (rows_of (found_of given.now))) }
+{
+    match text_of(given, "listen") {
+        Some(text) => match text.parse::<IpAddr>() {
+            Ok(address) => Some(address),
+            Err(_) => None,
+        },
+        None => Some(IpAddr::V4(Ipv4Addr::LOCALHOST)),
     }
 }
 
@@ -217,11 +234,16 @@ fn text_of<'a>(given: &ArgMatches<'a>, name: &str) -> Option<&'a str>
     given.get_str(name)
 }
 
-// What is said of a value out of its range. `clap` takes no such words but for a report's form that is none of the four.
-fn out_of_range(command: &mut Command<'_>) -> Error
+// What is said of a value out of its range. `clap` takes no such words but for a report's form that is none of the four, and an
+// address that is none.
+fn out_of_range(command: &mut Command<'_>, matches: &ArgMatches<'_>) -> Error
     ensures { (kind_of result ≡ InvalidValue) ⊎ (kind_of result ≡ OutOfMemory) }
 {
-    match command.error(ErrorKind::InvalidValue, "a value is out of its range") {
+    let why = match matches.subcommand() {
+        Some(("serve", _)) => "--listen takes an IP address, as 0.0.0.0",
+        _ => "a value is out of its range",
+    };
+    match command.error(ErrorKind::InvalidValue, why) {
         Ok(error) => error,
         Err(error) => Error::from(error),
     }

@@ -2,6 +2,8 @@ ghost use Rattle.std.specs.Prelude.{◌≡◌, true, IfSome};
 ghost use Rattle.server_words.specs.ReportForm.{form_word};
 ghost use Rattle.server_words.specs.Words.{AreNumbersInRange};
 
+use std::net::IpAddr;
+
 /// How many displays there are at most.
 pub const DISPLAYS_AT_MOST: u8 = 32;
 
@@ -13,6 +15,9 @@ pub(crate) const MOST_CONNECTIONS: u32 = 1_000_000;
 
 /// How many visits a solver's call may make at most.
 pub(crate) const MOST_BUDGET: i64 = 1_000_000_000_000_000_000;
+
+/// How many clients are served at once at most.
+pub const CLIENTS_AT_MOST: u32 = 10_000;
 
 /// For how many seconds a client that says nothing is waited for at most.
 pub(crate) const MOST_IDLE: u32 = 86_400;
@@ -136,7 +141,9 @@ pub struct Preparing<'a> {
 pub struct Serving<'a> {
     /// Which session is served.
     pub source: SessionSource<'a>,
-    /// The port on 127.0.0.1, from 1.
+    /// The address at which clients come, 127.0.0.1 where none is named.
+    pub address: IpAddr,
+    /// The port there, from 1.
     pub port: u16,
     /// How many displays there are, 1 to 32.
     pub displays: u8,
@@ -144,12 +151,16 @@ pub struct Serving<'a> {
     pub workers: u8,
     /// After how many connections a display ends, up to 1,000,000. With 0 it never does.
     pub connections: u32,
+    /// How many clients are served at once, 1 to 10,000.
+    pub clients: u32,
     /// Within how many seconds a client has to send a message or a ping, 1 to 86,400.
     pub idle: u32,
     /// The origin that a page has to come from, if only one may connect.
     pub origin: Option<&'a str>,
     /// The folder of the page that is handed out at the same port, if there is one.
     pub page: Option<&'a str>,
+    /// The file to which it is added what happens, or `-` for standard error, if it is to be told.
+    pub log: Option<&'a str>,
 }
 
 impl Serving<'_> {
@@ -161,6 +172,7 @@ impl Serving<'_> {
             && (1..=DISPLAYS_AT_MOST).contains(&self.displays)
             && self.workers <= MOST_WORKERS
             && self.connections <= MOST_CONNECTIONS
+            && (1..=CLIENTS_AT_MOST).contains(&self.clients)
             && (1..=MOST_IDLE).contains(&self.idle)
     }
 }

@@ -1,5 +1,5 @@
 -- A transcript goes beside a server of a session's clients.
-use Rattle.std.proofs.Common.{◌≡◌, ℕ, true, List, [], ◌∷◌, refl, sym, ap, subst, ◌∙◌}
+use Rattle.std.proofs.Common.{◌≡◌, ◌≢◌, ◌≤◌, ℕ, true, List, [], ◌∷◌, refl, sym, ap, subst, ◌∙◌}
 use Rattle.std.specs.Prelude.{Option, None}
 use Rattle.json_fields.specs.declared.request_fault.RequestFault.TheVariants.{Malformed, OutOfMemory}
 use Rattle.session_state.specs.SessionState.{SessionState}
@@ -9,13 +9,10 @@ use Rattle.wire.specs.Request.{is_message_text}
 use Rattle.connections.specs.Conversation.{AreExchanged, IsExchanged, journal_then, own_entries_then}
 use Rattle.connections.specs.Linked.{Linked, signed_in}
 use Rattle.connections.proofs.ConversationLemmas.{opening_stays}
-use Rattle.many_clients.specs.Hall.{HasTaken, IsHallStep}
+use Rattle.many_clients.specs.Hall.{HasTaken, IsHallStep, arrivals}
 use Rattle.many_clients.specs.Talker.{Talker}
 use Rattle.many_clients.proofs.FollowingLemmas.{taken_too}
-use Rattle.websocket_server.specs.Clients.{ServesMany}
-use Rattle.websocket_server.proofs.ClientsLemmas.{many_too}
 use Rattle.session_clients.specs.Transcript.{
-  AreServed,
   AreServedInTurns,
   Transcribes,
   Transcript,
@@ -74,61 +71,28 @@ module _ (Others : List Entry → List Entry → Type 0) (no_entry not_kept : Ty
           },
         )
 
-    -- the transcript of whatever serves clients, from a session's opening on; the session stays the same
-    pub transcribed : {S A : Type 0} (remaining contents : S → Option (List ℕ)) (linked : A → Linked) (clients : ℕ)
-        (server after : A) →
-        (linked server).opening ≡ opening → (linked server).journal ≡ [] → (linked server).own_entries ≡ own →
-        (linked server).user ≡ None →
-        ServesMany remaining contents
-        (λ old user message answer new user_after.
-        IsExchanged Others no_entry not_kept (signed_in user (linked old)) message answer (linked new)
-        × (user_after ≡ (linked new).user) × (answer ≡ None → is_message_text message ≡ true))
-        (fault_text Malformed) (fault_text OutOfMemory) None clients server after →
-        AreServed remaining contents Others no_entry not_kept opening own clients (linked after).journal
-        (linked after).own_entries
-        × ((linked after).opening ≡ opening)
-    transcribed remaining contents linked clients server after same_opening nothing same_own nobody serves =
-        let begins : linked server ≡ record { opening = opening; journal = []; own_entries = own; user = None } =
-        linked_is (linked server) opening [] own None same_opening nothing same_own nobody in
-        let first : IsOf Others no_entry not_kept opening own (linked server) (opening_transcript opening own) =
-        record { now = sym begins; same = same_opening; journal = nothing; entered = same_own; exchanged = tt } in
-        let (transcript, served, is) =
-        many_too remaining contents (fault_text Malformed) (fault_text OutOfMemory) None _ Transcribes
-        (λ a transcript. IsOf Others no_entry not_kept opening own (linked a) transcript)
-        (λ one user other user_after message answer at answered is. note (linked one) user (linked other) user_after message
-        answer at answered is)
-        clients server after (opening_transcript opening own) serves first in (
-          record {
-            transcript = transcript;
-            exchanged = is.exchanged;
-            reached = sym is.journal;
-            entered = sym is.entered;
-            served = served;
-          },
-          is.same,
-        )
-
-    -- the same of clients who are served beside one another
+    -- the transcript of whatever serves clients beside one another, from a session's opening on; the session stays the same
     pub transcribed_in_turns : {S A : Type 0} (remaining contents : S → Option (List ℕ)) (linked : A → Linked)
-        (places : ℕ → Option (Talker S (Option (List ℕ)))) (server after : A) →
+        (connections : ℕ) (places : ℕ → Option (Talker S (Option (List ℕ)))) (server after : A) →
         (linked server).opening ≡ opening → (linked server).journal ≡ [] → (linked server).own_entries ≡ own →
         (linked server).user ≡ None →
-        HasTaken
+        (taken : HasTaken
         (IsHallStep remaining contents
         (λ old user message answer new user_after.
         IsExchanged Others no_entry not_kept (signed_in user (linked old)) message answer (linked new)
         × (user_after ≡ (linked new).user) × (answer ≡ None → is_message_text message ≡ true))
         (fault_text Malformed) (fault_text OutOfMemory) None)
-        (λ _. None) server places after →
-        AreServedInTurns remaining contents Others no_entry not_kept opening own places (linked after).journal
+        (λ _. None) server places after) → (connections ≢ 0 → arrivals taken.0 ≤ connections) →
+        AreServedInTurns remaining contents Others no_entry not_kept opening own connections places (linked after).journal
         (linked after).own_entries
         × ((linked after).opening ≡ opening)
-    transcribed_in_turns remaining contents linked places server after same_opening nothing same_own nobody (steps, taken) =
+    transcribed_in_turns remaining contents linked connections places server after same_opening nothing same_own nobody
+        (steps, taken) few =
         let begins : linked server ≡ record { opening = opening; journal = []; own_entries = own; user = None } =
         linked_is (linked server) opening [] own None same_opening nothing same_own nobody in
         let first : IsOf Others no_entry not_kept opening own (linked server) (opening_transcript opening own) =
         record { now = sym begins; same = same_opening; journal = nothing; entered = same_own; exchanged = tt } in
-        let (transcript, served, is) =
+        let (transcript, served, as_many, is) =
         taken_too remaining contents (fault_text Malformed) (fault_text OutOfMemory) None _ Transcribes
         (λ a transcript. IsOf Others no_entry not_kept opening own (linked a) transcript)
         (λ one user other user_after message answer at answered is. note (linked one) user (linked other) user_after message
@@ -140,6 +104,7 @@ module _ (Others : List Entry → List Entry → Type 0) (no_entry not_kept : Ty
             reached = sym is.journal;
             entered = sym is.entered;
             served = served;
+            few = λ some. rw as_many (few some);
           },
           is.same,
         )

@@ -1,5 +1,5 @@
--- The clients of a session, one after another over one who keeps it: what was exchanged with them.
-use Rattle.std.specs.Prelude.{◌≡◌, ℕ, true, Option, None, List, [], ◌∷◌}
+-- The clients of a session, beside one another over one who keeps it: what was exchanged with them.
+use Rattle.std.specs.Prelude.{◌≡◌, ◌≢◌, ◌≤◌, ℕ, true, Option, None, List, [], ◌∷◌}
 use Rattle.json_fields.specs.declared.request_fault.RequestFault.TheVariants.{Malformed, OutOfMemory}
 use Rattle.session_state.specs.SessionState.{SessionState}
 use Rattle.session_commands.specs.declared.entry.Entry.{Entry}
@@ -7,9 +7,8 @@ use Rattle.wire.specs.ReceiptText.{fault_text}
 use Rattle.wire.specs.Request.{is_message_text}
 use Rattle.connections.specs.Conversation.{Exchange, AreExchanged, journal_then, own_entries_then}
 use Rattle.connections.specs.Linked.{Linked, signed_in}
-use Rattle.many_clients.specs.Hall.{HasTaken, IsHallStep}
+use Rattle.many_clients.specs.Hall.{HasTaken, IsHallStep, arrivals}
 use Rattle.many_clients.specs.Talker.{Talker}
-use Rattle.websocket_server.specs.Clients.{ServesMany}
 
 -- what was exchanged so far, of which the newest comes first, and the connection of the newest as it stands then
 pub record Transcript : Type 0 where
@@ -33,26 +32,14 @@ Transcribes before user message answer after user_after =
     ∷ before.exchanges)
     × (user_after ≡ after.now.user) × (answer ≡ None → is_message_text message ≡ true)
 
--- so many clients were served from the opening on, over streams whose bytes are known so, by a keeper that had entered so
--- many entries, and then it stands for a journal, and has entered so many: what was exchanged are exchanges on
--- connections over the keeper, one after another, and beside them it has entered nothing; each text that was read of a
--- client is the message of the next of them, of who is signed in on its connection, where nobody is at first; and its
--- answer, or that memory is wanting, was the text sent for it
-pub record AreServed {S : Type 0} (remaining contents : S → Option (List ℕ))
-    (Others : List Entry → List Entry → Type 0) (no_entry not_kept : Type 0) (opening : SessionState) (own : ℕ)
-    (clients : ℕ) (journal : List Entry) (own_now : ℕ) : Type 0 where
-  pub transcript : Transcript
-  pub exchanged : AreExchanged Others no_entry not_kept opening own transcript.exchanges
-  pub reached : journal_then transcript.exchanges ≡ journal
-  pub entered : own_entries_then own transcript.exchanges ≡ own_now
-  pub served :
-      ServesMany remaining contents Transcribes (fault_text Malformed) (fault_text OutOfMemory) None clients
-      (opening_transcript opening own) transcript
-
--- the same of clients who are served beside one another, in turns, from an empty hall on, and who are at these places then:
--- each text that was read of one of them is the message of the next exchange, of who is signed in on its own connection
+-- clients were served beside one another, in turns, from an empty hall and the session's opening on, over streams whose bytes
+-- are known so, by a keeper that had entered so many entries, and who are at these places then; and then the keeper stands for a
+-- journal, and has entered so many: what was exchanged are exchanges on connections over the keeper, one after another, and
+-- beside them it has entered nothing; each text that was read of one of them is the message of the next exchange, of who is
+-- signed in on its own connection, where nobody is at first; and its answer, or that memory is wanting, was the text sent for it.
+-- Where so many connections are to be accepted, and not all that come, no more clients came than that
 pub record AreServedInTurns {S : Type 0} (remaining contents : S → Option (List ℕ))
-    (Others : List Entry → List Entry → Type 0) (no_entry not_kept : Type 0) (opening : SessionState) (own : ℕ)
+    (Others : List Entry → List Entry → Type 0) (no_entry not_kept : Type 0) (opening : SessionState) (own connections : ℕ)
     (places : ℕ → Option (Talker S (Option (List ℕ)))) (journal : List Entry) (own_now : ℕ) : Type 0 where
   pub transcript : Transcript
   pub exchanged : AreExchanged Others no_entry not_kept opening own transcript.exchanges
@@ -61,3 +48,4 @@ pub record AreServedInTurns {S : Type 0} (remaining contents : S → Option (Lis
   pub served :
       HasTaken (IsHallStep remaining contents Transcribes (fault_text Malformed) (fault_text OutOfMemory) None)
       (λ _. None) (opening_transcript opening own) places transcript
+  pub few : connections ≢ 0 → arrivals served.0 ≤ connections

@@ -1,8 +1,8 @@
-//! A session's clients, one after another: a connection's messages over WebSockets, and all that is exchanged with them.
+//! A session's clients, beside one another: a connection's messages over WebSockets, and all that is exchanged with them.
 #![tactic(auto)]
 
 pub mod laws;
-mod serving_clients;
+mod serving_hall;
 mod session_server;
 
-pub use serving_clients::{serve_session_clients, serve_session_forever};
+pub use serving_hall::serve_session_hall;

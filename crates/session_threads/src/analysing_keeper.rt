@@ -2,10 +2,12 @@
 
 ghost use Rattle.std.specs.Prelude.{◌≡◌};
 
+use crate::hearing::hear_batch;
 use crate::job_queue::JobQueue;
 use desks::DeskKeeper;
 use displays::Server;
 use entry_store::EntryStore;
+use event_log::SharedLog;
 use movement::Cell;
 use published_view::{NoEntry, QueryFault};
 use session_book::Answer;
@@ -16,24 +18,27 @@ use session_roles::Edition;
 use solver_results::{DdTable, PlayCosts};
 use std::alloc::Global;
 use std::sync::Wait;
+use std::time::Clock;
 use user_names::{Digest, Name};
 
 /// A desk and a display that keep a session, and the queue of jobs, if anybody solves: what a confirmed or a corrected
-/// result leaves to find is queued before the batch is answered.
+/// result leaves to find is queued before the batch is answered. What became of a batch is logged, if there is a log.
 #[derive(Drop)]
 pub(crate) struct AnalysingKeeper<'a, N: Server, K: EntryStore> {
     keeper: DeskKeeper<'a, N, K>,
     queue: Option<&'a JobQueue>,
+    log: Option<&'a SharedLog>,
 }
 
 impl<'a, N: Server, K: EntryStore> AnalysingKeeper<'a, N, K> {
     pub(crate) fn new(
         keeper: DeskKeeper<'a, N, K>,
         queue: Option<&'a JobQueue>,
+        log: Option<&'a SharedLog>,
     ) -> AnalysingKeeper<'a, N, K>
         ensures { result.keeper.display ≡ keeper.entry.display }
     {
-        AnalysingKeeper { keeper, queue }
+        AnalysingKeeper { keeper, queue, log }
     }
 
     // Queues what is left to find of each result that was accepted.
@@ -93,14 +98,18 @@ impl<'a, N: Server, K: EntryStore> Keeper for AnalysingKeeper<'a, N, K> {
     }
 }
 
-impl<'a, N: Server, K: EntryStore, R: Wait> CommandKeeper<R> for AnalysingKeeper<'a, N, K> {
+impl<'a, N: Server, K: EntryStore, R: Wait + Clock> CommandKeeper<R> for AnalysingKeeper<'a, N, K> {
     fn submit(
         &mut self,
         rt: &R,
         actor: Name,
         batch: &[Command],
     ) -> Result<BatchReceipt, SubmitFault> {
-        let receipt = self.keeper.submit(rt, actor, batch)?;
+        let outcome = self.keeper.submit(rt, actor, batch);
+        if let Some(log) = self.log {
+            hear_batch(rt, log, actor, batch, &outcome);
+        }
+        let receipt = outcome?;
         self.analyse(rt, batch, receipt.submission.answers.as_slice());
         Ok(receipt)
     }

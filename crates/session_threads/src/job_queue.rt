@@ -8,6 +8,7 @@ use session_state::State;
 use solver_pool::{Job, Pool, Work};
 use std::alloc::Global;
 use std::sync::{Mutex, Wait};
+use std::time::Duration;
 
 /// Numbers jobs in a pool, and gives them to the workers: what the cards of a play cost at once, and of the tables only so many that
 /// each worker has work. So no costs wait for more than a table's time, however many boards are left.
@@ -26,6 +27,8 @@ struct Waiting {
     given: usize,
     // None once no more jobs can come.
     jobs: Option<Sender<Job>>,
+    // How long jobs took that a worker is done with, by their numbers, until that is taken.
+    times: Vec<(u32, Duration)>,
 }
 
 // The table of a board, which nobody was asked for yet.
@@ -43,6 +46,7 @@ impl JobQueue {
             tables: Vec::new(alloc),
             given: 0,
             jobs: Some(jobs),
+            times: Vec::new(alloc),
         };
         JobQueue {
             pool: Mutex::new(pool),
@@ -75,10 +79,17 @@ impl JobQueue {
         self.give_tables(rt);
     }
 
-    /// Hears that a worker is done with a job, and gives out tables until each worker has work.
-    pub(crate) fn done<R: Wait>(&self, rt: &R) {
-        self.note_done(rt);
+    /// Hears that a worker is done with a job, and how long it took if that was to be known, and gives out tables until each
+    /// worker has work.
+    pub(crate) fn done<R: Wait>(&self, rt: &R, job: u32, took: Option<Duration>) {
+        self.note_done(rt, job, took);
         self.give_tables(rt);
+    }
+
+    /// Takes how long a job took, if that is known.
+    pub(crate) fn take_time<R: Wait>(&self, rt: &R, job: u32) -> Option<Duration> {
+        let mut waiting = self.waiting.lock(rt);
+        waiting.take_time(job)
     }
 
     /// Drops what is left to give out, and closes the way to the workers.
@@ -138,9 +149,13 @@ impl JobQueue {
         Some(waiting.tables.remove(place).work)
     }
 
-    fn note_done<R: Wait>(&self, rt: &R) {
+    fn note_done<R: Wait>(&self, rt: &R, job: u32, took: Option<Duration>) {
         let mut waiting = self.waiting.lock(rt);
         waiting.given = waiting.given.saturating_sub(1);
+        if let Some(took) = took {
+            // Without memory for it, it isn't known.
+            let _unknown = waiting.times.push((job, took));
+        }
     }
 }
 
@@ -151,6 +166,19 @@ impl Waiting {
             && jobs.send(rt, job).is_ok()
         {
             self.given = self.given.saturating_add(1);
+        }
+    }
+
+    fn take_time(&mut self, job: u32) -> Option<Duration> {
+        let mut found = None;
+        for (place, time) in self.times.iter().enumerate() {
+            if time.0 == job {
+                found = Some(place);
+            }
+        }
+        match found {
+            Some(place) if place < self.times.len() => Some(self.times.remove(place).1),
+            _ => None,
         }
     }
 }

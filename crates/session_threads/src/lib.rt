@@ -1,10 +1,13 @@
-//! A session that is served in threads: each display's thread serves one client after another, workers solve, and what they
+//! A session that is served in threads: each display's thread serves many clients beside one another, workers solve, and what they
 //! find is entered beside them.
 #![tactic(auto)]
 
 mod analysing_keeper;
+mod announcement;
+mod hearing;
 mod job_queue;
 mod serving;
 mod tasks;
 
+pub use announcement::Announcement;
 pub use serving::{ServingError, ServingPlan, serve_book};

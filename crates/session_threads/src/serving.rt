@@ -1,19 +1,24 @@
 //! Serving a session in threads, from its book to the end of the last of them.
 
-ghost use Rattle.std.specs.Prelude.{◌≡◌, List, [], All, map, IfOk};
+ghost use Rattle.std.specs.Prelude.{◌≡◌, ◌⊎◌, List, [], All, map, IfOk, OnErr};
 ghost use Rattle.session_commands.specs.declared.entry.Entry.{Entry};
 ghost use Rattle.displays.specs.Copies.{IsPublished};
 ghost use Rattle.displays.specs.Publishing.{nothing_outgoing};
 ghost use Rattle.desks.specs.Kept.{IsKeptBy, LeavesJust};
 ghost use Rattle.desks.specs.Places.{IsTallyOf};
 
+use crate::announcement::Announcement;
 use crate::job_queue::JobQueue;
 use crate::tasks::{CloseQueue, Collect, ServeClients, Solve};
 use crossbeam_channel::{Receiver, Sender, unbounded};
 use desks::{DeskPlaces, ReentryFault, Shared, new_tally, reenter_all};
 use displays::{Display, OpenError, Publisher, Server, open_displays};
 use entry_store::EntryStore;
+use event_log::SharedLog;
+use hall_door::{HallPage, Room};
+use hall_threads::{HallPlan, HallWatch, WatchError};
 use history::History;
+use page_answers::PageAnswers;
 use published_view::View;
 use service_threads::run_tasks;
 use session_book::Book;
@@ -21,33 +26,47 @@ use session_commands::Entry;
 use solver_pool::{Done, Job, Pool};
 use std::alloc::{AllocError, Global};
 use std::fmt;
+use std::hash::RandomState;
+use std::io::Write;
 use std::marker::Brand;
-use std::net::{Net, OpenListener};
+use std::net::{Net, OpenListener, SocketAddr};
+use std::os::fd::AsRawFd;
 use std::sync::Wait;
+use std::sync::atomic::AtomicUsize;
 use std::sync::ledger::Blank;
 use std::thread::Threads;
 use std::time::Clock;
 use thiserror::Error;
-use websocket_server::{ClientTerms, listen};
+use websocket_server::listen;
 
-// How many bytes the stack of each thread has: the longest head of a handshake takes a fifth of it.
+// How many bytes the stack of each thread has.
 const STACK: usize = 1_048_576;
 
 /// How a session is served.
 #[derive(Clone, Copy)]
 pub struct ServingPlan<'a> {
-    /// The port on 127.0.0.1.
-    pub port: u16,
-    /// How many displays there are, 1 to 32: each serves one client at a time.
+    /// The address and the port at which clients come.
+    pub address: SocketAddr,
+    /// How many displays there are, 1 to 32: each serves many clients at once.
     pub displays: u8,
+    /// How many clients there are at once at most, of all displays.
+    pub clients: u32,
     /// How many workers solve. With none nothing is solved.
     pub workers: u8,
     /// After how many connections a display ends. With 0 it never does.
     pub connections: u32,
     /// How many visits the solver may make for a deal, or for the cards that were played at a cell.
     pub budget: u64,
-    /// What is asked of each client.
-    pub terms: ClientTerms<'a>,
+    /// How many seconds a client on whose connection somebody is signed in has from one message to the next.
+    pub idle: u32,
+    /// The origin that a handshake has to name if it names one, as a browser's does. With none any will do.
+    pub origin: Option<&'a str>,
+    /// What is handed out to whoever asks for no session, if there is a page.
+    pub page: Option<&'a PageAnswers>,
+    /// What hears who signs in, what became of batches, whose connection ends, and what was solved, if there is a log.
+    pub log: Option<&'a SharedLog>,
+    /// Secret keys for maps of what clients name.
+    pub keys: RandomState,
 }
 
 /// Why no session is served.
@@ -61,7 +80,7 @@ pub enum ServingError {
     NotAccepted(u32),
     /// Nothing can listen at the port.
     NotListening,
-    /// No thread could be started for any display.
+    /// No thread could be started for any display, or one can't wait for clients.
     NoThread,
 }
 
@@ -73,14 +92,22 @@ impl fmt::Display for ServingError {
 }
 
 /// Serves a session, until each display has served its connections, and gives back its store. The book has nothing entered
-/// yet: the publications that the store keeps are entered first, each as one, and nothing listens before.
-pub fn serve_book<R: Threads + Wait + Clock + Net + Sync, K: EntryStore + Send>(
+/// yet: the publications that the store keeps are entered first, each as one, and nothing listens before. That the port is open is
+/// announced once it is.
+pub fn serve_book<
+    R: Threads + Wait + Clock + Net + Sync,
+    K: EntryStore + Send,
+    A: Announcement,
+    E: Write,
+>(
     rt: &R,
     alloc: Global,
     book: Book,
     plan: ServingPlan<'_>,
     store: K,
     publications: Vec<Vec<Entry>>,
+    announcement: &A,
+    errors: &mut E,
 ) -> Result<K, ServingError>
 where
     R::Listener: Sync,
@@ -89,10 +116,24 @@ where
     requires kept { LeavesJust (map (λ publication. publication.items) publications.items) (K.doubt store) (K.leaves store) }
     ensures kept { IfOk result (λ after. (published : List (List Entry)) × IsPublished book.opening published
         × IsKeptBy book.opening published (K.doubt after) (K.is_open after) (K.leaves after)) }
+    ensures announced { IfOk result (λ _. A.tells announcement.now (E.contents errors.old) (E.contents errors.new)) }
+    ensures unannounced { OnErr result ((errors.new ≡ errors.old)
+        ⊎ A.tells announcement.now (E.contents errors.old) (E.contents errors.new)) }
 {
     let history = History::new();
     let tally = new_tally();
-    serve_named::<Brand, R, K>(rt, alloc, book, history, tally, plan, store, publications)
+    serve_named::<Brand, R, K, A, E>(
+        rt,
+        alloc,
+        book,
+        history,
+        tally,
+        plan,
+        store,
+        publications,
+        announcement,
+        errors,
+    )
 }
 
 // Serves a session under a server's name.
@@ -100,6 +141,8 @@ fn serve_named<
     N: Server + Send + Sync,
     R: Threads + Wait + Clock + Net + Sync,
     K: EntryStore + Send,
+    A: Announcement,
+    E: Write,
 >(
     rt: &R,
     alloc: Global,
@@ -109,6 +152,8 @@ fn serve_named<
     plan: ServingPlan<'_>,
     store: K,
     publications: Vec<Vec<Entry>>,
+    announcement: &A,
+    errors: &mut E,
 ) -> Result<K, ServingError>
 where
     R::Listener: Sync,
@@ -120,6 +165,9 @@ where
     requires kept { LeavesJust (map (λ publication. publication.items) publications.items) (K.doubt store) (K.leaves store) }
     ensures kept { IfOk result (λ after. (published : List (List Entry)) × IsPublished N.opening published
         × IsKeptBy N.opening published (K.doubt after) (K.is_open after) (K.leaves after)) }
+    ensures announced { IfOk result (λ _. A.tells announcement.now (E.contents errors.old) (E.contents errors.new)) }
+    ensures unannounced { OnErr result ((errors.new ≡ errors.old)
+        ⊎ A.tells announcement.now (E.contents errors.old) (E.contents errors.new)) }
 {
     let (Ok(pool), Ok((to_workers, jobs)), Ok((from_workers, results))) = (
         Pool::new(alloc),
@@ -152,6 +200,8 @@ where
         from_workers,
         results,
         plan,
+        announcement,
+        errors,
     );
     let store = shared.close(rt);
     match served {
@@ -231,6 +281,8 @@ fn serve_shared<
     N: Server + Send + Sync,
     R: Threads + Wait + Clock + Net + Sync,
     K: EntryStore + Send,
+    A: Announcement,
+    E: Write,
 >(
     rt: &R,
     alloc: Global,
@@ -242,14 +294,34 @@ fn serve_shared<
     from_workers: Sender<Done>,
     results: Receiver<Done>,
     plan: ServingPlan<'_>,
+    announcement: &A,
+    errors: &mut E,
 ) -> Result<(), ServingError>
 where
     R::Listener: Sync,
     R::Stream: Send,
     requires { All (λ display. display ≡ []) displays.items }
+    ensures announced { IfOk result (λ _. A.tells announcement.now (E.contents errors.old) (E.contents errors.new)) }
+    ensures unannounced { OnErr result ((errors.new ≡ errors.old)
+        ⊎ A.tells announcement.now (E.contents errors.old) (E.contents errors.new)) }
 {
-    let Ok(listener) = listen(rt, plan.port) else {
+    let Ok(listener) = listen(rt, plan.address) else {
         return Err(ServingError::NotListening);
+    };
+    // No display waits for the listener alone.
+    if listener.set_nonblocking(true).is_err() {
+        return Err(ServingError::NotListening);
+    }
+    let room = Room::new(plan.clients);
+    let crowd = AtomicUsize::new(0);
+    let hall = HallPlan {
+        connections: plan.connections,
+        idle: plan.idle,
+        origin: plan.origin,
+        room: &room,
+        crowd: &crowd,
+        threads: plan.displays as usize,
+        keys: plan.keys,
     };
     let Ok(workers) = solvers(alloc, queue, jobs, from_workers, plan) else {
         return Err(ServingError::OutOfMemory);
@@ -258,11 +330,25 @@ where
     let Some(collecting) = places.take() else {
         return Err(ServingError::NoPlace);
     };
-    let serving = servers(alloc, &listener, shared, places, displays, queue, plan)?;
+    let serving = servers(
+        rt,
+        alloc,
+        &listener,
+        shared,
+        places,
+        displays,
+        queue,
+        plan.workers,
+        plan.page,
+        plan.log,
+        hall,
+    )?;
+    announcement.announce(errors);
     let collector = Collect {
         desk: shared.desk(collecting),
-        pool: queue.pool(),
+        queue,
         results,
+        log: plan.log,
     };
     let ending = CloseQueue { jobs, queue };
     match run_tasks(rt, STACK, collector, workers, serving, ending) {
@@ -290,20 +376,25 @@ fn solvers<'a>(
             jobs,
             results,
             budget: plan.budget,
+            is_timed: plan.log.is_some(),
         })?;
     }
     Ok(solvers)
 }
 
 // What the displays' threads do.
-fn servers<'a, N: Server, K: EntryStore, L: OpenListener>(
+fn servers<'a, N: Server, K: EntryStore, R: Net + Clock, L: OpenListener + AsRawFd>(
+    rt: &R,
     alloc: Global,
     listener: &'a L,
     shared: &'a Shared<N, K>,
     places: DeskPlaces<N>,
     displays: Vec<Display<N>>,
     queue: &'a JobQueue,
-    plan: ServingPlan<'a>,
+    workers: u8,
+    page: Option<&'a PageAnswers>,
+    log: Option<&'a SharedLog>,
+    plan: HallPlan<'a>,
 ) -> Result<Vec<ServeClients<'a, N, K, L>>, ServingError>
     requires { All (λ display. display ≡ []) displays.items }
 {
@@ -315,14 +406,21 @@ fn servers<'a, N: Server, K: EntryStore, L: OpenListener>(
         let Some(place) = places.take() else {
             return Err(ServingError::NoPlace);
         };
+        let watch = match HallWatch::open(rt, alloc, listener) {
+            Ok(watch) => watch,
+            Err(WatchError::OutOfMemory) => return Err(ServingError::OutOfMemory),
+            Err(WatchError::Refused) => return Err(ServingError::NoThread),
+        };
         let server = ServeClients {
             alloc,
             listener,
+            watch,
             desk: shared.desk(place),
             display,
-            queue: queue_of(queue, plan.workers),
-            connections: plan.connections,
-            terms: plan.terms,
+            queue: queue_of(queue, workers),
+            page: HallPage::new(page),
+            plan,
+            log,
         };
         if servers.push(server).is_err() {
             return Err(ServingError::OutOfMemory);

@@ -3,61 +3,66 @@
 ghost use Rattle.std.specs.Prelude.{◌≡◌, []};
 
 use crate::analysing_keeper::AnalysingKeeper;
+use crate::hearing::{hear_found, now, time_since};
 use crate::job_queue::JobQueue;
 use collector::collect;
 use crossbeam_channel::{Receiver, Sender};
 use desks::{Desk, DeskKeeper};
 use displays::{Display, Server};
 use entry_store::EntryStore;
+use event_log::SharedLog;
+use hall_door::HallPage;
+use hall_threads::{HallPlan, HallWatch};
 use service_threads::Task;
-use session_clients::{serve_session_clients, serve_session_forever};
-use solver_pool::{Done, Gate, Job, Pool, run_worker};
+use session_clients::serve_session_hall;
+use solver_pool::{Done, Gate, Job, run_worker};
 use std::alloc::Global;
+use std::cell::Cell;
 use std::io::{Read, Write};
 use std::net::{OpenListener, OpenStream};
-use std::sync::{Mutex, Wait};
-use std::time::Clock;
-use websocket_server::ClientTerms;
+use std::os::fd::AsRawFd;
+use std::sync::Wait;
+use std::time::{Clock, Instant};
 
-/// Serves the clients of a listener, one after another, by one display: so many, or with 0 all that come.
+/// Serves the clients that come to a listener, all beside one another, by one display: so many, or with 0 all that come.
 #[derive(Drop)]
 pub(crate) struct ServeClients<'a, N: Server, K: EntryStore, L: OpenListener> {
     pub(crate) alloc: Global,
     pub(crate) listener: &'a L,
+    pub(crate) watch: HallWatch,
     pub(crate) desk: Desk<'a, N, K>,
     pub(crate) display: Display<N>,
     pub(crate) queue: Option<&'a JobQueue>,
-    pub(crate) connections: u32,
-    pub(crate) terms: ClientTerms<'a>,
+    pub(crate) page: HallPage<'a>,
+    pub(crate) plan: HallPlan<'a>,
+    pub(crate) log: Option<&'a SharedLog>,
     // The display has seen nothing yet.
     ghost unseen: { display ≡ [] },
 }
 
-impl<'a, N: Server, K: EntryStore, L: OpenListener> Task for ServeClients<'a, N, K, L>
+impl<'a, N: Server, K: EntryStore, L: OpenListener + AsRawFd> Task for ServeClients<'a, N, K, L>
 where
-    L::Stream: Read + Write + OpenStream,
+    L::Stream: Read + Write + OpenStream + AsRawFd,
 {
     fn run<R: Wait + Clock>(self, rt: &R) {
         let ServeClients {
             alloc,
             listener,
+            watch,
             desk,
             display,
             queue,
-            connections,
-            terms,
+            page,
+            plan,
+            log,
         } = self;
-        let keeper = AnalysingKeeper::new(DeskKeeper::new(desk, display), queue);
-        match connections {
-            0 => serve_session_forever(rt, alloc, listener, terms, keeper),
-            _ => {
-                serve_session_clients(rt, alloc, listener, connections, terms, keeper);
-            }
-        }
+        let keeper = AnalysingKeeper::new(DeskKeeper::new(desk, display), queue, log);
+        let _keeper = serve_session_hall(rt, alloc, listener, watch, plan, page, keeper, log);
     }
 }
 
-/// Solves the jobs that come, each with so many visits, and has tables given out as it is done with them.
+/// Solves the jobs that come, each with so many visits, and has tables given out as it is done with them. How long each took is
+/// noted, if it is to be.
 #[derive(Drop)]
 pub(crate) struct Solve<'a> {
     pub(crate) alloc: Global,
@@ -65,6 +70,7 @@ pub(crate) struct Solve<'a> {
     pub(crate) jobs: &'a Receiver<Job>,
     pub(crate) results: Sender<Done>,
     pub(crate) budget: u64,
+    pub(crate) is_timed: bool,
 }
 
 impl<'a> Task for Solve<'a> {
@@ -75,50 +81,80 @@ impl<'a> Task for Solve<'a> {
             jobs,
             results,
             budget,
+            is_timed,
         } = self;
-        run_worker(rt, alloc, &QueueGate { rt, queue }, jobs, &results, budget);
+        let gate = QueueGate {
+            rt,
+            queue,
+            is_timed,
+            begun: Cell::new(None),
+        };
+        run_worker(rt, alloc, &gate, jobs, &results, budget);
     }
 }
 
-/// Lets each job pass, and tells the queue that it is done.
-#[derive(Clone, Copy)]
-struct QueueGate<'a, R: Wait> {
+/// Lets each job pass, and tells the queue that it is done, and how long it took.
+#[derive(Drop)]
+struct QueueGate<'a, R: Wait + Clock> {
     rt: &'a R,
     queue: &'a JobQueue,
+    is_timed: bool,
+    // When the job was begun that is being solved.
+    begun: Cell<Option<Instant>>,
 }
 
-impl<R: Wait> Gate for QueueGate<'_, R> {
-    fn pass(&self, _job: u32) {}
+impl<R: Wait + Clock> Gate for QueueGate<'_, R> {
+    fn pass(&self, _job: u32) {
+        if self.is_timed {
+            self.begun.set(now(self.rt));
+        }
+    }
 
-    fn done(&self, _job: u32) {
-        self.queue.done(self.rt);
+    fn done(&self, job: u32) {
+        let took = time_since(self.rt, self.begun.get());
+        self.queue.done(self.rt, job, took);
     }
 }
 
 /// Enters what the workers find. What was found before, or within too few visits or too little memory, is dropped, and so
-/// is what the book refuses.
+/// is what the book refuses. What was found of each job is logged, if there is a log.
 #[derive(Drop)]
 pub(crate) struct Collect<'a, N: Server, K: EntryStore> {
     pub(crate) desk: Desk<'a, N, K>,
-    pub(crate) pool: &'a Mutex<Pool>,
+    pub(crate) queue: &'a JobQueue,
     pub(crate) results: Receiver<Done>,
+    pub(crate) log: Option<&'a SharedLog>,
 }
 
 impl<'a, N: Server, K: EntryStore> Task for Collect<'a, N, K> {
     fn run<R: Wait + Clock>(self, rt: &R) {
         let Collect {
             mut desk,
-            pool,
+            queue,
             results,
+            log,
         } = self;
         for _ in rt.forever() {
             let Ok(done) = results.recv(rt) else {
                 break;
             };
-            let mut pool = pool.lock(rt);
-            let _told = collect(rt, &mut pool, &mut desk, &done);
+            enter(rt, queue, &mut desk, &done);
+            if let Some(log) = log {
+                hear_found(rt, log, &done, queue.take_time(rt, done.job().number));
+            }
         }
     }
+}
+
+// Enters what was found of a job.
+fn enter<N: Server, K: EntryStore, R: Wait>(
+    rt: &R,
+    queue: &JobQueue,
+    desk: &mut Desk<'_, N, K>,
+    done: &Done,
+) {
+    let mut pool = queue.pool().lock(rt);
+    let _told = collect(rt, &mut pool, desk, done);
 }
 
 /// Closes the way to the workers, and drops the jobs that still wait: nobody is left to see what they would find.

@@ -1,4 +1,1 @@
-pub mod Conversation
-pub mod Clients
-pub mod Origins
-pub mod Visits
+pub mod Messages

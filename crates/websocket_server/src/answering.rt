@@ -3,7 +3,7 @@
 ghost use Rattle.std.specs.Prelude.{◌≡◌, ℕ, List, Option, IfOk};
 ghost use Rattle.tungstenite.specs.Content.{text};
 ghost use Rattle.tungstenite.specs.Socket.{content_of};
-ghost use Rattle.websocket_server.specs.Conversation.{sent_text};
+ghost use Rattle.websocket_server.specs.Messages.{sent_text};
 
 use crate::message_server::MessageServer;
 use std::alloc::Global;

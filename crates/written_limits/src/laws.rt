@@ -16,7 +16,7 @@ ghost use Rattle.user_names.specs.declared.name.TheConstants.Name.{MOST};
 ghost use Rattle.user_names.specs.declared.shown_name.TheConstants.ShownName.{MOST as MOST_SHOWN};
 ghost use Rattle.notices.specs.declared.notice_text.TheConstants.NoticeText.{MOST as MOST_NOTICE};
 ghost use Rattle.notices.specs.declared.notices.TheConstants.Notices.{MOST_TITLE, MOST_REASONS};
-ghost use Rattle.websocket_server.specs.Conversation.{longest_message};
+ghost use Rattle.websocket_server.specs.Messages.{longest_message};
 ghost use Rattle.wire.specs.Request.{most_message_bytes};
 ghost use Rattle.wire.specs.List.{most_listed};
 ghost use Rattle.wire.specs.Audit.{from_1_to, most_rows};

@@ -4,6 +4,7 @@ use super::devices::FailingWriter;
 use super::running::{Ending, ends, status_of};
 use super::session::{script_of, session, session_alone};
 use crate::calling::run_program;
+use event_log::LogFiles;
 use journal_store::JournalFiles;
 use std::io::{self, ErrorKind};
 use std::net::Net;
@@ -31,7 +32,7 @@ const SCRIPT_HELP: Ending = (
 
 const SERVE_HELP: Ending = (
     0,
-    "Serves clients over WebSockets on 127.0.0.1\n\nUsage: bridge_server serve",
+    "Serves clients over WebSockets\n\nUsage: bridge_server serve",
     "",
 );
 
@@ -148,6 +149,10 @@ static WORDS: &[(&str, Ending)] = &[
     ("serve --session s --deals d --port 0", BAD_VALUE),
     ("serve --session s --deals d --port 65536", BAD_VALUE),
     ("serve --session s --deals d --port ws", BAD_VALUE),
+    (
+        "serve --session s --deals d --port 1 --listen here",
+        (2, "", "error: --listen takes an IP address, as 0.0.0.0"),
+    ),
     (
         "serve --session s --deals d --port 1 --displays 0",
         BAD_VALUE,
@@ -293,7 +298,16 @@ static NO_SESSIONS: &[(&str, Ending)] = &[
 
 // Whether a row's script ends so.
 fn script_ends<
-    R: Files + Net + Clock + Wait + Threads + JournalFiles + RandomSource + AllocGlobal + Sync,
+    R: Files
+        + Net
+        + Clock
+        + Wait
+        + Threads
+        + JournalFiles
+        + LogFiles
+        + RandomSource
+        + AllocGlobal
+        + Sync,
 >(rt: &R, (length, rest, ending): &(usize, &str, Ending)) -> bool
 where
     R::Listener: Sync,
@@ -329,7 +343,16 @@ fn ends_by_its_script(rt: HostRuntime) {
 // Whether a word, which leaves its script alone, ends so over writers that fail after seven bytes: the status, and
 // how much is written and said.
 fn ends_in_little_room<
-    R: Files + Net + Clock + Wait + Threads + JournalFiles + RandomSource + AllocGlobal + Sync,
+    R: Files
+        + Net
+        + Clock
+        + Wait
+        + Threads
+        + JournalFiles
+        + LogFiles
+        + RandomSource
+        + AllocGlobal
+        + Sync,
 >(rt: &R, word: &str, (status, written, said): (u8, usize, usize)) -> bool
 where
     R::Listener: Sync,

@@ -3,6 +3,7 @@
 use super::devices::{FailingWriter, Holding, Waiting, line_feeds};
 use super::running::status_of;
 use super::session::script_of;
+use event_log::LogFiles;
 use journal_store::JournalFiles;
 use std::alloc::{AllocError, Global};
 use std::cell::Cell;
@@ -48,7 +49,16 @@ fn after_lines(text: &[u8], lines: usize) -> &[u8] {
 // Whether the answers to the messages whose lines had ended are written, and no more, where a read fails after so
 // many bytes.
 fn answers_what_was_read<
-    R: Files + Net + Clock + Wait + Threads + JournalFiles + RandomSource + AllocGlobal + Sync,
+    R: Files
+        + Net
+        + Clock
+        + Wait
+        + Threads
+        + JournalFiles
+        + LogFiles
+        + RandomSource
+        + AllocGlobal
+        + Sync,
 >(rt: &R, script: &[u8], good: usize) -> bool
 where
     R::Listener: Sync,
@@ -69,7 +79,16 @@ where
 
 // Whether so many bytes of the answers are written, where a write fails after them, and no line is read after it.
 fn writes_a_first_part<
-    R: Files + Net + Clock + Wait + Threads + JournalFiles + RandomSource + AllocGlobal + Sync,
+    R: Files
+        + Net
+        + Clock
+        + Wait
+        + Threads
+        + JournalFiles
+        + LogFiles
+        + RandomSource
+        + AllocGlobal
+        + Sync,
 >(rt: &R, script: &[u8], room: usize) -> bool
 where
     R::Listener: Sync,
@@ -107,7 +126,16 @@ fn ends_where_a_read_or_a_write_fails(rt: HostRuntime) -> Result<(), Fail> {
 // Whether a script ends so, each line of which but the last is answered before the next is read, through a writer
 // that keeps its lines back until it is flushed, and has room for so many, which arrive.
 fn answers_in_turn<
-    R: Files + Net + Clock + Wait + Threads + JournalFiles + RandomSource + AllocGlobal + Sync,
+    R: Files
+        + Net
+        + Clock
+        + Wait
+        + Threads
+        + JournalFiles
+        + LogFiles
+        + RandomSource
+        + AllocGlobal
+        + Sync,
 >(rt: &R, script: &[u8], room: usize, status: u8) -> bool
 where
     R::Listener: Sync,

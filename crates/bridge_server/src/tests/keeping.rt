@@ -4,6 +4,7 @@ use super::client::Turn::{Says, ShakesHands};
 use super::client::{Client, is_served};
 use super::running::{Ending, ends};
 use super::serving::{KEPT, port_and_line};
+use event_log::LogFiles;
 use journal_store::JournalFiles;
 use std::net::Net;
 use std::random::RandomSource;
@@ -70,7 +71,16 @@ fn remove_files<R: Files>(rt: &R) {
 
 // Whether a server that is called with the words of a line ends, and tells how it served.
 fn ends_as_served<
-    R: Files + Net + Clock + Wait + Threads + JournalFiles + RandomSource + AllocGlobal + Sync,
+    R: Files
+        + Net
+        + Clock
+        + Wait
+        + Threads
+        + JournalFiles
+        + LogFiles
+        + RandomSource
+        + AllocGlobal
+        + Sync,
 >(rt: &R, line: &str) -> bool
 where
     R::Listener: Sync,

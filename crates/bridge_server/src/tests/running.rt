@@ -1,6 +1,7 @@
 //! The program, run over streams.
 
 use crate::calling::run_words;
+use event_log::LogFiles;
 use journal_store::JournalFiles;
 use std::alloc::Global;
 use std::io::{Read, Write};
@@ -30,7 +31,16 @@ fn push_word(words: &mut Vec<String>, alloc: Global, word: &str) {
 
 /// The status with which the program ends that is called with the words of a line.
 pub(super) fn status_of<
-    R: Files + Net + Clock + Wait + Threads + JournalFiles + RandomSource + AllocGlobal + Sync,
+    R: Files
+        + Net
+        + Clock
+        + Wait
+        + Threads
+        + JournalFiles
+        + LogFiles
+        + RandomSource
+        + AllocGlobal
+        + Sync,
     I: Read,
     W: Write,
     E: Write,
@@ -49,7 +59,16 @@ pub(super) type Ending<'t> = (u8, &'t str, &'t str);
 /// Whether the program that is called with the words of a line ends so. A text that doesn't end a line is how one
 /// begins.
 pub(super) fn ends<
-    R: Files + Net + Clock + Wait + Threads + JournalFiles + RandomSource + AllocGlobal + Sync,
+    R: Files
+        + Net
+        + Clock
+        + Wait
+        + Threads
+        + JournalFiles
+        + LogFiles
+        + RandomSource
+        + AllocGlobal
+        + Sync,
     I: Read,
 >(rt: &R, line: &str, reader: &mut I, (status, answers, faults): &Ending) -> bool
 where

@@ -4,6 +4,7 @@ use super::client::Turn::{Says, Sends, ShakesHands};
 use super::client::{Client, Turn, is_served};
 use super::running::{Ending, ends};
 use super::session::{deals, session, session_alone};
+use event_log::LogFiles;
 use journal_store::JournalFiles;
 use kept_sessions::MOST_FILE_BYTES;
 use std::alloc::{AllocError, Global};
@@ -41,11 +42,17 @@ static CLIENTS: &[Client] = &[
     ("one that leaves at once", &[]),
     (
         "one whose request is no handshake",
-        &[Sends(b"GET / HTTP/1.1\r\n\r\n", b"")],
+        &[Sends(
+            b"GET / HTTP/1.1\r\nHost: 127.0.0.1\r\nConnection: close\r\n\r\n",
+            b"HTTP/1.1 404 Not Found\r\ncontent-length: 0\r\nconnection: close\r\n\r\n",
+        )],
     ),
     (
         "one whose request is none, and who goes on",
-        &[Sends(b"hello\r\n\r\n\x81\x84\0\0\0\0late", b"")],
+        &[Sends(
+            b"hello\r\n\r\n\x81\x84\0\0\0\0late",
+            b"HTTP/1.1 400 Bad Request\r\nconnection: close\r\ncontent-length: 0\r\n\r\n",
+        )],
     ),
     ("one that says nothing after the handshake", &[ShakesHands]),
     (
@@ -168,6 +175,13 @@ bridge_server: serves at 127.0.0.1:";
 /// What is told where it is kept.
 pub(super) const KEPT: &str = "bridge_server: serves at 127.0.0.1:";
 
+// How what is told begins where another listens at the port: it isn't told that anything is served.
+const TAKEN: &str = "bridge_server: NotListening (port ";
+
+const UNKEPT_AND_TAKEN: &str =
+    "bridge_server: without --journal nothing is kept when the server ends
+bridge_server: NotListening (port ";
+
 // Words by which nobody is served where another listens at the port, and how they end.
 static ENDINGS: &[(&str, Ending)] = &[
     (
@@ -192,12 +206,12 @@ static ENDINGS: &[(&str, Ending)] = &[
     ),
     (
         "serve --session out/session --deals out/deals",
-        (3, "", UNKEPT),
+        (3, "", UNKEPT_AND_TAKEN),
     ),
     // A journal is made, or one is damaged.
     (
         "serve --session out/session --deals out/deals --journal out/new_journal",
-        (3, "", KEPT),
+        (3, "", TAKEN),
     ),
     (
         "serve --session out/session --deals out/deals --journal out/longest",
@@ -233,7 +247,16 @@ static ENDINGS: &[(&str, Ending)] = &[
 
 // Whether a row's words end so.
 fn ends_at<
-    R: Files + Net + Clock + Wait + Threads + JournalFiles + RandomSource + AllocGlobal + Sync,
+    R: Files
+        + Net
+        + Clock
+        + Wait
+        + Threads
+        + JournalFiles
+        + LogFiles
+        + RandomSource
+        + AllocGlobal
+        + Sync,
 >(rt: &R, port: u16, (words, ending): &(&str, Ending)) -> bool
 where
     R::Listener: Sync,
@@ -261,12 +284,9 @@ fn serves_nobody_where_another_listens(rt: HostRuntime) -> Result<(), Fail> {
     Ok(())
 }
 
-// What is told of a port at which another listens, where a journal is served again.
+// What is told of a port at which another listens, where a journal was to be served again.
 fn told_of_taken(alloc: Global, port: u16) -> Result<String, AllocError> {
-    format!(in alloc;
-        "bridge_server: serves at 127.0.0.1:{port}: 3 tables, 4 displays, 2 workers, journal out/new_journal at version 0
-bridge_server: NotListening (port {port}: another program listens there)\n"
-    )
+    format!(in alloc; "bridge_server: NotListening (port {port}: another program listens there)\n")
 }
 
 // A port at which nothing listens.

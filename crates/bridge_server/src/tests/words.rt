@@ -5,6 +5,7 @@ use server_words::{
     Checking, JournalCopy, Serving, SessionFiles, SessionSource, Words, read_words,
 };
 use std::alloc::Global;
+use std::net::{IpAddr, Ipv4Addr, Ipv6Addr};
 
 const FILES: SessionFiles<'static> = SessionFiles {
     session: "s.json",
@@ -18,15 +19,19 @@ const DEFAULTS: Serving<'static> = Serving {
     displays: 4,
     workers: 2,
     connections: 0,
+    clients: 1_000,
     idle: 300,
     origin: None,
     page: None,
+    log: None,
+    address: IpAddr::V4(Ipv4Addr::LOCALHOST),
 };
 
 const LEAST: Serving<'static> = Serving {
     port: 1,
     displays: 1,
     workers: 0,
+    clients: 1,
     idle: 1,
     ..DEFAULTS
 };
@@ -36,9 +41,17 @@ const MOST: Serving<'static> = Serving {
     displays: 32,
     workers: 16,
     connections: 1_000_000,
+    clients: 10_000,
     idle: 86_400,
     origin: Some("https://bridge.example.org"),
     page: Some("client"),
+    log: Some("-"),
+    address: IpAddr::V6(Ipv6Addr::UNSPECIFIED),
+    ..DEFAULTS
+};
+
+const LOGGED: Serving<'static> = Serving {
+    log: Some("evening.log"),
     ..DEFAULTS
 };
 
@@ -78,12 +91,16 @@ static LINES: &[(&str, Words<'static>)] = &[
         Words::Serve(DEFAULTS),
     ),
     (
-        "serve --session s.json --deals d.pbn --port 1 --displays 1 --workers 0 --connections 0 --idle 1",
+        "serve --session s.json --deals d.pbn --port 1 --displays 1 --workers 0 --connections 0 --clients 1 --idle 1",
         Words::Serve(LEAST),
     ),
     (
-        "serve --page client --origin https://bridge.example.org --idle 86400 --connections 1000000 --workers 16 --displays 32 --port 65535 --deals d.pbn --session s.json",
+        "serve --log - --listen :: --page client --origin https://bridge.example.org --idle 86400 --clients 10000 --connections 1000000 --workers 16 --displays 32 --port 65535 --deals d.pbn --session s.json",
         Words::Serve(MOST),
+    ),
+    (
+        "serve --session s.json --deals d.pbn --port 8080 --log=evening.log",
+        Words::Serve(LOGGED),
     ),
     (
         "serve --session s.json --deals d.pbn --journal j --port 8080",

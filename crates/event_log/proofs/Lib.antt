@@ -1,0 +1,2 @@
+pub mod MendLemmas
+pub mod PlainLemmas

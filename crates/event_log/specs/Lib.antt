@@ -1,0 +1,4 @@
+pub mod Plain
+pub mod Moment
+pub mod Lines
+pub mod Logging

@@ -1,0 +1,4 @@
+pub mod Origins
+pub mod SessionRequest
+pub mod Letting
+pub mod Pages

@@ -1,0 +1,2 @@
+pub mod AskersLemmas
+pub mod HallLemmas

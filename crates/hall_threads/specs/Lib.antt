@@ -1,0 +1,2 @@
+pub mod Askers
+pub mod Hall

@@ -1,0 +1,15 @@
+//! What is told of a session once clients can come.
+
+ghost use Rattle.std.specs.Prelude.{ℕ, Option, List};
+
+use std::io::Write;
+
+/// What is told of a session once its port is open.
+pub trait Announcement {
+    // What is told, from the bytes before to the bytes behind.
+    ghost tells: { Self → Option (List ℕ) → Option (List ℕ) → Type 0 };
+
+    /// Tells it, as far as what it is written to takes it.
+    fn announce<E: Write>(&self, errors: &mut E)
+        ensures { tells self.now (E.contents errors.old) (E.contents errors.new) };
+}
