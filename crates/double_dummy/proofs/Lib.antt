@@ -1,6 +1,7 @@
 pub mod BoundLemmas
 pub mod ClaimLemmas
 pub mod LastTrickLemmas
+pub mod LiveLemmas
 pub mod PlayedLemmas
 pub mod RunLemmas
 pub mod SearchLemmas

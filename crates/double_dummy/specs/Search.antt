@@ -7,8 +7,12 @@ use Rattle.table_terms.specs.Strain.{trump_of}
 use Rattle.cards.specs.Play.{Position, cards_left, is_trump, legal, legal_of, to_play}
 use Rattle.double_dummy_laws.specs.Found.{CardClaims, IsOwned, IsTight}
 use Rattle.double_dummy_laws.specs.Known.{IsLike}
-use Rattle.double_dummy_laws.specs.Neighbours.{AreUnparted}
+use Rattle.double_dummy_laws.specs.Neighbours.{AreUnparted, IsInPlay}
 use Rattle.double_dummy_laws.specs.Renaming.{Ownership, knowing}
+
+-- a set that has each card that is held or lies on the table
+abbrev pub HasLive : Position → Cards → Type 0
+HasLive position live = (card : Card) → IsInPlay position card → set.contains live card ≡ true
 
 -- a set that has all live cards of the other players
 abbrev pub HasOthers : Position → Cards → Type 0

@@ -4,6 +4,7 @@ ghost use Rattle.position_patterns.specs.Remainder.{IsLeftOf};
 ghost use Rattle.cards.specs.DoubleDummy.{double_dummy};
 
 use crate::budget::{Budget, BudgetSpent};
+use crate::run;
 use crate::search::search;
 use cards::Position;
 use position_patterns::{DealPatterns, Memory};
@@ -23,11 +24,12 @@ pub fn value(
     ensures err { OnErr result (budget.new ≡ 0) }
     ensures spent { budget.new ≤ budget.old }
 {
+    let live = run::live(position);
     let mut low = 0;
     let mut high = position.tricks_left();
     while low < high {
         let asked = guess.max(low + 1).min(high);
-        let Ok(found) = search(position, asked, patterns, memory, budget) else {
+        let Ok(found) = search(position, live, asked, patterns, memory, budget) else {
             return Err(BudgetSpent);
         };
         if found.holds {

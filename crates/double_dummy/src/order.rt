@@ -17,13 +17,10 @@ const PLACES: usize = 16;
 /// is tried first decides nothing but the time.
 #[derive(Clone, Copy)]
 pub struct Order {
-    // Of each run that was weighed the highest card, by its number in the pack, and how promising it is.
-    numbers: [u8; PLACES],
-    weights: [u16; PLACES],
+    // Of each run that was weighed how promising its highest card is, and below that the card's number in the pack: one
+    // word, so that the best is found without a branch for each.
+    cards: [u32; PLACES],
     runs: usize,
-    // The most promising of all, the first of equals.
-    first: u8,
-    most: u16,
     // The cards that go before the rest where they are tried upwards, and those by which runs end.
     before: u64,
     others: u64,
@@ -33,11 +30,8 @@ impl Order {
     /// Nothing weighed yet.
     pub fn new() -> Order {
         Order {
-            numbers: [0; PLACES],
-            weights: [0; PLACES],
+            cards: [0; PLACES],
             runs: 0,
-            first: 0,
-            most: 0,
             before: 0,
             others: 0,
         }
@@ -77,13 +71,8 @@ impl Order {
     /// Adds a card.
     pub(crate) fn push(&mut self, number: u8, weight: u16) {
         if self.runs < PLACES {
-            self.numbers[self.runs] = number;
-            self.weights[self.runs] = weight;
+            self.cards[self.runs] = (weight as u32) << 6 | (number & 63) as u32;
             self.runs += 1;
-            if self.most < weight {
-                self.most = weight;
-                self.first = number;
-            }
         }
     }
 
@@ -104,23 +93,20 @@ impl Order {
 
     /// The number of the most promising of the cards in a word.
     fn number(&self, untried: u64) -> u8 {
-        if 0 < self.most && untried >> (self.first & 63) & 1 == 1 {
-            return self.first;
-        }
-        let mut best = 0;
-        let mut most = 0;
+        let mut most = 0u32;
         for at in 0..self.runs.min(PLACES) {
-            let number = self.numbers[at];
-            let weight = self.weights[at];
-            if most < weight && untried >> (number & 63) & 1 == 1 {
-                best = number;
-                most = weight;
-            }
+            let card = self.cards[at];
+            let weighed = if untried >> (card & 63) & 1 == 1 {
+                card
+            } else {
+                0
+            };
+            most = most.max(weighed);
         }
         if most == 0 {
             return self.lowest(untried);
         }
-        best
+        (most & 63) as u8
     }
 
     /// The number of the highest card of the lowest run, of the cards that go first if there is one.

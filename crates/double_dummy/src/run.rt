@@ -4,20 +4,27 @@ ghost use Rattle.cards.specs.declared.card.Card.{Card};
 ghost use Rattle.cards.specs.Hands.{hand_of};
 ghost use Rattle.cards.specs.Play.{legal, to_play};
 ghost use Rattle.cards.specs.Card.{number_in_pack};
-ghost use Rattle.double_dummy.specs.Search.{AreSpokenFor, HasOthers, IsRunOf};
+ghost use Rattle.double_dummy.specs.Search.{AreSpokenFor, HasLive, HasOthers, IsRunOf};
 ghost use Rattle.double_dummy_laws.specs.Neighbours.{IsBetween};
 
 use cards::{Card, Hand, Position};
 use position_patterns::Holders;
 
-/// The cards that the other players hold, and those on the table, where the player in turn holds these.
-pub fn others(position: &Position, mine: Hand) -> Hand
-    requires { mine ≡ hand_of position.now.hands (to_play position.now) }
+/// The live cards that the other players hold, and those on the table, where the player in turn holds these: with each
+/// card that lies on the table, since it parts the cards next to it.
+pub fn others(position: &Position, live: Hand, mine: Hand) -> Hand
+    requires live { HasLive position.now live }
+    requires mine { mine ≡ hand_of position.now.hands (to_play position.now) }
     ensures { HasOthers position.now result }
 {
-    let trick = position.trick();
-    let live = Holders::of(position).all().union(trick.cards());
     live.difference(mine)
+}
+
+/// The cards that are held or lie on the table.
+pub fn live(position: &Position) -> Hand
+    ensures { HasLive position.now result }
+{
+    Holders::of(position).all().union(position.trick().cards())
 }
 
 /// The card, and the player's cards that are worth the same: no other player has one between.

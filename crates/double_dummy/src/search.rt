@@ -5,6 +5,7 @@ ghost use Rattle.cards.specs.Play.{cards_left};
 ghost use Rattle.position_patterns.specs.Remainder.{IsLeftOf};
 ghost use Rattle.double_dummy_laws.specs.Found.{Claims, IsFound, IsOwned, IsTight};
 ghost use Rattle.double_dummy_laws.specs.Renaming.{Ownership, knowing};
+ghost use Rattle.double_dummy.specs.Search.{HasLive};
 ghost use Rattle.std.specs.Prelude.{◌≡◌, ◌+◌, ◌*◌, ◌<◌, ◌≤◌, [], length, true, IfOk, IfSome, OnErr};
 ghost use Rattle.std.specs.FinSet as set;
 ghost use Rattle.cards.specs.declared.card.Card.{Card};
@@ -32,16 +33,19 @@ fn learnt(known: Hand, decisive: Hand, run: Hand) -> Hand
     }
 }
 
-/// Whether North and South take so many tricks, from the memory where it is remembered.
+/// Whether North and South take so many tricks, from the memory where it is remembered. The live cards, those in the
+/// hands and on the table, are handed on from card to card: they are the same until the trick is over.
 #[cycle(search)]
 pub fn search(
     position: &Position,
+    live: Hand,
     target: u8,
     patterns: &DealPatterns,
     memory: &mut Memory,
     budget: &mut Budget,
 ) -> Result<Finding, BudgetSpent>
-    requires { IsLeftOf patterns.now.whole position.now.hands }
+    requires left { IsLeftOf patterns.now.whole position.now.hands }
+    requires live { HasLive position.now live }
     ensures found { IfOk result (λ found. IsFound position.now target found.known found.holds) }
     ensures err { OnErr result (budget.new ≡ 0) }
     ensures spent { budget.new ≤ budget.old }
@@ -63,7 +67,7 @@ pub fn search(
             return Ok(found);
         }
     }
-    explore(position, 0, target, patterns, memory, budget)
+    explore(position, live, 0, target, patterns, memory, budget)
 }
 
 /// The same, at the beginning of a trick. It stands apart, since within a trick no visit should pay for its locals.
@@ -103,7 +107,8 @@ fn at_start(
         return Ok(found);
     }
     let hash = pattern.hash(position.leader(), position.strain());
-    let Ok(found) = explore(position, hash, target, patterns, memory, budget) else {
+    let live = run::live(position);
+    let Ok(found) = explore(position, live, hash, target, patterns, memory, budget) else {
         return Err(BudgetSpent);
     };
     memory.store(position, &holders, &pattern, target, &found);
@@ -115,6 +120,7 @@ fn at_start(
 #[cycle(search)]
 fn explore(
     position: &Position,
+    live: Hand,
     hash: u64,
     target: u8,
     patterns: &DealPatterns,
@@ -123,6 +129,7 @@ fn explore(
 ) -> Result<Finding, BudgetSpent>
     requires target { 0 < target }
     requires left { IsLeftOf patterns.now.whole position.now.hands }
+    requires live { HasLive position.now live }
     ensures found { IfOk result (λ found. IsFound position.now target found.known found.holds) }
     ensures err { OnErr result (budget.new ≡ 0) }
     ensures spent { budget.new ≤ budget.old }
@@ -144,17 +151,17 @@ fn explore(
         return Err(BudgetSpent);
     };
     if let Some(card) = run::only(playable) {
-        return forced(position, card, target, patterns, memory, budget);
+        return forced(position, live, card, target, patterns, memory, budget);
     }
     let wanted = wants(player);
-    let others = run::others(position, mine);
+    let others = run::others(position, live, mine);
     let mut order = Order::new();
     order.weigh(position, hash, player, others, playable, memory);
     let mut known = Hand::new();
     while let Some(card) = order.best(untried) {
         let next = position.after(card);
         let rest = target - point(position, &next);
-        let Ok(found) = search(&next, rest, patterns, memory, budget) else {
+        let Ok(found) = search(&next, live, rest, patterns, memory, budget) else {
             return Err(BudgetSpent);
         };
         let decisive = found.known.union(trick::decisive(position, card, &next));
@@ -196,6 +203,7 @@ fn remember_lead(
 #[cycle(search)]
 fn forced(
     position: &Position,
+    live: Hand,
     card: Card,
     target: u8,
     patterns: &DealPatterns,
@@ -204,6 +212,7 @@ fn forced(
 ) -> Result<Finding, BudgetSpent>
     requires target { 0 < target }
     requires left { IsLeftOf patterns.now.whole position.now.hands }
+    requires live { HasLive position.now live }
     requires legal { set.contains (legal position.now) card ≡ true }
     requires only { (other : Card) → set.contains (legal position.now) other ≡ true → card ≡ other }
     ensures found { IfOk result (λ found. IsFound position.now target found.known found.holds) }
@@ -212,7 +221,7 @@ fn forced(
 {
     let next = position.after(card);
     let rest = target - point(position, &next);
-    let Ok(found) = search(&next, rest, patterns, memory, budget) else {
+    let Ok(found) = search(&next, live, rest, patterns, memory, budget) else {
         return Err(BudgetSpent);
     };
     let decisive = found.known.union(trick::decisive(position, card, &next));

@@ -43,7 +43,7 @@ impl Memory {
     pub fn new(alloc: Global, tricks: u8) -> Result<Memory, AllocError> {
         let tricks = tricks.min(12);
         let room = 1 << (tricks + 8);
-        let heads = Vec::from_elem(alloc, NONE, room / 4)?;
+        let heads = Vec::from_elem(alloc, NONE, room / 8)?;
         let blocks = Vec::with_capacity(alloc, room / 4)?;
         Ok(Memory {
             entries: Vec::with_capacity(alloc, room)?,

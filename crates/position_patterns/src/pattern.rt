@@ -154,16 +154,31 @@ fn upper(cards: Hand, lowest: Card) -> Hand
     cards.difference(below).without(first)
 }
 
-/// The card with which there are so many from the top, or the first of the pack where there are not so many.
+/// The card with which there are so many from the top, or the lowest where there are not so many, of a suit's cards: its
+/// height above the lowest is found bit by bit, without a step for each card.
 fn from_top(cards: Hand, count: u8) -> Card {
-    let mut rest = cards.word();
-    for _ in 1..count {
-        if rest != 0 {
-            rest &= !(1 << rest.ilog2());
-        }
+    let word = cards.word();
+    let lowest = word.trailing_zeros().min(51);
+    let held = word >> lowest;
+    let mut above = 0;
+    if has_many(held >> 8, count) {
+        above = 8;
     }
-    let number = if rest == 0 { 0 } else { rest.ilog2() };
-    Card::from_number(number.min(51) as u8)
+    if has_many(held >> (above + 4), count) {
+        above += 4;
+    }
+    if has_many(held >> (above + 2), count) {
+        above += 2;
+    }
+    if has_many(held >> (above + 1), count) {
+        above += 1;
+    }
+    Card::from_number((lowest + above).min(51) as u8)
+}
+
+/// Whether there are so many cards.
+fn has_many(cards: u64, count: u8) -> bool {
+    cards.count_ones() >= count as u32
 }
 
 impl SuitTops {

@@ -5,6 +5,7 @@ use Rattle.position_patterns.proofs.SetLemmas.{in_difference}
 use Rattle.cards.specs.Hands.{hand_of}
 use Rattle.cards.specs.Play.{cards_left, legal}
 use Rattle.double_dummy.proofs.BoundLemmas.{too_many}
+use Rattle.double_dummy.proofs.LiveLemmas.{live_after}
 use Rattle.position_patterns.proofs.RemainderLemmas.{left_without}
 use Rattle.double_dummy.proofs.SearchLemmas.{
   fewer_untried,
@@ -49,8 +50,12 @@ explore-search-requires t c =
     let same = ap cards_left c.after-next.ensures in
     let d = c.decreases in (
       omega (arith, fewer, same, d),
-      subst (λ q. IsLeftOf c.args.patterns.now.whole q.hands) (sym c.after-next.ensures)
-          (left_without c.args.patterns.now.whole c.args.position.now.hands c.in-Some-best.card c.requires.left),
+      (
+        subst (λ q. IsLeftOf c.args.patterns.now.whole q.hands) (sym c.after-next.ensures)
+            (left_without c.args.patterns.now.whole c.args.position.now.hands c.in-Some-best.card c.requires.left),
+        live_after c.args.position.now c.after-next.result c.args.live c.in-Some-best.card c.after-next.ensures
+            (c.loop-card.invariant.untried c.in-Some-best.card c.in-Some-best.ensures.some) c.requires.live,
+      ),
     )
 
 pub explore-returns-then-found-wanted-clause-found : goal.explore-returns-then-found-wanted-clause-found
@@ -180,8 +185,12 @@ forced-search-requires t c =
     let same = ap cards_left c.after-next.ensures in
     let d = c.decreases in (
       omega (arith, fewer, same, d),
-      subst (λ q. IsLeftOf c.args.patterns.now.whole q.hands) (sym c.after-next.ensures)
-          (left_without c.args.patterns.now.whole c.args.position.now.hands c.args.card c.requires.left),
+      (
+        subst (λ q. IsLeftOf c.args.patterns.now.whole q.hands) (sym c.after-next.ensures)
+            (left_without c.args.patterns.now.whole c.args.position.now.hands c.args.card c.requires.left),
+        live_after c.args.position.now c.after-next.result c.args.live c.args.card c.after-next.ensures
+            c.requires.legal c.requires.live,
+      ),
     )
 
 pub forced-returns-clause-found : goal.forced-returns-clause-found
@@ -195,6 +204,6 @@ forced-returns-clause-found t c =
     (found_next p c.after-next.result c.args.target _ c.point.result c.args.card _ _ c.after-next.ensures
     (c.point.ensures.point _ c.after-next.ensures) refl c.in-Ok.ensures.found)
 
-pub explore-others-others-requires : goal.explore-others-others-requires
-explore-others-others-requires t c = c.hand-mine.ensures.hand ∙ ap (hand_of c.args.position.now.hands)
+pub explore-others-others-requires-clause-mine : goal.explore-others-others-requires-clause-mine
+explore-others-others-requires-clause-mine t c = c.hand-mine.ensures.hand ∙ ap (hand_of c.args.position.now.hands)
     (is_turn c.args.position.now c.trick-trick.ensures c.leader.ensures c.turn-player.ensures)
