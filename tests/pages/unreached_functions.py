@@ -23,6 +23,7 @@ TO_COME = {}
 # public functions that no program reaches, each with the reason why it stays
 KEPT = {
     "movement::Movement::new": "the usual section, with every pair there; a session object says both, by `with_absent`",
+    "published_view::answer_afresh": "the plain way to answer, to which stored runs and times compare a view's",
     "scoring::matchpoints": "Law 78A over any list of scores; a traveller has sixteen rows at most, and counts without memory",
     "session_state::State::decide": "the policy for a user by name; programs ask it for a user whom they looked up once",
     "denials::check": "a denial is checked by whoever holds it, without the server: the page has code of its own for it, and a stored run asks",

@@ -4,8 +4,7 @@
 //! asked for each name. A reply that isn't the same both ways is told at once, and at the end how many were compared.
 
 use opened_session::{OpenedSession, open_session};
-use published_view::View;
-use published_view::laws::answer_afresh;
+use published_view::{View, answer_afresh};
 use reply_texts::reply_text;
 use session_book::Book;
 use session_commands::{Actor, Command};

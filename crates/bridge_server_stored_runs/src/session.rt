@@ -10,7 +10,7 @@ use crate::policy::{checked_text, decided_text};
 use crate::solver::{costs_told, table_told};
 use request_answers::answer_request;
 use session_book::Answer;
-use session_commands::Refusal;
+use session_commands::{Command, Refusal};
 use session_keeper::{CommandKeeper, Keeper, PlainKeeper};
 use std::alloc::Global;
 use std::io::Write;
@@ -80,7 +80,8 @@ impl Session {
     fn solve(&mut self, alloc: Global, words: &str) -> Option<String> {
         match table_told(alloc, self.keeper.state(), words) {
             Some((board, table)) => {
-                answer_text(alloc, &self.keeper.submit_solved(&(), board, table))
+                let command = Command::Solved { board, table };
+                answer_text(alloc, &self.keeper.submit_found(&(), &command))
             }
             None => None,
         }
@@ -90,7 +91,8 @@ impl Session {
     fn analyse(&mut self, alloc: Global, words: &str) -> Option<String> {
         match costs_told(alloc, self.keeper.state(), words) {
             Some((cell, costs)) => {
-                answer_text(alloc, &self.keeper.submit_analysed(&(), cell, costs))
+                let command = Command::Analysed { cell, costs };
+                answer_text(alloc, &self.keeper.submit_found(&(), &command))
             }
             None => None,
         }

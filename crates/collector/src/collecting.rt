@@ -13,6 +13,7 @@ use desks::Desk;
 use displays::{Receipt, Server};
 use entry_store::EntryStore;
 use session_book::Answer;
+use session_commands::Command;
 use solver_pool::{CollectError, Done, Found, Pool, Work};
 use solver_results::{DdTable, PlayCosts};
 use std::sync::Wait;
@@ -74,7 +75,7 @@ fn enter_table<N: Server, K: EntryStore, R: Wait>(
         × EntersJust desk.old before desk.new (entries_of t.1.published)) }
 {
     match work {
-        Work::Table { board, .. } => Some(desk.submit_solved(rt, board, table)),
+        Work::Table { board, .. } => Some(desk.submit_found(rt, &Command::Solved { board, table })),
         Work::Costs { .. } => None,
     }
 }
@@ -94,7 +95,7 @@ fn enter_costs<N: Server, K: EntryStore, R: Wait>(
         × EntersJust desk.old before desk.new (entries_of t.1.published)) }
 {
     match work {
-        Work::Costs { cell, .. } => Some(desk.submit_analysed(rt, cell, costs)),
+        Work::Costs { cell, .. } => Some(desk.submit_found(rt, &Command::Analysed { cell, costs })),
         Work::Table { .. } => None,
     }
 }

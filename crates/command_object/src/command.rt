@@ -11,7 +11,7 @@ ghost use Rattle.command_object.specs.Command.{added_commands, commands, north_s
 
 use crate::commands::Commands;
 use crate::play::read_play;
-use crate::result::result_of;
+use crate::result::outcome_at;
 use json_fields::{
     RequestFault, has_only, is_one_of, name_at, read_board, read_digest, read_new_shown, read_pair,
     read_place, read_table, role_named, small_number_at, text_at,
@@ -145,7 +145,7 @@ fn enter_of(alloc: Global, value: &Value) -> Result<Command, RequestFault>
     let Some(board) = read_board(value) else {
         return Err(RequestFault::BadField);
     };
-    let Some(outcome) = result_of(value) else {
+    let Some(outcome) = outcome_at(value) else {
         return Err(RequestFault::BadField);
     };
     let play = read_play(alloc, value)?;
@@ -164,7 +164,7 @@ fn confirm_of(value: &Value) -> Option<Command>
     }
     let table = read_table(value)?;
     let board = read_board(value)?;
-    let outcome = result_of(value)?;
+    let outcome = outcome_at(value)?;
     Some(Command::Confirm {
         cell: Cell { table, board },
         outcome,
@@ -183,7 +183,7 @@ fn correct_of(alloc: Global, value: &Value) -> Result<Command, RequestFault>
     let Some(board) = read_board(value) else {
         return Err(RequestFault::BadField);
     };
-    let Some(outcome) = result_of(value) else {
+    let Some(outcome) = outcome_at(value) else {
         return Err(RequestFault::BadField);
     };
     let play = read_play(alloc, value)?;

@@ -61,7 +61,7 @@ fn passed_out(text: &str, value: &Value) -> Option<Outcome>
 }
 
 #[tactic(auto, unfolding(crate::specs::Result::outcome_by))]
-pub(crate) fn result_of(value: &Value) -> Option<Outcome>
+pub(crate) fn outcome_at(value: &Value) -> Option<Outcome>
     ensures { result ≡ outcome.value (get outcome.name (view value.now)) }
 {
     let Some(member) = value.get("result") else {

@@ -122,7 +122,7 @@ impl<K: Keeper> Connection<K> {
 
     /// The text that answers a request of the user who is signed in. It waits only where the keeper does. Where memory
     /// is refused for the text of a receipt, the commands that were accepted stand; where a batch isn't kept, none does.
-    pub fn serve_command<H>(
+    pub fn answer<H>(
         &mut self,
         rt: &H,
         alloc: Global,

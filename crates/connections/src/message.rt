@@ -38,14 +38,14 @@ impl<K: Keeper> Connection<K> {
         ensures memory { OnErr result (is_message_text message.now ≡ true) }
     {
         match read_connection_request(alloc, message, self.edition()) {
-            Ok(body) => self.serve_body(rt, alloc, &body),
+            Ok(body) => self.serve_read(rt, alloc, &body),
             Err(RequestFault::OutOfMemory) => Err(AllocError),
             Err(fault) => Ok(CowStr::Borrowed(fault_text(fault))),
         }
     }
 
     // The text that answers what was read.
-    fn serve_body<H>(
+    fn serve_read<H>(
         &mut self,
         rt: &H,
         alloc: Global,
@@ -79,7 +79,7 @@ impl<K: Keeper> Connection<K> {
         ensures refused { OnErr result
             (StaysOn self.old self.new × LeavesRequest K.others self.old self.new request.now self.old.user) }
     {
-        told(self.serve_command(rt, alloc, request))
+        told(self.answer(rt, alloc, request))
     }
 
     // Signs a user in, once the text that tells so is there.

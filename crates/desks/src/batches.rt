@@ -17,8 +17,8 @@ ghost use Rattle.desks.specs.Kept.{IsKeptBy};
 
 use displays::{Publisher, Receipt, Server};
 use entry_store::{EntryStore, KeepFault};
-use session_book::{Answer, Book};
-use session_commands::room::push_within;
+use session_book::{Answer, Book, is_stopped};
+use session_commands::room::put_item;
 use session_commands::{Actor, Command, Refusal};
 use session_keeper::SubmitFault;
 use std::alloc::Global;
@@ -68,7 +68,7 @@ pub fn batch<N: Server, K: EntryStore, R: Wait>(
         return Err(SubmitFault::OutOfMemory);
     };
     let before = book.version();
-    run(book, publisher, actor, batch, &mut answers);
+    run_batch(book, publisher, actor, batch, &mut answers);
     match show(rt, publisher, store, book.version() > before) {
         Ok(receipt) => Ok((answers, receipt)),
         Err(fault) => {
@@ -164,8 +164,8 @@ fn fault_of(fault: KeepFault) -> SubmitFault
     }
 }
 
-// Runs a batch.
-fn run<N: Server>(
+// Tries the commands of a batch, one after another, with an answer for each.
+fn run_batch<N: Server>(
     book: &mut Book,
     publisher: &mut Publisher<N>,
     actor: Name,
@@ -183,14 +183,14 @@ fn run<N: Server>(
 {
     let mut stopped = false;
     for command in batch {
-        let refusal = attempt(book, publisher, actor, command, stopped);
+        let refusal = try_command(book, publisher, actor, command, stopped);
         stopped = is_stopped(stopped, &refusal);
-        push_within(answers, Answer::new(refusal));
+        put_item(answers, Answer::new(refusal));
     }
 }
 
 // Why one command of a batch is refused, if it is: none is tried once memory was refused.
-fn attempt<N: Server>(
+fn try_command<N: Server>(
     book: &mut Book,
     publisher: &mut Publisher<N>,
     actor: Name,
@@ -219,15 +219,4 @@ fn attempt<N: Server>(
     }
     book.commit(entry);
     None
-}
-
-// Whether no command is tried any more, after one that was refused or not.
-fn is_stopped(stopped: bool, refusal: &Option<Refusal>) -> bool
-    ensures { result ≡ (stopped || stops refusal.now) }
-{
-    stopped
-        || match refusal {
-            Some(cause) => cause.is_out_of_memory(),
-            None => false,
-        }
 }

@@ -5,7 +5,6 @@ ghost use Rattle.std.specs.Sync.Mutex.{mutex_guard_value};
 ghost use mathlib.Core.List.{IsPrefix};
 ghost use Rattle.rbac.specs.Authorization.{HasPermission, IsValid};
 ghost use Rattle.session_roles.specs.declared.operation.Operation.TheVariants.{Audit};
-ghost use Rattle.session_commands.specs.declared.command.Command.TheVariants.{Solved, Analysed};
 ghost use Rattle.session_commands.specs.declared.entry.Entry.{Entry};
 ghost use Rattle.session_book.specs.Audit.{audit_rows};
 ghost use Rattle.session_book.specs.declared.audit.AuditError.TheVariants.{NotPermitted};
@@ -30,7 +29,6 @@ use session_book::{Answer, AuditError, AuditRows};
 use session_commands::Command;
 use session_keeper::SubmitFault;
 use solver_pool::Work;
-use solver_results::{DdTable, PlayCosts};
 use std::marker::Model;
 use std::sync::ledger::Share;
 use std::sync::{Mutex, MutexGuard, Wait};
@@ -110,38 +108,16 @@ impl<'a, N: Server, K: EntryStore> Desk<'a, N, K> {
         locked.submit_found(rt, &mut self.share, command)
     }
 
-    /// Tries what the solver found of a board.
-    pub fn submit_solved<R: Wait>(
-        &mut self,
-        rt: &R,
-        board: u8,
-        table: DdTable,
-    ) -> (Answer, Receipt<N>)
+    /// Tries a command of the solver's, behind all that was entered before; a command of users is refused.
+    pub fn submit_found<R: Wait>(&mut self, rt: &R, command: &Command) -> (Answer, Receipt<N>)
         ensures entered { (before : List Entry) ×
-            IsEntered N.opening before (Solved board table) result.0 result.1
+            IsEntered N.opening before command.now result.0 result.1
             × EntersJust self.old before self.new (entries_of result.1.published) }
         ensures kept { (store : K) × IsKeptBy N.opening result.1.published
             (K.doubt store) (K.is_open store) (K.leaves store) }
     {
         let mut locked = self.lock.lock(rt);
-        locked.submit_found(rt, &mut self.share, &Command::Solved { board, table })
-    }
-
-    /// Tries what the solver found of the cards that were played at a cell.
-    pub fn submit_analysed<R: Wait>(
-        &mut self,
-        rt: &R,
-        cell: Cell,
-        costs: PlayCosts,
-    ) -> (Answer, Receipt<N>)
-        ensures entered { (before : List Entry) ×
-            IsEntered N.opening before (Analysed cell costs) result.0 result.1
-            × EntersJust self.old before self.new (entries_of result.1.published) }
-        ensures kept { (store : K) × IsKeptBy N.opening result.1.published
-            (K.doubt store) (K.is_open store) (K.leaves store) }
-    {
-        let mut locked = self.lock.lock(rt);
-        locked.submit_found(rt, &mut self.share, &Command::Analysed { cell, costs })
+        locked.submit_found(rt, &mut self.share, command)
     }
 
     /// The entries of the journal from a number on, at most so many, for a user who has the permission for the audit; and

@@ -18,7 +18,6 @@ use session_keeper::{AuditReceipt, BatchReceipt, CommandKeeper, Keeper, SubmitFa
 use session_queries::{Query, Reply};
 use session_roles::Edition;
 use solver_pool::Work;
-use solver_results::{DdTable, PlayCosts};
 use std::alloc::Global;
 use std::sync::Wait;
 use user_names::{Digest, Name};
@@ -104,16 +103,8 @@ impl<'a, N: Server, K: EntryStore, R: Wait> CommandKeeper<R> for DeskKeeper<'a, 
         })
     }
 
-    fn submit_solved(&mut self, rt: &R, board: u8, table: DdTable) -> Answer {
-        let command = Command::Solved { board, table };
-        let (answer, receipt) = self.desk.submit_found_from(rt, &self.display, &command);
-        self.display.learn(&receipt);
-        answer
-    }
-
-    fn submit_analysed(&mut self, rt: &R, cell: Cell, costs: PlayCosts) -> Answer {
-        let command = Command::Analysed { cell, costs };
-        let (answer, receipt) = self.desk.submit_found_from(rt, &self.display, &command);
+    fn submit_found(&mut self, rt: &R, command: &Command) -> Answer {
+        let (answer, receipt) = self.desk.submit_found_from(rt, &self.display, command);
         self.display.learn(&receipt);
         answer
     }

@@ -4,8 +4,7 @@ ghost use Rattle.std.specs.Prelude.{◌≡◌, []};
 ghost use Rattle.wire.specs.Request.{HasFew};
 
 use opened_session::{OpenedSession, open_session};
-use published_view::View;
-use published_view::laws::answer_afresh;
+use published_view::{View, answer_afresh};
 use reply_texts::reply_text;
 use session_book::Book;
 use session_queries::{Query, Reply};

@@ -13,7 +13,7 @@ use Rattle.json_fields.specs.declared.request_fault.RequestFault.TheVariants.{
   OutOfMemory,
 }
 use Rattle.wire.specs.ReceiptText.{fault_text}
-use Rattle.wire.specs.Origin.{origin_of}
+use Rattle.wire.specs.Dialect.{dialect_of}
 use Rattle.wire.specs.Request.{most_message_bytes, is_message_text, said_of, script_meaning}
 use Rattle.wire.specs.declared.source.Source.TheVariants.{Script}
 use Rattle.wire.specs.declared.request.ScriptRequest.{ScriptRequest}
@@ -145,7 +145,7 @@ pub first_bytes_meant : (opening : SessionState) (line : List ℕ) →
     script_meaning opening.public.edition (take (most_message_bytes + 1) line) ≡ script_meaning opening.public.edition
     line
 unfolding script_meaning
-first_bytes_meant opening line = ap said_of (first_bytes_tell (origin_of Script opening.public.edition) line)
+first_bytes_meant opening line = ap said_of (first_bytes_tell (dialect_of Script opening.public.edition) line)
 
 -- a line of which as much is kept as tells what it means
 pub responds_whole : (opening : SessionState) (journal : List Entry) (line whole : List ℕ) (after : List Entry)

@@ -9,7 +9,7 @@ pub mod HiddenLemmas
 pub mod HistoryLemmas
 pub mod ListLemmas
 pub mod PlaceLemmas
-pub mod ShowingLemmas
+pub mod ShownStateLemmas
 pub mod StandingLemmas
 pub mod StepLemmas
 pub mod ToldLemmas

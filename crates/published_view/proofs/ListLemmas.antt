@@ -7,6 +7,8 @@ use Rattle.std.proofs.Common.{
   ◌+◌,
   ◌<◌,
   Bool,
+  true,
+  false,
   List,
   [],
   ◌∷◌,
@@ -20,6 +22,7 @@ use Rattle.std.proofs.Common.{
   arith,
 }
 use Rattle.std.specs.Prelude.{Option, Some, None, cond, filter, slice_get}
+use Rattle.std.specs.Bool.{then_some}
 use Rattle.std.specs.Option.{option_map}
 use Rattle.rbac.specs.declared.inheritance.Inheritance.{Inheritance}
 use Rattle.session_roles.specs.declared.role.Role.{Role}
@@ -33,6 +36,11 @@ pub filter_map_more : {X Y : Type 0} (f : X → Option Y) (xs : List X) (k : ℕ
     filter_map f (take (k + 1) xs) ≡ filter_map f (take k xs) ++ cons_option (f (get_or xs k d)) []
 filter_map_more f xs k d below = ap (filter_map f) (take_more xs k d below) ∙ filter_map-append f (take k xs)
     (get_or xs k d ∷ [])
+
+-- what is found where a test holds
+pub found_where : {X : Type 0} (test : Bool) (x : X) → cons_option (then_some test x) [] ≡ cond test (x ∷ []) []
+found_where true x = refl
+found_where false x = refl
 
 -- numbers in a row, and one more
 pub range_more : (first n : ℕ) → range_with_len first (n + 1) ≡ range_with_len first n ++ (first + n) ∷ []

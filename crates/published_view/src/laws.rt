@@ -1,6 +1,6 @@
-//! What holds of the replies as a whole, and the plain way to work one out.
+//! What holds of the replies as a whole.
 
-ghost use Rattle.std.specs.Prelude.{◌≡◌, ◌≢◌, ℕ, None, List, length, IfErr, IfOk};
+ghost use Rattle.std.specs.Prelude.{◌≡◌, ◌≢◌, ℕ, None, List};
 ghost use Rattle.movement.specs.declared.cell.Cell.{Cell};
 ghost use Rattle.movement.specs.Movement.{IsSection};
 ghost use Rattle.disclosure_rules.specs.declared.fact.Fact.TheVariants.{Hands};
@@ -14,7 +14,7 @@ ghost use Rattle.session_commands.specs.declared.entry.Entry.{Entry};
 ghost use Rattle.session_opening.specs.Opening.{opening_of};
 ghost use Rattle.session_opening.specs.declared.config.Config.{Config};
 ghost use Rattle.session_book.specs.Exposure.{SomeAllowed};
-ghost use Rattle.session_book.specs.Journal.{IsAccepted, state_of};
+ghost use Rattle.session_book.specs.Journal.{IsAccepted};
 ghost use Rattle.session_book.specs.Replay.{replay};
 ghost use Rattle.session_queries.specs.Query.{fact_of};
 ghost use Rattle.session_queries.specs.declared.body.Body.TheVariants.{Denied};
@@ -24,16 +24,8 @@ ghost use Rattle.session_queries.specs.declared.reply.Reply.{Reply};
 ghost use Rattle.published_view.specs.Agreement.{Agree, DifferAt};
 ghost use Rattle.published_view.specs.History.{IsGivenIn, state_there, NamesPublished, IsWritten, NamesFirst};
 ghost use Rattle.published_view.specs.History.{AskTheSame, IsExhaustive, IsToldAfter};
-ghost use Rattle.published_view.specs.Reply.{before_answer, body_of, reply_of};
+ghost use Rattle.published_view.specs.Reply.{reply_of};
 ghost use Rattle.published_view.specs.World.{Moment, Reading, IsHistory, MayGoOn, now};
-
-use crate::bodies::answer_of;
-use crate::preface::before_answer;
-use session_book::Book;
-use session_queries::{Body, Query, Reply};
-use session_state::State;
-use std::alloc::{AllocError, Global};
-use user_names::Name;
 
 /// In two states that agree for a user, the user gets the same reply to every query, with any filter, page and wanted
 /// version: none tells of what the user may not see. So what belongs to a board whose hands a rule forbids the user is
@@ -87,46 +79,3 @@ pub fn every_run()
         IsToldAfter (now history).journal reply.version before cell → cell.board ≡ board →
         ¬ IsSeatedAt (replay opening before).public (viewer_of (replay opening before) reading.user) cell }
 {}
-
-/// The reply to a user's query as it is worked out afresh from the state of a book alone: no view is at hand, and so nothing
-/// that one keeps. By its contract it is what a view answers that has taken in the book's journal.
-pub fn answer_afresh(
-    alloc: Global,
-    book: &Book,
-    user: Name,
-    query: &Query,
-    since: u64,
-) -> Result<Reply, AllocError>
-    ensures reply { IfOk result (λ reply.
-        reply ≡ reply_of (state_of book.now) (length book.now.journal) user query.now since) }
-    ensures memory { IfErr result (λ _.
-        before_answer (state_of book.now).public (length book.now.journal) (viewer_of (state_of book.now) user)
-        (fact_of query.now) since ≡ None) }
-{
-    let body = body_afresh(alloc, book.state(), book.version(), user, query, since)?;
-    Ok(Reply {
-        version: book.version(),
-        body,
-    })
-}
-
-/// What is answered to a user.
-#[tactic(auto, unfolding(crate::specs::Reply::body_of))]
-fn body_afresh(
-    alloc: Global,
-    state: &State,
-    version: usize,
-    user: Name,
-    query: &Query,
-    since: u64,
-) -> Result<Body, AllocError>
-    ensures body { IfOk result (λ found. found ≡ body_of state.now version user query.now since) }
-    ensures memory { IfErr result (λ _.
-        before_answer state.now.public version (viewer_of state.now user) (fact_of query.now) since ≡ None) }
-{
-    let viewer = state.viewer(user);
-    match before_answer(state.public(), version, &viewer, query.fact(), since) {
-        Some(body) => Ok(body),
-        None => answer_of(alloc, state, &viewer, query),
-    }
-}

@@ -2,14 +2,16 @@
 //! nothing else is.
 #![tactic(auto)]
 
-mod bodies;
-mod kept;
+mod afresh;
+mod answers_of_classes;
+mod answers_of_state;
+mod before_answer;
 pub mod laws;
 mod listing;
-mod preface;
 mod query_fault;
-mod showing;
+mod shown_state;
 mod view;
 
+pub use afresh::answer_afresh;
 pub use query_fault::{NoEntry, QueryFault};
 pub use view::View;

@@ -1,4 +1,4 @@
-ghost use Rattle.std.specs.Prelude.{◌≡◌, ◌≤◌, ◌++◌, ◌∷◌, [], ◌&&◌, None, length, nat_le, true, cond, IfOk, OnOk};
+ghost use Rattle.std.specs.Prelude.{◌≡◌, ◌≤◌, ◌&&◌, None, length, nat_le, true, IfOk};
 ghost use Rattle.disclosure_rules.specs.declared.fact.Fact.TheVariants as fact;
 ghost use Rattle.disclosure_rules.specs.Policy.{first_rule};
 ghost use Rattle.movement.specs.Movement.{IsSection, boards_of, has_board};
@@ -7,7 +7,7 @@ ghost use Rattle.session_queries.specs.Shown.{shown};
 ghost use Rattle.session_state.specs.SessionState.{AreLive};
 ghost use Rattle.published_view.specs.Listing.{facts_for, is_listed, listed_from, outcome_of, outcomes_of, tricks_shown};
 
-use crate::showing::Showing;
+use crate::shown_state::ShownState;
 use disclosure_rules::{Fact, Marks, Viewer, decide};
 use query_filter::{BoardFacts, Filter, TrickTable};
 use scoring::Outcome;
@@ -18,127 +18,121 @@ use std::alloc::{AllocError, Global};
 use table_terms::Items;
 
 /// The boards from one on that are listed.
-pub(crate) fn listed_from<S: Showing>(
+pub(crate) fn listed_from<S: ShownState>(
     alloc: Global,
-    showing: &S,
+    shown_state: &S,
     viewer: &Viewer,
     filter: &Option<Filter>,
     from: u8,
 ) -> Result<Vec<u8>, AllocError>
     ensures { IfOk result (λ boards. boards.items ≡
-        listed_from (S.seen showing.now).public.movement (shown (S.seen showing.now) viewer.now) filter.now from) }
+        listed_from (S.seen shown_state.now).public.movement
+        (shown (S.seen shown_state.now) viewer.now) filter.now from) }
 {
-    let last = showing.whole().public().movement.boards();
+    let last = shown_state.whole().public().movement.boards();
     let mut boards = Vec::new(alloc);
     for before in 0..last {
         let board = before + 1;
-        let listed = is_listed_from(alloc, showing, viewer, filter, from, board)?;
-        push_where(&mut boards, board, listed)?;
+        let listed = is_listed_from(alloc, shown_state, viewer, filter, from, board)?;
+        push_found(&mut boards, listed.then_some(board))?;
     }
     Ok(boards)
 }
 
-/// Adds a board where a test holds.
-fn push_where(boards: &mut Vec<u8>, board: u8, test: bool) -> Result<(), AllocError>
-    ensures { OnOk result (boards.new.items ≡ boards.old.items ++ cond test (board ∷ []) []) }
-{
-    if test {
-        boards.push(board)?;
-    }
-    Ok(())
-}
-
 /// Whether a board is listed among those from one on.
-fn is_listed_from<S: Showing>(
+fn is_listed_from<S: ShownState>(
     alloc: Global,
-    showing: &S,
+    shown_state: &S,
     viewer: &Viewer,
     filter: &Option<Filter>,
     from: u8,
     board: u8,
 ) -> Result<bool, AllocError>
-    requires section { IsSection (S.seen showing.now).public.movement }
-    requires there { has_board (S.seen showing.now).public.movement board ≡ true }
-    requires dealt { boards_of (S.seen showing.now).public.movement ≤ length (S.seen showing.now).deals }
-    requires live { AreLive (S.seen showing.now).public.live (S.seen showing.now).cells }
+    requires section { IsSection (S.seen shown_state.now).public.movement }
+    requires there { has_board (S.seen shown_state.now).public.movement board ≡ true }
+    requires dealt { boards_of (S.seen shown_state.now).public.movement ≤ length (S.seen shown_state.now).deals }
+    requires live { AreLive (S.seen shown_state.now).public.live (S.seen shown_state.now).cells }
     ensures { IfOk result (λ listed. listed ≡ (nat_le from board
-        && is_listed (S.seen showing.now).public.movement (shown (S.seen showing.now) viewer.now) filter.now board)) }
+        && is_listed (S.seen shown_state.now).public.movement
+        (shown (S.seen shown_state.now) viewer.now) filter.now board)) }
 {
     if board < from {
         return Ok(false);
     }
-    is_listed(alloc, showing, viewer, filter, board)
+    is_listed(alloc, shown_state, viewer, filter, board)
 }
 
 /// Whether a board is listed.
-fn is_listed<S: Showing>(
+fn is_listed<S: ShownState>(
     alloc: Global,
-    showing: &S,
+    shown_state: &S,
     viewer: &Viewer,
     filter: &Option<Filter>,
     board: u8,
 ) -> Result<bool, AllocError>
-    requires section { IsSection (S.seen showing.now).public.movement }
-    requires there { has_board (S.seen showing.now).public.movement board ≡ true }
-    requires dealt { boards_of (S.seen showing.now).public.movement ≤ length (S.seen showing.now).deals }
-    requires live { AreLive (S.seen showing.now).public.live (S.seen showing.now).cells }
+    requires section { IsSection (S.seen shown_state.now).public.movement }
+    requires there { has_board (S.seen shown_state.now).public.movement board ≡ true }
+    requires dealt { boards_of (S.seen shown_state.now).public.movement ≤ length (S.seen shown_state.now).deals }
+    requires live { AreLive (S.seen shown_state.now).public.live (S.seen shown_state.now).cells }
     ensures { IfOk result (λ listed. listed ≡
-        is_listed (S.seen showing.now).public.movement (shown (S.seen showing.now) viewer.now) filter.now board) }
+        is_listed (S.seen shown_state.now).public.movement
+        (shown (S.seen shown_state.now) viewer.now) filter.now board) }
 {
-    if !showing.shows(viewer, board) {
+    if !shown_state.shows(viewer, board) {
         return Ok(false);
     }
-    passes(alloc, showing, viewer, filter, board)
+    passes(alloc, shown_state, viewer, filter, board)
 }
 
 /// Whether a filter holds of a board whose hands the user is shown; without a filter each of these is listed.
-fn passes<S: Showing>(
+fn passes<S: ShownState>(
     alloc: Global,
-    showing: &S,
+    shown_state: &S,
     viewer: &Viewer,
     filter: &Option<Filter>,
     board: u8,
 ) -> Result<bool, AllocError>
-    requires section { IsSection (S.seen showing.now).public.movement }
-    requires there { has_board (S.seen showing.now).public.movement board ≡ true }
-    requires allowed { first_rule (S.seen showing.now).public viewer.now (fact.Hands board) ≡ None }
-    requires dealt { boards_of (S.seen showing.now).public.movement ≤ length (S.seen showing.now).deals }
-    requires live { AreLive (S.seen showing.now).public.live (S.seen showing.now).cells }
+    requires section { IsSection (S.seen shown_state.now).public.movement }
+    requires there { has_board (S.seen shown_state.now).public.movement board ≡ true }
+    requires allowed { first_rule (S.seen shown_state.now).public viewer.now (fact.Hands board) ≡ None }
+    requires dealt { boards_of (S.seen shown_state.now).public.movement ≤ length (S.seen shown_state.now).deals }
+    requires live { AreLive (S.seen shown_state.now).public.live (S.seen shown_state.now).cells }
     ensures { IfOk result (λ listed. listed ≡
-        is_listed (S.seen showing.now).public.movement (shown (S.seen showing.now) viewer.now) filter.now board) }
+        is_listed (S.seen shown_state.now).public.movement
+        (shown (S.seen shown_state.now) viewer.now) filter.now board) }
 {
-    let marks = showing.whole().marks(board);
+    let marks = shown_state.whole().marks(board);
     match filter {
         None => Ok(true),
         Some(filter) => {
-            let facts = facts_for(alloc, showing, viewer, board, marks)?;
+            let facts = facts_for(alloc, shown_state, viewer, board, marks)?;
             Ok(filter.holds(&facts))
         }
     }
 }
 
 /// What is shown of a board with these marks, for a filter.
-fn facts_for<S: Showing>(
+fn facts_for<S: ShownState>(
     alloc: Global,
-    showing: &S,
+    shown_state: &S,
     viewer: &Viewer,
     board: u8,
     marks: Marks,
 ) -> Result<BoardFacts, AllocError>
-    requires section { IsSection (S.seen showing.now).public.movement }
-    requires there { has_board (S.seen showing.now).public.movement board ≡ true }
-    requires live { AreLive (S.seen showing.now).public.live (S.seen showing.now).cells }
-    requires allowed { first_rule (S.seen showing.now).public viewer.now (fact.Hands board) ≡ None }
+    requires section { IsSection (S.seen shown_state.now).public.movement }
+    requires there { has_board (S.seen shown_state.now).public.movement board ≡ true }
+    requires live { AreLive (S.seen shown_state.now).public.live (S.seen shown_state.now).cells }
+    requires allowed { first_rule (S.seen shown_state.now).public viewer.now (fact.Hands board) ≡ None }
     ensures { IfOk result (λ facts. facts ≡
-        facts_for (S.seen showing.now).public.movement (shown (S.seen showing.now) viewer.now) board marks) }
+        facts_for (S.seen shown_state.now).public.movement (shown (S.seen shown_state.now) viewer.now) board marks) }
 {
-    let results = showing.results(alloc, viewer, board)?;
+    let results = shown_state.results(alloc, viewer, board)?;
     let outcomes = outcomes_of(alloc, &results)?;
     Ok(BoardFacts {
         vulnerability: marks.vulnerability,
         dealer: marks.dealer,
         outcomes: Items::new(outcomes),
-        tricks: tricks_shown(showing.whole(), viewer, board),
+        tricks: tricks_shown(shown_state.whole(), viewer, board),
     })
 }
 

@@ -2,7 +2,7 @@
 ghost use Rattle.std.specs.Prelude.{◌≡◌, IfOk};
 ghost use Rattle.session_book.specs.Audit.{audit_rows};
 
-use session_commands::room::push_within;
+use session_commands::room::put_item;
 use session_commands::{Actor, CommandWord, Entry, Target};
 use std::alloc::{AllocError, Global};
 use std::fmt;
@@ -90,7 +90,7 @@ pub fn rows_of(
             word: entry.command.word(),
             target: entry.command.target(),
         };
-        push_within(&mut rows, row);
+        put_item(&mut rows, row);
     }
     Ok(rows)
 }

@@ -15,7 +15,6 @@ ghost use Rattle.session_state.specs.SessionState.{SessionState, viewer_of};
 ghost use Rattle.session_book.specs.Run.{Runs, IsTried, stops, answer_of, first_number, last_number, most_commands};
 ghost use Rattle.session_commands.specs.declared.actor.Actor.TheVariants.{Solver};
 ghost use Rattle.session_commands.specs.declared.command.Command.{Command};
-ghost use Rattle.session_commands.specs.declared.command.Command.TheVariants.{Solved, Analysed};
 ghost use Rattle.session_book.specs.declared.answer.Answer.{Answer};
 ghost use Rattle.session_commands.specs.declared.entry.Entry.{Entry};
 ghost use Rattle.session_commands.specs.declared.refusal.Refusal.TheVariants.{OutOfMemory};
@@ -31,12 +30,11 @@ use crate::touched::touched_by;
 use disclosure_rules::{Viewer, is_seated_at};
 use movement::Cell;
 use rbac::Account;
-use session_commands::room::{push_copy, push_within};
+use session_commands::room::{put_copy, put_item};
 use session_commands::{Actor, Command, Entry, Refusal};
 use session_opening::{Config, OpeningRefusal};
 use session_roles::{Edition, Operation};
 use session_state::State;
-use solver_results::{DdTable, PlayCosts};
 use std::alloc::{AllocError, Global};
 use std::marker::Model;
 use user_names::Name;
@@ -309,7 +307,7 @@ impl Book {
     {
         let boards = self.boards();
         absorb(&mut self.state, &mut self.exposure, &entry, boards);
-        push_copy(&mut self.journal, &entry);
+        put_copy(&mut self.journal, &entry);
     }
 
     /// Tries the commands of a user, one after another: each that is accepted joins the journal. Where memory is
@@ -333,29 +331,13 @@ impl Book {
         for command in batch {
             let refusal = self.attempt(actor, command, stopped);
             stopped = is_stopped(stopped, &refusal);
-            push_within(&mut answers, Answer::new(refusal));
+            put_item(&mut answers, Answer::new(refusal));
         }
         Ok(Submission::new(answers, before, self.version()))
     }
 
-    /// Tries the double-dummy table of a board, as the solver tells it.
-    pub fn submit_solved(&mut self, board: u8, table: DdTable) -> Answer
-        ensures tried { IsTried self.old Solver (Solved board table) result self.new }
-        ensures opening { self.new.opening ≡ self.old.opening }
-    {
-        self.submit_found(&Command::Solved { board, table })
-    }
-
-    /// Tries what the cards cost that were played at a cell, as the solver tells it.
-    pub fn submit_analysed(&mut self, cell: Cell, costs: PlayCosts) -> Answer
-        ensures tried { IsTried self.old Solver (Analysed cell costs) result self.new }
-        ensures opening { self.new.opening ≡ self.old.opening }
-    {
-        self.submit_found(&Command::Analysed { cell, costs })
-    }
-
-    // Tries a command of the solver's.
-    fn submit_found(&mut self, command: &Command) -> Answer
+    /// Tries a command of the solver's: one of users is refused.
+    pub fn submit_found(&mut self, command: &Command) -> Answer
         ensures tried { IsTried self.old Solver command.now result self.new }
         ensures opening { self.new.opening ≡ self.old.opening }
     {
@@ -418,8 +400,8 @@ fn absorb(state: &mut State, exposure: &mut Exposure, entry: &Entry, boards: u8)
     exposure.ask_touched(state, &touched, boards);
 }
 
-// Whether no command is tried any more, after one that was refused or not.
-fn is_stopped(stopped: bool, refusal: &Option<Refusal>) -> bool
+/// Whether no command of a batch is tried any more, after one that was refused or not: none is once memory was refused.
+pub fn is_stopped(stopped: bool, refusal: &Option<Refusal>) -> bool
     ensures { result ≡ (stopped || stops refusal.now) }
 {
     stopped

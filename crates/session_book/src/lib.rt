@@ -11,5 +11,5 @@ mod touched;
 
 pub use answer::Answer;
 pub use audit::{AuditError, AuditRow, AuditRows};
-pub use book::Book;
+pub use book::{Book, is_stopped};
 pub use submission::Submission;

@@ -1,5 +1,5 @@
 -- Which member of a session object isn't as it should be: the first in the order of the form, of the session and then of its users.
-use Rattle.std.specs.Prelude.{ℕ, ◌+◌, Bool, true, false, is_some, [], codes, Option, Some, None, option_map}
+use Rattle.std.specs.Prelude.{ℕ, ◌+◌, Bool, true, false, ◌||◌, is_some, [], codes, Option, Some, None, option_map}
 use Rattle.std.specs.Option.{option_or, unwrap_or}
 use Rattle.serde_json.specs.Data.{Data, Items, no_items, item}
 use Rattle.serde_json.specs.Find.{get}
@@ -9,7 +9,7 @@ use Rattle.json_fields.specs.Field.{limited, numbered, written, elements}
 use Rattle.json_fields.specs.User.{user_name, digest, user_roles, pair, absent, place, shown_name, member_number}
 use Rattle.session_object.specs.NoticeMembers.{title, date, reasons}
 use Rattle.session_object.specs.AskedMovement.{shared_by, switched_rounds}
-use Rattle.session_object.specs.Session.{session_edition, edition_said, seated, unseated, with_boards, beside_boards, most_visits}
+use Rattle.session_object.specs.Session.{session_edition, edition_said, seated, unseated, member_names, most_visits}
 use Rattle.session_check.specs.declared.member.MemberName.{MemberName}
 use Rattle.session_check.specs.declared.member.MemberName.TheVariants as member
 use Rattle.session_check.specs.declared.member.MemberAt.{MemberAt}
@@ -76,22 +76,20 @@ later_misread d =
     (unless_read (is_read (numbered (codes "tables")) d) member.Tables
     (unless_read (is_read title d) member.Title None))))))
 
+-- the boards are given beside the object, or it has their text
+abbrev pub has_boards : Bool → Data → Bool
+has_boards beside d = beside || is_read (written (codes "pbn")) d
+
 -- the first member of a session that isn't read, its movement and its users left out: where the boards are given beside the
 -- object it has no `pbn`
-abbrev pub session_misread : Edition → Bool → Data → Option MemberName
-session_misread edition true d =
-    unless_read (has_only (beside_boards edition []).names d) member.Listed
-    (unless_read (is_read absent d) member.Absent
-    (unless_read (is_read (limited (codes "budget") most_visits) d) member.Budget
-    (unless_read (is_read date d) member.Date
-    (unless_read (is_read session_edition d) member.Edition (later_misread d)))))
-session_misread edition false d =
-    unless_read (has_only (with_boards edition).names d) member.Listed
+abbrev pub session_misread : Bool → Data → Option MemberName
+session_misread beside d =
+    unless_read (has_only (member_names beside) d) member.Listed
     (unless_read (is_read absent d) member.Absent
     (unless_read (is_read (limited (codes "budget") most_visits) d) member.Budget
     (unless_read (is_read date d) member.Date
     (unless_read (is_read session_edition d) member.Edition
-    (unless_read (is_read (written (codes "pbn")) d) member.Pbn (later_misread d))))))
+    (unless_read (has_boards beside d) member.Pbn (later_misread d))))))
 
 -- a member of the session
 abbrev pub of_session : MemberName → MemberAt
@@ -111,5 +109,5 @@ member_or None other = other
 -- which member of an object that says no session isn't as it should be, where the boards are given beside it or stand in it
 unfoldable pub misread_at : Bool → Data → MemberAt
 misread_at beside d =
-    member_or (session_misread (edition_said (get (codes "edition") d)) beside d)
+    member_or (session_misread beside d)
     (users_or_movement (edition_said (get (codes "edition") d)) (elements (get (codes "users") d)))

@@ -11,7 +11,7 @@ ghost use Rattle.json_fields.specs.User.{role_of, user_roles};
 ghost use Rattle.session_object.specs.Reading.{IsObjectText};
 ghost use Rattle.session_object.specs.NoticeMembers.{title, date, reason_said, reasons_in, reasons};
 ghost use Rattle.session_object.specs.Session.{edition_numbered, edition_said, session_edition};
-ghost use Rattle.session_check.specs.Members.{is_read, of_user, unseated_misread, seated_misread, user_misread, users_misread, later_misread, session_misread, users_or_movement, misread_at};
+ghost use Rattle.session_check.specs.Members.{is_read, of_user, unseated_misread, seated_misread, user_misread, users_misread, later_misread, has_boards, session_misread, users_or_movement, misread_at};
 
 use crate::member::{MemberAt, MemberName};
 use json_fields::{
@@ -20,7 +20,7 @@ use json_fields::{
 };
 use notices::{NoticeText, Notices};
 use serde_json::Value;
-use session_object::is_date;
+use session_object::{has_session_members, is_date};
 use session_roles::Edition;
 use std::alloc::{AllocError, Global};
 use std::str;
@@ -51,7 +51,7 @@ pub(crate) fn misread_at(value: &Value, beside: bool) -> MemberAt
     ensures { result ≡ misread_at beside (view value.now) }
 {
     let edition = edition_said(value);
-    match session_misread(value, edition, beside) {
+    match session_misread(value, beside) {
         Some(name) => MemberAt { user: None, name },
         None => users_or_movement(value, edition),
     }
@@ -81,37 +81,10 @@ fn of_session(name: MemberName) -> MemberAt
 
 // ---- the session's
 
-fn session_misread(value: &Value, edition: Edition, beside: bool) -> Option<MemberName>
-    ensures { result ≡ session_misread edition beside (view value.now) }
+fn session_misread(value: &Value, beside: bool) -> Option<MemberName>
+    ensures { result ≡ session_misread beside (view value.now) }
 {
-    if beside {
-        misread_beside_boards(value, edition)
-    } else {
-        misread_with_boards(value, edition)
-    }
-}
-
-fn misread_beside_boards(value: &Value, edition: Edition) -> Option<MemberName>
-    ensures { result ≡ session_misread edition true (view value.now) }
-{
-    if !has_only(
-        value,
-        &[
-            "absent",
-            "budget",
-            "date",
-            "edition",
-            "movement",
-            "per_set",
-            "reasons",
-            "rounds",
-            "shared_by",
-            "switched",
-            "tables",
-            "title",
-            "users",
-        ],
-    ) {
+    if !has_session_members(value, beside) {
         return Some(MemberName::Listed);
     }
     if read_absent(value).is_none() {
@@ -126,49 +99,17 @@ fn misread_beside_boards(value: &Value, edition: Edition) -> Option<MemberName>
     if read_edition(value).is_none() {
         return Some(MemberName::Edition);
     }
-    later_misread(value)
-}
-
-fn misread_with_boards(value: &Value, edition: Edition) -> Option<MemberName>
-    ensures { result ≡ session_misread edition false (view value.now) }
-{
-    if !has_only(
-        value,
-        &[
-            "absent",
-            "budget",
-            "date",
-            "edition",
-            "movement",
-            "pbn",
-            "per_set",
-            "reasons",
-            "rounds",
-            "shared_by",
-            "switched",
-            "tables",
-            "title",
-            "users",
-        ],
-    ) {
-        return Some(MemberName::Listed);
-    }
-    if read_absent(value).is_none() {
-        return Some(MemberName::Absent);
-    }
-    if limited_at(value, "budget", MOST_VISITS).is_none() {
-        return Some(MemberName::Budget);
-    }
-    if !has_date(value) {
-        return Some(MemberName::Date);
-    }
-    if read_edition(value).is_none() {
-        return Some(MemberName::Edition);
-    }
-    if text_at(value, "pbn").is_none() {
+    if !has_boards(value, beside) {
         return Some(MemberName::Pbn);
     }
     later_misread(value)
+}
+
+// Whether the boards are given beside the object, or it has their text.
+fn has_boards(value: &Value, beside: bool) -> bool
+    ensures { result ≡ has_boards beside (view value.now) }
+{
+    beside || text_at(value, "pbn").is_some()
 }
 
 fn later_misread(value: &Value) -> Option<MemberName>

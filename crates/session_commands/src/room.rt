@@ -1,9 +1,11 @@
+//! Lists with room: what is put needs no memory, since there is room for it.
+
 ghost use Rattle.std.specs.Prelude.{◌≡◌, ◌+◌, ◌<◌, ◌≤◌, [], ◌∷◌, ◌++◌, vec_len, vec_capacity, IfOk, replicate};
 
 use std::alloc::{AllocError, Global};
 
 /// Adds an item for which there is room.
-pub fn push_within<T: Drop>(items: &mut Vec<T>, item: T)
+pub fn put_item<T: Drop>(items: &mut Vec<T>, item: T)
     requires { vec_len items.old < vec_capacity items.old }
     ensures items { items.new.items ≡ items.old.items ++ item ∷ [] }
     ensures len { vec_len items.new ≡ vec_len items.old + 1 }
@@ -15,13 +17,13 @@ pub fn push_within<T: Drop>(items: &mut Vec<T>, item: T)
 }
 
 /// Adds a copy of an item for which there is room.
-pub fn push_copy<T: Copy + Drop>(items: &mut Vec<T>, item: &T)
+pub fn put_copy<T: Copy + Drop>(items: &mut Vec<T>, item: &T)
     requires { vec_len items.old < vec_capacity items.old }
     ensures items { items.new.items ≡ items.old.items ++ item.now ∷ [] }
     ensures len { vec_len items.new ≡ vec_len items.old + 1 }
     ensures capacity { vec_capacity items.old ≤ vec_capacity items.new }
 {
-    push_within(items, *item);
+    put_item(items, *item);
 }
 
 /// So many copies of an item.

@@ -1,7 +1,6 @@
 //! Who keeps a session, as commands see it.
 
 ghost use Rattle.std.specs.Prelude.{◌≡◌, ◌≢◌, ◌≤◌, length, IfOk, IfErr, OnErr};
-ghost use Rattle.session_commands.specs.declared.command.Command.TheVariants.{Solved, Analysed};
 ghost use Rattle.session_book.specs.Journal.{IsAccepted};
 ghost use Rattle.session_book.specs.Run.{most_commands};
 ghost use Rattle.session_keeper.specs.Keeping.{GoesOn, RanOnce, TriedOnce, IsAuditOf};
@@ -10,10 +9,8 @@ ghost use Rattle.session_keeper.specs.declared.submit_fault.SubmitFault.TheVaria
 use crate::keeper::Keeper;
 use crate::receipt::{AuditReceipt, BatchReceipt};
 use crate::submit_fault::SubmitFault;
-use movement::Cell;
 use session_book::Answer;
 use session_commands::Command;
-use solver_results::{DdTable, PlayCosts};
 use user_names::Name;
 
 /// A keeper that takes commands. `H` is what it waits by: a handle of the runtime, where it may wait for others who
@@ -38,21 +35,13 @@ pub trait CommandKeeper<H>: Keeper {
         ensures none { OnErr result (Self.own_entries self.new ≡ Self.own_entries self.old) }
         ensures not_kept { IfErr result (λ why. why ≢ OutOfMemory → Self.not_kept) };
 
-    /// Tries what the solver found of a board.
-    fn submit_solved(&mut self, rt: &H, board: u8, table: DdTable) -> Answer
+    /// Tries a command of the solver's: one of users is refused.
+    fn submit_found(&mut self, rt: &H, command: &Command) -> Answer
         ensures later { GoesOn (Self.opening self.old) (Self.journal self.old)
             (Self.opening self.new) (Self.journal self.new) }
         ensures accepted { IsAccepted (Self.opening self.new) (Self.journal self.new) }
         ensures tried { TriedOnce Self.others (Self.opening self.new) (Self.own_entries self.old)
-            (Self.journal self.old) (Solved board table) result (Self.own_entries self.new) (Self.journal self.new) };
-
-    /// Tries what the solver found of the cards that were played at a cell.
-    fn submit_analysed(&mut self, rt: &H, cell: Cell, costs: PlayCosts) -> Answer
-        ensures later { GoesOn (Self.opening self.old) (Self.journal self.old)
-            (Self.opening self.new) (Self.journal self.new) }
-        ensures accepted { IsAccepted (Self.opening self.new) (Self.journal self.new) }
-        ensures tried { TriedOnce Self.others (Self.opening self.new) (Self.own_entries self.old)
-            (Self.journal self.old) (Analysed cell costs) result (Self.own_entries self.new) (Self.journal self.new) };
+            (Self.journal self.old) command.now result (Self.own_entries self.new) (Self.journal self.new) };
 
     /// The entries from a number on, at most so many, for a user who has the permission for the audit.
     fn audit(&mut self, rt: &H, actor: Name, from: usize, limit: usize) -> AuditReceipt

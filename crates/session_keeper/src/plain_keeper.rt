@@ -10,14 +10,12 @@ use crate::command_keeper::CommandKeeper;
 use crate::keeper::Keeper;
 use crate::receipt::{AuditReceipt, BatchReceipt};
 use crate::submit_fault::SubmitFault;
-use movement::Cell;
 use published_view::{NoEntry, QueryFault, View};
 use session_book::{Answer, Book};
 use session_commands::Command;
 use session_queries::{Query, Reply};
 use session_roles::Edition;
 use session_state::State;
-use solver_results::{DdTable, PlayCosts};
 use std::alloc::{AllocError, Global};
 use std::marker::Model;
 use user_names::{Digest, Name};
@@ -118,14 +116,8 @@ impl<H> CommandKeeper<H> for PlainKeeper {
         })
     }
 
-    fn submit_solved(&mut self, _rt: &H, board: u8, table: DdTable) -> Answer {
-        let answer = self.book.submit_solved(board, table);
-        absorb_new(&mut self.view, &self.book);
-        answer
-    }
-
-    fn submit_analysed(&mut self, _rt: &H, cell: Cell, costs: PlayCosts) -> Answer {
-        let answer = self.book.submit_analysed(cell, costs);
+    fn submit_found(&mut self, _rt: &H, command: &Command) -> Answer {
+        let answer = self.book.submit_found(command);
         absorb_new(&mut self.view, &self.book);
         answer
     }

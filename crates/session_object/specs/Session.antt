@@ -6,6 +6,9 @@ use Rattle.std.specs.Prelude.{
   List,
   [],
   ◌∷◌,
+  Bool,
+  true,
+  false,
   if◌then◌else◌,
   codes,
   Option,
@@ -169,6 +172,11 @@ beside_boards edition pbn =
     with absent with limited (codes "budget") most_visits with date with session_edition with asked_movement
     with numbered (codes "per_set") with reasons with numbered (codes "rounds") with shared_by with switched_rounds
     with numbered (codes "tables") with title with users edition
+
+-- how the members are called, of an object beside which the boards are given, and of one that has them in it
+abbrev pub member_names : Bool → List (List ℕ)
+member_names true = (beside_boards First []).names
+member_names false = (with_boards First).names
 
 -- which of the two it is, by the deals that are given
 abbrev pub session_form : Edition → Option (List ℕ) → Form Session

@@ -5,6 +5,7 @@ mod asked_movement;
 mod edition_reading;
 pub mod laws;
 mod made_movement;
+mod member_names;
 mod movement_reading;
 mod notice_reading;
 mod object;
@@ -16,6 +17,7 @@ mod tests;
 mod user;
 
 pub use asked_movement::AskedMovement;
+pub use member_names::has_session_members;
 pub use notice_reading::is_date;
 pub use object::SessionObject;
 pub use reading::{MOST_BYTES, read_session};

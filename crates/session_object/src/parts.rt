@@ -7,11 +7,12 @@ ghost use Rattle.session_object.specs.Reading.{FailsPart, session_of_parts};
 
 use crate::asked_movement::AskedMovement;
 use crate::edition_reading::read_edition;
+use crate::member_names::has_session_members;
 use crate::movement_reading::{read_asked_movement, read_shared_by, read_switched, stands_beside};
 use crate::notice_reading::{read_date, read_reasons, read_title};
 use crate::session_fault::SessionFault;
 use crate::user::users_of;
-use json_fields::{has_only, limited_at, read_absent, small_number_at, text_at};
+use json_fields::{limited_at, read_absent, small_number_at, text_at};
 use notices::NoticeText;
 use serde_json::Value;
 use session_opening::NewUser;
@@ -47,25 +48,7 @@ fn with_boards<'t>(alloc: Global, value: &'t Value) -> Result<Parts<'t>, Session
     ensures parts { IfOk result (λ parts. members_say None (view value.now) ≡ Some (session_of_parts parts)) }
     ensures fault { IfErr result (λ fault. FailsPart fault (members_say None (view value.now))) }
 {
-    if !has_only(
-        value,
-        &[
-            "absent",
-            "budget",
-            "date",
-            "edition",
-            "movement",
-            "pbn",
-            "per_set",
-            "reasons",
-            "rounds",
-            "shared_by",
-            "switched",
-            "tables",
-            "title",
-            "users",
-        ],
-    ) {
+    if !has_session_members(value, false) {
         return Err(SessionFault::BadField);
     }
     let Some(absent) = read_absent(value) else {
@@ -128,24 +111,7 @@ fn beside_boards<'t>(alloc: Global, value: &Value, pbn: &'t [u8]) -> Result<Part
     ensures fault { IfErr result (λ fault.
         FailsPart fault (members_say (Some pbn.now) (view value.now))) }
 {
-    if !has_only(
-        value,
-        &[
-            "absent",
-            "budget",
-            "date",
-            "edition",
-            "movement",
-            "per_set",
-            "reasons",
-            "rounds",
-            "shared_by",
-            "switched",
-            "tables",
-            "title",
-            "users",
-        ],
-    ) {
+    if !has_session_members(value, true) {
         return Err(SessionFault::BadField);
     }
     let Some(absent) = read_absent(value) else {

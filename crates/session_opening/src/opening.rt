@@ -17,7 +17,7 @@ use cards::Deal;
 use disclosure_rules::{Boards, LiveCells, Marks, Phase, Public};
 use movement::Movement;
 use rbac::Roles;
-use session_commands::room::push_within;
+use session_commands::room::put_item;
 use session_roles::{Edition, Role};
 use session_state::{Seated, State};
 use std::alloc::{AllocError, Global};
@@ -107,7 +107,7 @@ fn digests(alloc: Global, users: &[NewUser]) -> Result<Vec<Digest>, AllocError>
 {
     let mut digests = Vec::with_capacity(alloc, Roles::MOST_USERS)?;
     for user in users {
-        push_within(&mut digests, user.digest);
+        put_item(&mut digests, user.digest);
     }
     Ok(digests)
 }
@@ -120,7 +120,7 @@ fn names(alloc: Global, users: &[NewUser]) -> Result<Vec<ShownName>, AllocError>
 {
     let mut names = Vec::with_capacity(alloc, Roles::MOST_USERS)?;
     for user in users {
-        push_within(&mut names, user.shown);
+        put_item(&mut names, user.shown);
     }
     Ok(names)
 }
@@ -147,7 +147,7 @@ fn sit(seats: &mut Vec<Seated>, user: &NewUser)
 {
     if let Some(seat) = user.seat {
         let name = user.name;
-        push_within(seats, Seated { name, seat });
+        put_item(seats, Seated { name, seat });
     }
 }
 
@@ -192,7 +192,7 @@ fn deals(alloc: Global, config: &Config) -> Result<Vec<Deal>, AllocError>
     let boards = config.movement.boards();
     let mut deals = Vec::with_capacity(alloc, boards as usize)?;
     for place in 0..boards {
-        push_within(&mut deals, config.boards.deal(place + 1));
+        put_item(&mut deals, config.boards.deal(place + 1));
     }
     Ok(deals)
 }

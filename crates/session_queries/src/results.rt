@@ -12,7 +12,7 @@ use crate::known::result_of;
 use crate::push::push_found;
 use disclosure_rules::{Fact, Viewer, decide};
 use movement::Cell;
-use session_commands::room::push_within;
+use session_commands::room::put_item;
 use session_state::State;
 use standings::TableResult;
 use std::alloc::{AllocError, Global};
@@ -106,19 +106,19 @@ fn put_live(state: &State, board: u8, results: &mut Vec<TableResult>)
     let tables = state.public().movement.tables();
     results.clear();
     for below in 0..tables {
-        push_found_within(results, live_result(state, below + 1, board));
+        put_found(results, live_result(state, below + 1, board));
     }
 }
 
 /// Adds an item, where there is one, for which there is room.
-fn push_found_within<T: Copy + Drop>(items: &mut Vec<T>, found: Option<T>)
+fn put_found<T: Copy + Drop>(items: &mut Vec<T>, found: Option<T>)
     requires { vec_len items.old < vec_capacity items.old }
     ensures items { items.new.items ≡ items.old.items ++ cons_option found [] }
     ensures few { vec_len items.new ≤ vec_len items.old + 1 }
     ensures capacity { vec_capacity items.old ≤ vec_capacity items.new }
 {
     if let Some(item) = found {
-        push_within(items, item);
+        put_item(items, item);
     }
 }
 

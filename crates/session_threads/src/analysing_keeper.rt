@@ -15,7 +15,6 @@ use session_commands::Command;
 use session_keeper::{AuditReceipt, BatchReceipt, CommandKeeper, Keeper, SubmitFault};
 use session_queries::{Query, Reply};
 use session_roles::Edition;
-use solver_results::{DdTable, PlayCosts};
 use std::alloc::Global;
 use std::sync::Wait;
 use std::time::Clock;
@@ -114,12 +113,8 @@ impl<'a, N: Server, K: EntryStore, R: Wait + Clock> CommandKeeper<R> for Analysi
         Ok(receipt)
     }
 
-    fn submit_solved(&mut self, rt: &R, board: u8, table: DdTable) -> Answer {
-        self.keeper.submit_solved(rt, board, table)
-    }
-
-    fn submit_analysed(&mut self, rt: &R, cell: Cell, costs: PlayCosts) -> Answer {
-        self.keeper.submit_analysed(rt, cell, costs)
+    fn submit_found(&mut self, rt: &R, command: &Command) -> Answer {
+        self.keeper.submit_found(rt, command)
     }
 
     fn audit(&mut self, rt: &R, actor: Name, from: usize, limit: usize) -> AuditReceipt {

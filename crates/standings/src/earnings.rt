@@ -4,7 +4,7 @@ ghost use Rattle.standings.specs.Ranking.{top_of, earned_north_south, earned_eas
 
 use crate::cell_result::CellResult;
 use crate::earning::Earning;
-use crate::push::push_within;
+use crate::push::put_copy;
 use crate::table_result::TableResult;
 use crate::traveller::{put_scores, scores_of};
 use crate::units::units_of_score;
@@ -57,7 +57,7 @@ pub fn put_earnings(
     put_scores(vulnerability, results, scores);
     earnings.clear();
     for found in results {
-        push_within(
+        put_copy(
             earnings,
             &earning_of(movement, vulnerability, scores, found),
         );

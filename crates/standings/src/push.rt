@@ -12,7 +12,7 @@ pub(crate) fn push_copy<T: Copy>(items: &mut Vec<T>, item: &T) -> Result<(), All
 }
 
 /// Adds a copy of an item for which there is room.
-pub(crate) fn push_within<T: Copy>(items: &mut Vec<T>, item: &T)
+pub(crate) fn put_copy<T: Copy>(items: &mut Vec<T>, item: &T)
     requires { vec_len items.old < vec_capacity items.old }
     ensures items { items.new.items ≡ items.old.items ++ item.now ∷ [] }
     ensures len { vec_len items.new ≡ vec_len items.old + 1 }
@@ -24,13 +24,13 @@ pub(crate) fn push_within<T: Copy>(items: &mut Vec<T>, item: &T)
 }
 
 /// Adds an item, where there is one, for which there is room.
-pub(crate) fn push_found_within<T: Copy>(items: &mut Vec<T>, found: Option<T>)
+pub(crate) fn put_found<T: Copy>(items: &mut Vec<T>, found: Option<T>)
     requires { vec_len items.old < vec_capacity items.old }
     ensures items { items.new.items ≡ items.old.items ++ cons_option found [] }
     ensures few { vec_len items.new ≤ vec_len items.old + 1 }
     ensures capacity { vec_capacity items.old ≤ vec_capacity items.new }
 {
     if let Some(item) = found {
-        push_within(items, &item);
+        put_copy(items, &item);
     }
 }

@@ -4,7 +4,7 @@ ghost use Rattle.standings.specs.declared.cell_result.CellResult.TheVariants.{Co
 ghost use Rattle.standings.specs.Traveller.{row_result, result_score, scores_of, traveller_row, traveller_rows};
 
 use crate::cell_result::CellResult;
-use crate::push::{push_copy, push_found_within};
+use crate::push::{push_copy, put_found};
 use crate::row_result::RowResult;
 use crate::table_result::TableResult;
 use crate::traveller_row::TravellerRow;
@@ -64,7 +64,7 @@ pub(crate) fn put_scores(
 {
     scores.clear();
     for found in results {
-        push_found_within(scores, result_score(vulnerability, found.result));
+        put_found(scores, result_score(vulnerability, found.result));
     }
 }
 

@@ -44,7 +44,7 @@ use Rattle.wire.specs.declared.request.RequestBody.{RequestBody}
 use Rattle.wire.specs.declared.request.RequestBody.TheVariants as body
 use Rattle.wire.specs.declared.request.UserRequest.TheVariants as wanting
 use Rattle.session_roles.specs.declared.edition.Edition.{Edition}
-use Rattle.wire.specs.declared.origin.Origin.{Origin}
+use Rattle.wire.specs.declared.dialect.Dialect.{Dialect}
 use Rattle.wire.specs.declared.source.Source.{Source}
 use Rattle.wire.specs.declared.source.Source.TheVariants.{Script, Connection}
 use Rattle.json_fields.specs.declared.request_fault.RequestFault.{RequestFault}
@@ -81,7 +81,7 @@ use Rattle.wire.specs.Request.{
   IsSaid,
 }
 use Rattle.session_book.specs.Run.{most_commands}
-use Rattle.wire.specs.Origin.{origin_of}
+use Rattle.wire.specs.Dialect.{dialect_of}
 use Rattle.wire.specs.Source.{said_user}
 use Rattle.wire.specs.Grammar.{IsOf, IsUnknownRequest, IsQuery, IsBatch, IsAudit, IsGreeting}
 use Rattle.wire.proofs.AuditLemmas.{audits, audited}
@@ -149,21 +149,21 @@ whose_of source d = let whose = said_user source in whose.value (get whose.name 
 -- ---- queries
 
 -- the parts of a query
-record Asks (origin : Origin) (word : List ℕ) (d : Data) (y : Request) : Type 0 where
+record Asks (dialect : Dialect) (word : List ℕ) (d : Data) (y : Request) : Type 0 where
   name : Option (List ℕ)
   query : Query
   version : ℕ
   makes : a_query name version query ≡ y
-  asked : HasFormOf asking (queries origin.edition) word d query
-  named : IsOf origin.source d name
+  asked : HasFormOf asking (queries dialect.edition) word d query
+  named : IsOf dialect.source d name
   from : since.Is (get since.name d) version
 
-asks : (origin : Origin) (word : List ℕ) (d : Data) (y : Request) → query_of origin word d ≡ Some y
-    → Asks origin word d y
+asks : (dialect : Dialect) (word : List ℕ) (d : Data) (y : Request) → query_of dialect word d ≡ Some y
+    → Asks dialect word d y
 unfolding query_of
-asks origin word d y h =
-    let edition = origin.edition in
-    let parts = three a_query (whose_of origin.source d) (since.value (get since.name d)) (query_called edition word d) y
+asks dialect word d y h =
+    let edition = dialect.edition in
+    let parts = three a_query (whose_of dialect.source d) (since.value (get since.name d)) (query_called edition word d) y
     h in
     record {
       name = parts.0;
@@ -171,18 +171,18 @@ asks origin word d y h =
       version = parts.1;
       makes = parts.6;
       asked = by_word_read asking (queries edition) (queries_agree edition) word d parts.2 parts.5;
-      named = (said_agrees origin.source).read _ parts.0 parts.3;
+      named = (said_agrees dialect.source).read _ parts.0 parts.3;
       from = since_agrees.read (get since.name d) parts.1 parts.4;
     }
 
-asked : (origin : Origin) (word : List ℕ) (d : Data) (name : Option (List ℕ)) (query : Query) (version : ℕ)
-    → HasFormOf asking (queries origin.edition) word d query → IsOf origin.source d name
-    → since.Is (get since.name d) version → query_of origin word d ≡ Some (a_query name version query)
+asked : (dialect : Dialect) (word : List ℕ) (d : Data) (name : Option (List ℕ)) (query : Query) (version : ℕ)
+    → HasFormOf asking (queries dialect.edition) word d query → IsOf dialect.source d name
+    → since.Is (get since.name d) version → query_of dialect word d ≡ Some (a_query name version query)
 unfolding query_of
-asked origin word d name query version has named from =
-    let edition = origin.edition in
+asked dialect word d name query version has named from =
+    let edition = dialect.edition in
     ap (λ o. applied (applied (applied (Some a_query) o) (since.value (get since.name d))) (query_called edition word d))
-    ((said_agrees origin.source).reads _ name named)
+    ((said_agrees dialect.source).reads _ name named)
     ∙ ap (λ o. applied (applied (Some (a_query name)) o) (query_called edition word d))
     (since_agrees.reads (get since.name d) version from)
     ∙ ap (applied (Some (a_query name version)))
@@ -191,20 +191,20 @@ asked origin word d name query version has named from =
 -- ---- batches
 
 -- the parts of a batch
-record Wants (origin : Origin) (ds : Items) (d : Data) (y : Request) : Type 0 where
+record Wants (dialect : Dialect) (ds : Items) (d : Data) (y : Request) : Type 0 where
   name : Option (List ℕ)
   list : List Command
   makes : a_batch name list ≡ y
   listed : has_only doing d ≡ true
-  named : IsOf origin.source d name
-  each : AreEach (IsCommand origin.edition) ds list
+  named : IsOf dialect.source d name
+  each : AreEach (IsCommand dialect.edition) ds list
   few : length list ≤ most_commands
 
-wants : (origin : Origin) (ds : Items) (d : Data) (y : Request) → batch_of origin ds d ≡ Some y → Wants origin ds d y
+wants : (dialect : Dialect) (ds : Items) (d : Data) (y : Request) → batch_of dialect ds d ≡ Some y → Wants dialect ds d y
 unfolding batch_of
-wants origin ds d y h =
-    let edition = origin.edition in
-    let whose = whose_of origin.source d in
+wants dialect ds d y h =
+    let edition = dialect.edition in
+    let whose = whose_of dialect.source d in
     let few = few_commands_in edition ds in
     let listed = kept (has_only doing d) (applied (applied (Some a_batch) whose) few) y h in
     let parts = two a_batch whose few y listed.1 in
@@ -215,22 +215,22 @@ wants origin ds d y h =
       list = parts.1;
       makes = parts.4;
       listed = listed.0;
-      named = (said_agrees origin.source).read _ parts.0 parts.2;
+      named = (said_agrees dialect.source).read _ parts.0 parts.2;
       each = all;
       few = subst (λ n. n ≤ most_commands) (each_count (IsCommand edition) ds parts.1 all)
           (is_most (item_count ds) most_commands counted.0);
     }
 
-wanted_batch : (origin : Origin) (ds : Items) (d : Data) (name : Option (List ℕ)) (list : List Command)
-    → has_only doing d ≡ true → IsOf origin.source d name → AreEach (IsCommand origin.edition) ds list
-    → length list ≤ most_commands → batch_of origin ds d ≡ Some (a_batch name list)
+wanted_batch : (dialect : Dialect) (ds : Items) (d : Data) (name : Option (List ℕ)) (list : List Command)
+    → has_only doing d ≡ true → IsOf dialect.source d name → AreEach (IsCommand dialect.edition) ds list
+    → length list ≤ most_commands → batch_of dialect ds d ≡ Some (a_batch name list)
 unfolding batch_of
-wanted_batch origin ds d name list listed named all few =
-    let edition = origin.edition in
-    ap (λ b. cond b (applied (applied (Some a_batch) (whose_of origin.source d)) (few_commands_in edition ds)) None)
+wanted_batch dialect ds d name list listed named all few =
+    let edition = dialect.edition in
+    ap (λ b. cond b (applied (applied (Some a_batch) (whose_of dialect.source d)) (few_commands_in edition ds)) None)
     listed
     ∙ ap (λ o. applied (applied (Some a_batch) o) (few_commands_in edition ds))
-    ((said_agrees origin.source).reads _ name named)
+    ((said_agrees dialect.source).reads _ name named)
     ∙ ap (λ b. applied (Some (a_batch name)) (cond b (commands_in edition ds) None))
     (most_is (item_count ds) most_commands
     (subst (λ n. n ≤ most_commands) (sym (each_count (IsCommand edition) ds list all)) few))
@@ -260,47 +260,47 @@ greeter_is_there d y has = let name = has.made.2.3 in is_there (get (codes "hell
 -- ---- what was read
 
 -- what makes a message the request that it is
-abbrev Makes : Origin → (ask list audit hello : Option Data) → Data → Option (List ℕ) → RequestBody → Type 0
-Makes origin ask list audit hello d user (body.OfUser (wanting.Query query version)) =
+abbrev Makes : Dialect → (ask list audit hello : Option Data) → Data → Option (List ℕ) → RequestBody → Type 0
+Makes dialect ask list audit hello d user (body.OfUser (wanting.Query query version)) =
     (count_by (λ member. is_some member) (ask ∷ list ∷ audit ∷ hello ∷ []) ≡ 1)
-    × ((word : List ℕ) × (option_and_then as_str ask ≡ Some word) × HasFormOf asking (queries origin.edition) word d query)
-    × IsOf origin.source d user × since.Is (get since.name d) version
-Makes origin ask list audit hello d user (body.OfUser (wanting.Batch xs)) =
+    × ((word : List ℕ) × (option_and_then as_str ask ≡ Some word) × HasFormOf asking (queries dialect.edition) word d query)
+    × IsOf dialect.source d user × since.Is (get since.name d) version
+Makes dialect ask list audit hello d user (body.OfUser (wanting.Batch xs)) =
     (count_by (λ member. is_some member) (ask ∷ list ∷ audit ∷ hello ∷ []) ≡ 1)
     × ((elements : Items) × (option_and_then as_array list ≡ Some elements)
-    × AreEach (IsCommand origin.edition) elements xs)
-    × (length xs ≤ most_commands) × (has_only doing d ≡ true) × IsOf origin.source d user
-Makes origin ask list audit hello d user (body.OfUser (wanting.Audit range)) =
+    × AreEach (IsCommand dialect.edition) elements xs)
+    × (length xs ≤ most_commands) × (has_only doing d ≡ true) × IsOf dialect.source d user
+Makes dialect ask list audit hello d user (body.OfUser (wanting.Audit range)) =
     (count_by (λ member. is_some member) (ask ∷ list ∷ audit ∷ hello ∷ []) ≡ 1)
     × ((rows : Data) × (audit ≡ Some rows) × HasForm [] audit_range rows range)
-    × (has_only auditing d ≡ true) × IsOf origin.source d user
-Makes origin ask list audit hello d user (body.Hello name token) =
+    × (has_only auditing d ≡ true) × IsOf dialect.source d user
+Makes dialect ask list audit hello d user (body.Hello name token) =
     (count_by (λ member. is_some member) (ask ∷ list ∷ audit ∷ hello ∷ []) ≡ 1)
-    × IsSome hello × (origin.source ≡ Connection) × HasForm [] greeting d (a_greeting name token) × (user ≡ None)
+    × IsSome hello × (dialect.source ≡ Connection) × HasForm [] greeting d (a_greeting name token) × (user ≡ None)
 
-abbrev MakesRequest : Origin → (ask list audit hello : Option Data) → Data → Request → Type 0
-MakesRequest origin ask list audit hello d y = Makes origin ask list audit hello d y.user y.body
+abbrev MakesRequest : Dialect → (ask list audit hello : Option Data) → Data → Request → Type 0
+MakesRequest dialect ask list audit hello d y = Makes dialect ask list audit hello d y.user y.body
 
-query_made : (origin : Origin) (ask : Data) (o : Option (List ℕ)) (d : Data) (y : Request) → as_str ask ≡ o
-    → query_by origin o d ≡ Ok y → MakesRequest origin (Some ask) None None None d y
-query_made origin ask None d y is h = absurd (cc)
-query_made origin ask (Some word) d y is h =
-    let read = read_where (is_among (words (queries origin.edition)) word) (query_of origin word d) UnknownRequest y h in
-    let parts = asks origin word d y read.1 in
-    subst (MakesRequest origin (Some ask) None None None d) parts.makes (
+query_made : (dialect : Dialect) (ask : Data) (o : Option (List ℕ)) (d : Data) (y : Request) → as_str ask ≡ o
+    → query_by dialect o d ≡ Ok y → MakesRequest dialect (Some ask) None None None d y
+query_made dialect ask None d y is h = absurd (cc)
+query_made dialect ask (Some word) d y is h =
+    let read = read_where (is_among (words (queries dialect.edition)) word) (query_of dialect word d) UnknownRequest y h in
+    let parts = asks dialect word d y read.1 in
+    subst (MakesRequest dialect (Some ask) None None None d) parts.makes (
       refl,
       (word, is, parts.asked),
       parts.named,
       parts.from,
     )
 
-batch_made : (origin : Origin) (list : Data) (o : Option Items) (d : Data) (y : Request) → as_array list ≡ o
-    → batch_by origin o d ≡ Ok y → MakesRequest origin None (Some list) None None d y
-batch_made origin list None d y is h = absurd (cc)
-batch_made origin list (Some ds) d y is h =
-    let read = read_unless (has_unknown origin.edition ds) (batch_of origin ds d) UnknownRequest y h in
-    let parts = wants origin ds d y read.1 in
-    subst (MakesRequest origin None (Some list) None None d) parts.makes (
+batch_made : (dialect : Dialect) (list : Data) (o : Option Items) (d : Data) (y : Request) → as_array list ≡ o
+    → batch_by dialect o d ≡ Ok y → MakesRequest dialect None (Some list) None None d y
+batch_made dialect list None d y is h = absurd (cc)
+batch_made dialect list (Some ds) d y is h =
+    let read = read_unless (has_unknown dialect.edition ds) (batch_of dialect ds d) UnknownRequest y h in
+    let parts = wants dialect ds d y read.1 in
+    subst (MakesRequest dialect None (Some list) None None d) parts.makes (
       refl,
       (ds, is, parts.each),
       parts.few,
@@ -308,119 +308,119 @@ batch_made origin list (Some ds) d y is h =
       parts.named,
     )
 
-audit_made : (origin : Origin) (rows d : Data) (y : Request) → wanted (audit_of origin.source rows d) ≡ Ok y
-    → MakesRequest origin None None (Some rows) None d y
-audit_made origin rows d y h =
-    let parts = audits origin.source rows d y (wanted_read (audit_of origin.source rows d) y h) in
-    subst (MakesRequest origin None None (Some rows) None d) parts.makes (
+audit_made : (dialect : Dialect) (rows d : Data) (y : Request) → wanted (audit_of dialect.source rows d) ≡ Ok y
+    → MakesRequest dialect None None (Some rows) None d y
+audit_made dialect rows d y h =
+    let parts = audits dialect.source rows d y (wanted_read (audit_of dialect.source rows d) y h) in
+    subst (MakesRequest dialect None None (Some rows) None d) parts.makes (
       refl,
       (rows, refl, parts.has),
       parts.listed,
       parts.named,
     )
 
-greeting_made : (origin : Origin) (hello d : Data) (y : Request) → greeting_by origin.source d ≡ Ok y
-    → MakesRequest origin None None None (Some hello) d y
-greeting_made origin hello d y h = by_source origin.source refl h
+greeting_made : (dialect : Dialect) (hello d : Data) (y : Request) → greeting_by dialect.source d ≡ Ok y
+    → MakesRequest dialect None None None (Some hello) d y
+greeting_made dialect hello d y h = by_source dialect.source refl h
   where
-    by_source : (source : Source) → origin.source ≡ source → greeting_by source d ≡ Ok y
-        → MakesRequest origin None None None (Some hello) d y
+    by_source : (source : Source) → dialect.source ≡ source → greeting_by source d ≡ Ok y
+        → MakesRequest dialect None None None (Some hello) d y
     by_source Script is h = absurd (cc)
     by_source Connection is h =
         let has = formed_read [] greeting greeting_agrees d y (wanted_read (formed [] greeting d) y h) in
         let parts = greets d y has in
-        subst (MakesRequest origin None None None (Some hello) d) parts.2
+        subst (MakesRequest dialect None None None (Some hello) d) parts.2
         (refl, refl, is, subst (HasForm [] greeting d) (sym parts.2) has, refl)
 
-made : (origin : Origin) (ask list audit hello : Option Data) (d : Data) (y : Request)
-    → one_of origin ask list audit hello d ≡ Ok y → MakesRequest origin ask list audit hello d y
-made origin (Some ask) (Some list) audit hello d y h = absurd (cc)
-made origin (Some ask) None (Some rows) hello d y h = absurd (cc)
-made origin (Some ask) None None (Some name) d y h = absurd (cc)
-made origin (Some ask) None None None d y h = query_made origin ask (as_str ask) d y refl h
-made origin None (Some list) (Some rows) hello d y h = absurd (cc)
-made origin None (Some list) None (Some name) d y h = absurd (cc)
-made origin None (Some list) None None d y h = batch_made origin list (as_array list) d y refl h
-made origin None None (Some rows) (Some name) d y h = absurd (cc)
-made origin None None (Some rows) None d y h = audit_made origin rows d y h
-made origin None None None (Some name) d y h = greeting_made origin name d y h
-made origin None None None None d y h = absurd (cc)
+made : (dialect : Dialect) (ask list audit hello : Option Data) (d : Data) (y : Request)
+    → one_of dialect ask list audit hello d ≡ Ok y → MakesRequest dialect ask list audit hello d y
+made dialect (Some ask) (Some list) audit hello d y h = absurd (cc)
+made dialect (Some ask) None (Some rows) hello d y h = absurd (cc)
+made dialect (Some ask) None None (Some name) d y h = absurd (cc)
+made dialect (Some ask) None None None d y h = query_made dialect ask (as_str ask) d y refl h
+made dialect None (Some list) (Some rows) hello d y h = absurd (cc)
+made dialect None (Some list) None (Some name) d y h = absurd (cc)
+made dialect None (Some list) None None d y h = batch_made dialect list (as_array list) d y refl h
+made dialect None None (Some rows) (Some name) d y h = absurd (cc)
+made dialect None None (Some rows) None d y h = audit_made dialect rows d y h
+made dialect None None None (Some name) d y h = greeting_made dialect name d y h
+made dialect None None None None d y h = absurd (cc)
 
-query_says : (origin : Origin) (ask : Data) (d : Data) (name : Option (List ℕ)) (query : Query) (version : ℕ)
-    → Makes origin (Some ask) None None None d name (body.OfUser (wanting.Query query version))
-    → query_by origin (as_str ask) d ≡ Ok (a_query name version query)
-query_says origin ask d name query version (one, (word, is, has), named, from) =
-    ap (λ o. query_by origin o d) is
-    ∙ ap (λ b. cond b (wanted (query_of origin word d)) (Err UnknownRequest))
-    (is_word asking (queries origin.edition) word d query has)
-    ∙ ap wanted (asked origin word d name query version has named from)
+query_says : (dialect : Dialect) (ask : Data) (d : Data) (name : Option (List ℕ)) (query : Query) (version : ℕ)
+    → Makes dialect (Some ask) None None None d name (body.OfUser (wanting.Query query version))
+    → query_by dialect (as_str ask) d ≡ Ok (a_query name version query)
+query_says dialect ask d name query version (one, (word, is, has), named, from) =
+    ap (λ o. query_by dialect o d) is
+    ∙ ap (λ b. cond b (wanted (query_of dialect word d)) (Err UnknownRequest))
+    (is_word asking (queries dialect.edition) word d query has)
+    ∙ ap wanted (asked dialect word d name query version has named from)
 
-batch_says : (origin : Origin) (list : Data) (d : Data) (name : Option (List ℕ)) (xs : List Command)
-    → Makes origin None (Some list) None None d name (body.OfUser (wanting.Batch xs))
-    → batch_by origin (as_array list) d ≡ Ok (a_batch name xs)
-batch_says origin list d name xs (one, (elements, is, all), few, listed, named) =
-    ap (λ o. batch_by origin o d) is
-    ∙ ap (λ b. cond b (Err UnknownRequest) (wanted (batch_of origin elements d)))
-    (all_known origin.edition elements xs all)
-    ∙ ap wanted (wanted_batch origin elements d name xs listed named all few)
+batch_says : (dialect : Dialect) (list : Data) (d : Data) (name : Option (List ℕ)) (xs : List Command)
+    → Makes dialect None (Some list) None None d name (body.OfUser (wanting.Batch xs))
+    → batch_by dialect (as_array list) d ≡ Ok (a_batch name xs)
+batch_says dialect list d name xs (one, (elements, is, all), few, listed, named) =
+    ap (λ o. batch_by dialect o d) is
+    ∙ ap (λ b. cond b (Err UnknownRequest) (wanted (batch_of dialect elements d)))
+    (all_known dialect.edition elements xs all)
+    ∙ ap wanted (wanted_batch dialect elements d name xs listed named all few)
 
-audit_says : (origin : Origin) (rows d : Data) (name : Option (List ℕ)) (range : AuditRange)
-    → Makes origin None None (Some rows) None d name (body.OfUser (wanting.Audit range))
-    → wanted (audit_of origin.source rows d) ≡ Ok (an_audit name range)
-audit_says origin rows d name range (one, (asked, is, has), listed, named) =
+audit_says : (dialect : Dialect) (rows d : Data) (name : Option (List ℕ)) (range : AuditRange)
+    → Makes dialect None None (Some rows) None d name (body.OfUser (wanting.Audit range))
+    → wanted (audit_of dialect.source rows d) ≡ Ok (an_audit name range)
+audit_says dialect rows d name range (one, (asked, is, has), listed, named) =
     let same : asked ≡ rows = cc in
-    ap wanted (audited origin.source rows d name range (subst (λ r. HasForm [] audit_range r range) same has) listed
+    ap wanted (audited dialect.source rows d name range (subst (λ r. HasForm [] audit_range r range) same has) listed
     named)
 
-greeting_says : (origin : Origin) (hello d : Data) (user : Option (List ℕ)) (name token : List ℕ)
-    → Makes origin None None None (Some hello) d user (body.Hello name token)
-    → greeting_by origin.source d ≡ Ok (record { user = user; body = body.Hello name token })
-greeting_says origin hello d user name token (one, is, from, has, nobody) =
+greeting_says : (dialect : Dialect) (hello d : Data) (user : Option (List ℕ)) (name token : List ℕ)
+    → Makes dialect None None None (Some hello) d user (body.Hello name token)
+    → greeting_by dialect.source d ≡ Ok (record { user = user; body = body.Hello name token })
+greeting_says dialect hello d user name token (one, is, from, has, nobody) =
     ap (λ s. greeting_by s d) from
     ∙ ap wanted (formed_reads [] greeting greeting_agrees d (a_greeting name token) has)
     ∙ (λ i. Ok (record { user = sym nobody i; body = body.Hello name token }))
 
-query_said : (origin : Origin) (ask list audit hello : Option Data) (d : Data) (name : Option (List ℕ)) (query : Query)
-    (version : ℕ) → Makes origin ask list audit hello d name (body.OfUser (wanting.Query query version))
-    → one_of origin ask list audit hello d ≡ Ok (a_query name version query)
-query_said origin None list audit hello d name query version m = let none = m.1.1 in absurd (cc)
-query_said origin (Some ask) (Some list) audit hello d name query version m = absurd (omega (arith, m.0))
-query_said origin (Some ask) None (Some x) hello d name query version m = absurd (omega (arith, m.0))
-query_said origin (Some ask) None None (Some x) d name query version m = absurd (omega (arith, m.0))
-query_said origin (Some ask) None None None d name query version m = query_says origin ask d name query version m
+query_said : (dialect : Dialect) (ask list audit hello : Option Data) (d : Data) (name : Option (List ℕ)) (query : Query)
+    (version : ℕ) → Makes dialect ask list audit hello d name (body.OfUser (wanting.Query query version))
+    → one_of dialect ask list audit hello d ≡ Ok (a_query name version query)
+query_said dialect None list audit hello d name query version m = let none = m.1.1 in absurd (cc)
+query_said dialect (Some ask) (Some list) audit hello d name query version m = absurd (omega (arith, m.0))
+query_said dialect (Some ask) None (Some x) hello d name query version m = absurd (omega (arith, m.0))
+query_said dialect (Some ask) None None (Some x) d name query version m = absurd (omega (arith, m.0))
+query_said dialect (Some ask) None None None d name query version m = query_says dialect ask d name query version m
 
-batch_said : (origin : Origin) (ask list audit hello : Option Data) (d : Data) (name : Option (List ℕ))
-    (xs : List Command) → Makes origin ask list audit hello d name (body.OfUser (wanting.Batch xs))
-    → one_of origin ask list audit hello d ≡ Ok (a_batch name xs)
-batch_said origin ask None audit hello d name xs m = let none = m.1.1 in absurd (cc)
-batch_said origin (Some ask) (Some list) audit hello d name xs m = absurd (omega (arith, m.0))
-batch_said origin None (Some list) (Some x) hello d name xs m = absurd (omega (arith, m.0))
-batch_said origin None (Some list) None (Some x) d name xs m = absurd (omega (arith, m.0))
-batch_said origin None (Some list) None None d name xs m = batch_says origin list d name xs m
+batch_said : (dialect : Dialect) (ask list audit hello : Option Data) (d : Data) (name : Option (List ℕ))
+    (xs : List Command) → Makes dialect ask list audit hello d name (body.OfUser (wanting.Batch xs))
+    → one_of dialect ask list audit hello d ≡ Ok (a_batch name xs)
+batch_said dialect ask None audit hello d name xs m = let none = m.1.1 in absurd (cc)
+batch_said dialect (Some ask) (Some list) audit hello d name xs m = absurd (omega (arith, m.0))
+batch_said dialect None (Some list) (Some x) hello d name xs m = absurd (omega (arith, m.0))
+batch_said dialect None (Some list) None (Some x) d name xs m = absurd (omega (arith, m.0))
+batch_said dialect None (Some list) None None d name xs m = batch_says dialect list d name xs m
 
-audit_said : (origin : Origin) (ask list audit hello : Option Data) (d : Data) (name : Option (List ℕ))
-    (range : AuditRange) → Makes origin ask list audit hello d name (body.OfUser (wanting.Audit range))
-    → one_of origin ask list audit hello d ≡ Ok (an_audit name range)
-audit_said origin ask list None hello d name range m = let none = m.1.1 in absurd (cc)
-audit_said origin (Some ask) (Some list) (Some rows) hello d name range m = absurd (omega (arith, m.0))
-audit_said origin (Some ask) None (Some rows) hello d name range m = absurd (omega (arith, m.0))
-audit_said origin None (Some list) (Some rows) hello d name range m = absurd (omega (arith, m.0))
-audit_said origin None None (Some rows) (Some x) d name range m = absurd (omega (arith, m.0))
-audit_said origin None None (Some rows) None d name range m = audit_says origin rows d name range m
+audit_said : (dialect : Dialect) (ask list audit hello : Option Data) (d : Data) (name : Option (List ℕ))
+    (range : AuditRange) → Makes dialect ask list audit hello d name (body.OfUser (wanting.Audit range))
+    → one_of dialect ask list audit hello d ≡ Ok (an_audit name range)
+audit_said dialect ask list None hello d name range m = let none = m.1.1 in absurd (cc)
+audit_said dialect (Some ask) (Some list) (Some rows) hello d name range m = absurd (omega (arith, m.0))
+audit_said dialect (Some ask) None (Some rows) hello d name range m = absurd (omega (arith, m.0))
+audit_said dialect None (Some list) (Some rows) hello d name range m = absurd (omega (arith, m.0))
+audit_said dialect None None (Some rows) (Some x) d name range m = absurd (omega (arith, m.0))
+audit_said dialect None None (Some rows) None d name range m = audit_says dialect rows d name range m
 
-greeting_said : (origin : Origin) (ask list audit hello : Option Data) (d : Data) (user : Option (List ℕ))
-    (name token : List ℕ) → Makes origin ask list audit hello d user (body.Hello name token)
-    → one_of origin ask list audit hello d ≡ Ok (record { user = user; body = body.Hello name token })
-greeting_said origin ask list audit None d user name token m = let none = m.1 in absurd (cc)
-greeting_said origin (Some ask) (Some list) audit (Some x) d user name token m = absurd (omega (arith, m.0))
-greeting_said origin (Some ask) None (Some rows) (Some x) d user name token m = absurd (omega (arith, m.0))
-greeting_said origin (Some ask) None None (Some x) d user name token m = absurd (omega (arith, m.0))
-greeting_said origin None (Some list) (Some rows) (Some x) d user name token m = absurd (omega (arith, m.0))
-greeting_said origin None (Some list) None (Some x) d user name token m = absurd (omega (arith, m.0))
-greeting_said origin None None (Some rows) (Some x) d user name token m = absurd (omega (arith, m.0))
-greeting_said origin None None None (Some x) d user name token m = greeting_says origin x d user name token m
+greeting_said : (dialect : Dialect) (ask list audit hello : Option Data) (d : Data) (user : Option (List ℕ))
+    (name token : List ℕ) → Makes dialect ask list audit hello d user (body.Hello name token)
+    → one_of dialect ask list audit hello d ≡ Ok (record { user = user; body = body.Hello name token })
+greeting_said dialect ask list audit None d user name token m = let none = m.1 in absurd (cc)
+greeting_said dialect (Some ask) (Some list) audit (Some x) d user name token m = absurd (omega (arith, m.0))
+greeting_said dialect (Some ask) None (Some rows) (Some x) d user name token m = absurd (omega (arith, m.0))
+greeting_said dialect (Some ask) None None (Some x) d user name token m = absurd (omega (arith, m.0))
+greeting_said dialect None (Some list) (Some rows) (Some x) d user name token m = absurd (omega (arith, m.0))
+greeting_said dialect None (Some list) None (Some x) d user name token m = absurd (omega (arith, m.0))
+greeting_said dialect None None (Some rows) (Some x) d user name token m = absurd (omega (arith, m.0))
+greeting_said dialect None None None (Some x) d user name token m = greeting_says dialect x d user name token m
 
-module _ (origin : Origin) (d : Data) where
+module _ (dialect : Dialect) (d : Data) where
   abbrev ask_member : Option Data
   ask_member = get (codes "ask") d
 
@@ -434,12 +434,12 @@ module _ (origin : Origin) (d : Data) where
   hello_member = get (codes "hello") d
 
   pub query_object : (name : Option (List ℕ)) (query : Query) (version : ℕ)
-      → (request_of origin d ≡ Ok (a_query name version query)) ↔ IsQuery origin d name query version
+      → (request_of dialect d ≡ Ok (a_query name version query)) ↔ IsQuery dialect d name query version
   unfolding request_of
   query_object name query version = (
-    λ h. let m = made origin ask_member do_member audit_member hello_member d (a_query name version query) h in
+    λ h. let m = made dialect ask_member do_member audit_member hello_member d (a_query name version query) h in
         record { one = m.0; asked = m.1; user = m.2; since = m.3 },
-    λ q. query_said origin ask_member do_member audit_member hello_member d name query version (
+    λ q. query_said dialect ask_member do_member audit_member hello_member d name query version (
       q.one,
       q.asked,
       q.user,
@@ -448,12 +448,12 @@ module _ (origin : Origin) (d : Data) where
   )
 
   pub batch_object : (name : Option (List ℕ)) (xs : List Command)
-      → (request_of origin d ≡ Ok (a_batch name xs)) ↔ IsBatch origin d name xs
+      → (request_of dialect d ≡ Ok (a_batch name xs)) ↔ IsBatch dialect d name xs
   unfolding request_of
   batch_object name xs = (
-    λ h. let m = made origin ask_member do_member audit_member hello_member d (a_batch name xs) h in
+    λ h. let m = made dialect ask_member do_member audit_member hello_member d (a_batch name xs) h in
         record { one = m.0; list = m.1; few = m.2; listed = m.3; user = m.4 },
-    λ b. batch_said origin ask_member do_member audit_member hello_member d name xs (
+    λ b. batch_said dialect ask_member do_member audit_member hello_member d name xs (
       b.one,
       b.list,
       b.few,
@@ -463,12 +463,12 @@ module _ (origin : Origin) (d : Data) where
   )
 
   pub audit_object : (name : Option (List ℕ)) (range : AuditRange)
-      → (request_of origin d ≡ Ok (an_audit name range)) ↔ IsAudit origin.source d name range
+      → (request_of dialect d ≡ Ok (an_audit name range)) ↔ IsAudit dialect.source d name range
   unfolding request_of
   audit_object name range = (
-    λ h. let m = made origin ask_member do_member audit_member hello_member d (an_audit name range) h in
+    λ h. let m = made dialect ask_member do_member audit_member hello_member d (an_audit name range) h in
         record { one = m.0; asked = m.1; listed = m.2; user = m.3 },
-    λ a. audit_said origin ask_member do_member audit_member hello_member d name range (
+    λ a. audit_said dialect ask_member do_member audit_member hello_member d name range (
       a.one,
       a.asked,
       a.listed,
@@ -477,11 +477,11 @@ module _ (origin : Origin) (d : Data) where
   )
 
   pub greeting_object : (user : Option (List ℕ)) (name token : List ℕ)
-      → (request_of origin d ≡ Ok (record { user = user; body = body.Hello name token }))
-      ↔ IsGreeting origin.source d user name token
+      → (request_of dialect d ≡ Ok (record { user = user; body = body.Hello name token }))
+      ↔ IsGreeting dialect.source d user name token
   unfolding request_of
   greeting_object user name token = (
-    λ h. let m = made origin ask_member do_member audit_member hello_member d
+    λ h. let m = made dialect ask_member do_member audit_member hello_member d
         (record { user = user; body = body.Hello name token }) h in record {
           one = m.0;
           from = m.2;
@@ -489,28 +489,28 @@ module _ (origin : Origin) (d : Data) where
           nobody =
               m.4;
         },
-    λ g. greeting_said origin ask_member do_member audit_member hello_member d user name token
+    λ g. greeting_said dialect ask_member do_member audit_member hello_member d user name token
         (g.one, greeter_is_there d _ g.form, g.from, g.form, g.nobody),
   )
 
-  few_in_body : (user : Option (List ℕ)) (b : RequestBody) → request_of origin d ≡ Ok
+  few_in_body : (user : Option (List ℕ)) (b : RequestBody) → request_of dialect d ≡ Ok
       (record { user = user; body = b }) → HasFewIn b
   few_in_body user (body.OfUser (wanting.Query query version)) h = tt
   few_in_body user (body.OfUser (wanting.Batch xs)) h = ((batch_object user xs).0 h).few
   few_in_body user (body.OfUser (wanting.Audit range)) h = tt
   few_in_body user (body.Hello name token) h = tt
 
-  pub few_in_request : (y : Request) → request_of origin d ≡ Ok y → HasFewIn y.body
+  pub few_in_request : (y : Request) → request_of dialect d ≡ Ok y → HasFewIn y.body
   few_in_request y h = few_in_body y.user y.body h
 
 -- ---- whose it is
 
 module _ (edition : Edition) (d : Data) where
-  abbrev script : Origin
-  script = origin_of Script edition
+  abbrev script : Dialect
+  script = dialect_of Script edition
 
-  abbrev connection : Origin
-  connection = origin_of Connection edition
+  abbrev connection : Dialect
+  connection = dialect_of Connection edition
 
   said_by : (user : Option (List ℕ)) (b : RequestBody) → request_of script d ≡ Ok (record { user = user; body = b })
       → IsSome user × IsNoGreeting b
@@ -563,42 +563,42 @@ batch_at : (b : Bool) (o : Option Request) (fault : RequestFault) → cond b (Er
 batch_at true o fault h = unknown_fault fault (cc)
 batch_at false o fault h = member_fault fault (wanted_fails o fault h)
 
-query_fault : (origin : Origin) (o : Option (List ℕ)) (d : Data) (fault : RequestFault)
-    → query_by origin o d ≡ Err fault → IsFaultOfObject fault
-query_fault origin None d fault h = member_fault fault (cc)
-query_fault origin (Some word) d fault h =
-    query_at (is_among (words (queries origin.edition)) word) (query_of origin word d) fault h
+query_fault : (dialect : Dialect) (o : Option (List ℕ)) (d : Data) (fault : RequestFault)
+    → query_by dialect o d ≡ Err fault → IsFaultOfObject fault
+query_fault dialect None d fault h = member_fault fault (cc)
+query_fault dialect (Some word) d fault h =
+    query_at (is_among (words (queries dialect.edition)) word) (query_of dialect word d) fault h
 
-batch_fault : (origin : Origin) (o : Option Items) (d : Data) (fault : RequestFault)
-    → batch_by origin o d ≡ Err fault → IsFaultOfObject fault
-batch_fault origin None d fault h = member_fault fault (cc)
-batch_fault origin (Some ds) d fault h = batch_at (has_unknown origin.edition ds) (batch_of origin ds d) fault h
+batch_fault : (dialect : Dialect) (o : Option Items) (d : Data) (fault : RequestFault)
+    → batch_by dialect o d ≡ Err fault → IsFaultOfObject fault
+batch_fault dialect None d fault h = member_fault fault (cc)
+batch_fault dialect (Some ds) d fault h = batch_at (has_unknown dialect.edition ds) (batch_of dialect ds d) fault h
 
 greeting_fault : (source : Source) (d : Data) (fault : RequestFault) → greeting_by source d ≡ Err fault
     → IsFaultOfObject fault
 greeting_fault Script d fault h = unknown_fault fault (cc)
 greeting_fault Connection d fault h = member_fault fault (wanted_fails (formed [] greeting d) fault h)
 
-said_fault : (origin : Origin) (ask list audit hello : Option Data) (d : Data) (fault : RequestFault)
-    → one_of origin ask list audit hello d ≡ Err fault → IsFaultOfObject fault
-said_fault origin (Some ask) (Some list) audit hello d fault h = unknown_fault fault (cc)
-said_fault origin (Some ask) None (Some rows) hello d fault h = unknown_fault fault (cc)
-said_fault origin (Some ask) None None (Some name) d fault h = unknown_fault fault (cc)
-said_fault origin (Some ask) None None None d fault h = query_fault origin (as_str ask) d fault h
-said_fault origin None (Some list) (Some rows) hello d fault h = unknown_fault fault (cc)
-said_fault origin None (Some list) None (Some name) d fault h = unknown_fault fault (cc)
-said_fault origin None (Some list) None None d fault h = batch_fault origin (as_array list) d fault h
-said_fault origin None None (Some rows) (Some name) d fault h = unknown_fault fault (cc)
-said_fault origin None None (Some rows) None d fault h =
-    member_fault fault (wanted_fails (audit_of origin.source rows d) fault h)
-said_fault origin None None None (Some name) d fault h = greeting_fault origin.source d fault h
-said_fault origin None None None None d fault h = unknown_fault fault (cc)
+said_fault : (dialect : Dialect) (ask list audit hello : Option Data) (d : Data) (fault : RequestFault)
+    → one_of dialect ask list audit hello d ≡ Err fault → IsFaultOfObject fault
+said_fault dialect (Some ask) (Some list) audit hello d fault h = unknown_fault fault (cc)
+said_fault dialect (Some ask) None (Some rows) hello d fault h = unknown_fault fault (cc)
+said_fault dialect (Some ask) None None (Some name) d fault h = unknown_fault fault (cc)
+said_fault dialect (Some ask) None None None d fault h = query_fault dialect (as_str ask) d fault h
+said_fault dialect None (Some list) (Some rows) hello d fault h = unknown_fault fault (cc)
+said_fault dialect None (Some list) None (Some name) d fault h = unknown_fault fault (cc)
+said_fault dialect None (Some list) None None d fault h = batch_fault dialect (as_array list) d fault h
+said_fault dialect None None (Some rows) (Some name) d fault h = unknown_fault fault (cc)
+said_fault dialect None None (Some rows) None d fault h =
+    member_fault fault (wanted_fails (audit_of dialect.source rows d) fault h)
+said_fault dialect None None None (Some name) d fault h = greeting_fault dialect.source d fault h
+said_fault dialect None None None None d fault h = unknown_fault fault (cc)
 
-pub object_fault : (origin : Origin) (d : Data) (fault : RequestFault) → request_of origin d ≡ Err fault →
+pub object_fault : (dialect : Dialect) (d : Data) (fault : RequestFault) → request_of dialect d ≡ Err fault →
     IsFaultOfObject fault
 unfolding request_of
-object_fault origin d fault h =
-    said_fault origin (get (codes "ask") d) (get (codes "do") d) (get (codes "audit") d) (get (codes "hello") d) d fault
+object_fault dialect d fault h =
+    said_fault dialect (get (codes "ask") d) (get (codes "do") d) (get (codes "audit") d) (get (codes "hello") d) d fault
     h
 
 -- ---- unknown requests
@@ -612,10 +612,10 @@ abbrev WantsOther : Edition → Option Data → Type 0
 WantsOther edition list =
     (elements : Items) × (option_and_then as_array list ≡ Some elements) × (has_unknown edition elements ≡ true)
 
-abbrev IsOther : Origin → Option Data → Option Data → Option Data → Option Data → Type 0
-IsOther origin ask list audit hello =
+abbrev IsOther : Dialect → Option Data → Option Data → Option Data → Option Data → Type 0
+IsOther dialect ask list audit hello =
     (count_by (λ member. is_some member) (ask ∷ list ∷ audit ∷ hello ∷ []) ≢ 1)
-    ⊎ (((origin.source ≡ Script) × IsSome hello) ⊎ (AsksOther origin.edition ask ⊎ WantsOther origin.edition list))
+    ⊎ (((dialect.source ≡ Script) × IsSome hello) ⊎ (AsksOther dialect.edition ask ⊎ WantsOther dialect.edition list))
 
 other_where : {A : Type 0} (b : Bool) (o : Option A) → cond b (wanted o) (Err UnknownRequest) ≡ Err UnknownRequest
     → b ≡ false
@@ -627,90 +627,90 @@ other_unless : {A : Type 0} (b : Bool) (o : Option A) → cond b (Err UnknownReq
 other_unless true o h = refl
 other_unless false o h = let bad = wanted_fails o UnknownRequest h in absurd (cc)
 
-asks_other : (origin : Origin) (o : Option (List ℕ)) (d : Data) → query_by origin o d ≡ Err UnknownRequest
-    → (word : List ℕ) × (o ≡ Some word) × All (λ other. word ≢ other) (words (queries origin.edition))
-asks_other origin None d h = absurd (cc)
-asks_other origin (Some word) d h =
-    let all = words (queries origin.edition) in
-    (word, refl, none_among all word (other_where (is_among all word) (query_of origin word d) h))
+asks_other : (dialect : Dialect) (o : Option (List ℕ)) (d : Data) → query_by dialect o d ≡ Err UnknownRequest
+    → (word : List ℕ) × (o ≡ Some word) × All (λ other. word ≢ other) (words (queries dialect.edition))
+asks_other dialect None d h = absurd (cc)
+asks_other dialect (Some word) d h =
+    let all = words (queries dialect.edition) in
+    (word, refl, none_among all word (other_where (is_among all word) (query_of dialect word d) h))
 
-wants_other : (origin : Origin) (o : Option Items) (d : Data) → batch_by origin o d ≡ Err UnknownRequest
-    → (elements : Items) × (o ≡ Some elements) × (has_unknown origin.edition elements ≡ true)
-wants_other origin None d h = absurd (cc)
-wants_other origin (Some ds) d h = (ds, refl, other_unless (has_unknown origin.edition ds) (batch_of origin ds d) h)
+wants_other : (dialect : Dialect) (o : Option Items) (d : Data) → batch_by dialect o d ≡ Err UnknownRequest
+    → (elements : Items) × (o ≡ Some elements) × (has_unknown dialect.edition elements ≡ true)
+wants_other dialect None d h = absurd (cc)
+wants_other dialect (Some ds) d h = (ds, refl, other_unless (has_unknown dialect.edition ds) (batch_of dialect ds d) h)
 
 greets_other : (source : Source) (d : Data) → greeting_by source d ≡ Err UnknownRequest → source ≡ Script
 greets_other Script d h = refl
 greets_other Connection d h = let bad = wanted_fails (formed [] greeting d) UnknownRequest h in absurd (cc)
 
-other_is : (origin : Origin) (ask list audit hello : Option Data) (d : Data)
-    → one_of origin ask list audit hello d ≡ Err UnknownRequest → IsOther origin ask list audit hello
-other_is origin (Some ask) (Some list) audit hello d h = inl (λ same. omega (arith, same))
-other_is origin (Some ask) None (Some rows) hello d h = inl (λ same. omega (arith, same))
-other_is origin (Some ask) None None (Some name) d h = inl (λ same. omega (arith, same))
-other_is origin (Some ask) None None None d h = inr (inr (inl (asks_other origin (as_str ask) d h)))
-other_is origin None (Some list) (Some rows) hello d h = inl (λ same. omega (arith, same))
-other_is origin None (Some list) None (Some name) d h = inl (λ same. omega (arith, same))
-other_is origin None (Some list) None None d h = inr (inr (inr (wants_other origin (as_array list) d h)))
-other_is origin None None (Some rows) (Some name) d h = inl (λ same. omega (arith, same))
-other_is origin None None (Some rows) None d h =
-    let bad = wanted_fails (audit_of origin.source rows d) UnknownRequest h in absurd (cc)
-other_is origin None None None (Some name) d h = inr (inl (greets_other origin.source d h, refl))
-other_is origin None None None None d h = inl (λ same. omega (arith, same))
+other_is : (dialect : Dialect) (ask list audit hello : Option Data) (d : Data)
+    → one_of dialect ask list audit hello d ≡ Err UnknownRequest → IsOther dialect ask list audit hello
+other_is dialect (Some ask) (Some list) audit hello d h = inl (λ same. omega (arith, same))
+other_is dialect (Some ask) None (Some rows) hello d h = inl (λ same. omega (arith, same))
+other_is dialect (Some ask) None None (Some name) d h = inl (λ same. omega (arith, same))
+other_is dialect (Some ask) None None None d h = inr (inr (inl (asks_other dialect (as_str ask) d h)))
+other_is dialect None (Some list) (Some rows) hello d h = inl (λ same. omega (arith, same))
+other_is dialect None (Some list) None (Some name) d h = inl (λ same. omega (arith, same))
+other_is dialect None (Some list) None None d h = inr (inr (inr (wants_other dialect (as_array list) d h)))
+other_is dialect None None (Some rows) (Some name) d h = inl (λ same. omega (arith, same))
+other_is dialect None None (Some rows) None d h =
+    let bad = wanted_fails (audit_of dialect.source rows d) UnknownRequest h in absurd (cc)
+other_is dialect None None None (Some name) d h = inr (inl (greets_other dialect.source d h, refl))
+other_is dialect None None None None d h = inl (λ same. omega (arith, same))
 
-one_asks : (origin : Origin) (ask : Data) (d : Data) → IsOther origin (Some ask) None None None
-    → query_by origin (as_str ask) d ≡ Err UnknownRequest
-one_asks origin ask d (inl count) = absurd (count refl)
-one_asks origin ask d (inr (inl greets)) = let none = greets.1 in absurd (cc)
-one_asks origin ask d (inr (inr (inl other))) =
-    ap (λ o. query_by origin o d) other.1
-    ∙ ap (λ b. cond b (wanted (query_of origin other.0 d)) (Err UnknownRequest))
-    (among_none (words (queries origin.edition)) other.0 other.2)
-one_asks origin ask d (inr (inr (inr other))) = let none = other.1 in absurd (cc)
+one_asks : (dialect : Dialect) (ask : Data) (d : Data) → IsOther dialect (Some ask) None None None
+    → query_by dialect (as_str ask) d ≡ Err UnknownRequest
+one_asks dialect ask d (inl count) = absurd (count refl)
+one_asks dialect ask d (inr (inl greets)) = let none = greets.1 in absurd (cc)
+one_asks dialect ask d (inr (inr (inl other))) =
+    ap (λ o. query_by dialect o d) other.1
+    ∙ ap (λ b. cond b (wanted (query_of dialect other.0 d)) (Err UnknownRequest))
+    (among_none (words (queries dialect.edition)) other.0 other.2)
+one_asks dialect ask d (inr (inr (inr other))) = let none = other.1 in absurd (cc)
 
-one_wants : (origin : Origin) (list : Data) (d : Data) → IsOther origin None (Some list) None None
-    → batch_by origin (as_array list) d ≡ Err UnknownRequest
-one_wants origin list d (inl count) = absurd (count refl)
-one_wants origin list d (inr (inl greets)) = let none = greets.1 in absurd (cc)
-one_wants origin list d (inr (inr (inl other))) = let none = other.1 in absurd (cc)
-one_wants origin list d (inr (inr (inr other))) =
-    ap (λ o. batch_by origin o d) other.1 ∙ ap (λ b. cond b (Err UnknownRequest) (wanted (batch_of origin other.0 d)))
+one_wants : (dialect : Dialect) (list : Data) (d : Data) → IsOther dialect None (Some list) None None
+    → batch_by dialect (as_array list) d ≡ Err UnknownRequest
+one_wants dialect list d (inl count) = absurd (count refl)
+one_wants dialect list d (inr (inl greets)) = let none = greets.1 in absurd (cc)
+one_wants dialect list d (inr (inr (inl other))) = let none = other.1 in absurd (cc)
+one_wants dialect list d (inr (inr (inr other))) =
+    ap (λ o. batch_by dialect o d) other.1 ∙ ap (λ b. cond b (Err UnknownRequest) (wanted (batch_of dialect other.0 d)))
     other.2
 
-one_audits : (origin : Origin) (rows d : Data) → IsOther origin None None (Some rows) None
-    → wanted (audit_of origin.source rows d) ≡ Err UnknownRequest
-one_audits origin rows d (inl count) = absurd (count refl)
-one_audits origin rows d (inr (inl greets)) = let none = greets.1 in absurd (cc)
-one_audits origin rows d (inr (inr (inl other))) = let none = other.1 in absurd (cc)
-one_audits origin rows d (inr (inr (inr other))) = let none = other.1 in absurd (cc)
+one_audits : (dialect : Dialect) (rows d : Data) → IsOther dialect None None (Some rows) None
+    → wanted (audit_of dialect.source rows d) ≡ Err UnknownRequest
+one_audits dialect rows d (inl count) = absurd (count refl)
+one_audits dialect rows d (inr (inl greets)) = let none = greets.1 in absurd (cc)
+one_audits dialect rows d (inr (inr (inl other))) = let none = other.1 in absurd (cc)
+one_audits dialect rows d (inr (inr (inr other))) = let none = other.1 in absurd (cc)
 
-one_greets : (origin : Origin) (hello d : Data) → IsOther origin None None None (Some hello)
-    → greeting_by origin.source d ≡ Err UnknownRequest
-one_greets origin hello d (inl count) = absurd (count refl)
-one_greets origin hello d (inr (inl greets)) = ap (λ s. greeting_by s d) greets.0
-one_greets origin hello d (inr (inr (inl other))) = let none = other.1 in absurd (cc)
-one_greets origin hello d (inr (inr (inr other))) = let none = other.1 in absurd (cc)
+one_greets : (dialect : Dialect) (hello d : Data) → IsOther dialect None None None (Some hello)
+    → greeting_by dialect.source d ≡ Err UnknownRequest
+one_greets dialect hello d (inl count) = absurd (count refl)
+one_greets dialect hello d (inr (inl greets)) = ap (λ s. greeting_by s d) greets.0
+one_greets dialect hello d (inr (inr (inl other))) = let none = other.1 in absurd (cc)
+one_greets dialect hello d (inr (inr (inr other))) = let none = other.1 in absurd (cc)
 
-other_said : (origin : Origin) (ask list audit hello : Option Data) (d : Data) → IsOther origin ask list audit hello
-    → one_of origin ask list audit hello d ≡ Err UnknownRequest
-other_said origin (Some ask) (Some list) audit hello d h = refl
-other_said origin (Some ask) None (Some rows) hello d h = refl
-other_said origin (Some ask) None None (Some name) d h = refl
-other_said origin (Some ask) None None None d h = one_asks origin ask d h
-other_said origin None (Some list) (Some rows) hello d h = refl
-other_said origin None (Some list) None (Some name) d h = refl
-other_said origin None (Some list) None None d h = one_wants origin list d h
-other_said origin None None (Some rows) (Some name) d h = refl
-other_said origin None None (Some rows) None d h = one_audits origin rows d h
-other_said origin None None None (Some name) d h = one_greets origin name d h
-other_said origin None None None None d h = refl
+other_said : (dialect : Dialect) (ask list audit hello : Option Data) (d : Data) → IsOther dialect ask list audit hello
+    → one_of dialect ask list audit hello d ≡ Err UnknownRequest
+other_said dialect (Some ask) (Some list) audit hello d h = refl
+other_said dialect (Some ask) None (Some rows) hello d h = refl
+other_said dialect (Some ask) None None (Some name) d h = refl
+other_said dialect (Some ask) None None None d h = one_asks dialect ask d h
+other_said dialect None (Some list) (Some rows) hello d h = refl
+other_said dialect None (Some list) None (Some name) d h = refl
+other_said dialect None (Some list) None None d h = one_wants dialect list d h
+other_said dialect None None (Some rows) (Some name) d h = refl
+other_said dialect None None (Some rows) None d h = one_audits dialect rows d h
+other_said dialect None None None (Some name) d h = one_greets dialect name d h
+other_said dialect None None None None d h = refl
 
-pub unknown_object : (origin : Origin) (d : Data)
-    → (request_of origin d ≡ Err UnknownRequest) ↔ IsUnknownRequest origin d
+pub unknown_object : (dialect : Dialect) (d : Data)
+    → (request_of dialect d ≡ Err UnknownRequest) ↔ IsUnknownRequest dialect d
 unfolding request_of
-unknown_object origin d =
+unknown_object dialect d =
     let ask = get (codes "ask") d in
     let list = get (codes "do") d in
     let audit = get (codes "audit") d in
     let hello = get (codes "hello") d in
-    (other_is origin ask list audit hello d, other_said origin ask list audit hello d)
+    (other_is dialect ask list audit hello d, other_said dialect ask list audit hello d)

@@ -31,7 +31,7 @@ use Rattle.wire.specs.declared.request.RequestBody.{RequestBody}
 use Rattle.wire.specs.declared.request.RequestBody.TheVariants as body
 use Rattle.wire.specs.declared.request.UserRequest.TheVariants as wanting
 use Rattle.session_roles.specs.declared.edition.Edition.{Edition}
-use Rattle.wire.specs.declared.origin.Origin.{Origin}
+use Rattle.wire.specs.declared.dialect.Dialect.{Dialect}
 use Rattle.wire.specs.declared.source.Source.{Source}
 use Rattle.wire.specs.declared.source.Source.TheVariants.{Script, Connection}
 use Rattle.json_fields.specs.declared.request_fault.RequestFault.{RequestFault}
@@ -81,29 +81,31 @@ WantsAnother edition d =
     × (has_unknown edition elements ≡ true)
 
 -- not exactly one member makes a request, or it is a greeting in a script, or a word in it names nothing
-abbrev pub IsUnknownRequest : Origin → Data → Type 0
-IsUnknownRequest origin d =
-    (request_count d ≢ 1) ⊎ (GreetsInScript origin.source d ⊎ (AsksAnother origin.edition d ⊎ WantsAnother origin.edition d))
+abbrev pub IsUnknownRequest : Dialect → Data → Type 0
+IsUnknownRequest dialect d =
+    (request_count d ≢ 1)
+    ⊎ (GreetsInScript dialect.source d ⊎ (AsksAnother dialect.edition d ⊎ WantsAnother dialect.edition d))
 
 -- whose it is, by where it comes from
 abbrev pub IsOf : Source → Data → Option (List ℕ) → Type 0
 IsOf source d user = let whose = said_user source in whose.Is (get whose.name d) user
 
 -- it asks for this, for this user and from this version on, and nothing else stands in it
-pub record IsQuery (origin : Origin) (d : Data) (name : Option (List ℕ)) (query : Query) (version : ℕ) : Type 0 where
+pub record IsQuery (dialect : Dialect) (d : Data) (name : Option (List ℕ)) (query : Query) (version : ℕ) : Type 0 where
   pub one : request_count d ≡ 1
-  pub asked : (word : List ℕ) × (text_at (codes "ask") d ≡ Some word) × HasFormOf asking (queries origin.edition) word d query
-  pub user : IsOf origin.source d name
+  pub asked : (word : List ℕ) × (text_at (codes "ask") d ≡ Some word)
+    × HasFormOf asking (queries dialect.edition) word d query
+  pub user : IsOf dialect.source d name
   pub since : since.Is (get since.name d) version
 
 -- it wants these commands done, for this user, and nothing else stands in it
-pub record IsBatch (origin : Origin) (d : Data) (name : Option (List ℕ)) (commands : List Command) : Type 0 where
+pub record IsBatch (dialect : Dialect) (d : Data) (name : Option (List ℕ)) (commands : List Command) : Type 0 where
   pub one : request_count d ≡ 1
   pub list : (elements : Items) × (option_and_then as_array (get (codes "do") d) ≡ Some elements)
-      × AreEach (IsCommand origin.edition) elements commands
+      × AreEach (IsCommand dialect.edition) elements commands
   pub few : length commands ≤ most_commands
   pub listed : has_only doing d ≡ true
-  pub user : IsOf origin.source d name
+  pub user : IsOf dialect.source d name
 
 -- it asks for these rows of the audit, for this user, and nothing else stands in it
 pub record IsAudit (source : Source) (d : Data) (name : Option (List ℕ)) (range : AuditRange) : Type 0 where
@@ -120,42 +122,42 @@ pub record IsGreeting (source : Source) (d : Data) (user : Option (List ℕ)) (n
   pub nobody : user ≡ None
 
 -- it is no query, no batch, no audit and no greeting
-pub record IsNoRequest (origin : Origin) (d : Data) : Type 0 where
-  pub no_query : (user : Option (List ℕ)) (query : Query) (version : ℕ) → ¬ IsQuery origin d user query version
-  pub no_batch : (user : Option (List ℕ)) (commands : List Command) → ¬ IsBatch origin d user commands
-  pub no_audit : (user : Option (List ℕ)) (range : AuditRange) → ¬ IsAudit origin.source d user range
-  pub no_greeting : (user : Option (List ℕ)) (name token : List ℕ) → ¬ IsGreeting origin.source d user name token
+pub record IsNoRequest (dialect : Dialect) (d : Data) : Type 0 where
+  pub no_query : (user : Option (List ℕ)) (query : Query) (version : ℕ) → ¬ IsQuery dialect d user query version
+  pub no_batch : (user : Option (List ℕ)) (commands : List Command) → ¬ IsBatch dialect d user commands
+  pub no_audit : (user : Option (List ℕ)) (range : AuditRange) → ¬ IsAudit dialect.source d user range
+  pub no_greeting : (user : Option (List ℕ)) (name token : List ℕ) → ¬ IsGreeting dialect.source d user name token
 
 -- what its members make of an object, and whose it is
-abbrev pub Makes : Origin → Data → Option (List ℕ) → RequestBody → Type 0
-Makes origin d user (body.OfUser (wanting.Query query version)) = IsQuery origin d user query version
-Makes origin d user (body.OfUser (wanting.Batch commands)) = IsBatch origin d user commands
-Makes origin d user (body.OfUser (wanting.Audit range)) = IsAudit origin.source d user range
-Makes origin d user (body.Hello name token) = IsGreeting origin.source d user name token
+abbrev pub Makes : Dialect → Data → Option (List ℕ) → RequestBody → Type 0
+Makes dialect d user (body.OfUser (wanting.Query query version)) = IsQuery dialect d user query version
+Makes dialect d user (body.OfUser (wanting.Batch commands)) = IsBatch dialect d user commands
+Makes dialect d user (body.OfUser (wanting.Audit range)) = IsAudit dialect.source d user range
+Makes dialect d user (body.Hello name token) = IsGreeting dialect.source d user name token
 
 -- the bytes are a message, and its members make it this request
-pub record Says (origin : Origin) (bytes : List ℕ) (request : Request) : Type 0 where
+pub record Says (dialect : Dialect) (bytes : List ℕ) (request : Request) : Type 0 where
   pub said : Data
   pub is : IsMessage bytes said
-  pub makes : Makes origin said request.user request.body
+  pub makes : Makes dialect said request.user request.body
 
 -- a message that is an unknown request
-pub record SaysUnknown (origin : Origin) (bytes : List ℕ) : Type 0 where
+pub record SaysUnknown (dialect : Dialect) (bytes : List ℕ) : Type 0 where
   pub said : Data
   pub is : IsMessage bytes said
-  pub unknown : IsUnknownRequest origin said
+  pub unknown : IsUnknownRequest dialect said
 
 -- a message that has a bad member, and is no unknown request
-pub record SaysBad (origin : Origin) (bytes : List ℕ) : Type 0 where
+pub record SaysBad (dialect : Dialect) (bytes : List ℕ) : Type 0 where
   pub said : Data
   pub is : IsMessage bytes said
-  pub known : ¬ IsUnknownRequest origin said
-  pub none : IsNoRequest origin said
+  pub known : ¬ IsUnknownRequest dialect said
+  pub none : IsNoRequest dialect said
 
 -- why bytes say no request, the first of these in their order; want of memory has no place in it
-abbrev pub SaysNone : RequestFault → Origin → List ℕ → Type 0
-SaysNone TooLong origin bytes = most_message_bytes < length bytes
-SaysNone Malformed origin bytes = (length bytes ≤ most_message_bytes) × ((d : Data) → ¬ IsObject bytes d)
-SaysNone UnknownRequest origin bytes = SaysUnknown origin bytes
-SaysNone BadField origin bytes = SaysBad origin bytes
-SaysNone OutOfMemory origin bytes = Unit {0}
+abbrev pub SaysNone : RequestFault → Dialect → List ℕ → Type 0
+SaysNone TooLong dialect bytes = most_message_bytes < length bytes
+SaysNone Malformed dialect bytes = (length bytes ≤ most_message_bytes) × ((d : Data) → ¬ IsObject bytes d)
+SaysNone UnknownRequest dialect bytes = SaysUnknown dialect bytes
+SaysNone BadField dialect bytes = SaysBad dialect bytes
+SaysNone OutOfMemory dialect bytes = Unit {0}

@@ -1,7 +1,7 @@
 pub mod Source
 pub mod Optional
 pub mod List
-pub mod Origin
+pub mod Dialect
 pub mod Query
 pub mod Audit
 pub mod Greeting

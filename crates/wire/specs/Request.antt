@@ -39,7 +39,7 @@ use Rattle.wire.specs.declared.request.RequestBody.TheVariants as body
 use Rattle.wire.specs.declared.request.UserRequest.TheVariants as wanting
 use Rattle.wire.specs.declared.reading.TheConstants.{MOST_MESSAGE_BYTES}
 use Rattle.session_roles.specs.declared.edition.Edition.{Edition}
-use Rattle.wire.specs.declared.origin.Origin.{Origin}
+use Rattle.wire.specs.declared.dialect.Dialect.{Dialect}
 use Rattle.wire.specs.declared.source.Source.{Source}
 use Rattle.wire.specs.declared.source.Source.TheVariants.{Script, Connection}
 use Rattle.json_fields.specs.declared.request_fault.RequestFault.{RequestFault}
@@ -56,7 +56,7 @@ use Rattle.wire.specs.Query.{queries, query_called}
 use Rattle.command_object.specs.Command.{has_unknown, commands_in}
 use Rattle.wire.specs.Audit.{audit_of}
 use Rattle.wire.specs.Greeting.{greeting}
-use Rattle.wire.specs.Origin.{origin_of}
+use Rattle.wire.specs.Dialect.{dialect_of}
 use Rattle.wire.specs.Source.{said_user}
 
 -- how many bytes a message has at most, without what ends its line
@@ -70,18 +70,18 @@ abbrev pub a_query : Option (List ℕ) → ℕ → Query → Request
 a_query user version query = record { user = user; body = body.OfUser (wanting.Query query version) }
 
 -- the query of a word, its user and its version
-unfoldable pub query_of : Origin → List ℕ → Data → Option Request
-query_of origin word d =
-    let whose = said_user origin.source in
+unfoldable pub query_of : Dialect → List ℕ → Data → Option Request
+query_of dialect word d =
+    let whose = said_user dialect.source in
     let name = whose.value (get whose.name d) in
     let version = since.value (get since.name d) in
-    applied (applied (applied (Some a_query) name) version) (query_called origin.edition word d)
+    applied (applied (applied (Some a_query) name) version) (query_called dialect.edition word d)
 
 -- what is asked for has to be a text; one that names no query comes before all that is wrong elsewhere
-abbrev pub query_by : Origin → Option (List ℕ) → Data → Result Request RequestFault
-query_by origin None d = Err BadField
-query_by origin (Some word) d =
-    if is_word_of (queries origin.edition) word then wanted (query_of origin word d) else Err UnknownRequest
+abbrev pub query_by : Dialect → Option (List ℕ) → Data → Result Request RequestFault
+query_by dialect None d = Err BadField
+query_by dialect (Some word) d =
+    if is_word_of (queries dialect.edition) word then wanted (query_of dialect word d) else Err UnknownRequest
 
 -- ---- batches
 
@@ -98,18 +98,18 @@ abbrev pub a_batch : Option (List ℕ) → List Command → Request
 a_batch user commands = record { user = user; body = body.OfUser (wanting.Batch commands) }
 
 -- a batch and whose it is: these members and no other
-unfoldable pub batch_of : Origin → Items → Data → Option Request
-batch_of origin ds d =
-    let whose = said_user origin.source in
+unfoldable pub batch_of : Dialect → Items → Data → Option Request
+batch_of dialect ds d =
+    let whose = said_user dialect.source in
     if has_only doing d
-    then applied (applied (Some a_batch) (whose.value (get whose.name d))) (few_commands_in origin.edition ds)
+    then applied (applied (Some a_batch) (whose.value (get whose.name d))) (few_commands_in dialect.edition ds)
     else None
 
 -- what is to be done has to be a list; a word in it that names no command comes before all that is wrong elsewhere
-abbrev pub batch_by : Origin → Option Items → Data → Result Request RequestFault
-batch_by origin None d = Err BadField
-batch_by origin (Some ds) d =
-    if has_unknown origin.edition ds then Err UnknownRequest else wanted (batch_of origin ds d)
+abbrev pub batch_by : Dialect → Option Items → Data → Result Request RequestFault
+batch_by dialect None d = Err BadField
+batch_by dialect (Some ds) d =
+    if has_unknown dialect.edition ds then Err UnknownRequest else wanted (batch_of dialect ds d)
 
 -- ---- requests
 
@@ -119,36 +119,36 @@ greeting_by Script d = Err UnknownRequest
 greeting_by Connection d = wanted (formed [] greeting d)
 
 -- exactly one of `ask`, `do`, `audit` and `hello` is there
-abbrev pub one_of : Origin → Option Data → Option Data → Option Data → Option Data → Data → Result Request RequestFault
-one_of origin (Some ask) None None None d = query_by origin (as_str ask) d
-one_of origin None (Some list) None None d = batch_by origin (as_array list) d
-one_of origin None None (Some rows) None d = wanted (audit_of origin.source rows d)
-one_of origin None None None (Some name) d = greeting_by origin.source d
-one_of origin ask list rows name d = Err UnknownRequest
+abbrev pub one_of : Dialect → Option Data → Option Data → Option Data → Option Data → Data → Result Request RequestFault
+one_of dialect (Some ask) None None None d = query_by dialect (as_str ask) d
+one_of dialect None (Some list) None None d = batch_by dialect (as_array list) d
+one_of dialect None None (Some rows) None d = wanted (audit_of dialect.source rows d)
+one_of dialect None None None (Some name) d = greeting_by dialect.source d
+one_of dialect ask list rows name d = Err UnknownRequest
 
 -- what an object says
-unfoldable pub request_of : Origin → Data → Result Request RequestFault
-request_of origin d =
-    one_of origin (get (codes "ask") d) (get (codes "do") d) (get (codes "audit") d) (get (codes "hello") d) d
+unfoldable pub request_of : Dialect → Data → Result Request RequestFault
+request_of dialect d =
+    one_of dialect (get (codes "ask") d) (get (codes "do") d) (get (codes "audit") d) (get (codes "hello") d) d
 
 -- what was read has to be an object
-abbrev pub object_of : Origin → Option Data → Result Request RequestFault
-object_of origin None = Err Malformed
-object_of origin (Some d) = if is_some (as_object d) then request_of origin d else Err Malformed
+abbrev pub object_of : Dialect → Option Data → Result Request RequestFault
+object_of dialect None = Err Malformed
+object_of dialect (Some d) = if is_some (as_object d) then request_of dialect d else Err Malformed
 
 -- what a text says
-unfoldable pub text_meaning : Origin → List ℕ → Result Request RequestFault
-text_meaning origin text = object_of origin (read text)
+unfoldable pub text_meaning : Dialect → List ℕ → Result Request RequestFault
+text_meaning dialect text = object_of dialect (read text)
 
 -- what bytes that aren't too many say: they have to be a text, in UTF-8
-unfoldable pub bytes_meaning : Origin → List ℕ → Result Request RequestFault
-bytes_meaning origin bytes =
-    if utf8_valid_len bytes == length bytes then text_meaning origin bytes else Err Malformed
+unfoldable pub bytes_meaning : Dialect → List ℕ → Result Request RequestFault
+bytes_meaning dialect bytes =
+    if utf8_valid_len bytes == length bytes then text_meaning dialect bytes else Err Malformed
 
 -- what the bytes of a message say
-unfoldable pub meaning : Origin → List ℕ → Result Request RequestFault
-meaning origin bytes =
-    if nat_le (length bytes) most_message_bytes then bytes_meaning origin bytes else Err TooLong
+unfoldable pub meaning : Dialect → List ℕ → Result Request RequestFault
+meaning dialect bytes =
+    if nat_le (length bytes) most_message_bytes then bytes_meaning dialect bytes else Err TooLong
 
 -- whether bytes are read as JSON at all, for which memory may be asked: they are not too many, and a text in UTF-8
 abbrev pub is_message_text : List ℕ → Bool
@@ -190,7 +190,7 @@ said_of (Ok request) = said_request request
 said_of (Err fault) = Err fault
 
 unfoldable pub script_meaning : Edition → List ℕ → Result ScriptRequest RequestFault
-script_meaning edition bytes = said_of (meaning (origin_of Script edition) bytes)
+script_meaning edition bytes = said_of (meaning (dialect_of Script edition) bytes)
 
 -- what a message on a connection wants, which names no user
 abbrev pub wanted_of : Result Request RequestFault → Result RequestBody RequestFault
@@ -198,4 +198,4 @@ wanted_of (Ok request) = Ok request.body
 wanted_of (Err fault) = Err fault
 
 unfoldable pub connection_meaning : Edition → List ℕ → Result RequestBody RequestFault
-connection_meaning edition bytes = wanted_of (meaning (origin_of Connection edition) bytes)
+connection_meaning edition bytes = wanted_of (meaning (dialect_of Connection edition) bytes)

@@ -7,12 +7,12 @@ ghost use Rattle.serde_json.specs.View.{view, items_view};
 ghost use Rattle.json_fields.specs.Reading.{wanted, Gives};
 ghost use Rattle.json_fields.specs.declared.request_fault.RequestFault.TheVariants.{OutOfMemory};
 ghost use Rattle.wire.specs.Grammar.{Says, SaysNone};
-ghost use Rattle.wire.specs.Origin.{origin_of};
+ghost use Rattle.wire.specs.Dialect.{dialect_of};
 ghost use Rattle.wire.specs.Request.{query_of, query_by, batch_of, batch_by, greeting_by, request_of, text_meaning, bytes_meaning, meaning, script_meaning, connection_meaning, said_request, is_message_text, HasFew, HasFewIn};
 
 use crate::audit_reading::audit_of;
+use crate::dialect::Dialect;
 use crate::greeting_reading::greeting_of;
-use crate::origin::Origin;
 use crate::query_reading::{is_query_word, query_called};
 use crate::request::{Request, RequestBody, ScriptRequest, UserRequest};
 use crate::source::{Source, said_user};
@@ -32,13 +32,13 @@ fn query_of(
     alloc: Global,
     word: &str,
     value: &Value,
-    origin: Origin,
+    dialect: Dialect,
 ) -> Result<Request, RequestFault>
-    ensures { Gives result (wanted (query_of origin word.now (view value.now))) }
+    ensures { Gives result (wanted (query_of dialect word.now (view value.now))) }
 {
-    let user = said_user(value, origin.source)?;
+    let user = said_user(value, dialect.source)?;
     let since = read_since(value)?;
-    let query = query_called(alloc, word, value, origin.edition)?;
+    let query = query_called(alloc, word, value, dialect.edition)?;
     let body = RequestBody::OfUser(UserRequest::Query { query, since });
     Ok(Request { user, body })
 }
@@ -47,12 +47,12 @@ fn query_by(
     alloc: Global,
     ask: &Value,
     value: &Value,
-    origin: Origin,
+    dialect: Dialect,
 ) -> Result<Request, RequestFault>
-    ensures { Gives result (query_by origin (as_str (view ask.now)) (view value.now)) }
+    ensures { Gives result (query_by dialect (as_str (view ask.now)) (view value.now)) }
 {
     match ask.as_str() {
-        Some(word) if is_query_word(word, origin.edition) => query_of(alloc, word, value, origin),
+        Some(word) if is_query_word(word, dialect.edition) => query_of(alloc, word, value, dialect),
         Some(_) => Err(RequestFault::UnknownRequest),
         None => Err(RequestFault::BadField),
     }
@@ -63,18 +63,18 @@ fn batch_of(
     alloc: Global,
     list: &[Value],
     value: &Value,
-    origin: Origin,
+    dialect: Dialect,
 ) -> Result<Request, RequestFault>
-    ensures { Gives result (wanted (batch_of origin (items_view list.now) (view value.now))) }
+    ensures { Gives result (wanted (batch_of dialect (items_view list.now) (view value.now))) }
 {
     if !has_only(value, &["do", "as"]) {
         return Err(RequestFault::BadField);
     }
-    let user = said_user(value, origin.source)?;
+    let user = said_user(value, dialect.source)?;
     if list.len() > Book::MOST_COMMANDS {
         return Err(RequestFault::BadField);
     }
-    let commands = commands_in(alloc, list, origin.edition)?;
+    let commands = commands_in(alloc, list, dialect.edition)?;
     let body = RequestBody::OfUser(UserRequest::Batch { commands });
     Ok(Request { user, body })
 }
@@ -83,17 +83,17 @@ fn batch_by(
     alloc: Global,
     list: &Value,
     value: &Value,
-    origin: Origin,
+    dialect: Dialect,
 ) -> Result<Request, RequestFault>
-    ensures { Gives result (batch_by origin (as_array (view list.now)) (view value.now)) }
+    ensures { Gives result (batch_by dialect (as_array (view list.now)) (view value.now)) }
 {
     let Some(list) = list.as_array() else {
         return Err(RequestFault::BadField);
     };
-    if has_unknown(list.as_slice(), origin.edition) {
+    if has_unknown(list.as_slice(), dialect.edition) {
         return Err(RequestFault::UnknownRequest);
     }
-    batch_of(alloc, list.as_slice(), value, origin)
+    batch_of(alloc, list.as_slice(), value, dialect)
 }
 
 fn greeting_by(alloc: Global, value: &Value, source: Source) -> Result<Request, RequestFault>
@@ -106,8 +106,8 @@ fn greeting_by(alloc: Global, value: &Value, source: Source) -> Result<Request, 
 }
 
 #[tactic(auto, unfolding(crate::specs::Request::request_of))]
-fn request_of(alloc: Global, value: &Value, origin: Origin) -> Result<Request, RequestFault>
-    ensures { Gives result (request_of origin (view value.now)) }
+fn request_of(alloc: Global, value: &Value, dialect: Dialect) -> Result<Request, RequestFault>
+    ensures { Gives result (request_of dialect (view value.now)) }
 {
     let members = (
         value.get("ask"),
@@ -116,17 +116,17 @@ fn request_of(alloc: Global, value: &Value, origin: Origin) -> Result<Request, R
         value.get("hello"),
     );
     match members {
-        (Some(ask), None, None, None) => query_by(alloc, ask, value, origin),
-        (None, Some(list), None, None) => batch_by(alloc, list, value, origin),
-        (None, None, Some(rows), None) => audit_of(rows, value, origin.source),
-        (None, None, None, Some(_)) => greeting_by(alloc, value, origin.source),
+        (Some(ask), None, None, None) => query_by(alloc, ask, value, dialect),
+        (None, Some(list), None, None) => batch_by(alloc, list, value, dialect),
+        (None, None, Some(rows), None) => audit_of(rows, value, dialect.source),
+        (None, None, None, Some(_)) => greeting_by(alloc, value, dialect.source),
         _ => Err(RequestFault::UnknownRequest),
     }
 }
 
 #[tactic(auto, unfolding(crate::specs::Request::text_meaning))]
-fn read_text(alloc: Global, text: &str, origin: Origin) -> Result<Request, RequestFault>
-    ensures { Gives result (text_meaning origin text.now) }
+fn read_text(alloc: Global, text: &str, dialect: Dialect) -> Result<Request, RequestFault>
+    ensures { Gives result (text_meaning dialect text.now) }
 {
     let value = match Value::from_str(alloc, text) {
         Ok(value) => value,
@@ -136,16 +136,16 @@ fn read_text(alloc: Global, text: &str, origin: Origin) -> Result<Request, Reque
     if !value.is_object() {
         return Err(RequestFault::Malformed);
     }
-    request_of(alloc, &value, origin)
+    request_of(alloc, &value, dialect)
 }
 
 #[tactic(auto, unfolding(crate::specs::Request::bytes_meaning))]
-fn read_bytes(alloc: Global, bytes: &[u8], origin: Origin) -> Result<Request, RequestFault>
-    ensures meaning { Gives result (bytes_meaning origin bytes.now) }
+fn read_bytes(alloc: Global, bytes: &[u8], dialect: Dialect) -> Result<Request, RequestFault>
+    ensures meaning { Gives result (bytes_meaning dialect bytes.now) }
     ensures memory { IfErr result (λ fault. fault ≡ OutOfMemory → utf8_valid_len bytes.now ≡ length bytes.now) }
 {
     match str::from_utf8(bytes) {
-        Ok(text) => read_text(alloc, text, origin),
+        Ok(text) => read_text(alloc, text, dialect),
         Err(_) => Err(RequestFault::Malformed),
     }
 }
@@ -158,15 +158,15 @@ pub fn read_request(
     source: Source,
     edition: Edition,
 ) -> Result<Request, RequestFault>
-    ensures request { IfOk result (Says (origin_of source edition) bytes.now) }
-    ensures none { IfErr result (λ fault. SaysNone fault (origin_of source edition) bytes.now) }
+    ensures request { IfOk result (Says (dialect_of source edition) bytes.now) }
+    ensures none { IfErr result (λ fault. SaysNone fault (dialect_of source edition) bytes.now) }
     ensures memory { IfErr result (λ fault. fault ≡ OutOfMemory → is_message_text bytes.now ≡ true) }
     ensures few { IfOk result (λ request. HasFewIn request.body) }
 {
     if bytes.len() > MOST_MESSAGE_BYTES {
         return Err(RequestFault::TooLong);
     }
-    read_bytes(alloc, bytes, Origin { source, edition })
+    read_bytes(alloc, bytes, Dialect { source, edition })
 }
 
 /// The request that a script's message is, and whose it is. Each names its user.

@@ -13,7 +13,7 @@ use double_dummy::{Budget, table};
 use entry_store::NoStore;
 use movement::Cell;
 use session_book::Answer;
-use session_commands::Refusal;
+use session_commands::{Command, Refusal};
 use std::alloc::Global;
 use std::sync::Wait;
 
@@ -152,7 +152,11 @@ fn solved<N: Server, R: Wait>(
     let Ok(found) = table(alloc, deal, &mut Budget::new(1_000_000)) else {
         return None;
     };
-    let (answer, receipt) = beside.desk.submit_solved(rt, 1, found);
+    let command = Command::Solved {
+        board: 1,
+        table: found,
+    };
+    let (answer, receipt) = beside.desk.submit_found(rt, &command);
     Some((answer, receipt.first(), receipt.last(), receipt.version()))
 }
 
@@ -179,9 +183,9 @@ fn analysed<N: Server, R: Wait>(
     table: u8,
 ) -> Entered {
     let costs = costs_of(alloc)?;
-    let (answer, receipt) = beside
-        .desk
-        .submit_analysed(rt, Cell { table, board: 1 }, costs);
+    let cell = Cell { table, board: 1 };
+    let command = Command::Analysed { cell, costs };
+    let (answer, receipt) = beside.desk.submit_found(rt, &command);
     Some((answer, receipt.first(), receipt.last(), receipt.version()))
 }
 

@@ -13,7 +13,7 @@ use double_dummy::{Budget, table};
 use entry_store::{EntryStore, KeepFault};
 use history::History;
 use session_book::{Answer, Book};
-use session_commands::{Entry, Refusal};
+use session_commands::{Command, Entry, Refusal};
 use session_keeper::SubmitFault;
 use std::alloc::Global;
 use std::marker::Brand;
@@ -231,7 +231,11 @@ fn is_dropped<N: Server, R: Wait>(
     let Ok(found) = table(alloc, deal, &mut Budget::new(1_000_000)) else {
         return false;
     };
-    let (answer, receipt) = beside.desk.submit_solved(rt, 1, found);
+    let command = Command::Solved {
+        board: 1,
+        table: found,
+    };
+    let (answer, receipt) = beside.desk.submit_found(rt, &command);
     matches!(answer, Answer::Refused(Refusal::OutOfMemory)) && receipt.version() == 2
 }
 

@@ -11,6 +11,7 @@ use entry_store::NoStore;
 use movement::Cell;
 use scoring::{Contract, Doubling, Level};
 use session_book::Answer;
+use session_commands::Command;
 use solver_pool::Work;
 use solver_results::PlayCosts;
 use std::alloc::Global;
@@ -171,7 +172,8 @@ fn is_found<N: Server, R: Wait>(
         return false;
     };
     let cell = Cell { table: 1, board: 1 };
-    let (answer, _) = beside.desk.submit_analysed(rt, cell, costs);
+    let command = Command::Analysed { cell, costs };
+    let (answer, _) = beside.desk.submit_found(rt, &command);
     matches!(answer, Answer::Accepted) && beside.desk.work_of(rt, &beside.display, cell).is_none()
 }
 

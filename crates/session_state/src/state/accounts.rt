@@ -8,7 +8,7 @@ ghost use Rattle.session_state.specs.Readers.{account_place};
 
 use crate::state::State;
 use rbac::{Account, Roles};
-use session_commands::room::push_within;
+use session_commands::room::put_item;
 use session_roles::Role;
 use user_names::{Digest, Name, ShownName};
 
@@ -28,8 +28,8 @@ impl State {
         let Ok(()) = self.roles.add_user(name.as_str()) else {
             unreachable!();
         };
-        push_within(&mut self.digests, digest);
-        push_within(&mut self.names, ShownName::none());
+        put_item(&mut self.digests, digest);
+        put_item(&mut self.names, ShownName::none());
     }
 
     // Assigns a role to a user.

@@ -13,7 +13,7 @@ use crate::seated::Seated;
 use crate::state::State;
 use disclosure_rules::Seat;
 use rbac::{Change, Roles};
-use session_commands::room::push_within;
+use session_commands::room::put_item;
 use session_roles::{Role, RoleSet};
 use user_names::Name;
 
@@ -23,7 +23,7 @@ impl State {
         requires { hindrance_of self.old (command.Seat name seat.pair seat.place) ≡ None }
         ensures { self.new ≡ effect self.old (command.Seat name seat.pair seat.place) }
     {
-        push_within(&mut self.seats, Seated { name, seat });
+        put_item(&mut self.seats, Seated { name, seat });
     }
 
     // Takes a user's seat away.

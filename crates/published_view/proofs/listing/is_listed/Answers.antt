@@ -7,7 +7,7 @@ use Rattle.published_view.proofs.listing.is_listed.Goals as goal
 
 pub returns-then-not-shows : goal.returns-then-not-shows
 returns-then-not-shows g c =
-    let state = g.S.Showing.seen c.args.showing.now in
+    let state = g.S.ShownState.seen c.args.shown_state.now in
     let viewer = c.args.viewer.now in
     let hidden : not c.shows.result ≡ true = search rules in
     not_listed state viewer c.args.board c.args.filter.now

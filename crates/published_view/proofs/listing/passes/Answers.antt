@@ -10,7 +10,7 @@ use Rattle.published_view.proofs.listing.passes.Goals as goal
 
 pub returns-in-None : goal.returns-in-None
 returns-in-None g c =
-    let state = (g.S.Showing.seen c.args.showing.now) in
+    let state = (g.S.ShownState.seen c.args.shown_state.now) in
     let free : is_some (first_rule state.public c.args.viewer.now (fact.Hands c.args.board)) ≡ false =
     ap is_some c.requires.allowed in
     let dealt = c.requires.dealt in
@@ -23,7 +23,7 @@ returns-in-None g c =
 
 pub returns-in_ok-facts-in-Some : goal.returns-in_ok-facts-in-Some
 returns-in_ok-facts-in-Some g c =
-    let state = (g.S.Showing.seen c.args.showing.now) in
+    let state = (g.S.ShownState.seen c.args.shown_state.now) in
     let free : is_some (first_rule state.public c.args.viewer.now (fact.Hands c.args.board)) ≡ false =
     ap is_some c.requires.allowed in
     let dealt = c.requires.dealt in

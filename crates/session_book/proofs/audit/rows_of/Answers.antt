@@ -15,10 +15,10 @@ loop-k-preserved c =
       c.loop-k-test.true,
     ) in
     record {
-      counted = omega (arith, c.push_within.ensures.len, c.loop-k.invariant.counted);
-      room = omega (arith, c.push_within.ensures.capacity, c.loop-k.invariant.room);
+      counted = omega (arith, c.put_item.ensures.len, c.loop-k.invariant.counted);
+      room = omega (arith, c.put_item.ensures.capacity, c.loop-k.invariant.room);
       rows =
-          c.push_within.ensures.items
+          c.put_item.ensures.items
           ∙ (λ i. c.loop-k.rows.items ++ record {
             number = before + k + 1;
             actor = c.index-journal-before.result.actor;

@@ -16,11 +16,11 @@ loop-place-preserved c =
     let given = given_at boards place within in
     let here : slice_get boards (place + 1 - 1) ≡ Some given.0 = ap (slice_get boards) (one_on place) ∙ given.1 in
     record {
-      items = c.push_within.ensures.items
+      items = c.put_item.ensures.items
           ∙ (λ i. c.loop-place.invariant.items i ++ c.deal.ensures given.0 here i ∷ [])
           ∙ ap (λ (board : Board). map (λ (board : Board). board.deal) (take place boards) ++ board.deal ∷ [])
           (sym given.2)
           ∙ sym (map_more (λ (board : Board). board.deal) boards place given.0 within);
-      counted = c.push_within.ensures.len ∙ ap (λ n. n + 1) c.loop-place.invariant.counted;
-      room = omega (arith, c.loop-place.invariant.room, c.push_within.ensures.capacity);
+      counted = c.put_item.ensures.len ∙ ap (λ n. n + 1) c.loop-place.invariant.counted;
+      room = omega (arith, c.loop-place.invariant.room, c.put_item.ensures.capacity);
     }

@@ -9,13 +9,13 @@ loop-user-preserved c =
     let place = c.loop-user.user-index in
     let user = c.user-item.result in
     record {
-      items = c.push_within.ensures.items
+      items = c.put_item.ensures.items
           ∙ ap (λ digests. digests ++ user.digest ∷ []) c.loop-user.invariant.items
           ∙ ap (λ (user : NewUser). map (λ (user : NewUser). user.digest) (take place users) ++ user.digest ∷ [])
           c.user-item.is
           ∙ sym (map_more (λ (user : NewUser). user.digest) users place user c.loop-user-test.true);
-      counted = c.push_within.ensures.len ∙ ap (λ n. n + 1) c.loop-user.invariant.counted;
-      room = omega (arith, c.push_within.ensures.capacity, c.loop-user.invariant.room);
+      counted = c.put_item.ensures.len ∙ ap (λ n. n + 1) c.loop-user.invariant.counted;
+      room = omega (arith, c.put_item.ensures.capacity, c.loop-user.invariant.room);
     }
 
 pub returns-clause-items : goal.returns-clause-items

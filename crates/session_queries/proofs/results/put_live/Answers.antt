@@ -5,7 +5,7 @@ use Rattle.session_queries.proofs.results.put_live.Goals as goal
 
 pub loop-below-preserved : goal.loop-below-preserved
 loop-below-preserved c = record {
-  so_far = c.push_found_within.ensures.items
+  so_far = c.put_found.ensures.items
       ∙ ((λ i. c.loop-below.invariant.so_far i ++ cons_option (c.live_result.ensures i) [])
       ∙ sym (live_more c.args.state.now c.args.board c.loop-below.below));
   few = search rules;

@@ -11,12 +11,12 @@ loop-found-preserved c =
     let k = c.loop-found.found-index in
     record {
       scores =
-          c.push_found_within.ensures.items
+          c.put_found.ensures.items
           ∙ ((λ i. c.loop-found.invariant.scores i ++ cons_option
           ((c.result_score.ensures ∙ ap (λ (found : TableResult). result_score c.args.vulnerability found.result)
           c.found-item.is) i) [])
           ∙ sym (filter_map_more (λ (found : TableResult). result_score c.args.vulnerability found.result) results k
           c.found-item.result c.loop-found-test.true));
-      few = omega (arith, c.push_found_within.ensures.few, c.loop-found.invariant.few);
-      room = omega (arith, c.push_found_within.ensures.capacity, c.loop-found.invariant.room);
+      few = omega (arith, c.put_found.ensures.few, c.loop-found.invariant.few);
+      room = omega (arith, c.put_found.ensures.capacity, c.loop-found.invariant.room);
     }

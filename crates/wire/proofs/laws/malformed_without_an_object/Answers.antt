@@ -2,4 +2,4 @@ use Rattle.wire.proofs.LineLemmas.{malformed_line}
 use Rattle.wire.proofs.laws.malformed_without_an_object.Goals as goal
 
 pub returns : goal.returns
-returns c origin bytes = malformed_line origin bytes
+returns c dialect bytes = malformed_line dialect bytes

@@ -2,4 +2,4 @@ use Rattle.wire.proofs.LineLemmas.{first_bytes_tell}
 use Rattle.wire.proofs.laws.no_more_bytes_matter.Goals as goal
 
 pub returns : goal.returns
-returns c origin bytes = first_bytes_tell origin bytes
+returns c dialect bytes = first_bytes_tell dialect bytes

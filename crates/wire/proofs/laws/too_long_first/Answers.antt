@@ -2,4 +2,4 @@ use Rattle.wire.proofs.LineLemmas.{too_long_line}
 use Rattle.wire.proofs.laws.too_long_first.Goals as goal
 
 pub returns : goal.returns
-returns c origin bytes = too_long_line origin bytes
+returns c dialect bytes = too_long_line dialect bytes

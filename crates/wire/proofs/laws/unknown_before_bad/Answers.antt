@@ -2,4 +2,4 @@ use Rattle.wire.proofs.LineLemmas.{unknown_line}
 use Rattle.wire.proofs.laws.unknown_before_bad.Goals as goal
 
 pub returns : goal.returns
-returns c origin bytes d message = unknown_line origin bytes d message
+returns c dialect bytes d message = unknown_line dialect bytes d message

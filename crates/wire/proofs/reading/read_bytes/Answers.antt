@@ -3,7 +3,7 @@ use Rattle.wire.proofs.reading.read_bytes.Goals as goal
 
 pub returns-in-Ok-clause-meaning : goal.returns-in-Ok-clause-meaning
 returns-in-Ok-clause-meaning c =
-    gives_line c.args.origin c.args.bytes.now c.in-Ok.text.now c.read_text.result c.in-Ok.ensures.cases.0
+    gives_line c.args.dialect c.args.bytes.now c.in-Ok.text.now c.read_text.result c.in-Ok.ensures.cases.0
     c.in-Ok.ensures.cases.1 c.read_text.ensures
 
 pub returns-in-Ok-clause-memory : goal.returns-in-Ok-clause-memory

@@ -5,6 +5,6 @@ use Rattle.connections.proofs.connection.Connection.serve_message.Goals as goal
 -- what wants something was read, so it is a text that isn't too long
 pub returns-in-Ok-clause-memory : goal.returns-in-Ok-clause-memory
 returns-in-Ok-clause-memory g c =
-    on_err_weaker c.serve_body.result
+    on_err_weaker c.serve_read.result
     (λ refused. wanted_is_text c.edition.result c.args.message.now c.in-Ok.body c.in-Ok.ensures.meaning)
-    c.serve_body.ensures.refused
+    c.serve_read.ensures.refused

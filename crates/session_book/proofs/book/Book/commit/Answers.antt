@@ -13,14 +13,14 @@ invariant_of-self c =
     ∙ ap (λ ledger. boards_of ledger.opening.public.movement) (sym c.self.view_is)) c.self.invariant.replayed
     c.self.invariant.noted in
     record {
-      replayed = led.0 ∙ ap (replay opening) (sym c.push_copy.ensures.items);
+      replayed = led.0 ∙ ap (replay opening) (sym c.put_copy.ensures.items);
       accepted =
-          subst (IsAccepted opening) (sym c.push_copy.ensures.items)
+          subst (IsAccepted opening) (sym c.put_copy.ensures.items)
           (accepted_more opening journal c.args.entry c.self.invariant.accepted
           (subst (λ ledger. MayFollow ledger.opening ledger.journal c.args.entry) (sym c.self.view_is)
           c.requires.accepted));
       noted =
           subst (λ entries. IsNoted opening entries c.absorb.new.state c.absorb.new.exposure)
-          (sym c.push_copy.ensures.items) led.1;
+          (sym c.put_copy.ensures.items) led.1;
       boards = c.self.invariant.boards;
     }

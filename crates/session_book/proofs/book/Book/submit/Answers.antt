@@ -22,12 +22,12 @@ loop-command-preserved c =
     let ran = c.attempt-refusal.ensures.runs now.journal (take i batch) answers
     (runs_so _ _ _ _ now.journal actor _ _ _ _ _ refl (sym kept.opening) refl refl kept.runs) in
     record {
-      counted = c.push_within.ensures.len ∙ ap (λ n. n + 1) kept.counted;
-      room = omega (arith, kept.room, c.push_within.ensures.capacity);
+      counted = c.put_item.ensures.len ∙ ap (λ n. n + 1) kept.counted;
+      room = omega (arith, kept.room, c.put_item.ensures.capacity);
       opening = c.attempt-refusal.ensures.opening ∙ kept.opening;
       runs =
           runs_so _ _ _ _ now.journal actor _ _ _ _ _ (sym c.is_stopped-stopped.ensures) kept.opening
           (ap (λ command. take i batch ++ command ∷ []) c.command-item.is
           ∙ sym (take_more batch i c.command-item.result c.loop-command-test.true))
-          (ap (λ answer. answers ++ answer ∷ []) (sym c.new.ensures) ∙ sym c.push_within.ensures.items) ran;
+          (ap (λ answer. answers ++ answer ∷ []) (sym c.new.ensures) ∙ sym c.put_item.ensures.items) ran;
     }

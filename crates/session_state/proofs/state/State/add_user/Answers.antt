@@ -21,15 +21,15 @@ unreachable-requires c =
     (subst (λ name. RefusesUser c.self.inside.roles name c.in_default.field-0) c.as_str.ensures.text
     c.in_default.ensures.cause.holds)
 
-pub push_within-requires : goal.push_within-requires
-push_within-requires c =
+pub put_item-requires : goal.put_item-requires
+put_item-requires c =
     let unhindered : hindrance_of (the_view c.self.inside) (AddUser c.args.name c.args.digest) ≡ None =
     ap (λ state. hindrance_of state (AddUser c.args.name c.args.digest)) c.self.view_is ∙ c.requires in
     let room = room_for_user (the_view c.self.inside) c.args.name c.args.digest unhindered in
     omega (arith, room, c.self.invariant.digests, c.self.invariant.digest_room)
 
-pub push_within-requires-2 : goal.push_within-requires-2
-push_within-requires-2 c =
+pub put_item-requires-2 : goal.put_item-requires-2
+put_item-requires-2 c =
     let unhindered : hindrance_of (the_view c.self.inside) (AddUser c.args.name c.args.digest) ≡ None =
     ap (λ state. hindrance_of state (AddUser c.args.name c.args.digest)) c.self.view_is ∙ c.requires in
     let room = room_for_user (the_view c.self.inside) c.args.name c.args.digest unhindered in
@@ -52,10 +52,10 @@ invariant_of-self c =
       boards = kept.boards;
       tables = kept.tables;
       deals = kept.deals;
-      digests = c.push_within.ensures.len ∙ ap (λ n. n + 1) kept.digests ∙ sym more;
-      digest_room = omega (arith, kept.digest_room, c.push_within.ensures.capacity);
-      names = c.push_within-2.ensures.len ∙ ap (λ n. n + 1) kept.names ∙ sym more;
-      name_room = omega (arith, kept.name_room, c.push_within-2.ensures.capacity);
+      digests = c.put_item.ensures.len ∙ ap (λ n. n + 1) kept.digests ∙ sym more;
+      digest_room = omega (arith, kept.digest_room, c.put_item.ensures.capacity);
+      names = c.put_item-2.ensures.len ∙ ap (λ n. n + 1) kept.names ∙ sym more;
+      name_room = omega (arith, kept.name_room, c.put_item-2.ensures.capacity);
       seats = kept.seats;
       users = omega (arith, more, room);
       seated = subst (λ roles. AreSeated roles inside.seats.items) (sym added)
@@ -68,10 +68,10 @@ invariant_of-self c =
 pub returns : goal.returns
 returns c =
     let added = c.in-Ok.ensures.added ∙ ap (add_user c.self.inside.roles) c.as_str.ensures.text in
-    let named = c.push_within-2.ensures.items ∙ ap (λ name. c.self.inside.names.items ++ name ∷ []) c.none.ensures in
+    let named = c.put_item-2.ensures.items ∙ ap (λ name. c.self.inside.names.items ++ name ∷ []) c.none.ensures in
     (λ i. record (the_view c.self.inside) {
       roles = added i;
-      digests = c.push_within.ensures.items i;
+      digests = c.put_item.ensures.items i;
       names = named i;
     })
     ∙ ap (λ state. effect state (AddUser c.args.name c.args.digest)) c.self.view_is

@@ -9,8 +9,8 @@ use Rattle.session_state.proofs.SeatLemmas.{seats_are_few}
 use Rattle.session_state.proofs.SeatCauseLemmas.{seats_still_apart, seats_still_placed}
 use Rattle.session_state.proofs.state.State.take_seat.Goals as goal
 
-pub push_within-requires : goal.push_within-requires
-push_within-requires c =
+pub put_item-requires : goal.put_item-requires
+put_item-requires c =
     let inside = c.self.inside in
     let seat = c.args.seat in
     let seated : Seated = record { name = c.args.name; seat = seat } in
@@ -45,13 +45,13 @@ invariant_of-self c =
       digest_room = kept.digest_room;
       names = kept.names;
       name_room = kept.name_room;
-      seats = omega (arith, kept.seats, c.push_within.ensures.capacity);
+      seats = omega (arith, kept.seats, c.put_item.ensures.capacity);
       users = kept.users;
       seated =
-          subst (AreSeated inside.roles) (sym c.push_within.ensures.items)
+          subst (AreSeated inside.roles) (sym c.put_item.ensures.items)
           (seats_still_apart (the_view inside) c.args.name seat.pair seat.place unhindered kept.seated);
       placed =
-          subst (AreSeatsOf inside.public.movement) (sym c.push_within.ensures.items)
+          subst (AreSeatsOf inside.public.movement) (sym c.put_item.ensures.items)
           (seats_still_placed (the_view inside) c.args.name seat.pair seat.place unhindered kept.placed);
       edition = kept.edition;
       live = kept.live;
