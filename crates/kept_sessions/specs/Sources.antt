@@ -1,5 +1,5 @@
 -- What a session is opened from.
-use Rattle.std.specs.Prelude.{◌≡◌, ◌<◌, ◌≤◌, ℕ, Bool, true, false, Option, List, [], Some, IfSome, length}
+use Rattle.std.specs.Prelude.{◌≡◌, ◌<◌, ◌≤◌, ◌⊎◌, ℕ, Bool, true, false, Option, List, [], Some, IfSome, length}
 use Rattle.session_state.specs.SessionState.{SessionState}
 use Rattle.session_commands.specs.declared.entry.Entry.{Entry}
 use Rattle.opened_session.specs.Opened.{OpensWith, OpensNoneWith, GivesBudget, is_want_of_memory}
@@ -56,6 +56,11 @@ IsUnread NoJournal = ⊥
 IsUnread (NotAccepted number) = ⊥
 IsUnread CopyExists = ⊥
 IsUnread CopyUnwritten = ⊥
+
+-- why two files open no session: one isn't read, or the texts that they gave open none
+abbrev pub WhyFilesOpenNone : {S : Type 0} → (S → Option (List ℕ)) → KeptSessionFault → Type 0
+WhyFilesOpenNone remaining fault =
+    IsUnread fault ⊎ ((object boards : List ℕ) × AreOfFiles remaining object boards × WhyNoSession object boards fault)
 
 -- own: the fault is one of a journal or of its copy, which is named also where the status is 3
 abbrev pub is_of_a_journal : KeptSessionFault → Bool

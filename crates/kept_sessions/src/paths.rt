@@ -4,7 +4,8 @@ ghost use Rattle.std.specs.Prelude.{◌≡◌, ◌≢◌, ℕ, List, false, true
 ghost use Rattle.operator_lines.specs.declared.file_fault.FileFault.TheVariants.{TooLong};
 ghost use Rattle.row_journal.specs.Faults.{is_file_failure};
 ghost use Rattle.kept_sessions.specs.declared.source_fault.KeptSessionFault.TheVariants.{Unread};
-ghost use Rattle.kept_sessions.specs.Sources.{AreOfFiles, IsFaultOfFile, IsSessionOf, IsUnread, is_of_a_journal};
+ghost use Rattle.kept_sessions.specs.Sources.{AreOfFiles, IsFaultOfFile, IsSessionOf, IsUnread, WhyFilesOpenNone};
+ghost use Rattle.kept_sessions.specs.Sources.{is_of_a_journal};
 
 use crate::source_fault::{KeptSessionFault, SessionFile};
 use crate::source_texts::{SourceTexts, read_texts};
@@ -48,6 +49,7 @@ pub fn session_of_files<R: Files + AllocGlobal>(
     ensures session { IfOk result (λ session. (object boards : List ℕ) × AreOfFiles R.File.remaining object boards
         × IsSessionOf object boards session.book.opening session.book.journal session.budget) }
     ensures fault { IfErr result (λ fault. is_of_a_journal fault ≡ false) }
+    ensures why { IfErr result (WhyFilesOpenNone R.File.remaining) }
 {
     match texts_of_files(rt, object_path, boards_path) {
         Ok(texts) => {

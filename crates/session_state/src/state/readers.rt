@@ -63,12 +63,16 @@ fn digest_among(accounts: &[Account], digests: &[Digest], name: Name) -> Option<
     requires { length accounts.now ≡ length digests.now }
     ensures { result ≡ digest_among accounts.now digests.now name }
 {
-    for place in 0..accounts.len() {
+    let count = accounts.len();
+    let mut found = None;
+    // The last one first, and all of them, so that the time doesn't tell where the account stands, nor whether it does.
+    for step in 0..count {
+        let place = count - 1 - step;
         if accounts[place].name == name {
-            return Some(digests[place]);
+            found = Some(digests[place]);
         }
     }
-    None
+    found
 }
 
 // The names to show that stand where the accounts do, each with its user's name to sign in by.
