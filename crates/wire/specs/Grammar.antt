@@ -94,7 +94,7 @@ IsOf source d user = let whose = said_user source in whose.Is (get whose.name d)
 pub record IsQuery (dialect : Dialect) (d : Data) (name : Option (List ℕ)) (query : Query) (version : ℕ) : Type 0 where
   pub one : request_count d ≡ 1
   pub asked : (word : List ℕ) × (text_at (codes "ask") d ≡ Some word)
-    × HasFormOf asking (queries dialect.edition) word d query
+      × HasFormOf asking (queries dialect.edition) word d query
   pub user : IsOf dialect.source d name
   pub since : since.Is (get since.name d) version
 

@@ -25,6 +25,6 @@ loop-before-preserved g c =
     (shown state c.args.viewer.now) c.args.filter.now board in
     c.in_ok-push_found.ensures.items
     ∙ ((λ i. c.loop-before.invariant i ++ cons_option (c.then_some.ensures i) [])
-    ∙ (ap (λ found. filter test (range_with_len 1 before) ++ found) (found_where c.in_ok-listed.result (before + 1))
+    ∙ (ap (λ found. filter test (range_with_len 1 before) ++ found) (found_where c.in_ok-listed.listed (before + 1))
     ∙ ((λ i. filter test (range_with_len 1 before) ++ cond (c.in_ok-listed.ensures i) ((before + 1) ∷ []) [])
     ∙ sym (filter_range_more test before))))
