@@ -1,22 +1,15 @@
 """The plain model of tests/models/session_model.py; besides, why it refuses a command, who was shown something of which board, and its journal.
 
-It follows docs/PROTOCOL.md refusal by refusal, and knows nothing of the program.
+It follows docs/PROTOCOL.md refusal by refusal, and knows nothing of the program. Who may give a command, in which phases, which refusals are
+its own and in which order, and what an audit tells of it are read from the tables of that page (tests/models/protocol_tables.py); when a
+refusal applies stands here, a method each.
 """
 import re
 
-from session_model import SEPARATED, Session, roles_of
+from protocol_tables import COMMANDS, TARGETS, refusals_of, stop
+from session_model import SEPARATED, Session, opening_pairs, roles_of
 
 MOST_USERS, MOST_ENTRIES = 256, 60_000
-SECOND = ["Embargo", "Lift", "Rename"]
-ADMINISTRATORS = ["AddUser", "Rename", "Assign", "Deassign", "AddInheritance", "DeleteInheritance"]
-NEEDS = {**dict.fromkeys(["Enter", "Confirm"], "Scorer"), **dict.fromkeys(ADMINISTRATORS, "Administrator")}
-PHASES = {**dict.fromkeys(["Enter", "Confirm", "Seat", "NextRound", "Close"], ["Running"]),
-          **dict.fromkeys(["Correct", "Rule", "Void", "Hold", "Embargo"], ["Running", "Closed"]), "Finalise": ["Closed"]}
-ABOUT_CELLS = ["Enter", "Confirm", "Correct", "Rule", "Void"]
-
-
-def first_of(causes):
-    return next((cause for cause, applies in causes if applies), None)
 
 
 class JudgedSession(Session):
@@ -64,7 +57,7 @@ class JudgedSession(Session):
             answers.append(self.refusal(actor, command) or "ok")
             if answers[-1] == "ok":
                 self.accept(command)
-                self.note(actor, command["cmd"], about(command))
+                self.note(actor, command["cmd"], TARGETS[command["cmd"]].format(**command))
                 self.look([command["name"]] if "name" in command else self.users, [command["board"]] if "board" in command else self.boards)
         first, last = (before + 1, self.version) if self.version > before else (0, 0)
         return {"answers": answers, "first": first, "last": last, "version": self.version}
@@ -84,150 +77,187 @@ class JudgedSession(Session):
     # ---- refusals, the first of them that applies
 
     def refusal(self, actor, command):
-        word, name, table, board = command["cmd"], command.get("name"), command.get("table"), command.get("board")
-        row = next((row for row in self.scheduled.get(board, []) if row[1] == table), None)
-        roles = [command[member] for member in ("role", "senior", "junior") if member in command]
-        cause = first_of([
-            ("NotPermitted", NEEDS.get(word, "Director") not in self.authorized(actor) or (self.edition == 1 and word in SECOND)),
-            ("NoSuchUser", word in ("Seat", "Unseat", "Rename", "Assign", "Deassign") and name not in self.users),
-            ("NoSuchCell", word in ABOUT_CELLS and row is None),
-            ("NoSuchBoard", word in ("Hold", "Release") and board not in self.boards),
-            ("WrongPhase", self.phase not in PHASES.get(word, [self.phase])),
-            ("RoundNotStarted", row is not None and self.round < row[0]),
-            ("NoSuchRole", not set(roles) <= set(roles_of(self.edition))),
-        ]) or getattr(self, "why_" + word.lower())(command)
-        if word in ("Enter", "Confirm"):
-            cause = cause or self.spoiled(row, board)
-        return cause or ("JournalFull" if self.version == MOST_ENTRIES else None)
+        """Why a command is refused: the refusal's name, which a few methods say with what it is about."""
+        for cause in refusals_of(command["cmd"]):
+            found = self.not_permitted(actor, command) if cause == "NotPermitted" else getattr(self, method_of(cause))(command)
+            if found:
+                return found if isinstance(found, str) else cause
+        return None
 
-    def spoiled(self, row, board):
-        """The first user who sits there and was shown something of the board."""
-        there = [name for name in self.users if self.seats.get(name, ("", ""))[0] in row[3:]]
-        return next((f"Spoiled({name})" for name in there if (name, board) in self.shown), None)
+    def not_permitted(self, actor, command):
+        asked = COMMANDS[command["cmd"]]
+        return asked.who[0] not in self.authorized(actor) or self.edition < asked.edition
 
-    def bad_result(self, command):
-        play = command.get("play", [])
-        return len(set(play)) < len(play) or (command["result"] == "pass" and play != [])
+    def why_no_such_user(self, command):
+        """A command that names a user is about an account that there is, but for the one that makes it."""
+        return "name" in command and "UserExists" not in COMMANDS[command["cmd"]].refusals and command["name"] not in self.users
+
+    def why_no_such_cell(self, command):
+        return "table" in command and self.row_of(command) is None
+
+    def why_no_such_board(self, command):
+        return "board" in command and "table" not in command and command["board"] not in self.boards
+
+    def why_wrong_phase(self, command):
+        return self.phase not in COMMANDS[command["cmd"]].phases
+
+    def why_round_not_started(self, command):
+        return "table" in command and self.round < self.row_of(command)[0]
+
+    def why_journal_full(self, command):
+        return self.version == MOST_ENTRIES
+
+    def why_out_of_memory(self, command):
+        return False
+
+    # ---- of results
+
+    def row_of(self, command):
+        """The row of the movement by which the table plays the board."""
+        return next((row for row in self.scheduled.get(command["board"], []) if row[1] == command["table"]), None)
 
     def live(self, command):
         return (command["table"], command["board"]) in self.results
 
-    def why_enter(self, command):
-        return "BadResult" if self.bad_result(command) else "AlreadyLive" if self.live(command) else None
+    def entered_at(self, command):
+        return self.entered.get((command["table"], command["board"]))
 
-    def why_confirm(self, command):
-        entered = self.entered.get((command["table"], command["board"]))
-        if self.live(command):
-            return "AlreadyLive"
-        return "NothingEntered" if entered is None else "Mismatch" if entered[0] != command["result"] else None
+    def why_bad_result(self, command):
+        play = command.get("play", [])
+        return len(set(play)) < len(play) or (command["result"] == "pass" and play != [])
 
-    def why_correct(self, command):
-        return "BadResult" if self.bad_result(command) else None if self.live(command) else "NotLive"
+    def why_already_live(self, command):
+        return self.live(command)
 
-    def why_rule(self, command):
-        return "BadRuling" if max(command["ns"], command["ew"]) > 100 or not 1 <= command["reason"] <= 99 else None
+    def why_not_live(self, command):
+        return not self.live(command)
 
-    def why_void(self, command):
-        return None if self.live(command) else "NotLive"
+    def why_nothing_entered(self, command):
+        return self.entered_at(command) is None
 
-    def why_hold(self, command):
-        return "AlreadyHeld" if command["board"] in self.held else None
+    def why_mismatch(self, command):
+        return self.entered_at(command)[0] != command["result"]
 
-    def why_release(self, command):
-        return None if command["board"] in self.held else "NotHeld"
+    def why_bad_ruling(self, command):
+        return max(command["ns"], command["ew"]) > 100 or not 1 <= command["reason"] <= 99
 
-    def why_embargo(self, command):
-        return "AlreadyEmbargoed" if self.embargo else None
+    def why_spoiled(self, command):
+        """The first user who sits there and was shown something of the board."""
+        there = [name for name in self.users if self.seats.get(name, ("", ""))[0] in self.row_of(command)[3:]]
+        return next((f"Spoiled({name})" for name in there if (name, command["board"]) in self.shown), None)
 
-    def why_lift(self, command):
-        return None if self.embargo else "NotEmbargoed"
+    # ---- of boards, of seats and of the session
 
-    def why_seat(self, command):
-        name, pair, place = command["name"], command["pair"], command["place"]
-        return first_of([
-            ("NoSuchPair", pair not in self.playing),
-            ("WrongDirection", place not in pair[:2]),
-            ("NotContestant", "Contestant" not in self.authorized(name)),
-            ("AlreadySeated", name in self.seats),
-            ("SeatTaken", (pair, place) in self.seats.values()),
-        ])
+    def why_already_held(self, command):
+        return command["board"] in self.held
 
-    def why_unseat(self, command):
-        return None if command["name"] in self.seats else "NotSeated"
+    def why_not_held(self, command):
+        return command["board"] not in self.held
 
-    def why_nextround(self, command):
-        return "NoMoreRounds" if self.round == self.rounds else None
+    def why_already_embargoed(self, command):
+        return self.embargo
 
-    def why_close(self, command):
-        return "NotAllLive" if any(self.awaited(board) for board in self.boards) else None
+    def why_not_embargoed(self, command):
+        return not self.embargo
 
-    why_finalise = why_close
+    def why_no_such_pair(self, command):
+        return command["pair"] not in self.playing
 
-    def why_adduser(self, command):
-        return first_of([
-            ("BadName", not re.fullmatch("[A-Za-z0-9_-]{1,32}", command["name"])),
-            ("UserExists", command["name"] in self.users),
-            ("TooManyUsers", len(self.users) == MOST_USERS),
-        ])
+    def why_wrong_direction(self, command):
+        return command["place"] not in command["pair"][:2]
 
-    def why_rename(self, command):
-        return None
+    def why_not_contestant(self, command):
+        return "Contestant" not in self.authorized(command["name"])
 
-    def why_assign(self, command):
-        has = self.users[command["name"]]
-        if command["role"] in has:
-            return "AlreadyAssigned"
-        return self.tried(lambda: has.add(command["role"]), self.broken, lambda: has.remove(command["role"]))
+    def why_already_seated(self, command):
+        return command["name"] in self.seats
 
-    def why_deassign(self, command):
-        has = self.users[command["name"]]
-        if command["role"] not in has:
-            return "NotAssigned"
-        return self.tried(lambda: has.remove(command["role"]), self.needed, lambda: has.add(command["role"]))
+    def why_not_seated(self, command):
+        return command["name"] not in self.seats
 
-    def why_addinheritance(self, command):
-        pair = command["senior"], command["junior"]
-        if pair[0] in self.below(pair[1]):
-            return "Cycle"
-        return "AlreadyThere" if pair in self.pairs else self.tried(lambda: self.pairs.append(pair), self.broken, self.pairs.pop)
+    def why_seat_taken(self, command):
+        return (command["pair"], command["place"]) in self.seats.values()
 
-    def why_deleteinheritance(self, command):
-        pair = command["senior"], command["junior"]
-        if pair not in self.pairs:
-            return "NotThere"
-        place = self.pairs.index(pair)
-        return self.tried(lambda: self.pairs.pop(place), self.needed, lambda: self.pairs.insert(place, pair))
+    def why_no_more_rounds(self, command):
+        return self.round == self.rounds
 
-    def tried(self, change, cause, undo):
-        change()
-        found = cause()
-        undo()
+    def why_not_all_live(self, command):
+        return any(self.awaited(board) for board in self.boards)
+
+    # ---- of users and their roles
+
+    def why_bad_name(self, command):
+        return not re.fullmatch("[A-Za-z0-9_-]{1,32}", command["name"])
+
+    def why_user_exists(self, command):
+        return command["name"] in self.users
+
+    def why_too_many_users(self, command):
+        return len(self.users) == MOST_USERS
+
+    def why_no_such_role(self, command):
+        return not {command[member] for member in ("role", "senior", "junior") if member in command} <= set(roles_of(self.edition))
+
+    def why_already_assigned(self, command):
+        return command["role"] in self.users[command["name"]]
+
+    def why_not_assigned(self, command):
+        return command["role"] not in self.users[command["name"]]
+
+    def why_cycle(self, command):
+        return command["senior"] in reached_from(command["junior"], self.pairs)
+
+    def why_already_there(self, command):
+        return (command["senior"], command["junior"]) in self.pairs
+
+    def why_not_there(self, command):
+        return (command["senior"], command["junior"]) not in self.pairs
+
+    def why_separation(self, command):
+        """The first separated set of roles that somebody would hold."""
+        held = self.roles_after(command)
+        return next((f"Separation({number})" for number, role in SEPARATED.items()
+                     if any({role, "Contestant"} <= roles for roles in held.values())), None)
+
+    def why_still_seated(self, command):
+        held = self.roles_after(command)
+        return any("Contestant" not in held[name] for name in self.seats)
+
+    def why_last_administrator(self, command):
+        return not any("Administrator" in roles for roles in self.roles_after(command).values())
+
+    def roles_after(self, command):
+        """What each user would be authorized for."""
+        users, pairs = self.users, self.pairs
+        self.users, self.pairs = {name: set(roles) for name, roles in users.items()}, list(pairs)
+        self.do(command)
+        found = {name: self.authorized(name) for name in self.users}
+        self.users, self.pairs = users, pairs
         return found
 
-    def below(self, role):
-        """The role, and all that it inherits."""
-        found = {role}
-        while more := {junior for senior, junior in self.pairs if senior in found} - found:
-            found |= more
-        return found
 
-    def broken(self):
-        held = [self.authorized(name) for name in self.users]
-        return next((f"Separation({number})" for number, role in SEPARATED.items() if any({role, "Contestant"} <= roles for roles in held)), None)
-
-    def needed(self):
-        if any("Contestant" not in self.authorized(name) for name in self.seats):
-            return "StillSeated"
-        return None if any("Administrator" in self.authorized(name) for name in self.users) else "LastAdministrator"
+def reached_from(role, pairs):
+    """The role, and all that it inherits by these pairs of a senior role and a junior one; by pairs the other way round, all above it."""
+    found = {role}
+    while more := {junior for senior, junior in pairs if senior in found} - found:
+        found |= more
+    return found
 
 
-def about(command):
-    """What an audit tells that a command is about."""
-    word = command["cmd"]
-    if word in ABOUT_CELLS:
-        return f"{command['table']}/{command['board']}"
-    if word in ("Assign", "Deassign"):
-        return f"{command['name']}:{command['role']}"
-    if word in ("AddInheritance", "DeleteInheritance"):
-        return f"{command['senior']}>{command['junior']}"
-    return str(command.get("board", command.get("name", "")))
+def method_of(cause):
+    return "why" + re.sub("[A-Z]", lambda letter: "_" + letter[0].lower(), cause)
+
+
+def check_commands():
+    """Each command can be done, each of its refusals looked at, and who may give it is who inherits the permission at the opening."""
+    upwards = [(junior, senior) for senior, junior in opening_pairs(2)]
+    for word, command in COMMANDS.items():
+        needed, *more = command.who
+        if set(more) != reached_from(needed, upwards) - {needed}:
+            stop(command.line, f"{word}: {', '.join(more) or 'nobody'} isn't who is above {needed} when a session is opened")
+        for method in ["do_" + word.lower(), *(method_of(cause) for cause in refusals_of(word) if cause != "NotPermitted")]:
+            if not hasattr(JudgedSession, method):
+                stop(command.line, f"{word}: the model of tests/models/judged_session.py has no method {method}")
+
+
+check_commands()

@@ -1,10 +1,12 @@
 """What a line of a script is, by the tables of docs/PROTOCOL.md: a message, or the first fault that applies, in either edition.
 
-A plain reader beside the program's own. It reads JSON by Python's reader, as tests/models/session_reader.py does.
+A plain reader beside the program's own. It reads JSON by Python's reader, as tests/models/session_reader.py does. Which members a command or a
+query has is read from the page itself (tests/models/protocol_tables.py); what is a value of each stands here.
 """
 import json
 import re
 
+from protocol_tables import COMMANDS, QUERIES, of_edition, stop
 from session_reader import MOST_LEVELS, Number, depth_of, finite, no_constant, texts_in
 from session_model import roles_of
 from shown_texts import MOST_SHOWN, is_shown_text
@@ -95,38 +97,27 @@ READ = {
     "shown": shown,
     "play": lambda value: [one(card, CARDS) for card in listed(value, MOST_CARDS)], "place": lambda value: one(value, PLACES),
 }
-COMMANDS = {
-    "Enter": ["table", "board", "result"], "Confirm": ["table", "board", "result"], "Correct": ["table", "board", "result"],
-    "Rule": ["table", "board", "ns", "ew", "reason"], "Void": ["table", "board"], "Hold": ["board"], "Release": ["board"],
-    "Seat": ["name", "pair", "place"], "Unseat": ["name"], "NextRound": [], "Close": [], "Finalise": [], "AddUser": ["name", "digest"],
-    "Assign": ["name", "role"], "Deassign": ["name", "role"], "AddInheritance": ["senior", "junior"], "DeleteInheritance": ["senior", "junior"],
-}
-SECOND = {"Embargo": [], "Lift": [], "Rename": ["name", "shown"]}
-QUERIES = {
-    "status": [], "ranking": [], "accounts": [], "board": ["board"], "traveller": ["board"], "analysis": ["board"],
-    "play": ["table", "board"], "costs": ["table", "board"], "reason": ["table", "board"], "list": [],
-}
-SECOND_QUERIES = {"par": ["board"]}
+ROLE_MEMBERS = ("role", "senior", "junior")
 
 
-def queries_of(edition):
-    """The members of each query of an edition."""
-    return {**QUERIES, **SECOND_QUERIES} if edition == 2 else QUERIES
+def check_members():
+    """Each member of a command is read."""
+    for word, asked in COMMANDS.items():
+        for unread in {*asked.members, *asked.may_be_missing} - READ.keys() - {*ROLE_MEMBERS}:
+            stop(asked.line, f"{word}: nothing in tests/models/message_reader.py reads a member {unread}")
 
 
-def commands_of(edition):
-    """The members of each command of an edition."""
-    return {**COMMANDS, **SECOND} if edition == 2 else COMMANDS
+check_members()
 
 
 def member(word, value, edition):
-    return one(value, roles_of(edition)) if word in ("role", "senior", "junior") else READ[word](value)
+    return one(value, roles_of(edition)) if word in ROLE_MEMBERS else READ[word](value)
 
 
 def command(found, edition):
     need(isinstance(found, dict) and "cmd" in found and is_text(found["cmd"]))
-    free = ["play"] if found["cmd"] in ("Enter", "Correct") else []
-    members(found, ["cmd", *commands_of(edition)[found["cmd"]]], free)
+    asked = of_edition(COMMANDS, edition)[found["cmd"]]
+    members(found, ["cmd", *asked.members], asked.may_be_missing)
     read = {"cmd": found["cmd"], **{word: member(word, value, edition) for word, value in found.items() if word != "cmd"}}
     if read.get("play") == []:
         del read["play"]
@@ -162,9 +153,9 @@ def filter_of(value, depth, atoms):
 
 def query(found, edition):
     word = found["ask"]
-    cells = queries_of(edition)[word]
-    members(found, ["as", "ask", *cells], ["since", *(["filter", "from", "limit"] if word == "list" else [])])
-    read = {"ask": word, **{cell: byte(found[cell]) for cell in cells}}
+    asked = of_edition(QUERIES, edition)[word]
+    members(found, ["as", "ask", *asked.members], ["since", *asked.may_be_missing])
+    read = {"ask": word, **{cell: byte(found[cell]) for cell in asked.members}}
     if "since" in found:
         read["since"] = number(found["since"], 0, WORD)
     if "filter" in found:
@@ -200,11 +191,11 @@ def read_line(line, edition=1):
     kinds = [word for word in ("ask", "do", "audit", "hello") if word in found]
     if len(kinds) != 1 or kinds == ["hello"]:
         raise Fault("UnknownRequest")
-    if kinds == ["ask"] and is_text(found["ask"]) and found["ask"] not in queries_of(edition):
+    if kinds == ["ask"] and is_text(found["ask"]) and found["ask"] not in of_edition(QUERIES, edition):
         raise Fault("UnknownRequest")
     if kinds == ["do"] and isinstance(found["do"], list):
         words = [inner["cmd"] for inner in found["do"] if isinstance(inner, dict) and "cmd" in inner]
-        if any(is_text(word) and word not in commands_of(edition) for word in words):
+        if any(is_text(word) and word not in of_edition(COMMANDS, edition) for word in words):
             raise Fault("UnknownRequest")
     need("as" in found)
     actor = name(found["as"])

@@ -107,8 +107,11 @@ class Session:
     # ---- what a command does that is accepted
 
     def accept(self, command):
-        getattr(self, "do_" + command["cmd"].lower())(command)
+        self.do(command)
         self.version += 1
+
+    def do(self, command):
+        getattr(self, "do_" + command["cmd"].lower())(command)
 
     def do_enter(self, command):
         self.entered[command["table"], command["board"]] = (command["result"], command.get("play", []))

@@ -5,7 +5,9 @@
 
 Each answer must have the type of an answer to its message, with no number above 2^53, and each message that was read the type
 of a message. What was answered UnknownRequest must have no message's type, but for commands and queries of the second edition in a
-session of the first; of BadField it is only counted how much fits, since types tell no ranges. Each fenced example on the page must be a message of some run, but for its `as`, with its answer.
+session of the first; of BadField it is only counted how much fits, since types tell no ranges. Each fenced example on the page must be a
+message of some run, but for its `as`, with its answer. The types of a command, of a query and of a refusal must say what the page's tables do
+(tests/models/protocol_tables.py).
 
 It knows the part of TypeScript that the page uses: aliases, literals, templates, unions, intersections, objects, lists, tuples
 and the type of a member. An object may have no member that isn't listed.
@@ -16,14 +18,13 @@ import pathlib
 import re
 import sys
 
-sys.path[:0] = [str(pathlib.Path(__file__).resolve().parents[1] / folder) for folder in ("runs",)]
+sys.path[:0] = [str(pathlib.Path(__file__).resolve().parents[1] / folder) for folder in ("models", "runs")]
+from protocol_tables import COMMANDS, QUERIES, REFUSALS
 from stored_runs import read
 
 PAGE = pathlib.Path(__file__).resolve().parents[2] / "docs" / "PROTOCOL.md"
 TOKEN = re.compile(r'\s+|//[^\n]*|(?P<text>"[^"]*")|(?P<template>`[^`]*`)|(?P<number>[0-9]+)|(?P<name>[A-Za-z_]\w*)'
                    r'|(?P<mark>[{}()\[\]|&:;,?=])')
-SECOND = ("Embargo", "Lift", "Rename")
-SECOND_QUERIES = ("par",)
 UNREAD = ("TooLong", "Malformed", "UnknownRequest", "BadField")
 LARGEST = 2**53
 
@@ -211,8 +212,29 @@ def edition_of(text):
 def names_second(said):
     """Whether commands or a query are asked for that the second edition alone has."""
     commands = said.get("do")
-    return said.get("ask") in SECOND_QUERIES or (
-        isinstance(commands, list) and any(isinstance(one, dict) and one.get("cmd") in SECOND for one in commands))
+    return is_second(QUERIES, said.get("ask")) or (
+        isinstance(commands, list) and any(isinstance(one, dict) and is_second(COMMANDS, one.get("cmd")) for one in commands))
+
+
+def is_second(things, word):
+    return isinstance(word, str) and word in things and things[word].edition == 2
+
+
+def values_of(what):
+    """The texts that a type lists, of a template what stands before its bracket."""
+    kind, of = what
+    return [value for one in of for value in values_of(one)] if kind == "union" else [of[0].partition("(")[0] if kind == "template" else of]
+
+
+def words_of_type(types, name, key, block):
+    """What a type says of each word: its edition, its members, and those that may be missing."""
+    found = {}
+    for shape in types.shapes(("name", name)):
+        for word in values_of(shape[key][1]):
+            [line] = re.findall(rf'^.*\b{key}: [^;}}]*"{word}".*$', block, re.MULTILINE)
+            free = {member for member, (optional, _) in shape.items() if optional} - {"since"}
+            found[word] = 2 if "second edition" in line else 1, shape.keys() - free - {key, "since"}, free
+    return found
 
 
 def runs():
@@ -251,6 +273,16 @@ class Comparison:
         if not holds:
             print(f"FAILED  {where}: {text[:200]}")
 
+    def compare_tables(self, block):
+        """What the types say of commands, queries and refusals, and what the page's tables say of them."""
+        for name, key, things in (("Command", "cmd", COMMANDS), ("Query", "ask", QUERIES)):
+            found = words_of_type(self.types, name, key, block)
+            for word in {**things, **found}:
+                told = word in things and (things[word].edition, {*things[word].members}, {*things[word].may_be_missing})
+                self.check(found.get(word) == told, f"the type {name}, and the table of docs/PROTOCOL.md", f"{word}: {found.get(word)}, and {told}")
+        differ = {*values_of(self.types.aliases["Refusal"])} ^ REFUSALS.keys()
+        self.check(not differ, "the type Refusal, and the table of docs/PROTOCOL.md", " ".join(sorted(differ)))
+
     def compare(self, part, edition, message, answer):
         told = json.loads(answer)
         unread = told.get("error") if set(told) == {"error"} and told["error"] in UNREAD else None
@@ -286,6 +318,7 @@ def main():
     page = PAGE.read_text()
     [block] = re.findall(r"^```ts\n(.*?)^```$", page, re.DOTALL | re.MULTILINE)
     comparison, met = Comparison(Types(block)), set()
+    comparison.compare_tables(block)
     for part, edition, pairs in runs():
         for message, answer in pairs:
             comparison.compare(part, edition, message, answer)
