@@ -7,6 +7,7 @@
  */
 
 const cellOf = /^(\d{1,3})\/(\d{1,3})$/u;
+// written by tests/pages/client_commands.py, from the table of docs/PROTOCOL.md
 const kinds = {
   cell: ["Enter", "Confirm", "Correct", "Rule", "Void", "Analysed"],
   board: ["Hold", "Release", "Solved"],

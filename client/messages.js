@@ -69,34 +69,28 @@ export const ask = {
   audit: (from, limit) => ({ audit: { from, limit } }),
 };
 
-const bare = (cmd) => () => ({ cmd });
-const withBoard = (cmd) => (board) => ({ cmd, board });
-const withRole = (cmd) => (name, role) => ({ cmd, name, role });
-const withPair = (cmd) => (senior, junior) => ({ cmd, senior, junior });
-const withResult = (cmd) => (table, board, result, play = []) =>
-  play.length ? { cmd, table, board, result, play } : { cmd, table, board, result };
-
+// written by tests/pages/client_commands.py, from the table of docs/PROTOCOL.md
 export const command = {
-  enter: withResult("Enter"),
+  enter: (table, board, result, play = []) => ({ cmd: "Enter", table, board, result, ...(play.length ? { play } : {}) }),
   confirm: (table, board, result) => ({ cmd: "Confirm", table, board, result }),
-  correct: withResult("Correct"),
+  correct: (table, board, result, play = []) => ({ cmd: "Correct", table, board, result, ...(play.length ? { play } : {}) }),
   rule: (table, board, ns, ew, reason) => ({ cmd: "Rule", table, board, ns, ew, reason }),
   void: (table, board) => ({ cmd: "Void", table, board }),
-  hold: withBoard("Hold"),
-  release: withBoard("Release"),
+  hold: (board) => ({ cmd: "Hold", board }),
+  release: (board) => ({ cmd: "Release", board }),
   seat: (name, pair, place) => ({ cmd: "Seat", name, pair, place }),
   unseat: (name) => ({ cmd: "Unseat", name }),
-  nextRound: bare("NextRound"),
-  close: bare("Close"),
-  finalise: bare("Finalise"),
-  embargo: bare("Embargo"),
-  lift: bare("Lift"),
+  nextRound: () => ({ cmd: "NextRound" }),
+  close: () => ({ cmd: "Close" }),
+  finalise: () => ({ cmd: "Finalise" }),
+  embargo: () => ({ cmd: "Embargo" }),
+  lift: () => ({ cmd: "Lift" }),
   addUser: (name, digest) => ({ cmd: "AddUser", name, digest }),
   rename: (name, shown) => ({ cmd: "Rename", name, shown }),
-  assign: withRole("Assign"),
-  deassign: withRole("Deassign"),
-  addInheritance: withPair("AddInheritance"),
-  deleteInheritance: withPair("DeleteInheritance"),
+  assign: (name, role) => ({ cmd: "Assign", name, role }),
+  deassign: (name, role) => ({ cmd: "Deassign", name, role }),
+  addInheritance: (senior, junior) => ({ cmd: "AddInheritance", senior, junior }),
+  deleteInheritance: (senior, junior) => ({ cmd: "DeleteInheritance", senior, junior }),
 };
 
 /**

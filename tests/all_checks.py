@@ -33,6 +33,7 @@ CHECKS = (
     ("tests/models/model_runs.py",),
     ("tests/runs/protocol_examples.py", "--check"),
     ("tests/pages/protocol_types.py",),
+    ("tests/pages/client_commands.py", "--check"),
     ("tests/pages/public_names.py",),
     ("tests/pages/unreached_functions.py",),
     ("tests/pages/headline_definitions.py", "--check"),
