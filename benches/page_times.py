@@ -124,7 +124,7 @@ def taps(page, driver):
         page.go("boards")
         time.sleep(0.5)
     for view in ("session", "ranking", "director", "accounts", "papers"):
-        measured(driver, f"to the view {view}", ([f"nav-{view}"] * 5, [f"nav-{view}"] * 5), elsewhere)
+        measured(driver, f"to the view {view}", ([f"nav-{view}"] * 15, [f"nav-{view}"] * 5), elsewhere)
 
 
 def main():

@@ -23,7 +23,7 @@ import { signInView } from "./views/sign_in.js";
 
 const toldBackFor = 15_000;
 // as many elements of a view that is opened fill a phone's window, and are drawn before the others
-const drawnFirst = 80;
+const drawnFirst = 40;
 const part = (id) => document.getElementById(id);
 
 function storageOfTab() {
