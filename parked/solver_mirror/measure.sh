@@ -15,6 +15,6 @@ else
 fi
 if [ -n "$numbers" ]; then
   cmp <(cut -f1,2 "$mirror/numbers") <(cut -f1,2 "$numbers") && echo "the numbers are the same"
-  paste "$mirror/numbers" "$numbers" | awk -F'\t' '{ a += $3; b += $6; l += log($3 / $6) }
+  paste <(cut -f1-3 "$mirror/numbers") <(cut -f1-3 "$numbers") | awk -F'\t' '{ a += $3; b += $6; l += log($3 / $6) }
     END { printf "visits %+.2f %% of all, %+.2f %% a deal by the mean of logarithms\n", 100 * (a / b - 1), 100 * (exp(l / NR) - 1) }'
 fi

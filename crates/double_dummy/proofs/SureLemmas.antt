@@ -4,6 +4,7 @@ use Rattle.std.proofs.Common.{
   ◌≢◌,
   ◌⊎◌,
   ℕ,
+  ◌-◌,
   ◌<◌,
   ◌≤◌,
   Bool,
@@ -43,7 +44,7 @@ use Rattle.double_dummy.proofs.RunLemmas.{none_in}
 use Rattle.position_patterns.proofs.SetLemmas.{in_first, in_second, just_inserted, still_inserted, inserted}
 use Rattle.double_dummy_laws.proofs.HandLemmas.{follows_legal, in_suit, legal_follows}
 use Rattle.double_dummy_laws.proofs.BestTrumpLemmas.{opponent_cases, opponents, trump_beats}
-use Rattle.double_dummy_laws.proofs.SureTrickLemmas.{guarded_found, masters_found, trumps_found, winning_found}
+use Rattle.double_dummy_laws.proofs.SureTrickLemmas.{guarded_found, long_found, masters_found, winning_found}
 use Rattle.double_dummy_laws.proofs.WinnerLemmas.{both_of, both_trumps, height_below, same_suit, same_trump}
 use Rattle.double_dummy_laws.specs.Found.{IsFound, wanted_answer}
 use Rattle.double_dummy_laws.specs.SureTricks.{AreEnough, IsGuarded, IsWinningCard, IsWinningCardKnown}
@@ -307,38 +308,6 @@ masters_sure p mine others lone named taken target wanted valid none mine_is oth
     ])
     (enough (set.len taken) many)
 
--- a player's best trumps
-pub trumps_sure : (p : Position) (trump : Suit) (holder : Place) (hand mine others lone named taken : Cards)
-    (target wanted : ℕ) → IsPosition p → p.table ≡ [] → trump_of p.strain ≡ Some trump →
-    hand ≡ hand_of p.hands holder → mine ≡ set.retain hand (is_of trump) →
-    ((place : Place) (card : Card) → side_of place ≢ side_of holder →
-    set.contains (hand_of p.hands place) card ≡ true → set.contains others card ≡ true) →
-    AreAmong lone mine → AreAlone lone others → AreAmong named mine → AreAbove named others →
-    taken ≡ set.union lone named →
-    ((tricks : ℕ) → wanted ≤ tricks → AreEnough (side_of holder) tricks p target) → wanted ≤ set.len taken →
-    IsFound p target named (wanted_answer (side_of holder))
-trumps_sure p trump holder hand mine others lone named taken target wanted valid none trump_is hand_is mine_is
-    others_has lone_in lone_alone named_in named_above taken_is enough many =
-    let own = λ (card : Card) (held : set.contains taken card ≡ true).
-    of_suit hand mine trump card mine_is (among_both lone named taken mine taken_is lone_in named_in card held) in
-    trumps_found p holder taken named target valid none (record {
-      held = λ card held. ap (λ s. set.contains s card) (sym hand_is) ∙ (own card held).0;
-      trumps = λ card held. ap (λ t. is_trump t card) trump_is ∙ (own card held).1;
-      higher = λ card other place held ne there is.
-          let other_in = others_has place other ne there in
-          let same : other.suit ≡ card.suit =
-          both_of trump other card (sym (ap (λ t. is_trump t other) trump_is) ∙ is) (own card held).1 in
-          elim (either lone named taken card taken_is held) [
-            | inl h ↦ absurd (lone_alone card other h other_in same)
-            | inr h ↦ named_above card other h other_in same
-          ];
-    })
-    (λ card other place held ne there same. elim (either lone named taken card taken_is held) [
-      | inl h ↦ absurd (lone_alone card other h (others_has place other ne there) same)
-      | inr h ↦ h
-    ])
-    (enough (set.len taken) many)
-
 -- the same, as the search says it
 pub masters_answer : (p : Position) (leader : Place) (side side' : Side) (mine others lone named taken known : Cards)
     (target wanted : ℕ) (holds : Bool) → IsPosition p → p.table ≡ [] → leader ≡ p.leader → side ≡ side_of leader →
@@ -361,24 +330,67 @@ masters_answer p leader side side' mine others lone named taken known target wan
     taken_is
     (λ tricks more. subst (λ s. AreEnough s tricks p target) (side_is ∙ of_leader) (enough tricks more)) many))
 
+-- a player's trumps, and the opponents' that may beat one of them
 pub trumps_answer : (p : Position) (trump : Suit) (holder : Place) (side side' : Side)
-    (hand mine others lone named taken known : Cards) (target wanted : ℕ) (holds : Bool) → IsPosition p →
-    p.table ≡ [] → trump_of p.strain ≡ Some trump → side ≡ side_of holder → side' ≡ side_of holder →
+    (hand mine others against counted beaters named known : Cards) (target wanted : ℕ) (holds : Bool) →
+    IsPosition p → p.table ≡ [] → trump_of p.strain ≡ Some trump → side ≡ side_of holder → side' ≡ side_of holder →
     hand ≡ hand_of p.hands holder → mine ≡ set.retain hand (is_of trump) →
     ((place : Place) (card : Card) → side_of place ≢ side_of holder →
     set.contains (hand_of p.hands place) card ≡ true → set.contains others card ≡ true) →
-    AreAmong lone mine → AreAlone lone others → AreAmong named mine → AreAbove named others →
-    taken ≡ set.union lone named →
-    ((tricks : ℕ) → wanted ≤ tricks → AreEnough side tricks p target) → wanted ≤ set.len taken →
-    holds ≡ wanted_answer side' → known ≡ named → IsFound p target known holds
-trumps_answer p trump holder side side' hand mine others lone named taken known target wanted holds valid none trump_is
-    side_is side_is' hand_is mine_is others_has lone_in lone_alone named_in named_above taken_is enough many holds_is
-    known_is =
+    against ≡ set.retain others (is_of trump) → AreAmong counted mine →
+    ((card other : Card) → set.contains counted card ≡ true → set.contains against other ≡ true →
+    (set.contains beaters other ≡ true) ⊎ ((height other.rank < height card.rank) × (set.contains named card ≡ true))) →
+    ((tricks : ℕ) → wanted ≤ tricks → AreEnough side tricks p target) →
+    wanted ≤ set.len counted - set.len beaters → holds ≡ wanted_answer side' → known ≡ named →
+    IsFound p target known holds
+trumps_answer p trump holder side side' hand mine others against counted beaters named known target wanted holds valid
+    none trump_is side_is side_is' hand_is mine_is others_has against_is counted_in beats enough many holds_is known_is =
+    let own = λ (card : Card) (held : set.contains counted card ≡ true).
+    of_suit hand mine trump card mine_is (counted_in card held) in
+    let opposed = λ (card other : Card) (place : Place) (held : set.contains counted card ≡ true)
+    (ne : side_of place ≢ side_of holder) (there : set.contains (hand_of p.hands place) other ≡ true)
+    (is : is_of trump other ≡ true).
+    beats card other held (in_of_suit others against trump other against_is (others_has place other ne there) is) in
     subst (λ k. IsFound p target k holds) (sym known_is)
     (subst (λ b. IsFound p target named b) (sym (holds_is ∙ ap wanted_answer side_is'))
-    (trumps_sure p trump holder hand mine others lone named taken target wanted valid none trump_is hand_is mine_is
-    others_has lone_in lone_alone named_in named_above taken_is
-    (λ tricks more. subst (λ s. AreEnough s tricks p target) side_is (enough tricks more)) many))
+    (long_found p holder counted beaters named target valid none (record {
+      held = λ card held. ap (λ s. set.contains s card) (sym hand_is) ∙ (own card held).0;
+      trumps = λ card held. ap (λ t. is_trump t card) trump_is ∙ (own card held).1;
+      lower = λ card other place held ne there is.
+          elim (opposed card other place held ne there (sym (ap (λ t. is_trump t other) trump_is) ∙ is)) [
+            | inl counts ↦ inl counts
+            | inr less ↦ inr less.0
+          ];
+    })
+    (λ card other place held ne there same.
+    elim (opposed card other place held ne there (also_of trump card other (own card held).1 same)) [
+      | inl counts ↦ inl counts
+      | inr less ↦ inr less.1
+    ])
+    (subst (λ s. AreEnough s (set.len counted - set.len beaters) p target) side_is
+    (enough (set.len counted - set.len beaters) many))))
+
+-- of two players' trumps those from one up
+pub from_one_up : (mine against reach counted beaters : Cards) (hand others : Cards) (trump : Suit) (lowest : Card) →
+    mine ≡ set.retain hand (is_of trump) → against ≡ set.retain others (is_of trump) →
+    ((card : Card) → set.contains reach card ≡ true →
+    (card.suit ≡ lowest.suit) × (height lowest.rank ≤ height card.rank)) →
+    ((card : Card) → card.suit ≡ lowest.suit → height lowest.rank ≤ height card.rank →
+    set.contains reach card ≡ true) →
+    ((card : Card) → set.contains counted card ≡ (set.contains mine card && set.contains reach card)) →
+    ((card : Card) → set.contains beaters card ≡ (set.contains against card && set.contains reach card)) →
+    (card other : Card) → set.contains counted card ≡ true → set.contains against other ≡ true →
+    (set.contains beaters other ≡ true) ⊎ ((height other.rank < height card.rank) × (set.contains counted card ≡ true))
+from_one_up mine against reach counted beaters hand others trump lowest mine_is against_is up all counted_is beaters_is
+    card other held there =
+    let parts = and_parts _ _ (sym (counted_is card) ∙ held) in
+    let high = up card parts.1 in
+    let same = both_of trump other card (of_suit others against trump other against_is there).1
+    (of_suit hand mine trump card mine_is parts.0).1 in
+    elim (cases_lt (height other.rank) (height lowest.rank)) [
+      | inl less ↦ inr (omega (arith, less, high.1), held)
+      | inr reaches ↦ inl (beaters_is other ∙ and_from _ _ there (all other (same ∙ high.0) reaches))
+    ]
 
 -- a player's highest trump, and another one
 pub is_guarded : (p : Position) (trump : Suit) (holder right : Place)

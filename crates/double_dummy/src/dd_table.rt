@@ -7,6 +7,7 @@ ghost use Rattle.solver_results.specs.DdTable.{IsTricksIn};
 use crate::asking::value;
 use crate::budget::{Budget, BudgetSpent};
 use crate::error::SolveError;
+use crate::likely::likely_tricks;
 use cards::{Deal, Position};
 use position_patterns::{DealPatterns, Holders, Memory};
 use solver_results::{DdTable, DeclarerTricks};
@@ -80,7 +81,9 @@ fn solve_strain(
     ensures spent { budget.new ≤ budget.old }
 {
     memory.clear();
-    let Ok(north) = solve_declarer(deal, strain, Place::North, 7, patterns, memory, budget) else {
+    let guess = likely_tricks(deal, strain);
+    let Ok(north) = solve_declarer(deal, strain, Place::North, guess, patterns, memory, budget)
+    else {
         return Err(BudgetSpent);
     };
     let Ok(south) = solve_declarer(deal, strain, Place::South, north, patterns, memory, budget)

@@ -9,6 +9,7 @@ mod budget;
 mod card_costs;
 mod dd_table;
 mod error;
+mod likely;
 mod order;
 mod played_costs;
 mod run;

@@ -18,9 +18,9 @@ use cards::{Card, Hand, Position, Rank};
 use position_patterns::Finding;
 use table_terms::{Place, Side, Suit};
 
-/// Whether North and South take so many tricks, at the beginning of a trick, where a side's best trumps, its guarded
-/// second best one or the leader's masters take as many as that needs. DDS counts more; what is counted here is known
-/// by the cards that it names.
+/// Whether North and South take so many tricks, at the beginning of a trick, where a player's trumps, a guarded second
+/// best one or the leader's masters take as many as that needs. DDS counts more; what is counted here is known by the
+/// cards that it names.
 pub fn sure_tricks(position: &Position, target: u8, tricks_left: u8) -> Option<Finding>
     requires start { position.now.table ≡ [] }
     requires left { 4 * tricks_left ≡ cards_left position.now + length position.now.table }
@@ -36,8 +36,7 @@ pub fn sure_tricks(position: &Position, target: u8, tricks_left: u8) -> Option<F
     by_masters(position, target, tricks_left)
 }
 
-/// The same, by the trumps of one player: of the side that has the best trump, since no other has one that is higher
-/// than all of its opponents'.
+/// The same, by the trumps of one player.
 fn by_trumps(position: &Position, target: u8, tricks_left: u8) -> Option<Finding>
     requires start { position.now.table ≡ [] }
     requires left { 4 * tricks_left ≡ cards_left position.now + length position.now.table }
@@ -45,21 +44,10 @@ fn by_trumps(position: &Position, target: u8, tricks_left: u8) -> Option<Finding
     ensures { IfSome result (λ found. IsFound position.now target found.known found.holds) }
 {
     let trump = position.strain().trump()?;
-    let norths = trumps_of(position, trump, Place::North, Place::South);
-    let easts = trumps_of(position, trump, Place::East, Place::West);
-    if easts.word() < norths.word() {
-        by_trumps_of_side(position, trump, Place::North, target, tricks_left)
-    } else {
-        by_trumps_of_side(position, trump, Place::East, target, tricks_left)
+    if let Some(found) = by_trumps_of_side(position, trump, Place::North, target, tricks_left) {
+        return Some(found);
     }
-}
-
-/// The trumps of two players.
-fn trumps_of(position: &Position, trump: Suit, one: Place, other: Place) -> Hand {
-    position
-        .hand(one)
-        .union(position.hand(other))
-        .of_suit(trump)
+    by_trumps_of_side(position, trump, Place::East, target, tricks_left)
 }
 
 /// The same, by those of a player or of the partner.
@@ -91,9 +79,29 @@ fn by_trumps_of_side(
     None
 }
 
-/// The same, by those of a player's trumps that are higher than all of the opponents'.
+/// The same, by a player's trumps: by all of them, where no rank matters, or by the highest.
 #[inline(never)]
 fn by_trumps_of(
+    position: &Position,
+    trump: Suit,
+    holder: Place,
+    target: u8,
+    tricks_left: u8,
+) -> Option<Finding>
+    requires start { position.now.table ≡ [] }
+    requires left { 4 * tricks_left ≡ cards_left position.now + length position.now.table }
+    requires some { target ≤ tricks_left }
+    requires trump { trump_of position.now.strain ≡ Some trump }
+    ensures { IfSome result (λ found. IsFound position.now target found.known found.holds) }
+{
+    if let Some(found) = by_many_trumps(position, trump, holder, target, tricks_left) {
+        return Some(found);
+    }
+    by_high_trumps(position, trump, holder, target, tricks_left)
+}
+
+/// The same, by how many more trumps a player has than both opponents: a trump of theirs beats one at most.
+fn by_many_trumps(
     position: &Position,
     trump: Suit,
     holder: Place,
@@ -109,13 +117,56 @@ fn by_trumps_of(
     let wanted = tricks_wanted(holder.side(), target, tricks_left);
     let mine = position.hand(holder).of_suit(trump);
     let others = opponents_cards(position, holder);
-    let alone = lone(mine, others, trump);
-    let named = fewest(higher(mine, others, trump), wanted);
-    let taken = alone.union(named);
-    if taken.len() < wanted {
+    let against = others.of_suit(trump);
+    if mine.len().saturating_sub(against.len()) < wanted {
         return None;
     }
-    Some(answer(holder.side(), named))
+    Some(answer(holder.side(), Hand::new()))
+}
+
+/// The same, by a player's trumps from one up, and the opponents' that are as high: none of the others beats any.
+fn by_high_trumps(
+    position: &Position,
+    trump: Suit,
+    holder: Place,
+    target: u8,
+    tricks_left: u8,
+) -> Option<Finding>
+    requires start { position.now.table ≡ [] }
+    requires left { 4 * tricks_left ≡ cards_left position.now + length position.now.table }
+    requires some { target ≤ tricks_left }
+    requires trump { trump_of position.now.strain ≡ Some trump }
+    ensures { IfSome result (λ found. IsFound position.now target found.known found.holds) }
+{
+    let wanted = tricks_wanted(holder.side(), target, tricks_left);
+    let mine = position.hand(holder).of_suit(trump);
+    let others = opponents_cards(position, holder);
+    let against = others.of_suit(trump);
+    let lowest = lowest_counted(mine, against, wanted)?;
+    let reach = upwards(lowest);
+    let counted = common(mine, reach);
+    let beaters = common(against, reach);
+    if counted.len().saturating_sub(beaters.len()) < wanted {
+        return None;
+    }
+    Some(answer(holder.side(), counted))
+}
+
+/// The highest of a player's trumps from which up they are more by so many than the opponents'.
+fn lowest_counted(mine: Hand, against: Hand, wanted: u32) -> Option<Card> {
+    let mut rest = mine.word();
+    for counted in 1..14u32 {
+        if rest == 0 {
+            return None;
+        }
+        let highest = rest.ilog2();
+        let above = (against.word() >> highest).count_ones();
+        if counted.saturating_sub(above) >= wanted {
+            return Some(Card::from_number(highest.min(51) as u8));
+        }
+        rest &= !(1 << highest);
+    }
+    None
 }
 
 /// The same, where one trick of the side that isn't on lead is enough: by a second best trump, guarded behind the best.

@@ -66,7 +66,7 @@ second_best leader a b c d first third last =
     ∙ cond-true _ _ _ (and_from _ _ (le-leb c b third) (le-leb d b last))
 
 -- who played the strongest card is of the side of a card that beats both of the other side's
-side_of_first : (leader : Place) (a b c d : ℕ) → b < a → d < a → side_of (strongest leader a b c d) ≡ side_of leader
+pub side_of_first : (leader : Place) (a b c d : ℕ) → b < a → d < a → side_of (strongest leader a b c d) ≡ side_of leader
 side_of_first leader a b c d first last =
     elim (cases_lt a c) [
       | inl h ↦ ap side_of (third_wins leader a b c d
@@ -74,7 +74,7 @@ side_of_first leader a b c d first last =
       | inr h ↦ ap side_of (first_best leader a b c d (omega arith) h (omega arith))
     ]
 
-side_of_third : (leader : Place) (a b c d : ℕ) → b < c → d < c → side_of (strongest leader a b c d) ≡ side_of leader
+pub side_of_third : (leader : Place) (a b c d : ℕ) → b < c → d < c → side_of (strongest leader a b c d) ≡ side_of leader
 side_of_third leader a b c d first last =
     elim (cases_lt a c) [
       | inl h ↦ ap side_of (third_wins leader a b c d

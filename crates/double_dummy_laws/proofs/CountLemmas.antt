@@ -25,7 +25,7 @@ has_less hand card held =
     ∙ set.contains-empty card_cmp card) in
     omega arith
 
-has_same : (hand : Cards) (card : Card) → set.contains hand card ≡ false → set.len (set.remove hand card) ≡ set.len hand
+pub has_same : (hand : Cards) (card : Card) → set.contains hand card ≡ false → set.len (set.remove hand card) ≡ set.len hand
 has_same hand card gone = set.len-remove card_cmp_total hand card ∙ cond-false _ _ _ gone
 
 pub no_more : (hand : Cards) (card : Card) → set.len (set.remove hand card) ≤ set.len hand

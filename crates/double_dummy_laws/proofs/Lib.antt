@@ -6,6 +6,7 @@ pub mod DoubleDummyLemmas
 pub mod EqualCardsLemmas
 pub mod GuardedTrumpLemmas
 pub mod HandLemmas
+pub mod LongTrumpLemmas
 pub mod MasterLemmas
 pub mod NeighbourLemmas
 pub mod OwnerLemmas

@@ -1,5 +1,5 @@
 -- Sure tricks stay sure when the cards get other names.
-use Rattle.std.proofs.Common.{◌≡◌, ◌≢◌, ℕ, ◌<◌, ◌≤◌, true, List, [], ◌∷◌, length, map, refl, sym, ap, ◌∙◌, subst, inl, inr, arith, zero, suc}
+use Rattle.std.proofs.Common.{◌≡◌, ◌≢◌, ◌⊎◌, ℕ, ◌-◌, ◌<◌, ◌≤◌, true, List, [], ◌∷◌, length, map, refl, sym, ap, ◌∙◌, subst, inl, inr, arith, zero, suc}
 use Rattle.std.specs.Prelude.{nat_eq, nat_le}
 use Rattle.std.specs.List.{list_any}
 use Rattle.std.specs.Ordering.{eq_by_cmp}
@@ -28,13 +28,14 @@ use Rattle.double_dummy_laws.proofs.MasterLemmas as masters
 use Rattle.double_dummy_laws.proofs.BestTrumpLemmas as trumps
 use Rattle.double_dummy_laws.proofs.BestTrumpLemmas.{partners}
 use Rattle.double_dummy_laws.proofs.GuardedTrumpLemmas as guarded
+use Rattle.double_dummy_laws.proofs.LongTrumpLemmas as long
 use Rattle.double_dummy_laws.proofs.WinningCardLemmas as winning
 use Rattle.double_dummy_laws.proofs.WinningCardLemmas.{opposite}
 use Rattle.double_dummy_laws.proofs.TakingLemmas.{at, has_removed, removed_had, some_of}
 use Rattle.double_dummy_laws.proofs.WinnerLemmas.{both_trumps, same_trump, stronger_stays}
 use Rattle.double_dummy_laws.specs.Found.{IsFound, wanted_answer}
 use Rattle.double_dummy_laws.specs.Renaming.{HasNames, IsLiveCardOf, IsRenaming, Ownership, knowing}
-use Rattle.double_dummy_laws.specs.SureTricks.{AreBestTrumps, AreEnough, AreMasters, AreMastersKnown, AreTrumpsKnown, IsGuarded, IsWinningCard, IsWinningCardKnown, TakesAtLeast}
+use Rattle.double_dummy_laws.specs.SureTricks.{AreBestTrumps, AreEnough, AreLongTrumps, AreLongTrumpsKnown, AreMasters, AreMastersKnown, AreTrumpsKnown, IsGuarded, IsWinningCard, IsWinningCardKnown, TakesAtLeast}
 
 -- where each card of a set has its own partner in another, the other has as many
 paired_len : (n : ℕ) (R : Card → Card → Type 0) (s t : Cards) → set.len s ≤ n →
@@ -194,6 +195,52 @@ module _ (ownership : Ownership) (name : Card → Card) (renaming : IsRenaming o
         (or_right _ _ (known old.0 beside.0 place old.1 ne beside.1 suits))
         (λ e. ne (ap side_of (sym theirs.1 ∙ e ∙ mine.1))) suits
         (are.higher old.0 beside.0 place old.1 ne beside.1 trump)));
+  }
+
+  -- no more of them, whoever has them
+  no_more_named : (cards : Cards) → set.len (named_cards name cards) ≤ set.len cards
+  no_more_named cards =
+      paired_len (set.len (named_cards name cards)) (λ card old. name old ≡ card) (named_cards name cards) cards
+      (omega arith) (λ card in'. named_old name cards card in') (λ a b c in_a in_b e f. sym e ∙ f)
+
+  long_named : (strain : Strain) (holder : Place) (cards beaters : Cards) →
+      AreLongTrumps (at h strain holder []) holder cards beaters →
+      ((card other : Card) (place : Place) → set.contains cards card ≡ true → side_of place ≢ side_of holder →
+      set.contains (hand_of h place) other ≡ true → other.suit ≡ card.suit →
+      (set.contains beaters other ≡ true) ⊎ (ownership.is_known card ≡ true)) →
+      AreLongTrumps (at hands strain holder []) holder (named_cards name cards) (named_cards name beaters)
+  long_named strain holder cards beaters are known = record {
+    held = λ card in'.
+        let old = named_old name cards card in' in
+        subst (λ x. set.contains (hand_of hands holder) x ≡ true) old.2
+        (named.into holder old.0 (are.held old.0 old.1));
+    trumps = λ card in'.
+        let old = named_old name cards card in' in
+        let mine = named.live holder old.0 (are.held old.0 old.1) in
+        subst (λ x. is_trump (trump_of strain) x ≡ true) old.2
+        (same_trump (trump_of strain) (name old.0) old.0 (renaming.suit old.0 mine.0) ∙ are.trumps old.0 old.1);
+    lower = λ card other place in' ne there is.
+        let old = named_old name cards card in' in
+        let beside = named.onto place other there in
+        let mine = named.live holder old.0 (are.held old.0 old.1) in
+        let theirs = named.live place beside.0 beside.1 in
+        let trump : is_trump (trump_of strain) beside.0 ≡ true =
+        sym (same_trump (trump_of strain) (name beside.0) beside.0 (renaming.suit beside.0 theirs.0))
+        ∙ ap (is_trump (trump_of strain)) beside.2 ∙ is in
+        let suits = both_trumps (trump_of strain) beside.0 old.0 trump (are.trumps old.0 old.1) in
+        let counted = λ (beats : set.contains beaters beside.0 ≡ true).
+        subst (λ x. set.contains (named_cards name beaters) x ≡ true) beside.2
+        (in_named name beaters beside.0 beats) in
+        elim (are.lower old.0 beside.0 place old.1 ne beside.1 trump) [
+          | inl beats ↦ inl (counted beats)
+          | inr less ↦ elim (known old.0 beside.0 place old.1 ne beside.1 suits) [
+            | inl beats ↦ inl (counted beats)
+            | inr ranked ↦ inr (subst (λ x. height other.rank < height x.rank) old.2
+                (subst (λ y. height y.rank < height (name old.0).rank) beside.2
+                (renaming.order beside.0 old.0 theirs.0 mine.0 (or_right _ _ ranked)
+                (λ e. ne (ap side_of (sym theirs.1 ∙ e ∙ mine.1))) suits less)))
+          ]
+        ];
   }
 
   guarded_named : (strain : Strain) (leader holder : Place) (best second guard : Card) →
@@ -359,6 +406,42 @@ trumps_found_at h strain leader holder cards known target valid are are_known en
     (trumps_named own name renaming h hands named strain holder cards (other_leader h strain leader holder cards are)
     are_known))
 
+-- a trump beats one at most
+long_at : (h : Hands) (strain : Strain) (leader holder : Place) (cards beaters : Cards) →
+    IsPosition (at h strain leader []) → AreLongTrumps (at h strain holder []) holder cards beaters →
+    TakesAtLeast (side_of holder) (set.len cards - set.len beaters) (at h strain leader [])
+long_at h strain leader holder cards beaters valid are =
+    long.taken strain holder (cards_left (at h strain leader [])) (set.len cards - set.len beaters) h leader cards
+    beaters (omega arith) valid are (omega arith)
+
+long_of_holder : (h : Hands) (strain : Strain) (leader holder : Place) (cards beaters : Cards) →
+    AreLongTrumps (at h strain leader []) holder cards beaters →
+    AreLongTrumps (at h strain holder []) holder cards beaters
+long_of_holder h strain leader holder cards beaters are =
+    record { held = are.held; trumps = are.trumps; lower = are.lower }
+
+long_found_at : (h : Hands) (strain : Strain) (leader holder : Place) (cards beaters known : Cards) (target : ℕ) →
+    IsPosition (at h strain leader []) → AreLongTrumps (at h strain leader []) holder cards beaters →
+    AreLongTrumpsKnown (at h strain leader []) holder cards beaters known →
+    AreEnough (side_of holder) (set.len cards - set.len beaters) (at h strain leader []) target →
+    IsFound (at h strain leader []) target known (wanted_answer (side_of holder))
+long_found_at h strain leader holder cards beaters known target valid are are_known enough ownership owned tight_p name
+    hands renaming named =
+    let own = knowing ownership known in
+    answered (side_of holder) (set.len cards - set.len beaters)
+    (set.len (named_cards name cards) - set.len (named_cards name beaters)) (at h strain leader [])
+    (at hands strain leader []) target enough
+    (omega (
+      arith,
+      len_of_named own name renaming h hands named holder cards are.held,
+      no_more_named own name renaming h hands named beaters,
+    ))
+    (left_named own name renaming h hands named strain leader) refl
+    (long_at hands strain leader holder (named_cards name cards) (named_cards name beaters)
+    (position_named own name renaming h hands named strain leader valid)
+    (long_named own name renaming h hands named strain holder cards beaters
+    (long_of_holder h strain leader holder cards beaters are) are_known))
+
 -- at the left of one's right-hand opponent sits oneself
 around : (place : Place) → left_of (left_of (partner_of place)) ≡ place
 around North = refl
@@ -451,6 +534,24 @@ trumps_found p holder cards known target valid none are are_known enough =
     (trumps_found_at p.hands p.strain p.leader holder cards known target (from_start IsPosition p none valid)
     (from_start (λ q. AreBestTrumps q holder cards) p none are) are_known
     (from_start (λ q. AreEnough (side_of holder) (set.len cards) q target) p none enough))
+
+pub long_take : (p : Position) (holder : Place) (cards beaters : Cards) → IsPosition p → p.table ≡ [] →
+    AreLongTrumps p holder cards beaters → TakesAtLeast (side_of holder) (set.len cards - set.len beaters) p
+long_take p holder cards beaters valid none are =
+    at_start (λ q. TakesAtLeast (side_of holder) (set.len cards - set.len beaters) q) p none
+    (long_at p.hands p.strain p.leader holder cards beaters (from_start IsPosition p none valid)
+    (long_of_holder p.hands p.strain p.leader holder cards beaters
+    (from_start (λ q. AreLongTrumps q holder cards beaters) p none are)))
+
+pub long_found : (p : Position) (holder : Place) (cards beaters known : Cards) (target : ℕ) → IsPosition p →
+    p.table ≡ [] → AreLongTrumps p holder cards beaters → AreLongTrumpsKnown p holder cards beaters known →
+    AreEnough (side_of holder) (set.len cards - set.len beaters) p target →
+    IsFound p target known (wanted_answer (side_of holder))
+long_found p holder cards beaters known target valid none are are_known enough =
+    at_start (λ q. IsFound q target known (wanted_answer (side_of holder))) p none
+    (long_found_at p.hands p.strain p.leader holder cards beaters known target (from_start IsPosition p none valid)
+    (from_start (λ q. AreLongTrumps q holder cards beaters) p none are) are_known
+    (from_start (λ q. AreEnough (side_of holder) (set.len cards - set.len beaters) q target) p none enough))
 
 pub guarded_takes : (p : Position) (holder : Place) (best second guard : Card) → IsPosition p → p.table ≡ [] →
     side_of p.leader ≢ side_of holder → IsGuarded p holder best second guard → TakesAtLeast (side_of holder) 1 p

@@ -1,5 +1,5 @@
 -- Cards that take tricks whatever the others play, and which of them have to be known.
-use Rattle.std.specs.Prelude.{◌≡◌, ◌≢◌, ◌+◌, ◌*◌, ◌<◌, ◌≤◌, ℕ, true, length, [], ◌∷◌}
+use Rattle.std.specs.Prelude.{◌≡◌, ◌≢◌, ◌+◌, ◌*◌, ◌<◌, ◌≤◌, ◌⊎◌, ℕ, true, length, [], ◌∷◌}
 use Rattle.std.specs.FinSet as set
 use Rattle.cards.specs.declared.card.Card.{Card}
 use Rattle.table_terms.specs.declared.place.Place.{Place}
@@ -54,6 +54,24 @@ AreTrumpsKnown position holder cards known =
     (card other : Card) (place : Place) → set.contains cards card ≡ true → side_of place ≢ side_of holder →
     set.contains (hand_of position.hands place) other ≡ true → other.suit ≡ card.suit →
     set.contains known card ≡ true
+
+-- the cards are trumps in a player's hand, and those trumps of the opponents that are not among the others are lower than
+-- each of them
+pub record AreLongTrumps (position : Position) (holder : Place) (cards beaters : Cards) : Type 0 where
+  pub held : (card : Card) → set.contains cards card ≡ true →
+      set.contains (hand_of position.hands holder) card ≡ true
+  pub trumps : (card : Card) → set.contains cards card ≡ true → is_trump (trump_of position.strain) card ≡ true
+  pub lower : (card other : Card) (place : Place) → set.contains cards card ≡ true →
+      side_of place ≢ side_of holder → set.contains (hand_of position.hands place) other ≡ true →
+      is_trump (trump_of position.strain) other ≡ true →
+      (set.contains beaters other ≡ true) ⊎ (height other.rank < height card.rank)
+
+-- the cards are known, if an opponent has a card of their suit that is not among the others
+abbrev pub AreLongTrumpsKnown : Position → Place → Cards → Cards → Cards → Type 0
+AreLongTrumpsKnown position holder cards beaters known =
+    (card other : Card) (place : Place) → set.contains cards card ≡ true → side_of place ≢ side_of holder →
+    set.contains (hand_of position.hands place) other ≡ true → other.suit ≡ card.suit →
+    (set.contains beaters other ≡ true) ⊎ (set.contains known card ≡ true)
 
 -- a player has a trump that is higher than all trumps of the opponents but one, and another trump to guard it; that one
 -- is with the opponent at the player's right

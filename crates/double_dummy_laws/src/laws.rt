@@ -1,5 +1,5 @@
 //! What follows from the definitions alone: each function here has nothing to do, and its clauses are the theorem.
-ghost use Rattle.std.specs.Prelude.{◌≡◌, ◌≢◌, ◌<◌, ◌≤◌, ℕ, ◌+◌, Bool, true, [], ◌∷◌, List, All, map, nat_le};
+ghost use Rattle.std.specs.Prelude.{◌≡◌, ◌≢◌, ◌<◌, ◌≤◌, ℕ, ◌+◌, ◌-◌, Bool, true, [], ◌∷◌, List, All, map, nat_le};
 ghost use Rattle.std.specs.FinSet as set;
 ghost use Rattle.cards.specs.declared.card.Card.{Card};
 ghost use Rattle.table_terms.specs.declared.place.Place.{Place};
@@ -14,7 +14,7 @@ ghost use Rattle.double_dummy_laws.specs.Found.{IsCardFound, IsFound, wanted_ans
 ghost use Rattle.double_dummy_laws.specs.Neighbours.{AreNeighbours, AreUnparted, IsRun};
 ghost use Rattle.double_dummy_laws.specs.Pattern.{IsOfPattern, IsTop, holding};
 ghost use Rattle.double_dummy_laws.specs.Renaming.{Ownership, IsRenaming, HasNames, ArePlayed, AllKnown, renamed};
-ghost use Rattle.double_dummy_laws.specs.SureTricks.{AreBestTrumps, AreEnough, AreMasters, AreMastersKnown, AreTrumpsKnown, IsGuarded, IsWinningCard, IsWinningCardKnown, TakesAtLeast};
+ghost use Rattle.double_dummy_laws.specs.SureTricks.{AreBestTrumps, AreEnough, AreLongTrumps, AreLongTrumpsKnown, AreMasters, AreMastersKnown, AreTrumpsKnown, IsGuarded, IsWinningCard, IsWinningCardKnown, TakesAtLeast};
 
 /// With cards left, a position is worth the best that the side to play gets by a legal card: the trick that the card
 /// completes and what the position after it is worth. With none left it is worth no trick.
@@ -101,6 +101,20 @@ pub fn best_trumps_take_tricks()
     ensures found { (position : Position) (holder : Place) (cards known : Cards) (target : ℕ) → IsPosition position →
         position.table ≡ [] → AreBestTrumps position holder cards → AreTrumpsKnown position holder cards known →
         AreEnough (side_of holder) (set.len cards) position target →
+        IsFound position target known (wanted_answer (side_of holder)) }
+{}
+
+/// A trump beats one at most: whoever is on lead, a side takes as many tricks as one of its players has more trumps than
+/// the opponents have that may beat one of them. To know so, these trumps have to be known, if the opponents have others,
+/// and none where all of theirs are counted.
+pub fn long_trumps_take_tricks()
+    ensures tricks { (position : Position) (holder : Place) (cards beaters : Cards) → IsPosition position →
+        position.table ≡ [] → AreLongTrumps position holder cards beaters →
+        TakesAtLeast (side_of holder) (set.len cards - set.len beaters) position }
+    ensures found { (position : Position) (holder : Place) (cards beaters known : Cards) (target : ℕ) →
+        IsPosition position → position.table ≡ [] → AreLongTrumps position holder cards beaters →
+        AreLongTrumpsKnown position holder cards beaters known →
+        AreEnough (side_of holder) (set.len cards - set.len beaters) position target →
         IsFound position target known (wanted_answer (side_of holder)) }
 {}
 

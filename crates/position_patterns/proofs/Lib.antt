@@ -1,5 +1,6 @@
 pub mod DigitLemmas
 pub mod KeptLemmas
+pub mod RaisedLemmas
 pub mod RankLemmas
 pub mod RemainderLemmas
 pub mod SetLemmas

@@ -46,7 +46,7 @@ use Rattle.position_patterns.specs.Tops.{IsPatternOf}
 use Rattle.double_dummy_laws.proofs.HandLemmas.{in_suit, without_had}
 use Rattle.double_dummy_laws.specs.Pattern.{held_before, held_of, holder_of, holding}
 
-either_way : (a b : Bool) → (a ≡ true → b ≡ true) → (b ≡ true → a ≡ true) → a ≡ b
+pub either_way : (a b : Bool) → (a ≡ true → b ≡ true) → (b ≡ true → a ≡ true) → a ≡ b
 either_way true b to from = sym (to refl)
 either_way false b to from = sym (false_from_ne_true b (λ t. true≢false (sym (from t))))
 
@@ -74,7 +74,7 @@ held_by_one hands card held =
           [ inl s ↦ (South, s) | inr w ↦ (West, w) ]
     ]
 
-same_holder : (hands others : Hands) (card : Card) →
+pub same_holder : (hands others : Hands) (card : Card) →
     ((place : Place) → set.contains (hand_of hands place) card ≡ set.contains (hand_of others place) card) →
     holder_of hands card ≡ holder_of others card
 unfolding holder_of

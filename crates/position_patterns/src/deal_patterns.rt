@@ -8,7 +8,7 @@ ghost use Rattle.table_terms.specs.declared.suit.Suit.{Suit};
 ghost use Rattle.std.proofs.Props.{props};
 
 use crate::holders::Holders;
-use crate::pattern::{Pattern, SuitPattern};
+use crate::pattern::{Pattern, SuitPattern, place_number, place_weight, upper};
 use cards::{Card, Hand, Rank};
 use std::alloc::{AllocError, Global};
 use table_terms::Suit;
@@ -39,6 +39,64 @@ impl Holders {
             suit,
             cards: part.held(suit),
             pattern: part.suit_pattern(suit),
+        }
+    }
+
+    /// What is left of a suit by a mask of its cards, below the suit's number: mostly one card more than a mask before it
+    /// leaves. Those are the first of the slots.
+    fn remainder_of(&self, slots: &[Remainder], number: u16) -> Remainder
+        requires number { number < 32768 }
+        requires apart { IsApart self.now }
+        requires slots { All (IsTrueRemainder self.now) slots.now }
+        ensures { IsTrueRemainder self.now result }
+    {
+        let suit = Suit::from_number((number / 8192) as u8);
+        let mask = number % 8192;
+        if mask != 0 {
+            let height = mask.ilog2();
+            let place = number.wrapping_sub(1 << height) as usize;
+            if place < slots.len() {
+                return self.raised(slots[place], Rank::from_height(height.min(12) as u8));
+            }
+        }
+        let part = self.part(masked(suit, mask));
+        self.remainder(&part, suit)
+    }
+
+    /// The same with one card more, if it is higher than those and a player was dealt it.
+    fn raised(&self, less: Remainder, rank: Rank) -> Remainder
+        requires apart { IsApart self.now }
+        requires less { IsTrueRemainder self.now less }
+        ensures { IsTrueRemainder self.now result }
+    {
+        let card = Card {
+            suit: less.suit,
+            rank,
+        };
+        if !upper(less.cards, card).is_empty() {
+            return less;
+        }
+        let Some(place) = self.holder(card) else {
+            return less;
+        };
+        let owners = less.pattern.owners;
+        let lengths = less.pattern.lengths;
+        // twelve cards have no greater numbers
+        if owners >= 0x100_0000 {
+            return less;
+        }
+        if lengths > 0xc000 {
+            return less;
+        }
+        let mut cards = less.cards;
+        cards.insert(card);
+        Remainder {
+            suit: less.suit,
+            cards,
+            pattern: SuitPattern {
+                owners: place_number(place) + 4 * owners,
+                lengths: place_weight(place) + lengths,
+            },
         }
     }
 }
@@ -73,9 +131,8 @@ impl DealPatterns {
         let mut slots = Vec::new(alloc);
         // whatever may be left of a suit: a mask of its thirteen cards
         'masks: for number in 0..32768u16 {
-            let suit = Suit::from_number((number / 8192) as u8);
-            let part = whole.part(masked(suit, number % 8192));
-            slots.push(whole.remainder(&part, suit))?;
+            let remainder = whole.remainder_of(&slots, number);
+            slots.push(remainder)?;
         }
         Ok(DealPatterns {
             whole: *whole,

@@ -53,7 +53,7 @@ pub struct Remembered {
     pub clubs: SuitTops,
 }
 
-fn place_number(place: Place) -> u32
+pub(crate) fn place_number(place: Place) -> u32
     ensures { result ≡ place_number place }
 {
     match place {
@@ -64,7 +64,7 @@ fn place_number(place: Place) -> u32
     }
 }
 
-fn place_weight(place: Place) -> u16
+pub(crate) fn place_weight(place: Place) -> u16
     ensures { result ≡ place_weight place }
 {
     match place {
@@ -137,7 +137,7 @@ impl Holders {
 }
 
 /// The cards of a set from this one up, in the order of the pack.
-fn upper(cards: Hand, lowest: Card) -> Hand
+pub(crate) fn upper(cards: Hand, lowest: Card) -> Hand
     ensures among { (card : Card) → set.contains result card ≡ true →
         (set.contains cards card ≡ true) × (number_in_pack lowest ≤ number_in_pack card) }
     ensures all { (card : Card) → set.contains cards card ≡ true → number_in_pack lowest ≤ number_in_pack card →

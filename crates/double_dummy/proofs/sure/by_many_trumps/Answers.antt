@@ -1,0 +1,15 @@
+use Rattle.std.proofs.Common.{arith, inl}
+use Rattle.double_dummy.proofs.SureLemmas.{trumps_answer}
+use Rattle.double_dummy.proofs.sure.by_many_trumps.Goals as goal
+
+pub returns : goal.returns
+returns c =
+    trumps_answer c.args.position.now c.args.trump c.args.holder c.side.result c.side-2.result c.hand.result
+    c.of_suit-mine.result c.opponents_cards-others.result c.of_suit-against.result c.of_suit-mine.result
+    c.of_suit-against.result c.new.result c.answer.result.known c.args.target c.tricks_wanted-wanted.result
+    c.answer.result.holds c.hand.ensures.position c.requires.start c.requires.trump c.side.ensures c.side-2.ensures
+    c.hand.ensures.hand c.of_suit-mine.ensures c.opponents_cards-others.ensures c.of_suit-against.ensures
+    (λ card held. held) (λ card other held there. inl there)
+    (λ tricks. c.tricks_wanted-wanted.ensures c.args.position.now tricks c.requires.left)
+    (omega (arith, c.len.ensures.cards, c.len-2.ensures.cards, c.if-saturating_sub-wanted.false))
+    c.answer.ensures.holds c.answer.ensures.known
