@@ -6,7 +6,9 @@
  *                                                                   writers send a batch and, PAUSE seconds after its receipt, the next
  *   hall_clients idle PORT CLIENTS SECONDS MESSAGE                  none asks anything
  *
- * Each signs in first, as the director of the tests' session. One line of JSON is printed: a reply's time is from the moment at which it was to be asked for. */
+ * Each signs in first, as the director of the tests' session. One line of JSON is printed: a reply's time is from the moment at which it was to be asked for.
+ * `beside` counts the replies that were awaited while a batch was, and `apart_p99` is the 99th percentile of the others: both are of one run, so what else
+ * the machine does is in both. */
 #define _GNU_SOURCE
 #include <arpa/inet.h>
 #include <errno.h>
@@ -109,9 +111,10 @@ int main(int argc, char **argv) {
         epoll_ctl(ready, EPOLL_CTL_ADD, clients[i].fd, &event);
     }
     size_t most = 40000000, replies = 0, receipts = 0;
-    float *times = malloc(most * sizeof *times), *receipt_times = malloc(1000000 * sizeof *receipt_times);
-    double start = now(), end = start + seconds, *due = calloc(all, sizeof *due);
-    long asked = 0;
+    float *times = malloc(most * sizeof *times), *apart = malloc(most * sizeof *apart), *receipt_times = malloc(1000000 * sizeof *receipt_times);
+    size_t others = 0;
+    double start = now(), end = start + seconds, *due = calloc(all, sizeof *due), last_receipt = 0;
+    long asked = 0, batches = 0;
     if (!is_paced) for (int i = 0; i < count; i++) { clients[i].asked = now(); put(clients[i].fd, question, asking); }
     for (int i = count; i < all; i++) due[i] = start + pause * (i - count) / (writers ? writers : 1);
     struct epoll_event events[256];
@@ -123,24 +126,27 @@ int main(int argc, char **argv) {
             if (client->asked == 0) { client->asked = start + every * asked / count; put(client->fd, question, asking); }
             asked++;
         }
-        for (int i = count; i < all; i++) if (due[i] && due[i] <= t) { clients[i].asked = due[i]; due[i] = 0; put(clients[i].fd, batch, writing); }
+        for (int i = count; i < all; i++) if (due[i] && due[i] <= t) { clients[i].asked = due[i]; due[i] = 0; batches++; put(clients[i].fd, batch, writing); }
         int n = epoll_wait(ready, events, 256, is_paced ? 0 : 100);
         for (int k = 0; k < n; k++) {
             int i = events[k].data.u32;
             if (!is_answered(&clients[i])) continue;
             double m = now(), took = m - clients[i].asked;
+            int is_beside = batches > 0 || last_receipt >= clients[i].asked;
             clients[i].asked = 0;
-            if (i >= count) { if (receipts < 1000000) receipt_times[receipts++] = took; due[i] = m + pause; continue; }
+            if (i >= count) { if (receipts < 1000000) receipt_times[receipts++] = took; due[i] = m + pause; batches--; last_receipt = m; continue; }
             if (replies < most) times[replies++] = took;
+            if (others < most && !is_beside) apart[others++] = took;
             if (!is_paced) { clients[i].asked = m; put(clients[i].fd, question, asking); }
         }
     }
     double passed = now() - start;
     qsort(times, replies, sizeof *times, by_size);
+    qsort(apart, others, sizeof *apart, by_size);
     qsort(receipt_times, receipts, sizeof *receipt_times, by_size);
     if (!replies) die("no reply came");
-    printf("{\"clients\":%d,\"came\":%.3f,\"replies\":%zu,\"rate\":%.1f,\"p50\":%.1f,\"p99\":%.1f,\"p999\":%.1f,\"most\":%.1f,\"receipts\":%zu,\"receipt_p50\":%.1f}\n",
+    printf("{\"clients\":%d,\"came\":%.3f,\"replies\":%zu,\"rate\":%.1f,\"p50\":%.1f,\"p99\":%.1f,\"p999\":%.1f,\"most\":%.1f,\"beside\":%zu,\"apart_p99\":%.1f,\"receipts\":%zu,\"receipt_p50\":%.1f}\n",
         count, came, replies, replies / passed, times[replies / 2] * 1e6, times[replies * 99 / 100] * 1e6, times[replies * 999 / 1000] * 1e6, times[replies - 1] * 1e6,
-        receipts, receipts ? receipt_times[receipts / 2] * 1e6 : 0);
+        replies - others, others ? apart[others * 99 / 100] * 1e6 : 0, receipts, receipts ? receipt_times[receipts / 2] * 1e6 : 0);
     return 0;
 }

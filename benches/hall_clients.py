@@ -87,7 +87,8 @@ def paced(folder, *more, writers=4):
         processor = (spent(server.process) - begun) / seconds
     print(f"{count} clients, each every 2 s, {'with a journal' if more else 'without a journal'}, while {writers} enter ({told['receipts']} batches, {told['receipt_p50'] / 1000:.2f} ms in the "
           f"median): {told['rate']:.0f} replies a second; {told['p50'] / 1000:.2f}, {told['p99'] / 1000:.2f}, {told['p999'] / 1000:.2f} ms (50th, 99th, 99.9th percentile), "
-          f"{told['most'] / 1000:.1f} at most; {100 * processor:.1f} % of a processor", flush=True)
+          f"{told['most'] / 1000:.1f} at most; {told['beside']} replies were awaited beside a batch, and without those the 99th percentile is {told['apart_p99'] / 1000:.2f} ms; "
+          f"{100 * processor:.1f} % of a processor", flush=True)
 
 
 def asking(folder):

@@ -218,7 +218,8 @@ impl Position {
         Ok(())
     }
 
-    /// The position after a legal card.
+    /// The position after a legal card. A search asks for millions: within its caller nothing of it is written twice.
+    #[inline(always)]
     pub fn after(&self, card: Card) -> Position
         requires { set.contains (legal self.now) card ≡ true }
         ensures { result ≡ after self.now card }

@@ -35,6 +35,7 @@ fn learnt(known: Hand, decisive: Hand, run: Hand) -> Hand
 
 /// Whether North and South take so many tricks, from the memory where it is remembered. The live cards, those in the
 /// hands and on the table, are handed on from card to card: they are the same until the trick is over.
+#[inline(always)]
 #[cycle(search)]
 pub fn search(
     position: &Position,

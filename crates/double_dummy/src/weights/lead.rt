@@ -293,6 +293,7 @@ impl Lie {
     }
 
     /// Of a lead without trumps, where an opponent wins it.
+    #[inline(always)]
     fn losing(&self, base: u16, run: Run, place: u16) -> u16
         requires place { place ≤ 65 }
         requires least { 200 ≤ base }
