@@ -1,7 +1,7 @@
 #!/usr/bin/env python3
 """Times deal_tables beside DDS deal by deal, and says what all take together and which deals are slowest beside DDS.
 
-    benches/special_deals.py crates/deal_tables/out/deal_tables [DEALS [TURNS]]
+    benches/deals_one_by_one.py crates/deal_tables/out/deal_tables [DEALS [TURNS]]
 
 DEALS is a file of deals, those of crates/deal_tables/figures/special.txt where none is given. Both programs go on from deal to deal, so no
 start is in any time; of each deal the least processor time of the turns counts (2 where no number is given), since other work on a machine
@@ -58,6 +58,8 @@ def main():
             process.wait()
     here, there = (sum(times[side] for times in least) for side in (0, 1))
     print(f"{len(deals)} deals: {here:.0f} ms here, {there:.0f} ms by DDS, ratio {here / there:.2f}")
+    here, there = (sorted(times[side] for times in least)[len(deals) * 9 // 10 - 1] for side in (0, 1))
+    print(f"at the 90th percentile: {here:.1f} ms here, {there:.1f} ms by DDS, ratio {here / there:.2f}")
     slowest = sorted(((a / b, place + 1, a, b) for place, (a, b) in enumerate(least)), reverse=True)
     print(f"above 1.5: {sum(ratio > 1.5 for ratio, *_ in slowest)} deals; the slowest beside DDS:")
     for ratio, place, a, b in slowest[:5]:
