@@ -6,8 +6,8 @@ use Rattle.std.specs.Duration.{as_nanos}
 use Rattle.std.specs.declared.time.Duration.{Duration}
 use Rattle.hall_terms.specs.declared.client_end.ClientEnd.{ClientEnd}
 use Rattle.hall_terms.specs.declared.client_end.ClientEnd.TheVariants as ended
-use Rattle.wire.specs.AuditText.{word_text}
-use Rattle.wire.specs.ReceiptText.{refusal_name}
+use Rattle.session_commands.specs.Row.{word_text}
+use Rattle.session_commands.specs.Refusal.{refusal_name}
 use Rattle.event_log.specs.Moment.{IsMoment}
 use Rattle.event_log.specs.Plain.{plain}
 use Rattle.event_log.specs.declared.event.Guest.{Guest}

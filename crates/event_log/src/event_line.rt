@@ -10,7 +10,7 @@ ghost use Rattle.event_log.specs.Plain.{plain};
 use crate::event::{AnsweredCommand, Event, Guest};
 use crate::moment::{date_of, time_text};
 use crate::plain_text::plain;
-use crate::words::{batch_fault_word, client_end_word, command_word, refusal_word};
+use crate::words::{batch_fault_word, client_end_word};
 use std::alloc::{AllocError, Global};
 use std::time::Duration;
 
@@ -171,11 +171,11 @@ fn answered_text(alloc: Global, answer: &AnsweredCommand) -> Result<String, Allo
 {
     match answer {
         AnsweredCommand::Entered(word) => {
-            let word = command_word(*word);
+            let word = word.text();
             format!(in alloc; " {word}=ok")
         }
         AnsweredCommand::Refused(word, cause) => {
-            let (word, cause) = (command_word(*word), refusal_word(cause));
+            let (word, cause) = (word.text(), cause.name());
             format!(in alloc; " {word}={cause}")
         }
     }

@@ -3,6 +3,7 @@
 use crate::{AnsweredCommand, BatchFault, Event, EventLog, Guest, LogOutcome, ToldLog, log_line};
 use hall_terms::ClientEnd;
 use session_commands::{CommandWord, Refusal};
+use session_roles::Operation;
 use std::alloc::Global;
 use std::io::{self, ErrorKind, Write};
 use std::test::Fail;
@@ -33,7 +34,7 @@ fn is_line(alloc: Global, at: Option<u64>, event: &Event<'_>, moment: &str, told
 
 // Whether the line of a batch at a time is this.
 fn is_batch_line(alloc: Global, at: Option<u64>, moment: &str) -> bool {
-    let answers = [AnsweredCommand::Entered(CommandWord::Enter)];
+    let answers = [AnsweredCommand::Entered(CommandWord::Of(Operation::Enter))];
     match Name::new("ann") {
         Ok(ann) => {
             let event = Event::Answered(ann, 1, 1, &answers);
@@ -62,9 +63,9 @@ fn events_are_written(rt: HostRuntime) -> Result<(), Fail> {
         panic!(rt; "names of a few bytes");
     };
     let answers = [
-        AnsweredCommand::Entered(CommandWord::Enter),
-        AnsweredCommand::Refused(CommandWord::Confirm, Refusal::Mismatch),
-        AnsweredCommand::Refused(CommandWord::Enter, Refusal::Spoiled(odd)),
+        AnsweredCommand::Entered(CommandWord::Of(Operation::Enter)),
+        AnsweredCommand::Refused(CommandWord::Of(Operation::Confirm), Refusal::Mismatch),
+        AnsweredCommand::Refused(CommandWord::Of(Operation::Enter), Refusal::Spoiled(odd)),
     ];
     let rows = [
         (Event::SignedIn(ann), "signed_in ann"),
@@ -130,7 +131,7 @@ impl Write for Full {
 
 // Adds the line of a batch to a log, without a time.
 fn add_batch<W: Write + Drop>(alloc: Global, log: &mut EventLog<W>) -> Option<LogOutcome> {
-    let answers = [AnsweredCommand::Entered(CommandWord::Enter)];
+    let answers = [AnsweredCommand::Entered(CommandWord::Of(Operation::Enter))];
     match Name::new("ann") {
         Ok(ann) => Some(log.add(alloc, None, &Event::Answered(ann, 1, 1, &answers))),
         Err(_) => None,
@@ -156,7 +157,7 @@ fn a_log_goes_on_behind_a_line_that_was_cut_off(rt: HostRuntime) {
 
 // Adds the line of a batch to a log that is told of, without a time.
 fn add_told<W: Write + Drop, E: Write + Drop>(alloc: Global, log: &mut ToldLog<W, E>) {
-    let answers = [AnsweredCommand::Entered(CommandWord::Enter)];
+    let answers = [AnsweredCommand::Entered(CommandWord::Of(Operation::Enter))];
     if let Ok(ann) = Name::new("ann") {
         log.add(alloc, None, &Event::Answered(ann, 1, 1, &answers));
     }

@@ -44,12 +44,13 @@ use Rattle.rbac.specs.Authorization.{IsValid}
 use Rattle.session_state.specs.Apply.{apply}
 use Rattle.session_state.specs.SessionState.{SessionState}
 use Rattle.session_commands.specs.declared.entry.Entry.{Entry}
-use Rattle.session_book.specs.declared.touched.Touched.{Touched}
-use Rattle.session_book.specs.declared.touched.Touched.TheVariants.{Nothing, Board, User, Everything}
+use Rattle.session_commands.specs.declared.touched.Touched.{Touched}
+use Rattle.session_commands.specs.declared.touched.Touched.TheVariants.{Nothing, Board, User, Everything}
 use Rattle.session_book.specs.Exposure.{sees_hands, is_exposed, users_of}
 use Rattle.session_book.specs.ExposureTable.{is_noted, user_at, IsAsked, one_board, first_boards, IsNoted}
 use Rattle.session_book.specs.Replay.{replay}
-use Rattle.session_book.specs.Touched.{touched_by, is_touched, is_touched_at, touched_at, touched_before}
+use Rattle.session_commands.specs.Command.{touched_by}
+use Rattle.session_book.specs.Touched.{is_touched, is_touched_at, touched_at, touched_before}
 use Rattle.session_book.proofs.ExposureLemmas.{exposed_now, exposed_more, or_none}
 use Rattle.session_book.proofs.ExposureTableLemmas.{noted_more, lt_same}
 use Rattle.session_book.proofs.JournalLemmas.{replayed_more}

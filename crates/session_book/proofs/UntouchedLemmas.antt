@@ -65,7 +65,7 @@ use Rattle.disclosure_rules.specs.Seating.{some_that}
 use Rattle.disclosure_rules.specs.declared.seat.Seat as the_seat
 use Rattle.small_sets.proofs.NumbersLemmas.{has_number-numbers_that}
 use Rattle.session_state.specs.Apply.{apply, effect, confirmed, with_result}
-use Rattle.session_commands.specs.Command.{subject_cell}
+use Rattle.session_commands.specs.Command.{subject_cell, touched_by}
 use Rattle.session_state.specs.Refusal.{hindrance_of}
 use Rattle.session_state.specs.Seats.{without_seat}
 use Rattle.session_state.specs.SessionState.{SessionState, cell_at}
@@ -82,7 +82,7 @@ use Rattle.session_commands.specs.declared.entry.Entry.{Entry}
 use Rattle.session_commands.specs.declared.refusal.Refusal.{Refusal}
 use Rattle.session_commands.specs.declared.refusal.Refusal.TheVariants.{NoSuchCell}
 use Rattle.session_state.specs.declared.seated.Seated.{Seated}
-use Rattle.session_book.specs.Touched.{touched_by, is_touched}
+use Rattle.session_book.specs.Touched.{is_touched}
 use Rattle.session_book.proofs.SightLemmas.{ShowsNoMore}
 
 not_equal : (a b : ℕ) → nat_eq a b ≡ false → a ≢ b

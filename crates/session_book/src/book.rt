@@ -26,7 +26,6 @@ use crate::answer::Answer;
 use crate::audit::{AuditError, AuditRows, rows_of};
 use crate::exposure::Exposure;
 use crate::submission::Submission;
-use crate::touched::touched_by;
 use disclosure_rules::{Viewer, is_seated_at};
 use movement::Cell;
 use rbac::Account;
@@ -395,7 +394,7 @@ fn absorb(state: &mut State, exposure: &mut Exposure, entry: &Entry, boards: u8)
         (state.new ≡ replay opening (journal ++ entry.now ∷ []))
         × IsNoted opening (journal ++ entry.now ∷ []) state.new exposure.new }
 {
-    let touched = touched_by(&entry.command);
+    let touched = entry.command.touched();
     state.absorb(entry);
     exposure.ask_touched(state, &touched, boards);
 }

@@ -4,12 +4,12 @@ ghost use Rattle.rbac.specs.Account.{most_users};
 ghost use Rattle.rbac.specs.Authorization.{IsValid};
 ghost use Rattle.session_book.specs.Exposure.{users_of};
 ghost use Rattle.session_book.specs.Touched.{touched_at, touched_before};
-ghost use Rattle.session_book.specs.declared.touched.Touched.TheVariants.{Board, User};
+ghost use Rattle.session_commands.specs.declared.touched.Touched.TheVariants.{Board, User};
 ghost use Rattle.session_book.specs.ExposureTable.{is_noted, user_at, SeesAs, IsAsked, IsNoted, one_board, first_boards, first_users};
 
-use crate::touched::Touched;
 use disclosure_rules::{Boards, Fact, Viewer, decide};
 use rbac::Roles;
+use session_commands::Touched;
 use session_commands::room::filled;
 use session_roles::Role;
 use session_state::State;

@@ -9,7 +9,8 @@ ghost use Rattle.session_state.specs.Seats.{AreSeatsOf};
 ghost use Rattle.session_commands.specs.declared.entry.Entry.{Entry};
 ghost use Rattle.session_book.specs.Exposure.{SomeAllowed, is_exposed, result_cell};
 ghost use Rattle.session_book.specs.Journal.{replay, IsAccepted};
-ghost use Rattle.session_book.specs.Touched.{touched_by, is_touched};
+ghost use Rattle.session_commands.specs.Command.{touched_by};
+ghost use Rattle.session_book.specs.Touched.{is_touched};
 
 /// No foreknowledge: where some secret fact of a board was allowed to a user after some first part of an accepted
 /// journal, the empty one included, no later entry enters or confirms a result of that board at a cell in one of whose

@@ -7,7 +7,6 @@ mod book;
 mod exposure;
 pub mod laws;
 mod submission;
-mod touched;
 
 pub use answer::Answer;
 pub use audit::{AuditError, AuditRow, AuditRows};

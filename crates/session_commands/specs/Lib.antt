@@ -1,4 +1,5 @@
 pub mod CellState
 pub mod Command
 pub mod Refusal
+pub mod Row
 pub mod Told

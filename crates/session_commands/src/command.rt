@@ -1,6 +1,9 @@
-use crate::command_word::CommandWord;
+use crate::command_row::CommandRow;
+use crate::command_word::CommandWord::{self, Of};
 use crate::refusal::Refusal;
+use crate::taken::Taken;
 use crate::target::Target;
+use crate::touched::Touched;
 use cards::Play;
 use disclosure_rules::Phase;
 use movement::Cell;
@@ -115,75 +118,176 @@ pub enum Command {
 impl Command {
     ghost use Rattle.std.specs.Prelude.{◌≡◌};
     ghost use Rattle.session_commands.specs.Command.{operation_of, is_solvers, phases_of, subject_user, subject_cell, subject_board};
-    ghost use Rattle.session_commands.specs.Command.{is_told_by_table, is_among};
+    ghost use Rattle.session_commands.specs.Command.{is_told_by_table, is_among, touched_by};
     ghost use Rattle.session_commands.specs.Refusal.{spoiled};
+    ghost use Rattle.session_commands.specs.Row.{command_row};
     ghost use Rattle.session_commands.specs.Told.{word_of, target_of};
+
+    /// Its row: what is known of it whatever the session's state is.
+    pub fn row(&self) -> CommandRow
+        ensures { result ≡ command_row self.now }
+    {
+        let (word, taken, target, touched) = match *self {
+            Command::Enter { cell, .. } => (
+                Of(Operation::Enter),
+                Taken::InPlay,
+                Target::Cell(cell),
+                Touched::Nothing,
+            ),
+            Command::Confirm { cell, .. } => (
+                Of(Operation::Confirm),
+                Taken::InPlay,
+                Target::Cell(cell),
+                Touched::Board(cell.board),
+            ),
+            Command::Correct { cell, .. } => (
+                Of(Operation::Correct),
+                Taken::UntilFinal,
+                Target::Cell(cell),
+                Touched::Board(cell.board),
+            ),
+            Command::Rule { cell, .. } => (
+                Of(Operation::Rule),
+                Taken::UntilFinal,
+                Target::Cell(cell),
+                Touched::Board(cell.board),
+            ),
+            Command::Void { cell } => (
+                Of(Operation::Void),
+                Taken::UntilFinal,
+                Target::Cell(cell),
+                Touched::Nothing,
+            ),
+            Command::Hold { board } => (
+                Of(Operation::Hold),
+                Taken::UntilFinal,
+                Target::Board(board),
+                Touched::Nothing,
+            ),
+            Command::Release { board } => (
+                Of(Operation::Release),
+                Taken::Always,
+                Target::Board(board),
+                Touched::Board(board),
+            ),
+            Command::Seat { name, .. } => (
+                Of(Operation::Seat),
+                Taken::InPlay,
+                Target::User(name),
+                Touched::User(name),
+            ),
+            Command::Unseat { name } => (
+                Of(Operation::Unseat),
+                Taken::Always,
+                Target::User(name),
+                Touched::Nothing,
+            ),
+            Command::NextRound => (
+                Of(Operation::NextRound),
+                Taken::InPlay,
+                Target::Session,
+                Touched::Nothing,
+            ),
+            Command::Close => (
+                Of(Operation::Close),
+                Taken::InPlay,
+                Target::Session,
+                Touched::Nothing,
+            ),
+            Command::Finalise => (
+                Of(Operation::Finalise),
+                Taken::InCorrection,
+                Target::Session,
+                Touched::Nothing,
+            ),
+            Command::AddUser { name, .. } => (
+                Of(Operation::AddUser),
+                Taken::Always,
+                Target::NewUser(name),
+                Touched::Nothing,
+            ),
+            Command::Assign { name, role } => (
+                Of(Operation::Assign),
+                Taken::Always,
+                Target::Assignment { name, role },
+                Touched::User(name),
+            ),
+            Command::Deassign { name, role } => (
+                Of(Operation::Deassign),
+                Taken::Always,
+                Target::Assignment { name, role },
+                Touched::User(name),
+            ),
+            Command::AddInheritance { senior, junior } => (
+                Of(Operation::AddInheritance),
+                Taken::Always,
+                Target::Inheritance { senior, junior },
+                Touched::Everything,
+            ),
+            Command::DeleteInheritance { senior, junior } => (
+                Of(Operation::DeleteInheritance),
+                Taken::Always,
+                Target::Inheritance { senior, junior },
+                Touched::Everything,
+            ),
+            Command::Solved { board, .. } => (
+                CommandWord::Solved,
+                Taken::Always,
+                Target::Board(board),
+                Touched::Nothing,
+            ),
+            Command::Analysed { cell, .. } => (
+                CommandWord::Analysed,
+                Taken::Always,
+                Target::Cell(cell),
+                Touched::Nothing,
+            ),
+            Command::Embargo => (
+                Of(Operation::Embargo),
+                Taken::UntilFinal,
+                Target::Session,
+                Touched::Nothing,
+            ),
+            Command::Lift => (
+                Of(Operation::Lift),
+                Taken::Always,
+                Target::Session,
+                Touched::Everything,
+            ),
+            Command::Rename { name, .. } => (
+                Of(Operation::Rename),
+                Taken::Always,
+                Target::User(name),
+                Touched::Nothing,
+            ),
+        };
+        CommandRow {
+            word,
+            taken,
+            target,
+            touched,
+        }
+    }
 
     /// The operation for which a user needs the permission; the solver's commands have none.
     pub fn operation(&self) -> Option<Operation>
         ensures { result ≡ operation_of self.now }
     {
-        let operation = match self {
-            Command::Enter { .. } => Operation::Enter,
-            Command::Confirm { .. } => Operation::Confirm,
-            Command::Correct { .. } => Operation::Correct,
-            Command::Rule { .. } => Operation::Rule,
-            Command::Void { .. } => Operation::Void,
-            Command::Hold { .. } => Operation::Hold,
-            Command::Release { .. } => Operation::Release,
-            Command::Seat { .. } => Operation::Seat,
-            Command::Unseat { .. } => Operation::Unseat,
-            Command::NextRound => Operation::NextRound,
-            Command::Close => Operation::Close,
-            Command::Finalise => Operation::Finalise,
-            Command::AddUser { .. } => Operation::AddUser,
-            Command::Assign { .. } => Operation::Assign,
-            Command::Deassign { .. } => Operation::Deassign,
-            Command::AddInheritance { .. } => Operation::AddInheritance,
-            Command::DeleteInheritance { .. } => Operation::DeleteInheritance,
-            Command::Solved { .. } | Command::Analysed { .. } => return None,
-            Command::Embargo => Operation::Embargo,
-            Command::Lift => Operation::Lift,
-            Command::Rename { .. } => Operation::Rename,
-        };
-        Some(operation)
+        self.row().word.operation()
     }
 
     /// Whether it is one of the solver's.
     pub fn is_solvers(&self) -> bool
         ensures { result ≡ is_solvers self.now }
     {
-        matches!(self, Command::Solved { .. } | Command::Analysed { .. })
+        self.operation().is_none()
     }
 
     /// The phases in which it is taken.
     pub fn phases(&self) -> &'static [Phase]
         ensures { result.now ≡ phases_of self.now }
     {
-        match self {
-            Command::Enter { .. }
-            | Command::Confirm { .. }
-            | Command::Seat { .. }
-            | Command::NextRound
-            | Command::Close => &[Phase::Running],
-            Command::Correct { .. }
-            | Command::Rule { .. }
-            | Command::Void { .. }
-            | Command::Hold { .. }
-            | Command::Embargo => &[Phase::Running, Phase::Closed],
-            Command::Finalise => &[Phase::Closed],
-            Command::Release { .. }
-            | Command::Unseat { .. }
-            | Command::AddUser { .. }
-            | Command::Assign { .. }
-            | Command::Deassign { .. }
-            | Command::AddInheritance { .. }
-            | Command::DeleteInheritance { .. }
-            | Command::Solved { .. }
-            | Command::Analysed { .. }
-            | Command::Lift
-            | Command::Rename { .. } => &[Phase::Running, Phase::Closed, Phase::Final],
-        }
+        self.row().taken.phases()
     }
 
     /// Whether it is taken in a phase.
@@ -197,40 +301,28 @@ impl Command {
     pub fn user(&self) -> Option<Name>
         ensures { result ≡ subject_user self.now }
     {
-        match *self {
-            Command::Seat { name, .. }
-            | Command::Unseat { name }
-            | Command::Assign { name, .. }
-            | Command::Deassign { name, .. }
-            | Command::Rename { name, .. } => Some(name),
-            _ => None,
-        }
+        self.row().target.user()
     }
 
     /// The table and the board that it is about, if it is about a table.
     pub fn cell(&self) -> Option<Cell>
         ensures { result ≡ subject_cell self.now }
     {
-        match *self {
-            Command::Enter { cell, .. }
-            | Command::Confirm { cell, .. }
-            | Command::Correct { cell, .. }
-            | Command::Rule { cell, .. }
-            | Command::Void { cell }
-            | Command::Analysed { cell, .. } => Some(cell),
-            _ => None,
-        }
+        self.row().target.cell()
     }
 
     /// The board that it is about, if it is about a board as a whole.
     pub fn board(&self) -> Option<u8>
         ensures { result ≡ subject_board self.now }
     {
-        match *self {
-            Command::Hold { board } | Command::Release { board } | Command::Solved { board, .. } =>
-                Some(board),
-            _ => None,
-        }
+        self.row().target.board()
+    }
+
+    /// Whom it may let see the hands of a board, who didn't see them before.
+    pub fn touched(&self) -> Touched
+        ensures { result ≡ touched_by self.now }
+    {
+        self.row().touched
     }
 
     /// Whether it tells a result that was played.
@@ -255,62 +347,13 @@ impl Command {
     pub fn word(&self) -> CommandWord
         ensures { result ≡ word_of self.now }
     {
-        match self {
-            Command::Enter { .. } => CommandWord::Enter,
-            Command::Confirm { .. } => CommandWord::Confirm,
-            Command::Correct { .. } => CommandWord::Correct,
-            Command::Rule { .. } => CommandWord::Rule,
-            Command::Void { .. } => CommandWord::Void,
-            Command::Hold { .. } => CommandWord::Hold,
-            Command::Release { .. } => CommandWord::Release,
-            Command::Seat { .. } => CommandWord::Seat,
-            Command::Unseat { .. } => CommandWord::Unseat,
-            Command::NextRound => CommandWord::NextRound,
-            Command::Close => CommandWord::Close,
-            Command::Finalise => CommandWord::Finalise,
-            Command::AddUser { .. } => CommandWord::AddUser,
-            Command::Assign { .. } => CommandWord::Assign,
-            Command::Deassign { .. } => CommandWord::Deassign,
-            Command::AddInheritance { .. } => CommandWord::AddInheritance,
-            Command::DeleteInheritance { .. } => CommandWord::DeleteInheritance,
-            Command::Solved { .. } => CommandWord::Solved,
-            Command::Analysed { .. } => CommandWord::Analysed,
-            Command::Embargo => CommandWord::Embargo,
-            Command::Lift => CommandWord::Lift,
-            Command::Rename { .. } => CommandWord::Rename,
-        }
+        self.row().word
     }
 
     /// What it is about.
     pub fn target(&self) -> Target
         ensures { result ≡ target_of self.now }
     {
-        match *self {
-            Command::Enter { cell, .. }
-            | Command::Confirm { cell, .. }
-            | Command::Correct { cell, .. }
-            | Command::Rule { cell, .. }
-            | Command::Void { cell }
-            | Command::Analysed { cell, .. } => Target::Cell(cell),
-            Command::Hold { board } | Command::Release { board } | Command::Solved { board, .. } =>
-                { Target::Board(board) }
-            Command::Seat { name, .. }
-            | Command::Unseat { name }
-            | Command::AddUser { name, .. }
-            | Command::Rename { name, .. } => Target::User(name),
-            Command::Assign { name, role } | Command::Deassign { name, role } => {
-                Target::Assignment { name, role }
-            }
-            Command::AddInheritance { senior, junior }
-            | Command::DeleteInheritance { senior, junior } => Target::Inheritance {
-                senior,
-                junior,
-            },
-            Command::NextRound
-            | Command::Close
-            | Command::Finalise
-            | Command::Embargo
-            | Command::Lift => Target::Session,
-        }
+        self.row().target
     }
 }

@@ -5,16 +5,22 @@
 mod actor;
 mod cell_state;
 mod command;
+mod command_row;
 mod command_word;
 mod entry;
 mod refusal;
 pub mod room;
+mod taken;
 mod target;
+mod touched;
 
 pub use actor::Actor;
 pub use cell_state::CellState;
 pub use command::Command;
+pub use command_row::CommandRow;
 pub use command_word::CommandWord;
 pub use entry::Entry;
 pub use refusal::Refusal;
+pub use taken::Taken;
 pub use target::Target;
+pub use touched::Touched;

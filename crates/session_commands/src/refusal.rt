@@ -96,7 +96,7 @@ pub enum Refusal {
 
 impl Refusal {
     ghost use Rattle.std.specs.Prelude.{◌≡◌};
-    ghost use Rattle.session_commands.specs.Refusal.{is_out_of_memory};
+    ghost use Rattle.session_commands.specs.Refusal.{is_out_of_memory, refusal_name};
 
     /// Whether memory was refused.
     pub fn is_out_of_memory(&self) -> bool
@@ -104,11 +104,67 @@ impl Refusal {
     {
         matches!(self, Refusal::OutOfMemory)
     }
+
+    /// How it is called, without whom or what it is about.
+    pub fn name(&self) -> &'static str
+        ensures { result.now ≡ refusal_name self.now }
+    {
+        match self {
+            Refusal::NotPermitted => "NotPermitted",
+            Refusal::NoSuchUser => "NoSuchUser",
+            Refusal::NoSuchCell => "NoSuchCell",
+            Refusal::NoSuchBoard => "NoSuchBoard",
+            Refusal::WrongPhase => "WrongPhase",
+            Refusal::RoundNotStarted => "RoundNotStarted",
+            Refusal::BadResult => "BadResult",
+            Refusal::AlreadyLive => "AlreadyLive",
+            Refusal::NothingEntered => "NothingEntered",
+            Refusal::Mismatch => "Mismatch",
+            Refusal::Spoiled(_) => "Spoiled",
+            Refusal::NotLive => "NotLive",
+            Refusal::BadRuling => "BadRuling",
+            Refusal::AlreadyHeld => "AlreadyHeld",
+            Refusal::NotHeld => "NotHeld",
+            Refusal::AlreadyEmbargoed => "AlreadyEmbargoed",
+            Refusal::NotEmbargoed => "NotEmbargoed",
+            Refusal::NoSuchPair => "NoSuchPair",
+            Refusal::WrongDirection => "WrongDirection",
+            Refusal::NotContestant => "NotContestant",
+            Refusal::AlreadySeated => "AlreadySeated",
+            Refusal::SeatTaken => "SeatTaken",
+            Refusal::NotSeated => "NotSeated",
+            Refusal::NoMoreRounds => "NoMoreRounds",
+            Refusal::NotAllLive => "NotAllLive",
+            Refusal::BadName => "BadName",
+            Refusal::UserExists => "UserExists",
+            Refusal::TooManyUsers => "TooManyUsers",
+            Refusal::NoSuchRole => "NoSuchRole",
+            Refusal::AlreadyAssigned => "AlreadyAssigned",
+            Refusal::Separation(_) => "Separation",
+            Refusal::NotAssigned => "NotAssigned",
+            Refusal::StillSeated => "StillSeated",
+            Refusal::LastAdministrator => "LastAdministrator",
+            Refusal::Cycle => "Cycle",
+            Refusal::AlreadyThere => "AlreadyThere",
+            Refusal::NotThere => "NotThere",
+            Refusal::StrangeDeal => "StrangeDeal",
+            Refusal::AlreadySolved => "AlreadySolved",
+            Refusal::StrangePlay => "StrangePlay",
+            Refusal::JournalFull => "JournalFull",
+            Refusal::OutOfMemory => "OutOfMemory",
+            Refusal::NotTried => "NotTried",
+        }
+    }
 }
 
-/// The variant's name.
+/// The variant's name, without whom or what it is about.
 impl fmt::Display for Refusal {
+    ghost use Rattle.std.specs.Prelude.{Some};
+    ghost use Rattle.session_commands.specs.Refusal.{refusal_name};
+
+    ghost output = { λ refusal. Some (refusal_name refusal) };
+
     fn fmt<W: fmt::Write>(&self, f: &mut fmt::Formatter<W>) -> fmt::Result {
-        fmt::Debug::fmt(self, f)
+        f.write_str(self.name())
     }
 }

@@ -1,5 +1,5 @@
 -- The operations of a session, and the roles that permit them (core RBAC of INCITS 359-2012).
-use Rattle.std.specs.Prelude.{ℕ, Bool, true, ◌&&◌, nat_eq, List, [], ◌∷◌}
+use Rattle.std.specs.Prelude.{ℕ, Bool, true, ◌&&◌, nat_eq, List, [], ◌∷◌, codes}
 use Rattle.std.specs.List.{list_any}
 use Rattle.session_roles.specs.declared.edition.Edition.{Edition}
 use Rattle.session_roles.specs.declared.role.Role.{Role}
@@ -62,6 +62,30 @@ operation_number DeleteInheritance = 17
 operation_number Embargo = 18
 operation_number Lift = 19
 operation_number Rename = 20
+
+-- how an operation is called, in a message, a journal, an audit and a log alike
+abbrev pub operation_name : Operation → List ℕ
+operation_name Enter = codes "Enter"
+operation_name Confirm = codes "Confirm"
+operation_name Correct = codes "Correct"
+operation_name Rule = codes "Rule"
+operation_name Void = codes "Void"
+operation_name Hold = codes "Hold"
+operation_name Release = codes "Release"
+operation_name Seat = codes "Seat"
+operation_name Unseat = codes "Unseat"
+operation_name NextRound = codes "NextRound"
+operation_name Close = codes "Close"
+operation_name Finalise = codes "Finalise"
+operation_name Audit = codes "Audit"
+operation_name AddUser = codes "AddUser"
+operation_name Assign = codes "Assign"
+operation_name Deassign = codes "Deassign"
+operation_name AddInheritance = codes "AddInheritance"
+operation_name DeleteInheritance = codes "DeleteInheritance"
+operation_name Embargo = codes "Embargo"
+operation_name Lift = codes "Lift"
+operation_name Rename = codes "Rename"
 
 -- whether an edition knows the operation: the first one knows no embargo and no names to show
 abbrev pub is_operation_of : Edition → Operation → Bool

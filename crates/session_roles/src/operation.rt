@@ -1,7 +1,7 @@
 ghost use Rattle.std.specs.Prelude.{◌≡◌, ◌<◌};
 ghost use Rattle.std.specs.List.{list_any};
 ghost use Rattle.session_roles.specs.Role.{has, roles};
-ghost use Rattle.session_roles.specs.Operation.{is_operation_of, operation_number, one_permits};
+ghost use Rattle.session_roles.specs.Operation.{is_operation_of, operation_name, operation_number, one_permits};
 
 use crate::edition::Edition;
 use crate::role::Role;
@@ -40,6 +40,35 @@ impl Operation {
         ensures below { result < 21 }
     {
         self as u8
+    }
+
+    /// The operation's name, as `Enter`.
+    pub fn name(self) -> &'static str
+        ensures { result.now ≡ operation_name self }
+    {
+        match self {
+            Operation::Enter => "Enter",
+            Operation::Confirm => "Confirm",
+            Operation::Correct => "Correct",
+            Operation::Rule => "Rule",
+            Operation::Void => "Void",
+            Operation::Hold => "Hold",
+            Operation::Release => "Release",
+            Operation::Seat => "Seat",
+            Operation::Unseat => "Unseat",
+            Operation::NextRound => "NextRound",
+            Operation::Close => "Close",
+            Operation::Finalise => "Finalise",
+            Operation::Audit => "Audit",
+            Operation::AddUser => "AddUser",
+            Operation::Assign => "Assign",
+            Operation::Deassign => "Deassign",
+            Operation::AddInheritance => "AddInheritance",
+            Operation::DeleteInheritance => "DeleteInheritance",
+            Operation::Embargo => "Embargo",
+            Operation::Lift => "Lift",
+            Operation::Rename => "Rename",
+        }
     }
 
     /// Whether an edition knows the operation.

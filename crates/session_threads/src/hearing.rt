@@ -4,6 +4,7 @@ use event_log::{AnsweredCommand, BatchFault, Event, SharedLog};
 use session_book::{Answer, Book};
 use session_commands::{Command, CommandWord};
 use session_keeper::{BatchReceipt, SubmitFault};
+use session_roles::Operation;
 use solver_pool::{Done, Found, Work};
 use std::sync::Wait;
 use std::time::{Clock, Duration, Instant};
@@ -35,7 +36,9 @@ fn hear_receipt<R: Wait + Clock>(
     receipt: &BatchReceipt,
 ) {
     let submission = &receipt.submission;
-    let mut told = [AnsweredCommand::Entered(CommandWord::Enter); Book::MOST_COMMANDS];
+    let mut told = [AnsweredCommand::Entered(CommandWord::Of(
+        Operation::Enter,
+    )); Book::MOST_COMMANDS];
     let answers = batch.iter().zip(submission.answers.iter());
     for (place, (command, answer)) in told.iter_mut().zip(answers) {
         *place = answered(command, answer);

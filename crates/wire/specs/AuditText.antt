@@ -10,52 +10,9 @@ use Rattle.session_roles.specs.Role.{role_name}
 use Rattle.session_book.specs.declared.audit.AuditRow.{AuditRow}
 use Rattle.session_commands.specs.declared.actor.Actor.{Actor}
 use Rattle.session_commands.specs.declared.actor.Actor.TheVariants.{User, Solver}
-use Rattle.session_commands.specs.declared.command_word.CommandWord.{CommandWord}
-use Rattle.session_commands.specs.declared.command_word.CommandWord.TheVariants.{
-  Enter,
-  Confirm,
-  Correct,
-  Rule,
-  Void,
-  Hold,
-}
-use Rattle.session_commands.specs.declared.command_word.CommandWord.TheVariants.{
-  Release,
-  Seat,
-  Unseat,
-  NextRound,
-  Close,
-}
-use Rattle.session_commands.specs.declared.command_word.CommandWord.TheVariants.{Finalise, AddUser, Assign, Deassign}
-use Rattle.session_commands.specs.declared.command_word.CommandWord.TheVariants.{AddInheritance, DeleteInheritance}
-use Rattle.session_commands.specs.declared.command_word.CommandWord.TheVariants.{Solved, Analysed, Embargo, Lift, Rename}
 use Rattle.session_commands.specs.declared.target.Target.{Target}
 use Rattle.session_commands.specs.declared.target.Target.TheVariants as about
-
--- a command's word, as a message has it
-abbrev pub word_text : CommandWord → List ℕ
-word_text Enter = codes "Enter"
-word_text Confirm = codes "Confirm"
-word_text Correct = codes "Correct"
-word_text Rule = codes "Rule"
-word_text Void = codes "Void"
-word_text Hold = codes "Hold"
-word_text Release = codes "Release"
-word_text Seat = codes "Seat"
-word_text Unseat = codes "Unseat"
-word_text NextRound = codes "NextRound"
-word_text Close = codes "Close"
-word_text Finalise = codes "Finalise"
-word_text AddUser = codes "AddUser"
-word_text Assign = codes "Assign"
-word_text Deassign = codes "Deassign"
-word_text AddInheritance = codes "AddInheritance"
-word_text DeleteInheritance = codes "DeleteInheritance"
-word_text Solved = codes "Solved"
-word_text Analysed = codes "Analysed"
-word_text Embargo = codes "Embargo"
-word_text Lift = codes "Lift"
-word_text Rename = codes "Rename"
+use Rattle.session_commands.specs.Row.{word_text}
 
 -- what a command is about: a table's number and the board's, as `2/14`; a board's; a user; a user's role, as
 -- `d:Director`; the senior role and the junior one that it inherits, as `Director>Scorer`; nothing, where it is the
@@ -64,6 +21,7 @@ abbrev pub target_text : Target → List ℕ
 target_text about.Session = []
 target_text (about.Cell cell) = decimal cell.table ++ (codes "/" ++ decimal cell.board)
 target_text (about.Board board) = decimal board
+target_text (about.NewUser name) = name
 target_text (about.User name) = name
 target_text (about.Assignment name role) = name ++ (codes ":" ++ role_name role)
 target_text (about.Inheritance senior junior) = role_name senior ++ (codes ">" ++ role_name junior)

@@ -3,12 +3,12 @@
 ghost use Rattle.std.specs.Prelude.{◌≡◌, map, IfOk, string_bytes};
 ghost use Rattle.serde_json.specs.Data.{array};
 ghost use Rattle.serde_json.specs.View.{view, items_of};
-ghost use Rattle.wire.specs.AuditText.{actor_data, word_text, target_text, audit_row_data, audit_row_text, audit_data, audit_text, refusal_data, audit_refusal_text};
+ghost use Rattle.wire.specs.AuditText.{actor_data, target_text, audit_row_data, audit_row_text, audit_data, audit_text, refusal_data, audit_refusal_text};
 
 use json_fields::{ArrayWriter, ObjectWriter, array_value, string_value};
 use serde_json::{Value, push};
 use session_book::{AuditRow, AuditRows};
-use session_commands::{Actor, CommandWord, Target};
+use session_commands::{Actor, Target};
 use std::alloc::{AllocError, Global};
 
 /// The text of an audit's rows, where the journal has this version.
@@ -69,7 +69,7 @@ fn row_value(alloc: Global, row: &AuditRow) -> Result<Value, AllocError>
     ArrayWriter::new(alloc)
         .item(Ok(Value::from(row.number)))
         .item(actor_value(alloc, row.actor))
-        .item(Value::try_from_str(alloc, word_text(row.word)))
+        .item(Value::try_from_str(alloc, row.word.text()))
         .item(string_value(target_text(alloc, &row.target)))
         .array()
 }
@@ -84,36 +84,6 @@ fn actor_value(alloc: Global, actor: Actor) -> Result<Value, AllocError>
     }
 }
 
-// How a command is called.
-fn word_text(word: CommandWord) -> &'static str
-    ensures { result.now ≡ word_text word }
-{
-    match word {
-        CommandWord::Enter => "Enter",
-        CommandWord::Confirm => "Confirm",
-        CommandWord::Correct => "Correct",
-        CommandWord::Rule => "Rule",
-        CommandWord::Void => "Void",
-        CommandWord::Hold => "Hold",
-        CommandWord::Release => "Release",
-        CommandWord::Seat => "Seat",
-        CommandWord::Unseat => "Unseat",
-        CommandWord::NextRound => "NextRound",
-        CommandWord::Close => "Close",
-        CommandWord::Finalise => "Finalise",
-        CommandWord::AddUser => "AddUser",
-        CommandWord::Assign => "Assign",
-        CommandWord::Deassign => "Deassign",
-        CommandWord::AddInheritance => "AddInheritance",
-        CommandWord::DeleteInheritance => "DeleteInheritance",
-        CommandWord::Solved => "Solved",
-        CommandWord::Analysed => "Analysed",
-        CommandWord::Embargo => "Embargo",
-        CommandWord::Lift => "Lift",
-        CommandWord::Rename => "Rename",
-    }
-}
-
 // What a command is about.
 fn target_text(alloc: Global, target: &Target) -> Result<String, AllocError>
     ensures { IfOk result (λ text. string_bytes text ≡ target_text target.now) }
@@ -125,7 +95,7 @@ fn target_text(alloc: Global, target: &Target) -> Result<String, AllocError>
             format!(in alloc; "{table}/{board}")
         }
         Target::Board(board) => board.to_string(alloc),
-        Target::User(name) => name.to_string(alloc),
+        Target::NewUser(name) | Target::User(name) => name.to_string(alloc),
         Target::Assignment { name, role } => format!(in alloc; "{name}:{role}"),
         Target::Inheritance { senior, junior } => format!(in alloc; "{senior}>{junior}"),
     }

@@ -3,7 +3,7 @@
 ghost use Rattle.std.specs.Prelude.{◌≡◌, IfOk, string_bytes};
 ghost use Rattle.serde_json.specs.Data.{array, string};
 ghost use Rattle.serde_json.specs.View.{view};
-ghost use Rattle.wire.specs.ReceiptText.{refusal_name, about, refusal_text, answer_data, answers_data, receipt_data, receipt_text};
+ghost use Rattle.wire.specs.ReceiptText.{about, refusal_text, answer_data, answers_data, receipt_data, receipt_text};
 
 use json_fields::{ObjectWriter, array_value};
 use serde_json::{Value, push};
@@ -69,7 +69,7 @@ fn refusal_value(alloc: Global, refusal: &Refusal) -> Result<Value, AllocError>
     match refusal {
         Refusal::Spoiled(name) => about(alloc, "Spoiled", name.as_str()),
         Refusal::Separation(set) => about(alloc, "Separation", set.name()),
-        refusal => Value::try_from_str(alloc, refusal_name(refusal)),
+        refusal => Value::try_from_str(alloc, refusal.name()),
     }
 }
 
@@ -79,54 +79,4 @@ fn about(alloc: Global, name: &str, subject: &str) -> Result<Value, AllocError>
 {
     let text = format!(in alloc; "{name}({subject})")?;
     Ok(Value::String(text))
-}
-
-fn refusal_name(refusal: &Refusal) -> &'static str
-    ensures { result.now ≡ refusal_name refusal.now }
-{
-    match refusal {
-        Refusal::NotPermitted => "NotPermitted",
-        Refusal::NoSuchUser => "NoSuchUser",
-        Refusal::NoSuchCell => "NoSuchCell",
-        Refusal::NoSuchBoard => "NoSuchBoard",
-        Refusal::WrongPhase => "WrongPhase",
-        Refusal::RoundNotStarted => "RoundNotStarted",
-        Refusal::BadResult => "BadResult",
-        Refusal::AlreadyLive => "AlreadyLive",
-        Refusal::NothingEntered => "NothingEntered",
-        Refusal::Mismatch => "Mismatch",
-        Refusal::Spoiled(_) => "Spoiled",
-        Refusal::NotLive => "NotLive",
-        Refusal::BadRuling => "BadRuling",
-        Refusal::AlreadyHeld => "AlreadyHeld",
-        Refusal::NotHeld => "NotHeld",
-        Refusal::AlreadyEmbargoed => "AlreadyEmbargoed",
-        Refusal::NotEmbargoed => "NotEmbargoed",
-        Refusal::NoSuchPair => "NoSuchPair",
-        Refusal::WrongDirection => "WrongDirection",
-        Refusal::NotContestant => "NotContestant",
-        Refusal::AlreadySeated => "AlreadySeated",
-        Refusal::SeatTaken => "SeatTaken",
-        Refusal::NotSeated => "NotSeated",
-        Refusal::NoMoreRounds => "NoMoreRounds",
-        Refusal::NotAllLive => "NotAllLive",
-        Refusal::BadName => "BadName",
-        Refusal::UserExists => "UserExists",
-        Refusal::TooManyUsers => "TooManyUsers",
-        Refusal::NoSuchRole => "NoSuchRole",
-        Refusal::AlreadyAssigned => "AlreadyAssigned",
-        Refusal::Separation(_) => "Separation",
-        Refusal::NotAssigned => "NotAssigned",
-        Refusal::StillSeated => "StillSeated",
-        Refusal::LastAdministrator => "LastAdministrator",
-        Refusal::Cycle => "Cycle",
-        Refusal::AlreadyThere => "AlreadyThere",
-        Refusal::NotThere => "NotThere",
-        Refusal::StrangeDeal => "StrangeDeal",
-        Refusal::AlreadySolved => "AlreadySolved",
-        Refusal::StrangePlay => "StrangePlay",
-        Refusal::JournalFull => "JournalFull",
-        Refusal::OutOfMemory => "OutOfMemory",
-        Refusal::NotTried => "NotTried",
-    }
 }

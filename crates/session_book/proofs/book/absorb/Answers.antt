@@ -9,6 +9,6 @@ returns c opening journal all replayed noted = (
   c.absorb.ensures ∙ (ap (λ state. apply state c.args.entry.now) replayed
       ∙ sym (replayed_more opening journal c.args.entry.now)),
   noted_by_touched opening journal c.args.entry.now c.args.state.now c.absorb.new.self c.args.exposure.now
-      c.ask_touched.new.self c.touched_by-touched.result c.args.boards replayed c.absorb.ensures
-      c.ask_touched.ensures.valid c.touched_by-touched.ensures all c.requires noted c.ask_touched.ensures.asked,
+      c.ask_touched.new.self c.touched-touched.result c.args.boards replayed c.absorb.ensures
+      c.ask_touched.ensures.valid c.touched-touched.ensures all c.requires noted c.ask_touched.ensures.asked,
 )

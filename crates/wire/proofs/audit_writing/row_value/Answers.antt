@@ -8,5 +8,5 @@ returns c =
     c.array.ensures _
     (c.item-4.ensures _ _
     (c.item-3.ensures _ _ (c.item-2.ensures _ _ (c.item.ensures _ _ c.new.ensures c.from.ensures)
-    c.actor_value.ensures) (IfOk-weaker c.try_from_str.result _ _ (λ v h. h ∙ ap string c.word_text.ensures)
+    c.actor_value.ensures) (IfOk-weaker c.try_from_str.result _ _ (λ v h. h ∙ ap string c.text.ensures)
     c.try_from_str.ensures)) (c.string_value.ensures _ c.target_text.ensures))

@@ -1,7 +1,7 @@
 use Rattle.std.proofs.Common.{sym, ◌∙◌}
 use Rattle.session_book.specs.ExposureTable.{first_boards}
 use Rattle.session_book.specs.Touched.{touched_at}
-use Rattle.session_book.specs.declared.touched.Touched.TheVariants.{User}
+use Rattle.session_commands.specs.declared.touched.Touched.TheVariants.{User}
 use Rattle.session_book.proofs.ExposureTableLemmas.{asked_none}
 use Rattle.session_book.proofs.TouchedLemmas.{asked_as, named_at, not_named_at}
 use Rattle.session_book.proofs.exposure.Exposure.ask_named.Goals as goal

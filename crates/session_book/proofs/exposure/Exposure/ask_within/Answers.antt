@@ -2,7 +2,7 @@ use Rattle.std.proofs.Common.{◌⊎◌, ◌<◌, inl, inr, sym, ◌∙◌, arit
 use Rattle.std.proofs.lemmas.Bool.{cases_lt}
 use Rattle.session_book.specs.ExposureTable.{one_board}
 use Rattle.session_book.specs.Touched.{touched_at}
-use Rattle.session_book.specs.declared.touched.Touched.TheVariants.{Board}
+use Rattle.session_commands.specs.declared.touched.Touched.TheVariants.{Board}
 use Rattle.session_book.proofs.ExposureTableLemmas.{asked_none, asked_noted}
 use Rattle.session_book.proofs.TouchedLemmas.{asked_as, board_at, no_board_at}
 use Rattle.session_book.proofs.exposure.Exposure.ask_within.Goals as goal
