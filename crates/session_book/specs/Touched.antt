@@ -1,5 +1,5 @@
--- Whom a command may let see the hands of a board, who didn't see them before: nobody else is asked about after it. What
--- each command touches is told by its row.
+-- Whom a command may let see the hands of a board, who didn't see them before: nobody else is asked about after it.
+-- What each command touches is told by its row.
 use Rattle.std.specs.Prelude.{ℕ, Bool, true, false, ◌&&◌, nat_eq, nat_le, nat_lt, List}
 use Rattle.rbac.specs.Account.{same_name}
 use Rattle.session_state.specs.SessionState.{SessionState}

@@ -36,16 +36,18 @@ use Rattle.session_commands.specs.declared.touched.Touched.TheVariants as touche
 abbrev row : CommandWord → Taken → Target → Touched → CommandRow
 row word taken target touched = record { word = word; taken = taken; target = target; touched = touched }
 
--- a result may complete its board, and a board that is released is shown again, to anybody; a user who takes a seat, is
--- assigned a role or loses one may see more of any board, since a rule may bind or spare who has a role; so may
--- everybody where an inheritance comes or goes, or an embargo is lifted. What is entered, voided or held, a seat that is
--- left, a user with no role yet, a round, a phase, an embargo and a name to show let nobody see more; nor do the
--- solver's numbers, since no rule looks at what a fact says
+-- the row of each command. Whom it touches: a result may complete its board, and a board that is released is shown
+-- again, to anybody; a user who takes a seat, is assigned a role or loses one may see more of any board, since a rule
+-- may bind or spare who has a role; so may everybody where an inheritance comes or goes, or an embargo is lifted. What
+-- is entered, voided or held, a seat that is left, a user with no role yet, a round, a phase, an embargo and a name to
+-- show let nobody see more; nor do the solver's numbers, since no rule looks at what a fact says
 abbrev pub command_row : Command → CommandRow
 command_row (Enter cell outcome play) = row (word.Of operation.Enter) InPlay (about.Cell cell) touches.Nothing
 command_row (Confirm cell outcome) = row (word.Of operation.Confirm) InPlay (about.Cell cell) (touches.Board cell.board)
-command_row (Correct cell outcome play) = row (word.Of operation.Correct) UntilFinal (about.Cell cell) (touches.Board cell.board)
-command_row (Rule cell north_south east_west reason) = row (word.Of operation.Rule) UntilFinal (about.Cell cell) (touches.Board cell.board)
+command_row (Correct cell outcome play) =
+    row (word.Of operation.Correct) UntilFinal (about.Cell cell) (touches.Board cell.board)
+command_row (Rule cell north_south east_west reason) =
+    row (word.Of operation.Rule) UntilFinal (about.Cell cell) (touches.Board cell.board)
 command_row (Void cell) = row (word.Of operation.Void) UntilFinal (about.Cell cell) touches.Nothing
 command_row (Hold board) = row (word.Of operation.Hold) UntilFinal (about.Board board) touches.Nothing
 command_row (Release board) = row (word.Of operation.Release) Always (about.Board board) (touches.Board board)
@@ -56,9 +58,12 @@ command_row Close = row (word.Of operation.Close) InPlay about.Session touches.N
 command_row Finalise = row (word.Of operation.Finalise) InCorrection about.Session touches.Nothing
 command_row (AddUser name digest) = row (word.Of operation.AddUser) Always (about.NewUser name) touches.Nothing
 command_row (Assign name role) = row (word.Of operation.Assign) Always (about.Assignment name role) (touches.User name)
-command_row (Deassign name role) = row (word.Of operation.Deassign) Always (about.Assignment name role) (touches.User name)
-command_row (AddInheritance senior junior) = row (word.Of operation.AddInheritance) Always (about.Inheritance senior junior) touches.Everything
-command_row (DeleteInheritance senior junior) = row (word.Of operation.DeleteInheritance) Always (about.Inheritance senior junior) touches.Everything
+command_row (Deassign name role) =
+    row (word.Of operation.Deassign) Always (about.Assignment name role) (touches.User name)
+command_row (AddInheritance senior junior) =
+    row (word.Of operation.AddInheritance) Always (about.Inheritance senior junior) touches.Everything
+command_row (DeleteInheritance senior junior) =
+    row (word.Of operation.DeleteInheritance) Always (about.Inheritance senior junior) touches.Everything
 command_row (Solved board table) = row word.Solved Always (about.Board board) touches.Nothing
 command_row (Analysed cell costs) = row word.Analysed Always (about.Cell cell) touches.Nothing
 command_row Embargo = row (word.Of operation.Embargo) UntilFinal about.Session touches.Nothing
