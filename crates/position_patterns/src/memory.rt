@@ -120,6 +120,9 @@ impl Memory {
         if place >= self.chains.blocks.len() {
             return None;
         }
+        if !self.chains.blocks[place].may_match(tops) {
+            return None;
+        }
         for (slot, sketched) in self.chains.blocks[place].slots.iter().enumerate() {
             if sketched.fits(tops) {
                 if let Some(finding) = self.answer(

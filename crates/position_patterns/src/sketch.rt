@@ -111,6 +111,13 @@ impl Block {
         }
     }
 
+    /// Whether some slot's entry may match where these hold the top cards. Mostly none may, and to ask all at once takes one
+    /// branch.
+    pub fn may_match(&self, tops: u32) -> bool {
+        let [a, b, c, d, e] = &self.slots;
+        a.fits(tops) | b.fits(tops) | c.fits(tops) | d.fits(tops) | e.fits(tops)
+    }
+
     /// Puts a slot first, where one is free.
     pub fn fill(&mut self, first: Slot) -> bool {
         for i in 0..SLOTS {
