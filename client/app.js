@@ -2,7 +2,7 @@
 
 import { firstCard, takeCard } from "./card_address.js";
 import { Connection, ConnectionFault } from "./connection.js";
-import { afterFrame, beginningOf, button, element, fragmentOf, patchContent, replaceContent } from "./dom.js";
+import { afterFrame, beginningOf, button, element, fragmentOf, freshOf, patchContent, replaceContent } from "./dom.js";
 import { Drafts } from "./drafts.js";
 import { newForms } from "./forms.js";
 import { forgetAccount, keepAccount, readAccount } from "./kept_account.js";
@@ -480,7 +480,7 @@ export class Page {
     this.#drawHead();
     const hadFocus = part("content").contains(document.activeElement) && document.activeElement !== part("content");
     const scrollAgain = keepScrolled(part("content"));
-    const content = fragmentOf(this.#content());
+    const content = freshOf(() => this.#content());
     this.#openDetailsOf(content);
     patchContent(part("content"), content);
     scrollAgain();

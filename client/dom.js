@@ -70,6 +70,60 @@ export function fragmentOf(...children) {
   return made;
 }
 
+/** Of which values each kept part is made that is whole. */
+const madeOf = new WeakMap();
+
+/** Of content that is to patch what is drawn: the kept parts that stand there as they would be, and what would make each. */
+const unmade = new Map();
+let isPatching = false;
+
+/** What is chosen of a kept list or group of tiles: it may change while the others stay. */
+const chosenIn = new WeakMap();
+
+/**
+ * An element whose content hangs on some values alone. Where one with its id was made of the same values, a patch leaves that content as it
+ * is, and doesn't make it. So nothing in it may listen: what happens in it is heard by the element itself.
+ * @param {string} tag
+ * @param {Record<string, any>} attributes with an id
+ * @param {any[]} values
+ * @param {() => Content} makeContent
+ * @param {string} [chosen] what is chosen of it, where it is a list of choices or a group of tiles
+ */
+export function keptPart(tag, attributes, values, makeContent, chosen) {
+  const made = element(tag, attributes);
+  if (chosen !== undefined) chosenIn.set(made, chosen);
+  if (isPatching && isMadeOf(document.getElementById(attributes.id), values)) {
+    unmade.set(made, makeContent);
+    return made;
+  }
+  const waiting = beginning?.later.size;
+  put(made, makeContent());
+  if (beginning?.later.size === waiting) madeOf.set(made, values);
+  return made;
+}
+
+function isMadeOf(there, values) {
+  const before = madeOf.get(there);
+  return before?.length === values.length && before.every((value, index) => value === values[index]);
+}
+
+/** New content for the next patch, without what would be the same. */
+export function freshOf(makeContent) {
+  unmade.clear();
+  isPatching = true;
+  try {
+    return fragmentOf(makeContent);
+  } finally {
+    isPatching = false;
+  }
+}
+
+/** What isn't put over something that is the same has to be made after all. */
+function wholeOf(node) {
+  for (const [part, makeContent] of unmade) if (node.contains(part)) put(part, makeContent);
+  return node;
+}
+
 /** Puts new content into an element; who was at a field or a button stays there, found by its id. */
 export function replaceContent(container, ...children) {
   const active = container.contains(document.activeElement) ? /** @type {HTMLInputElement} */ (document.activeElement) : null;
@@ -107,7 +161,7 @@ function patchRest(container, from, fresh) {
   for (const node of siblingsOf(fresh)) {
     const found = idOf(node) ? byId.get(idOf(node)) ?? null : firstWithoutId(next);
     if (found === null || !isAlike(found, node)) {
-      container.insertBefore(node, next);
+      container.insertBefore(wholeOf(node), next);
       continue;
     }
     if (found === next) next = next.nextSibling;
@@ -183,6 +237,7 @@ function cutBehind(fresh, most, later) {
       if (count >= most) {
         rest.push([container, siblingsOf(node)]);
         for (const each of siblingsOf(node)) container.removeChild(each);
+        for (let each = container; each !== null; each = each.parentNode) madeOf.delete(each);
         return;
       }
       if (!("setAttribute" in node)) continue;
@@ -221,6 +276,12 @@ function patchNode(node, fresh) {
     if (node.textContent !== fresh.textContent) node.textContent = fresh.textContent;
     return;
   }
+  if (unmade.has(fresh)) {
+    patchAttributes(node, fresh);
+    patchListeners(node, fresh);
+    if (chosenIn.has(fresh)) choose(node, chosenIn.get(fresh));
+    return;
+  }
   if (node.isEqualNode(fresh)) {
     const [there, now] = [node, fresh].map((each) => each.querySelectorAll(active));
     there.forEach((each, index) => patchWhatIsDone(each, now[index]));
@@ -231,11 +292,22 @@ function patchNode(node, fresh) {
   patchWhatIsDone(node, fresh);
 }
 
-/** These alone hear anything: what looks the same may do something else than before, or have been typed into. */
-const active = "button, input, select, textarea, form";
+/** What is chosen of a part that is left as it is: the first of a list that has no such value. */
+function choose(node, chosen) {
+  for (const tile of node.querySelectorAll("input")) {
+    if (tile.checked !== (tile.value === chosen)) tile.checked = tile.value === chosen;
+  }
+  if (node.nodeName !== "SELECT" || node.value === chosen) return;
+  node.value = chosen;
+  if (node.selectedIndex < 0) node.selectedIndex = 0;
+}
+
+/** These alone hear anything, as groups hear what is done in them: what looks the same may do something else than before, or have been typed into. */
+const active = "button, input, select, textarea, form, fieldset, [role=group]";
 
 function patchWhatIsDone(node, fresh) {
   patchListeners(node, fresh);
+  if (madeOf.has(fresh)) madeOf.set(node, madeOf.get(fresh));
   for (const property of properties[node.nodeName] ?? []) {
     if (node[property] !== fresh[property]) node[property] = fresh[property];
   }
@@ -252,6 +324,7 @@ function patchAttributes(node, fresh) {
 }
 
 function patchListeners(node, fresh) {
+  if (!heard.has(node) && !heard.has(fresh)) return;
   const [before, now] = [heard.get(node) ?? {}, heard.get(fresh) ?? {}];
   for (const type of Object.keys(before)) {
     if (now[type]) continue;
@@ -296,14 +369,11 @@ export function field(id, label, attributes, note = null) {
 
 /** A choice with its label: options are pairs of a value and a text. */
 export function choice(id, label, options, chosen, onChange, more = {}) {
-  const items = options.map(([value, text]) => element(
-    "option",
-    { value, selected: String(value) === String(chosen) },
-    text,
-  ));
+  const option = ([value, text]) => element("option", { value, selected: String(value) === String(chosen) }, text);
+  const change = (event) => onChange(event.target.value);
   return element("div", { class: "field" },
     element("label", { for: id }, label),
-    element("select", { id, onChange: (event) => onChange(event.target.value), ...more }, items));
+    keptPart("select", { id, onChange: change, ...more }, options.flat(), () => options.map(option), String(chosen)));
 }
 
 /** A table with a caption, heads of columns, and rows of cells, each of which may be made by a function; the first cell of a row is its head. */
@@ -327,20 +397,26 @@ const tableRow = (cells) => element("tr", {}, cells.map((cell, index) =>
     cell,
   )));
 
-/** Buttons of which one is chosen: radio buttons, drawn as tiles. */
+/**
+ * Buttons of which one is chosen: radio buttons, drawn as tiles. Each option is a value, what is drawn, and what is said in its place; what is
+ * drawn may be made by a function, and then hangs on the other two alone.
+ */
 export const tiles = (name, legend, options, chosen, onChoose, more = {}) =>
   tileRows(name, legend, [options], chosen, onChoose, more);
 
 /** The same, in several rows of options. */
 export function tileRows(name, legend, rows, chosen, onChoose, more = {}) {
-  const rowOf = (options) => element("div", { class: "tile-row" }, options.map((option) => tile(name, option, chosen, onChoose)));
-  return element("fieldset", { class: "tiles", ...more }, element("legend", {}, legend), rows.map(rowOf));
+  const options = rows.flat();
+  const change = ({ target }) => onChoose(options.find(([value]) => String(value) === target.value)[0]);
+  const drawn = options.flatMap(([value, content, spoken]) => [value, typeof content === "function" ? null : content, spoken]);
+  const rowOf = (row) => element("div", { class: "tile-row" }, row.map((option) => tile(name, option, chosen)));
+  const content = () => [element("legend", {}, legend), rows.map(rowOf)];
+  return keptPart("fieldset", { id: `${name}-tiles`, class: "tiles", onChange: change, ...more }, [legend, ...drawn], content, String(chosen));
 }
 
-function tile(name, [value, content, spoken], chosen, onChoose) {
+function tile(name, [value, content, spoken], chosen) {
   const id = `${name}-${value}`;
-  const checked = value === chosen;
   return element("label", { class: "tile", for: id },
-    element("input", { type: "radio", id, name, value, checked, onChange: () => onChoose(value), "aria-label": spoken }),
+    element("input", { type: "radio", id, name, value, checked: value === chosen, "aria-label": spoken }),
     element("span", {}, content));
 }

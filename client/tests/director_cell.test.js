@@ -4,7 +4,7 @@ import { test } from "node:test";
 import { Drafts } from "../drafts.js";
 import { newForms } from "../forms.js";
 import { ask, keyOf } from "../messages.js";
-import { byId, nodeOf, pageOf, textOf } from "./elements.js";
+import { byId, happens, nodeOf, pageOf, textOf } from "./elements.js";
 import { mitchell } from "./movements.js";
 import { cellDeskView } from "../views/director_cell.js";
 
@@ -40,7 +40,7 @@ function desk({ row = played, play = cards, told = true } = {}) {
   });
   const view = (table = 2, board = 2) => cellDeskView(page, table, board);
   const press = (id) => byId(view(), id).listeners.click();
-  const choose = (id) => byId(view(), id).listeners.change();
+  const choose = (id) => happens(view(), id, "change");
   const type = (id, text) => byId(view(), id).listeners.input({ target: { value: text } });
   return { made, view, press, choose, type };
 }

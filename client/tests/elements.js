@@ -42,6 +42,10 @@ class FakeNode {
     return same(this, other);
   }
 
+  get parentNode() {
+    return this.parent;
+  }
+
   get nextSibling() {
     return this.parent.childNodes[this.parent.childNodes.indexOf(this) + 1] ?? null;
   }
@@ -125,6 +129,14 @@ export const byTag = (made, tagName) => all(made, (node) => node.tagName === tag
 export const byClass = (made, name) => all(made, (node) => node.attributes?.class?.split(" ").includes(name));
 export const byId = (made, id) => all(made, (node) => node.attributes?.id === id)[0];
 export const textOf = (made) => listOf(made).map((node) => node.textContent).join("");
+
+/** Something happens at an element, which is heard there or, as by a group of tiles or cards, by what it stands in. */
+export function happens(made, id, type) {
+  const target = byId(made, id);
+  let hears = target;
+  while (!hears.listeners[type]) hears = hears.parentNode;
+  hears.listeners[type]({ target: Object.assign(Object.create(target), { value: String(target.value) }) });
+}
 
 /** The cells of each row of a table's body, as texts. */
 export const rowsOf = (made) => byTag(byTag(made, "tbody"), "tr").map((row) => row.childNodes.map((cell) => cell.textContent));

@@ -1,8 +1,8 @@
 // Drawing what has changed: what is the same stays the same element, and the rest becomes what the new content says.
 import assert from "node:assert/strict";
 import { test } from "node:test";
-import { byId, nodeOf, textOf } from "./elements.js";
-import { beginningOf, button, element, fragmentOf, patchContent, table } from "../dom.js";
+import { byId, byTag, happens, nodeOf, textOf } from "./elements.js";
+import { beginningOf, button, choice, element, fragmentOf, freshOf, keptPart, patchContent, table, tiles } from "../dom.js";
 
 function drawn(...content) {
   const container = nodeOf("main");
@@ -136,4 +136,79 @@ test("what stands side by side is drawn together or not at all, since it would m
   const view = (name) => () => [element("h1", {}), element("div", { class: name }, Array.from({ length: 40 }, () => element("p", {})))];
   for (const name of ["diagram", "fields"]) assert.equal(countIn(begin(view(name), 10).container), 42);
   assert.equal(countIn(begin(view("paper"), 10).container), 10);
+});
+
+/** A place of a page in which content is drawn, and drawn again over what is there. */
+function drawnAgain(makeContent) {
+  const container = nodeOf("main");
+  document.getElementById = (id) => byId(container, id) ?? null;
+  container.append(...fragmentOf(makeContent()).childNodes);
+  return { container, draw: (make = makeContent) => patchContent(container, freshOf(make)) };
+}
+
+test("a kept part is made again where one of its values has changed, and only there", () => {
+  const [made, heard] = [[], []];
+  let values = [1, "a"];
+  const view = () => element("section", {}, keptPart("div", { id: "part", class: values[0], onClick: ((now) => () => heard.push(now))(made.length) }, values.slice(1), () => {
+    made.push(values[1]);
+    return element("b", {}, values[1]);
+  }));
+  const { container, draw } = drawnAgain(view);
+  const bold = byTag(container, "b")[0];
+  values = [2, "a"];
+  draw();
+  assert.deepEqual([made, byTag(container, "b")[0] === bold, byId(container, "part").attributes.class], [["a"], true, "2"], "its attributes are patched");
+  byId(container, "part").listeners.click();
+  assert.deepEqual(heard, [1], "what it does is what the last drawing said");
+  values = [2, "b"];
+  draw();
+  draw();
+  assert.deepEqual([made, textOf(container)], [["a", "b"], "b"]);
+});
+
+test("a kept part that moves, or stands in something new, is whole", () => {
+  const part = () => keptPart("p", { id: "part" }, ["a"], () => element("b", {}, "words"));
+  const contents = [() => part(), () => element("div", { id: "x" }, part()), () => [element("h2", {}), element("ul", { id: "y" }, element("li", {}, part()))], () => null];
+  for (const before of contents) {
+    for (const after of contents) {
+      const { container, draw } = drawnAgain(before);
+      draw(after);
+      draw(after);
+      assert.deepEqual(container.childNodes.map(shape), fragmentOf(after()).childNodes.map(shape));
+    }
+  }
+});
+
+test("a kept part of which the rest was to come is made where the view is drawn before that", () => {
+  const part = () => keptPart("div", { id: "part" }, ["a"], () => Array.from({ length: 9 }, (_, index) => element("p", {}, index)));
+  for (const content of [() => [element("h1", {}), part()], () => [element("h1", {}), keptPart("div", { id: "part" }, ["a"], () => [1, 2, 3].map((each) => () => element("p", {}, each)))]]) {
+    const { container, draw } = drawnAgain(() => null);
+    container.append(...beginningOf(content, 2).begun.childNodes);
+    assert.ok(byTag(container, "p").length < 3);
+    draw(content);
+    assert.deepEqual(container.childNodes.map(shape), fragmentOf(content()).childNodes.map(shape));
+  }
+});
+
+test("a list of choices that has grown has them all", () => {
+  let sides = [["1", "NS"]];
+  const { container, draw } = drawnAgain(() => choice("side", "Side", sides, "1", () => {}));
+  for (const more of [[["1", "NS"], ["2", "EW"]], [["1", "NS"]], []]) {
+    sides = more;
+    draw();
+    assert.deepEqual(byTag(container, "option").map(textOf), sides.map(([, text]) => text));
+  }
+});
+
+test("tiles and lists that are kept do what they do now, and of them is chosen what is chosen now", () => {
+  const done = [];
+  const view = (what, chosen) => () => [tiles("level", "Level", [["1", 1], ["2", () => "two"]], chosen, (value) => done.push([what, value])),
+    choice("side", "Side", [["1", "NS"], ["2", "EW"]], chosen, (value) => done.push([what, value]))];
+  const { container, draw } = drawnAgain(view("before", "1"));
+  const tile = byId(container, "level-2");
+  draw(view("now", "2"));
+  assert.deepEqual([byId(container, "level-2") === tile, tile.checked, byId(container, "level-1").checked ?? false, byId(container, "side").value], [true, true, false, "2"]);
+  happens(container, "level-2", "change");
+  happens(container, "side", "change");
+  assert.deepEqual(done, [["now", "2"], ["now", "2"]]);
 });

@@ -5,7 +5,7 @@ import { handsOf } from "../cards.js";
 import { expectedCards, overOf, playOf, revokeOf, tricksSoFar, turnOf } from "../plays.js";
 import { emptyDraft } from "../results.js";
 import { resultForm } from "../views/result_form.js";
-import { all, byClass, byId, byTag, textOf } from "./elements.js";
+import { all, byClass, byId, byTag, happens, textOf } from "./elements.js";
 
 const hearts = { by: "S", strain: "H", level: 4 };
 // West leads: SK wins; then West leads on, North is void in spades and trumps; then North leads.
@@ -80,7 +80,7 @@ test("a play from LIN is read in its order, with what was claimed", () => {
 function formOf(more, options = {}) {
   let draft = { ...emptyDraft(), level: 4, strain: "H", by: "S", ...more };
   const view = () => resultForm("enter", draft, (next) => { draft = next; }, { vulnerability: "none", hasPlay: true, isPlayOpen: true, ...options });
-  return { view, draft: () => draft, tap: (id) => byId(view(), id).listeners.click(), change: (id, value) => byId(view(), id).listeners.change({ target: { value } }), paste: (value) => byId(view(), "enter-play").listeners.input({ target: { value } }) };
+  return { view, draft: () => draft, tap: (id) => happens(view(), id, "click"), change: (id, value) => byId(view(), id).listeners.change({ target: { value } }), paste: (value) => byId(view(), "enter-play").listeners.input({ target: { value } }) };
 }
 
 test("cards are tapped one after another and taken back, and the form says whose turn it is", () => {

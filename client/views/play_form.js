@@ -1,7 +1,7 @@
 // The play of a result: cards to tap, words to type or to paste, and a claim.
 
 import { suits } from "../cards.js";
-import { button, choice, element } from "../dom.js";
+import { button, choice, element, keptPart } from "../dom.js";
 import { expectedCards, isTold, overOf, playOf, revokeOf, tricksSoFar, turnOf } from "../plays.js";
 import { texts } from "../texts.js";
 import { cardMark, strainMark } from "./marks.js";
@@ -74,28 +74,44 @@ function turnView(name, draft, cards) {
   return element("p", { id: `${name}-turn`, role: "status" },
     turn ? texts.form.turn(turn.trick, turn.place, turn.led !== null) : texts.form.playDone,
     turn?.led && [" ", texts.form.toTrick, turn.played.map(({ place, card }) => [` ${place} `, cardMark(card)])],
-    element("span", { class: "note" }, " ", texts.form.soFar(won, left)));
+    element("span", { id: `${name}-so-far`, class: "note" }, " ", texts.form.soFar(won, left)));
 }
 
-/** What can't be the next card by the rules, as far as they tell, is drawn faintly; it can be tapped, for play isn't always by the rules. */
+/**
+ * What can't be the next card by the rules, as far as they tell, is drawn faintly; it can be tapped, for play isn't always by the rules.
+ * A tap changes the row of its card, and of the others, which are kept, at most which suit was led.
+ */
 function cardRows(name, draft, cards, hands, put) {
   const [expected, led] = [expectedCards(cards, draft, hands), turnOf(cards, draft)?.led?.[0] ?? null];
-  const cardButton = (suit, rank) => {
-    const card = suit + rank;
-    const isPlayed = cards.includes(card);
-    return button(`${name}-card-${card}`, texts.rank(rank), () => !isPlayed && put([...cards, card]), {
-      class: isPlayed ? "card-tap played" : expected.has(card) ? "card-tap" : "card-tap unexpected",
-      "aria-disabled": isPlayed ? "true" : null,
-      "aria-label": texts.form.cardName(texts.strain[suit], texts.rank(rank)),
-    });
-  };
-  return suits.map((suit) => element(
-    "div",
-    { class: suit === led ? "card-row led" : "card-row", role: "group", "aria-label": texts.form.cardsOf(texts.strain[suit]) },
-    element("span", { class: "row-suit", "aria-hidden": "true" }, strainMark(suit)),
-    ranks.map((rank) => cardButton(suit, rank)),
-  ));
+  const classOf = (card) => (cards.includes(card) ? "card-tap played" : expected.has(card) ? "card-tap" : "card-tap unexpected");
+  return suits.map((suit) => {
+    const classes = ranks.map((rank) => classOf(suit + rank));
+    return keptPart("div", {
+      id: `${name}-cards-${suit}`,
+      class: suit === led ? "card-row led" : "card-row",
+      role: "group",
+      "aria-label": texts.form.cardsOf(texts.strain[suit]),
+      onClick: ({ target }) => {
+        const card = cardOfButton(target);
+        if (card && !cards.includes(card)) put([...cards, card]);
+      },
+    }, classes, () => [
+      element("span", { class: "row-suit", "aria-hidden": "true" }, strainMark(suit)),
+      ranks.map((rank, index) => cardButton(name, suit, rank, classes[index])),
+    ]);
+  });
 }
+
+const cardButton = (name, suit, rank, classes) => element("button", {
+  type: "button",
+  id: `${name}-card-${suit}${rank}`,
+  class: classes,
+  "aria-disabled": classes.endsWith("played") ? "true" : null,
+  "aria-label": texts.form.cardName(texts.strain[suit], texts.rank(rank)),
+}, texts.rank(rank));
+
+/** The card of a button, by the end of its id; none where something else of a row was tapped. */
+const cardOfButton = (target) => (target.tagName === "BUTTON" ? target.id.slice(-2) : null);
 
 function warnings(name, draft, cards) {
   const revoke = revokeOf(cards, draft);

@@ -1,6 +1,6 @@
 // A result by few taps: contract, declarer, doubled and tricks, or passed out.
 
-import { element, tileRows, tiles } from "../dom.js";
+import { element, keptPart, tileRows, tiles } from "../dom.js";
 import { changed, missingParts, oversOf, resultOf } from "../results.js";
 import { isVulnerable, overText, scoreOf } from "../scoring.js";
 import { texts } from "../texts.js";
@@ -27,15 +27,15 @@ export function resultForm(name, draft, onChange, { vulnerability, hasPlay, isPl
     !draft.passedOut && contractTiles(name, draft, set, vulnerability),
     !draft.passedOut && tricksTiles(name, draft, set),
     hasPlay && !draft.passedOut && playPart(name, draft, onChange, { isOpen: isPlayOpen, hands }),
-    preview(draft, vulnerability));
+    preview(name, draft, vulnerability));
 }
 
 function contractTiles(name, draft, set, vulnerability) {
-  const strain = (value) => [value, strainMark(value), texts.strain[value]];
+  const strain = (value) => [value, () => strainMark(value), texts.strain[value]];
   const declarer = (place) => {
     if (!isVulnerable(place, vulnerability)) return [place, place, texts.place[place]];
-    const mark = element("small", { class: "vulnerable-mark" }, texts.form.vulnerableMark);
-    return [place, [place, " ", mark], texts.form.vulnerable(texts.place[place])];
+    const mark = () => element("small", { class: "vulnerable-mark" }, texts.form.vulnerableMark);
+    return [place, () => [place, " ", mark()], texts.form.vulnerable(texts.place[place])];
   };
   return [
     tiles(
@@ -91,15 +91,15 @@ function tricksTiles(name, draft, set) {
 /** What is still to be told of a draft. */
 export const missingText = (draft) => texts.form.missing(missingParts(draft).map((part) => texts.form.part[part]));
 
-function preview(draft, vulnerability) {
+function preview(name, draft, vulnerability) {
   const result = resultOf(draft);
   if (!result) return element("p", { class: "preview waiting" }, missingText(draft));
   const score = scoreOf(result, vulnerability);
-  return element(
+  const { level, strain, by, doubled, over, passedOut } = draft;
+  return keptPart(
     "p",
-    { class: "preview", "data-score": score },
-    resultMark(result),
-    " ",
-    element("b", { class: "preview-score" }, texts.form.scores(score)),
+    { id: `${name}-preview`, class: "preview", "data-score": score },
+    [level, strain, by, doubled, over, passedOut, score],
+    () => [resultMark(result), " ", element("b", { class: "preview-score" }, texts.form.scores(score))],
   );
 }

@@ -1,6 +1,6 @@
 // The scorer's desk: a table, a board, and its result, typed by one side and confirmed by the other.
 
-import { button, element, heading, link } from "../dom.js";
+import { button, element, heading, keptPart, link } from "../dom.js";
 import { ask, command } from "../messages.js";
 import { playOf } from "../plays.js";
 import { percentText, topOf } from "../percentages.js";
@@ -76,7 +76,8 @@ function cellDesk(page, table, board) {
   const { dealer, vulnerability } = marksOf(facts, board);
   return [
     heading(texts.scorer.cellTitle(table, board)),
-    element("p", { id: "cell-pairs" }, pairMark(facts, row.ns), ` ${texts.against} `, pairMark(facts, row.ew), " · ", texts.director.inRound(row.round)),
+    keptPart("p", { id: "cell-pairs" }, [facts, row.ns, row.ew, row.round], () =>
+      [pairMark(facts, row.ns), ` ${texts.against} `, pairMark(facts, row.ew), " · ", texts.director.inRound(row.round)]),
     element("p", { class: "marks" }, texts.marks(dealer, vulnerability)),
     live ? liveView(page, table, board, vulnerability) : stepView(page, row, board, step, vulnerability),
     element("p", {}, link(addressOf("scorer", table), texts.scorer.backToTable(table), { id: "back-to-table" })),
@@ -137,7 +138,7 @@ function stepView(page, row, board, step, vulnerability) {
   const other = step === "enter" ? "confirm" : "enter";
   const side = step === "enter" ? row.ns : row.ew;
   return element("section", { class: `panel step-${step}` }, element("h2", {}, texts.scorer.stepTitle[step]),
-    element("p", { id: "step-side" }, texts.scorer.stepSide[step], " ", pairMark(facts, side)),
+    keptPart("p", { id: "step-side" }, [facts, step, side], () => [texts.scorer.stepSide[step], " ", pairMark(facts, side)]),
     element("p", {}, texts.scorer.stepExplained[step]),
     page.drafts.isLost(user, table, board) && element("p", { class: "note fault", id: "cell-lost" }, texts.scorer.lostExplained),
     element("p", { class: "note", id: "why-twice" }, texts.scorer.whyTwice),
