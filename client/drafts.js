@@ -61,8 +61,13 @@ export class Drafts {
     }
   }
 
+  /** The tab's storage is asked once for each: nothing else writes there. */
   #get(name) {
-    if (this.#kept.has(name)) return this.#kept.get(name);
+    if (!this.#kept.has(name)) this.#kept.set(name, this.#stored(name));
+    return this.#kept.get(name);
+  }
+
+  #stored(name) {
     try {
       return JSON.parse(this.#storage?.getItem(name) ?? "null");
     } catch {
