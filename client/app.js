@@ -18,7 +18,7 @@ import { signInAs } from "./signing_in.js";
 import { Store } from "./store.js";
 import { texts } from "./texts.js";
 import { statusDeniedView, viewNeeds, viewNodes } from "./views.js";
-import { footView, headView, isDesk, offlineView, restartView } from "./views/frame.js";
+import { footView, headView, isDesk, markPresent, offlineView, restartView } from "./views/frame.js";
 import { signInView } from "./views/sign_in.js";
 
 const toldBackFor = 15_000;
@@ -551,7 +551,8 @@ export class Page {
 
   #drawHead() {
     const { facts, user, permissions } = this.state;
-    this.#drawAround("top", [facts, user, permissions, this.route.view], () => headView(this));
+    this.#drawAround("top", [facts, user, permissions], () => headView(this));
+    markPresent(this, part("top"));
   }
 
   #drawFoot() {

@@ -28,11 +28,22 @@ export function viewsOf({ facts, user, permissions }) {
   ];
 }
 
+/** Under which of the views that have a link the present one is. */
+function presentView({ state, route }) {
+  if (route.view !== "board") return route.view;
+  return seatOf(state.facts ?? { seats: [] }, state.user) ? "boards" : "session";
+}
+
+/** Another link is that of the present view: nothing else of the head hangs on which it is. */
+export function markPresent(page, head) {
+  const [before, now] = [head.querySelector("[aria-current]"), head.querySelector(`#nav-${presentView(page)}`)];
+  if (before === now) return;
+  before?.removeAttribute("aria-current");
+  now?.setAttribute("aria-current", "page");
+}
+
 export function headView(page) {
-  const { state, route } = page;
-  const present = {
-    board: seatOf(state.facts ?? { seats: [] }, state.user) ? "boards" : "session",
-  }[route.view] ?? route.view;
+  const { state } = page;
   return element("div", { class: "bar" },
     element("p", { class: "brand" }, texts.title),
     state.user && element(
@@ -49,7 +60,7 @@ export function headView(page) {
         link(
           addressOf(view),
           texts.frame.view[view],
-          { id: `nav-${view}`, "aria-current": view === present ? "page" : null },
+          { id: `nav-${view}`, "aria-current": view === presentView(page) ? "page" : null },
         ),
       )))));
 }
