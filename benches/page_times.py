@@ -124,6 +124,8 @@ def taps(page, driver):
         page.go("boards")
         time.sleep(0.5)
     for view in ("session", "ranking", "director", "accounts", "papers"):
+        page.go(view)
+        time.sleep(1)  # so that what it shows is known: a tap that is followed at once by the next view asks for nothing
         measured(driver, f"to the view {view}", ([f"nav-{view}"] * 15, [f"nav-{view}"] * 5), elsewhere)
 
 

@@ -434,9 +434,9 @@ export class Page {
     this.#armed = null;
     this.#openDetails.clear();
     this.notices.putAway();
-    // asked before it is drawn, which takes a slow device longer than the answer
-    if (this.state.user) this.#poll();
     this.drawAnew();
+    // behind the first frame: opening a connection takes a slow device as long as drawing ten elements
+    afterFrame(() => this.state.user && this.#poll());
   }
 
   /**
