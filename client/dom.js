@@ -16,7 +16,7 @@ const listeners = { onClick: "click", onInput: "input", onChange: "change", onSu
  */
 export function element(tag, attributes = {}, ...children) {
   const made = document.createElement(tag);
-  if (beginning !== null) beginning.wanted -= 1;
+  if (beginning !== null) beginning.wanted -= elementsOf[tag] ?? 1;
   for (const name in attributes) setAttribute(made, name, attributes[name]);
   put(made, children);
   return made;
@@ -43,6 +43,9 @@ function listen(made, type, listener) {
   there[type] = entry;
   made.addEventListener(type, entry.hear);
 }
+
+/** For how many elements one counts, with those that a browser puts into it. */
+const elementsOf = { details: 3 };
 
 /** What is made to be drawn first, while it is: how many elements are still wanted, and for each place that has them what is made later. */
 let beginning = null;
