@@ -1,5 +1,5 @@
 #!/usr/bin/env python3
-"""Makes the list of docs/decisions/README.md: each theme's page, with the title and the date of each choice in it.
+"""Makes the list of docs/decisions/README.md: each theme's page, with the title of each choice in it, whose date stands there.
 
     tests/pages/decisions_index.py            # writes the list, below the heading "The choices"
     tests/pages/decisions_index.py --check    # fails where the list isn't what would be written, or a choice hasn't its form
@@ -36,7 +36,7 @@ def text():
             if not named or not FORM.fullmatch(told.strip().replace("\n", " ")):
                 faults.append(f"docs/decisions/{path.name}: {heading}: a choice has a date, a question, a choice and why")
                 continue
-            rows.append(f"- {named[1]}, {named[2]}\n")
+            rows.append(f"- {named[1]}\n")
         rows.append("\n")
     return "".join(rows).rstrip() + "\n", faults
 
