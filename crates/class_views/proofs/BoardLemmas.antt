@@ -85,10 +85,10 @@ use Rattle.disclosure_rules.specs.Seating.{
 }
 use Rattle.small_sets.proofs.NumbersLemmas.{has_number-numbers_that}
 use Rattle.disclosure_rules.proofs.SeatingTests.{still_decides, complete_decides}
-use Rattle.session_state.specs.Apply.{apply, effect, confirmed}
-use Rattle.session_state.specs.Parts.{part_of, Embargoes}
+use Rattle.session_state.specs.Apply.{apply, effect, part_of, confirmed}
+use Rattle.session_state.specs.Parts.{Embargoes}
 use Rattle.session_commands.specs.declared.cell_state.CellState.{CellState}
-use Rattle.session_commands.specs.declared.cell_state.CellState.TheVariants.{Empty, Entered, Confirmed, Ruled}
+use Rattle.session_commands.specs.declared.cell_state.CellState.TheVariants.{Empty}
 use Rattle.session_state.specs.Refusal.{hindrance_of}
 use Rattle.session_state.specs.SessionState.{SessionState, cell_at, IsPlaced, AreLive}
 use Rattle.session_commands.specs.CellState.{has_result}
@@ -126,9 +126,7 @@ released_elsewhere held own board other from to =
 confirmed_held : (state : SessionState) (cell : Cell) (known : CellState) → (confirmed state cell known).public.held ≡
     state.public.held
 confirmed_held state cell Empty = refl
-confirmed_held state cell (Entered outcome play) = refl
-confirmed_held state cell (Confirmed outcome play costs) = refl
-confirmed_held state cell (Ruled north_south east_west reason) = refl
+confirmed_held state cell known = refl
 
 held_after : (state : SessionState) (entry : Entry) (board : ℕ) → told_board entry.command ≢ Some board → 1 ≤ board →
     board ≤ most_boards →
@@ -143,25 +141,7 @@ held_after state entry board other from to = by_hindrance (hindrance_of state en
         (λ same. not_it (ap Some same)) from to
     by_command (command.Confirm cell outcome) not_it =
         ap (λ held. has_number held board) (confirmed_held state cell (cell_at state cell))
-    by_command (command.Enter cell outcome play) not_it = refl
-    by_command (command.Correct cell outcome play) not_it = refl
-    by_command (command.Rule cell north_south east_west reason) not_it = refl
-    by_command (command.Void cell) not_it = refl
-    by_command (command.Seat name pair place) not_it = refl
-    by_command (command.Unseat name) not_it = refl
-    by_command command.NextRound not_it = refl
-    by_command command.Close not_it = refl
-    by_command command.Finalise not_it = refl
-    by_command (command.AddUser name digest) not_it = refl
-    by_command (command.Assign name role) not_it = refl
-    by_command (command.Deassign name role) not_it = refl
-    by_command (command.AddInheritance senior junior) not_it = refl
-    by_command (command.DeleteInheritance senior junior) not_it = refl
-    by_command (command.Solved own table) not_it = refl
-    by_command (command.Analysed cell costs) not_it = refl
-    by_command command.Embargo not_it = refl
-    by_command command.Lift not_it = refl
-    by_command (command.Rename name shown) not_it = refl
+    by_command c not_it = refl
 
     by_hindrance : (found : Option Refusal) → has_number (if is_some found then state else effect state
         entry.command).public.held board ≡ has_number state.public.held board
@@ -406,28 +386,9 @@ no_board board same = absurd cc
 
 -- a command about a board is about no embargo
 about_no_embargo : (c : Command) (board : ℕ) → told_board c ≡ Some board → part_of c ≢ Embargoes
-about_no_embargo (command.Enter cell outcome play) board about is = absurd cc
-about_no_embargo (command.Confirm cell outcome) board about is = absurd cc
-about_no_embargo (command.Correct cell outcome play) board about is = absurd cc
-about_no_embargo (command.Rule cell north_south east_west reason) board about is = absurd cc
-about_no_embargo (command.Void cell) board about is = absurd cc
-about_no_embargo (command.Hold own) board about is = absurd cc
-about_no_embargo (command.Release own) board about is = absurd cc
-about_no_embargo (command.Seat name pair place) board about is = absurd cc
-about_no_embargo (command.Unseat name) board about is = absurd cc
-about_no_embargo command.NextRound board about is = absurd cc
-about_no_embargo command.Close board about is = absurd cc
-about_no_embargo command.Finalise board about is = absurd cc
-about_no_embargo (command.AddUser name digest) board about is = absurd cc
-about_no_embargo (command.Assign name role) board about is = absurd cc
-about_no_embargo (command.Deassign name role) board about is = absurd cc
-about_no_embargo (command.AddInheritance senior junior) board about is = absurd cc
-about_no_embargo (command.DeleteInheritance senior junior) board about is = absurd cc
-about_no_embargo (command.Solved own table) board about is = absurd cc
-about_no_embargo (command.Analysed cell costs) board about is = absurd cc
 about_no_embargo command.Embargo board about is = absurd (no_board board about)
 about_no_embargo command.Lift board about is = absurd (no_board board about)
-about_no_embargo (command.Rename name shown) board about is = absurd cc
+about_no_embargo c board about is = absurd cc
 
 -- an entry changes what all boards count by what its own board counts
 pub counted_after : (count : Earning → ℕ) (state : SessionState) (entry : Entry) (class : Option UserClass)

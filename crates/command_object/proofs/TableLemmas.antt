@@ -15,6 +15,7 @@ use Rattle.std.proofs.Common.{
   None,
   option_and_then,
   refl,
+  rules,
   ap,
   ◌∙◌,
 }
@@ -24,24 +25,7 @@ use Rattle.session_roles.specs.declared.edition.Edition.{Edition}
 use Rattle.session_roles.specs.declared.edition.Edition.TheVariants.{First, Second}
 use Rattle.json_fields.specs.Form.{words, HasFormOf, AreEach}
 use Rattle.json_fields.specs.Field.{text, text_at}
-use Rattle.json_fields.specs.Message.{table, board}
-use Rattle.json_fields.specs.User.{user_name, new_shown, pair, place, digest}
-use Rattle.command_object.specs.Command.{
-  added_commands,
-  commands,
-  north_south,
-  east_west,
-  reason,
-  role_called,
-  command_called,
-  command_of,
-  is_other_word,
-  is_unknown,
-  has_unknown,
-  IsCommand,
-}
-use Rattle.command_object.specs.Result.{outcome}
-use Rattle.command_object.specs.Play.{play}
+use Rattle.command_object.specs.Command.{added_commands, commands, role_called, command_called, command_of, is_other_word, is_unknown, has_unknown, IsCommand}
 use Rattle.json_fields.proofs.FormLemmas.{Agrees, form_agrees, with_agrees, numbered_agrees, called_agrees}
 use Rattle.json_fields.proofs.TableLemmas.{AllAgree, are_apart, is_word, by_word_read, by_word_reads}
 use Rattle.json_fields.proofs.UserLemmas.{new_shown_agrees, pair_agrees, place_agrees, digest_agrees, role_read, role_reads}
@@ -55,86 +39,25 @@ role_called_agrees edition name = record {
   reads = λ o role is. role_reads edition (text o) role is;
 }
 
-added_agree : (edition : Edition) → AllAgree (added_commands edition)
-added_agree First = tt
-added_agree Second = (
-  (form_agrees _ _),
-  (
-    (form_agrees _ _),
-    (
-      (with_agrees _ new_shown (with_agrees _ user_name (form_agrees _ _) (called_agrees _)) new_shown_agrees),
-      tt,
-    ),
-  ),
+-- each kind of member that a command has
+ruleset members_agree = (
+  numbered_agrees,
+  called_agrees,
+  role_called_agrees,
+  outcome_agrees,
+  play_agrees,
+  new_shown_agrees,
+  pair_agrees,
+  place_agrees,
+  digest_agrees,
 )
 
+added_agree : (edition : Edition) → AllAgree (added_commands edition)
+added_agree First = tt
+added_agree Second = search (rules, form_agrees, with_agrees, members_agree) depth 100
+
 pub commands_agree : (edition : Edition) → AllAgree (commands edition)
-commands_agree edition = (
-  (with_agrees _ play
-      (with_agrees _ outcome (with_agrees _ board (with_agrees _ table (form_agrees _ _) (numbered_agrees _))
-      (numbered_agrees _)) outcome_agrees) play_agrees),
-  (
-    (with_agrees _ outcome (with_agrees _ board (with_agrees _ table (form_agrees _ _) (numbered_agrees _))
-        (numbered_agrees _)) outcome_agrees),
-    (
-      (with_agrees _ play
-          (with_agrees _ outcome (with_agrees _ board (with_agrees _ table (form_agrees _ _) (numbered_agrees _))
-          (numbered_agrees _)) outcome_agrees) play_agrees),
-      (
-        (with_agrees _ reason
-            (with_agrees _ east_west
-            (with_agrees _ north_south (with_agrees _ board (with_agrees _ table (form_agrees _ _) (numbered_agrees _))
-            (numbered_agrees _)) (numbered_agrees _)) (numbered_agrees _)) (numbered_agrees _)),
-        (
-          (with_agrees _ board (with_agrees _ table (form_agrees _ _) (numbered_agrees _)) (numbered_agrees _)),
-          (
-            (with_agrees _ board (form_agrees _ _) (numbered_agrees _)),
-            (
-              (with_agrees _ board (form_agrees _ _) (numbered_agrees _)),
-              (
-                (with_agrees _ place (with_agrees _ pair (with_agrees _ user_name (form_agrees _ _) (called_agrees _))
-                    pair_agrees) place_agrees),
-                (
-                  (with_agrees _ user_name (form_agrees _ _) (called_agrees _)),
-                  (
-                    (form_agrees _ _),
-                    (
-                      (form_agrees _ _),
-                      (
-                        (form_agrees _ _),
-                        (
-                          (with_agrees _ digest (with_agrees _ user_name (form_agrees _ _) (called_agrees _))
-                              digest_agrees),
-                          (
-                            (with_agrees _ _ (with_agrees _ user_name (form_agrees _ _) (called_agrees _))
-                                (role_called_agrees edition _)),
-                            (
-                              (with_agrees _ _ (with_agrees _ user_name (form_agrees _ _) (called_agrees _))
-                                  (role_called_agrees edition _)),
-                              (
-                                (with_agrees _ _ (with_agrees _ _ (form_agrees _ _) (role_called_agrees edition _))
-                                    (role_called_agrees edition _)),
-                                (
-                                  (with_agrees _ _ (with_agrees _ _ (form_agrees _ _) (role_called_agrees edition _))
-                                      (role_called_agrees edition _)),
-                                  added_agree edition,
-                                ),
-                              ),
-                            ),
-                          ),
-                        ),
-                      ),
-                    ),
-                  ),
-                ),
-              ),
-            ),
-          ),
-        ),
-      ),
-    ),
-  ),
-)
+commands_agree edition = search (rules, form_agrees, with_agrees, added_agree, members_agree) depth 100
 
 -- ---- a command by its word
 

@@ -1,8 +1,40 @@
 -- What is written of a command nests three deep at most, and has no number with a point.
-use Rattle.std.proofs.Common.{◌≡◌, ◌≤◌, ℕ, false, List, [], ◌∷◌, map, refl, arith}
-use Rattle.serde_json.specs.Data.{string, depth, items_depth}
+use Rattle.std.proofs.Common.{
+  ◌≡◌,
+  ◌≤◌,
+  ℕ,
+  Bool,
+  true,
+  false,
+  ◌||◌,
+  List,
+  [],
+  ◌∷◌,
+  map,
+  codes,
+  Ordering,
+  Less,
+  Equal,
+  Greater,
+  nat_cmp,
+  refl,
+  arith,
+}
+use Rattle.std.specs.Cmp.Lexicographic.{slice_cmp}
+use Rattle.std.specs.Ordering.{match_ordering}
+use Rattle.serde_json.specs.Data.{
+  Data,
+  string,
+  Members,
+  no_members,
+  member,
+  put,
+  depth,
+  items_depth,
+  members_depth,
+}
 use Rattle.serde_json.specs.View.{items_of}
-use Rattle.serde_json.specs.Written.{has_float, items_have_float}
+use Rattle.serde_json.specs.Written.{has_float, items_have_float, members_have_float}
 use Rattle.cards.specs.declared.card.Card.{Card}
 use Rattle.cards.specs.Card.{card_text}
 use Rattle.scoring.specs.declared.outcome.Outcome.{Outcome}
@@ -11,11 +43,14 @@ use Rattle.solver_results.specs.declared.play_answer.PlayAnswer.{PlayAnswer}
 use Rattle.solver_results.specs.declared.play_answer.PlayAnswer.TheVariants.{Costs, NotAPlay}
 use Rattle.solver_results.specs.PlayAnswer.{answer_for_play}
 use Rattle.session_commands.specs.declared.command.Command.{Command}
-use Rattle.session_commands.specs.declared.command.Command.TheVariants as command
+use Rattle.session_commands.specs.Row.{word_text}
+use Rattle.session_commands.specs.Told.{word_of}
 use Rattle.command_writing.specs.NumberData.{written_number}
 use Rattle.command_writing.specs.ResultData.{written_outcome, written_play}
 use Rattle.command_writing.specs.FoundData.{written_answer}
-use Rattle.command_writing.specs.CommandData.{command_data}
+use Rattle.command_writing.specs.CommandPart.{Kind, written_kind, CommandPart, part_name, part_data, with_parts}
+use Rattle.command_writing.specs.CommandPart as kinds
+use Rattle.command_writing.specs.CommandData.{command_parts, command_data}
 
 -- ---- how deep it nests
 
@@ -38,30 +73,42 @@ answer_depth : (answer : PlayAnswer) → depth (written_answer answer) ≤ 1
 answer_depth (Costs costs) = omega (arith, numbers_depth costs)
 answer_depth (NotAPlay number) = omega arith
 
+kind_depth : (kind : Kind) (x : (written_kind kind).Value) → depth ((written_kind kind).write x) ≤ 2
+kind_depth kinds.Result outcome = omega (arith, outcome_depth outcome)
+kind_depth kinds.Play play = omega (arith, play_depth play)
+kind_depth kinds.Costs costs = omega (arith, answer_depth (answer_for_play costs))
+kind_depth _ x = omega arith
+
+-- a member among others
+put_depth_by : (order : Ordering) (name other : List ℕ) (d e : Data) (rest : Members) (most : ℕ) → depth d ≤ most
+    → depth e ≤ most → members_depth rest ≤ most → members_depth (put name d rest) ≤ most
+    → members_depth (match_ordering order (member name d (member other e rest)) (member other d rest)
+    (member other e (put name d rest))) ≤ most
+put_depth_by Less name other d e rest most here there below later = omega arith
+put_depth_by Equal name other d e rest most here there below later = omega arith
+put_depth_by Greater name other d e rest most here there below later = omega arith
+
+put_depth : (name : List ℕ) (d : Data) (rest : Members) (most : ℕ) → depth d ≤ most → members_depth rest ≤ most
+    → members_depth (put name d rest) ≤ most
+put_depth name d no_members most here below = omega arith
+put_depth name d (member other e rest) most here below =
+    put_depth_by (slice_cmp nat_cmp name other) name other d e rest most here (omega arith) (omega arith)
+    (put_depth name d rest most here (omega arith))
+
+parts_depth : (parts : List CommandPart) (rest : Members) → members_depth rest ≤ 2
+    → members_depth (with_parts parts rest) ≤ 2
+parts_depth [] rest below = below
+parts_depth (part ∷ parts) rest below =
+    put_depth (part_name part) (part_data part) (with_parts parts rest) 2 (kind_depth part.kind part.value)
+    (parts_depth parts rest below)
+
 pub command_depth : (command : Command) → depth (command_data command) ≤ 3
-command_depth (command.Enter at outcome play) = omega (arith, outcome_depth outcome, play_depth play)
-command_depth (command.Confirm at outcome) = omega (arith, outcome_depth outcome)
-command_depth (command.Correct at outcome play) = omega (arith, outcome_depth outcome, play_depth play)
-command_depth (command.Rule at n e r) = omega arith
-command_depth (command.Void at) = omega arith
-command_depth (command.Hold n) = omega arith
-command_depth (command.Release n) = omega arith
-command_depth (command.Seat name pair place) = omega arith
-command_depth (command.Unseat name) = omega arith
-command_depth command.NextRound = omega arith
-command_depth command.Close = omega arith
-command_depth command.Finalise = omega arith
-command_depth (command.AddUser name digest) = omega arith
-command_depth (command.Assign name role) = omega arith
-command_depth (command.Deassign name role) = omega arith
-command_depth (command.AddInheritance senior junior) = omega arith
-command_depth (command.DeleteInheritance senior junior) = omega arith
-command_depth (command.Solved number deal) = omega arith
-command_depth (command.Analysed at costs) =
-    omega (arith, answer_depth (answer_for_play costs), play_depth costs.play)
-command_depth command.Embargo = omega arith
-command_depth command.Lift = omega arith
-command_depth (command.Rename name shown) = omega arith
+command_depth command =
+    omega (
+      arith,
+      parts_depth (command_parts command)
+          (member (codes "cmd") (string (word_text (word_of command))) no_members) (omega arith),
+    )
 
 -- ---- its numbers are whole
 
@@ -81,26 +128,46 @@ answer_whole : (answer : PlayAnswer) → has_float (written_answer answer) ≡ f
 answer_whole (Costs costs) = numbers_whole costs
 answer_whole (NotAPlay number) = refl
 
+kind_whole : (kind : Kind) (x : (written_kind kind).Value) → has_float ((written_kind kind).write x) ≡ false
+kind_whole kinds.Result outcome = outcome_whole outcome
+kind_whole kinds.Play play = texts_whole play
+kind_whole kinds.Costs costs = answer_whole (answer_for_play costs)
+kind_whole _ x = refl
+
+neither : (a b : Bool) → a ≡ false → b ≡ false → (a || b) ≡ false
+neither a b one other = rw (one, other) refl
+
+first_whole : (a b : Bool) → (a || b) ≡ false → a ≡ false
+first_whole true b whole = absurd (cc)
+first_whole false b whole = refl
+
+rest_whole : (a b : Bool) → (a || b) ≡ false → b ≡ false
+rest_whole true b whole = absurd (cc)
+rest_whole false b whole = whole
+
+-- a member among others
+put_whole_by : (order : Ordering) (name other : List ℕ) (d e : Data) (rest : Members) → has_float d ≡ false
+    → has_float e ≡ false → members_have_float rest ≡ false → members_have_float (put name d rest) ≡ false
+    → members_have_float (match_ordering order (member name d (member other e rest)) (member other d rest)
+    (member other e (put name d rest))) ≡ false
+put_whole_by Less name other d e rest here there others later = neither _ _ here (neither _ _ there others)
+put_whole_by Equal name other d e rest here there others later = neither _ _ here others
+put_whole_by Greater name other d e rest here there others later = neither _ _ there later
+
+put_whole : (name : List ℕ) (d : Data) (rest : Members) → has_float d ≡ false → members_have_float rest ≡ false
+    → members_have_float (put name d rest) ≡ false
+put_whole name d no_members here others = neither _ _ here refl
+put_whole name d (member other e rest) here others =
+    let later = rest_whole (has_float e) (members_have_float rest) others in
+    put_whole_by (slice_cmp nat_cmp name other) name other d e rest here
+    (first_whole (has_float e) (members_have_float rest) others) later (put_whole name d rest here later)
+
+parts_whole : (parts : List CommandPart) (rest : Members) → members_have_float rest ≡ false
+    → members_have_float (with_parts parts rest) ≡ false
+parts_whole [] rest others = others
+parts_whole (part ∷ parts) rest others =
+    put_whole (part_name part) (part_data part) (with_parts parts rest) (kind_whole part.kind part.value)
+    (parts_whole parts rest others)
+
 pub command_whole : (command : Command) → has_float (command_data command) ≡ false
-command_whole (command.Enter at outcome play) = rw (texts_whole play, outcome_whole outcome) refl
-command_whole (command.Confirm at outcome) = rw (outcome_whole outcome) refl
-command_whole (command.Correct at outcome play) = rw (texts_whole play, outcome_whole outcome) refl
-command_whole (command.Rule at n e r) = refl
-command_whole (command.Void at) = refl
-command_whole (command.Hold n) = refl
-command_whole (command.Release n) = refl
-command_whole (command.Seat name pair place) = refl
-command_whole (command.Unseat name) = refl
-command_whole command.NextRound = refl
-command_whole command.Close = refl
-command_whole command.Finalise = refl
-command_whole (command.AddUser name digest) = refl
-command_whole (command.Assign name role) = refl
-command_whole (command.Deassign name role) = refl
-command_whole (command.AddInheritance senior junior) = refl
-command_whole (command.DeleteInheritance senior junior) = refl
-command_whole (command.Solved number deal) = refl
-command_whole (command.Analysed at costs) = rw (answer_whole (answer_for_play costs), texts_whole costs.play) refl
-command_whole command.Embargo = refl
-command_whole command.Lift = refl
-command_whole (command.Rename name shown) = refl
+command_whole command = parts_whole (command_parts command) _ refl

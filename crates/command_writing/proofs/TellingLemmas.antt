@@ -58,8 +58,9 @@ use Rattle.command_object.specs.Play as cards
 use Rattle.command_object.proofs.MemberLemmas.{doubled_agrees, level_agrees, play_agrees}
 use Rattle.command_writing.specs.FoundData.{contract_data}
 use Rattle.command_writing.specs.CommandData.{command_data, solved_data, analysed_data}
-use Rattle.command_writing.specs.Writable.{IsContract, IsWritable, IsSendable}
-use Rattle.command_writing.proofs.WrittenLemmas.{play_is, read_back}
+use Rattle.command_writing.specs.Values.{IsContract}
+use Rattle.command_writing.specs.Writable.{IsWritable, IsSendable}
+use Rattle.command_writing.proofs.WrittenLemmas.{play_is, analysed_is, read_back}
 
 -- a value in a member is the only one that stands there
 told_by : {A : Type 0} (m : Member A) → Agrees m → (one other : Data) (x y : A) → m.Is (get m.name one) x
@@ -130,16 +131,19 @@ same_analysed : (cell at : Cell) (one other : PlayedDeal) → IsWritable (comman
     → IsWritable (command.Analysed at other) → analysed_data cell one ≡ analysed_data at other
     → command.Analysed cell one ≡ command.Analysed at other
 same_analysed cell at one other is also same =
-    let boards = told_by board (numbered_agrees _) _ _ cell.board at.board (record { is = refl; below = is.0.1 })
-    (record { is = refl; below = also.0.1 }) same in
-    let tables = told_by table (numbered_agrees _) _ _ cell.table at.table (record { is = refl; below = is.0.0 })
-    (record { is = refl; below = also.0.0 }) same in
+    let first = analysed_is cell one is in
+    let second = analysed_is at other also in
+    let boards = told_by board (numbered_agrees _) _ _ cell.board at.board (record { is = refl; below = first.at.1 })
+    (record { is = refl; below = second.at.1 }) same in
+    let tables = told_by table (numbered_agrees _) _ _ cell.table at.table (record { is = refl; below = first.at.0 })
+    (record { is = refl; below = second.at.0 }) same in
     let deals = same_deal one.deal other.deal
     (same_text (codes "deal") _ _ (deal_text one.deal) (deal_text other.deal) refl refl same) in
-    let contracts = same_contract one.contract other.contract is.2 also.2
+    let contracts = same_contract one.contract other.contract first.contract second.contract
     (same_Some _ _ (ap (get (codes "contract")) same)) in
     let plays =
-    told_by cards.play play_agrees _ _ one.play other.play (play_is one.play is.3) (play_is other.play also.3) same in
+    told_by cards.play play_agrees _ _ one.play other.play (play_is one.play first.cards)
+    (play_is other.play second.cards) same in
     λ i. command.Analysed (record { table = tables i; board = boards i })
     (record { deal = deals i; contract = contracts i; play = plays i })
 
@@ -163,28 +167,10 @@ seat_numbered name pair place zero is =
 seat_numbered name pair place (suc number) is = inl (omega (arith, is))
 
 sent_or_not : (c : Command) → IsWritable c → IsSendable c ⊎ IsUnsent c
-sent_or_not (command.Enter cell outcome played) is = inl tt
-sent_or_not (command.Confirm cell outcome) is = inl tt
-sent_or_not (command.Correct cell outcome played) is = inl tt
-sent_or_not (command.Rule cell north_south east_west reason) is = inl tt
-sent_or_not (command.Void cell) is = inl tt
-sent_or_not (command.Hold number) is = inl tt
-sent_or_not (command.Release number) is = inl tt
 sent_or_not (command.Seat name pair place) is = seat_numbered name pair place pair.number refl
-sent_or_not (command.Unseat name) is = inl tt
-sent_or_not command.NextRound is = inl tt
-sent_or_not command.Close is = inl tt
-sent_or_not command.Finalise is = inl tt
-sent_or_not (command.AddUser name digest) is = inl tt
-sent_or_not (command.Assign name role) is = inl tt
-sent_or_not (command.Deassign name role) is = inl tt
-sent_or_not (command.AddInheritance senior junior) is = inl tt
-sent_or_not (command.DeleteInheritance senior junior) is = inl tt
 sent_or_not (command.Solved number deal) is = inr (inr (inl (number, deal, is.0, refl)))
 sent_or_not (command.Analysed cell played) is = inr (inr (inr (cell, played, is, refl)))
-sent_or_not command.Embargo is = inl tt
-sent_or_not command.Lift is = inl tt
-sent_or_not (command.Rename name shown) is = inl tt
+sent_or_not _ is = inl tt
 
 -- ---- none of these is read as a client's
 

@@ -1,91 +1,60 @@
 -- What is written of a command: an object whose members stand in the order of their names, as a client sends it.
 use Rattle.std.specs.Prelude.{ℕ, List, [], ◌∷◌, codes}
-use Rattle.hex.specs.Hex.{encode_lower}
-use Rattle.serde_json.specs.Data.{Data, string, object, Members, member, no_members}
-use Rattle.table_terms.specs.Pair.{pair_text}
-use Rattle.table_terms.specs.Place.{place_letter}
+use Rattle.serde_json.specs.Data.{Data, string, object, member, no_members}
 use Rattle.cards.specs.Hands.{Hands}
-use Rattle.cards.specs.HandText.{deal_text}
 use Rattle.movement.specs.declared.cell.Cell.{Cell}
-use Rattle.session_roles.specs.Role.{role_name}
-use Rattle.solver_results.specs.PlayAnswer.{PlayedDeal, answer_for_play}
+use Rattle.solver_results.specs.PlayAnswer.{PlayedDeal}
 use Rattle.session_commands.specs.declared.command.Command.{Command}
 use Rattle.session_commands.specs.declared.command.Command.TheVariants as command
-use Rattle.command_writing.specs.NumberData.{written_number}
-use Rattle.command_writing.specs.ResultData.{written_outcome, written_play}
-use Rattle.command_writing.specs.FoundData.{written_tricks, written_answer, contract_data}
+use Rattle.session_commands.specs.Row.{word_text}
+use Rattle.session_commands.specs.Told.{word_of}
+use Rattle.command_writing.specs.CommandPart.{CommandPart, ◌says◌, with_parts}
+use Rattle.command_writing.specs.CommandPart.{Table, Board, Result, Play, NorthSouth, EastWest, Reason, Name, Pair, Place}
+use Rattle.command_writing.specs.CommandPart.{Digest, Role, Senior, Junior, Shown, Deal, Tricks, Contract, Costs}
 
--- the members of a cell's board, and of its table
-abbrev pub written_board : Cell → Members → Members
-written_board cell rest = member (codes "board") (written_number cell.board) rest
+-- each command's members beside its word, in the order of its fields
+abbrev pub command_parts : Command → List CommandPart
+command_parts (command.Enter cell outcome play) =
+    Table says cell.table ∷ Board says cell.board ∷ Result says outcome ∷ Play says play ∷ []
+command_parts (command.Confirm cell outcome) = Table says cell.table ∷ Board says cell.board ∷ Result says outcome ∷ []
+command_parts (command.Correct cell outcome play) =
+    Table says cell.table ∷ Board says cell.board ∷ Result says outcome ∷ Play says play ∷ []
+command_parts (command.Rule cell north_south east_west reason) =
+    Table says cell.table ∷ Board says cell.board ∷ NorthSouth says north_south ∷ EastWest says east_west ∷ Reason says reason ∷ []
+command_parts (command.Void cell) = Table says cell.table ∷ Board says cell.board ∷ []
+command_parts (command.Hold board) = Board says board ∷ []
+command_parts (command.Release board) = Board says board ∷ []
+command_parts (command.Seat name pair place) = Name says name ∷ Pair says pair ∷ Place says place ∷ []
+command_parts (command.Unseat name) = Name says name ∷ []
+command_parts (command.AddUser name digest) = Name says name ∷ Digest says digest ∷ []
+command_parts (command.Assign name role) = Name says name ∷ Role says role ∷ []
+command_parts (command.Deassign name role) = Name says name ∷ Role says role ∷ []
+command_parts (command.AddInheritance senior junior) = Senior says senior ∷ Junior says junior ∷ []
+command_parts (command.DeleteInheritance senior junior) = Senior says senior ∷ Junior says junior ∷ []
+command_parts (command.Solved board table) = Board says board ∷ Deal says table ∷ Tricks says table ∷ []
+command_parts (command.Analysed cell costs) =
+    Table says cell.table
+    ∷ Board says cell.board
+    ∷ Deal says costs.deal
+    ∷ Contract says costs.contract
+    ∷ Play says costs.play
+    ∷ Costs says costs
+    ∷ []
+command_parts (command.Rename name shown) = Name says name ∷ Shown says shown ∷ []
+command_parts _ = []
 
-abbrev pub table_data : Cell → Members
-table_data cell = member (codes "table") (written_number cell.table) no_members
+-- an object of a word and these members
+abbrev pub parts_data : List ℕ → List CommandPart → Data
+parts_data word parts = object (with_parts parts (member (codes "cmd") (string word) no_members))
 
-abbrev pub word_data : List ℕ → Members → Members
-word_data word rest = member (codes "cmd") (string word) rest
+-- each command, called as its row says
+abbrev pub command_data : Command → Data
+command_data given = parts_data (word_text (word_of given)) (command_parts given)
 
 -- a board's table, with the deal that it is of
 abbrev pub solved_data : ℕ → Hands → Data
-solved_data board deal =
-    object (member (codes "board") (written_number board) (word_data (codes "Solved")
-    (member (codes "deal") (string (deal_text deal)) (member (codes "tricks") (written_tricks deal) no_members))))
+solved_data board deal = command_data (command.Solved board deal)
 
 -- what a play cost, with its deal, its contract and its cards
 abbrev pub analysed_data : Cell → PlayedDeal → Data
-analysed_data cell played =
-    object (written_board cell (word_data (codes "Analysed") (member (codes "contract") (contract_data played.contract)
-    (member (codes "costs") (written_answer (answer_for_play played))
-    (member (codes "deal") (string (deal_text played.deal))
-    (member (codes "play") (written_play played.play) (table_data cell)))))))
-
--- each command, in the order of the commands
-abbrev pub command_data : Command → Data
-command_data (command.Enter cell outcome play) =
-    object (written_board cell (word_data (codes "Enter") (member (codes "play") (written_play play)
-    (member (codes "result") (written_outcome outcome) (table_data cell)))))
-command_data (command.Confirm cell outcome) =
-    object (written_board cell (word_data (codes "Confirm")
-    (member (codes "result") (written_outcome outcome) (table_data cell))))
-command_data (command.Correct cell outcome play) =
-    object (written_board cell (word_data (codes "Correct") (member (codes "play") (written_play play)
-    (member (codes "result") (written_outcome outcome) (table_data cell)))))
-command_data (command.Rule cell north_south east_west reason) =
-    object (written_board cell (word_data (codes "Rule") (member (codes "ew") (written_number east_west)
-    (member (codes "ns") (written_number north_south) (member (codes "reason") (written_number reason) (table_data cell))))))
-command_data (command.Void cell) = object (written_board cell (word_data (codes "Void") (table_data cell)))
-command_data (command.Hold board) =
-    object (member (codes "board") (written_number board) (word_data (codes "Hold") no_members))
-command_data (command.Release board) =
-    object (member (codes "board") (written_number board) (word_data (codes "Release") no_members))
-command_data (command.Seat name pair place) =
-    object (word_data (codes "Seat") (member (codes "name") (string name)
-    (member (codes "pair") (string (pair_text pair))
-    (member (codes "place") (string (place_letter place ∷ [])) no_members))))
-command_data (command.Unseat name) =
-    object (word_data (codes "Unseat") (member (codes "name") (string name) no_members))
-command_data command.NextRound = object (word_data (codes "NextRound") no_members)
-command_data command.Close = object (word_data (codes "Close") no_members)
-command_data command.Finalise = object (word_data (codes "Finalise") no_members)
-command_data (command.AddUser name digest) =
-    object (word_data (codes "AddUser") (member (codes "digest") (string (encode_lower digest.bytes))
-    (member (codes "name") (string name) no_members)))
-command_data (command.Assign name role) =
-    object (word_data (codes "Assign") (member (codes "name") (string name)
-    (member (codes "role") (string (role_name role)) no_members)))
-command_data (command.Deassign name role) =
-    object (word_data (codes "Deassign") (member (codes "name") (string name)
-    (member (codes "role") (string (role_name role)) no_members)))
-command_data (command.AddInheritance senior junior) =
-    object (word_data (codes "AddInheritance") (member (codes "junior") (string (role_name junior))
-    (member (codes "senior") (string (role_name senior)) no_members)))
-command_data (command.DeleteInheritance senior junior) =
-    object (word_data (codes "DeleteInheritance") (member (codes "junior") (string (role_name junior))
-    (member (codes "senior") (string (role_name senior)) no_members)))
-command_data (command.Solved board table) = solved_data board table
-command_data (command.Analysed cell costs) = analysed_data cell costs
-command_data command.Embargo = object (word_data (codes "Embargo") no_members)
-command_data command.Lift = object (word_data (codes "Lift") no_members)
-command_data (command.Rename name shown) =
-    object (word_data (codes "Rename") (member (codes "name") (string name)
-    (member (codes "shown") (string shown) no_members)))
+analysed_data cell played = command_data (command.Analysed cell played)

@@ -1,17 +1,17 @@
 //! The commands, each by the members that it has.
 
-ghost use Rattle.std.specs.Prelude.{◌≡◌, ◌∷◌, [], true, IfOk, codes};
+ghost use Rattle.std.specs.Prelude.{◌≡◌, ◌∷◌, [], true, IfOk};
 ghost use Rattle.user_names.specs.ShownName.{is_shown_or_none};
-ghost use Rattle.hex.specs.Hex.{encode_lower};
-ghost use Rattle.serde_json.specs.Data.{string, object, member, no_members};
+ghost use Rattle.serde_json.specs.Data.{string};
 ghost use Rattle.serde_json.specs.View.{view};
 ghost use Rattle.json_fields.specs.Written.{HasMembers};
 ghost use Rattle.session_commands.specs.declared.command.Command.TheVariants as command;
 ghost use Rattle.session_roles.specs.Role.{role_name};
-ghost use Rattle.command_writing.specs.NumberData.{written_number};
-ghost use Rattle.command_writing.specs.ResultData.{written_outcome, written_play};
-ghost use Rattle.command_writing.specs.CommandData.{command_data, word_data, written_board, table_data};
-ghost use Rattle.command_writing.specs.Writable.{IsName, IsWritable};
+ghost use Rattle.command_writing.specs.Values.{IsName};
+ghost use Rattle.command_writing.specs.CommandPart.{◌says◌};
+ghost use Rattle.command_writing.specs.CommandPart as kinds;
+ghost use Rattle.command_writing.specs.CommandData.{parts_data, command_data};
+ghost use Rattle.command_writing.specs.Writable.{IsWritable};
 
 use crate::found::{analysed_value, solved_value};
 use crate::play::play_value;
@@ -77,7 +77,7 @@ pub fn command_value(alloc: Global, command: &Command) -> Result<Value, AllocErr
 }
 
 fn alone(alloc: Global, word: &str) -> Result<Value, AllocError>
-    ensures { IfOk result (λ value. view value ≡ object (word_data word.now no_members)) }
+    ensures { IfOk result (λ value. view value ≡ parts_data word.now []) }
 {
     ObjectWriter::new(alloc)
         .member("cmd", Value::try_from_str(alloc, word))
@@ -86,8 +86,7 @@ fn alone(alloc: Global, word: &str) -> Result<Value, AllocError>
 
 fn at_board(alloc: Global, word: &str, board: u8) -> Result<Value, AllocError>
     ensures writable { IsWritable (command.Hold board) }
-    ensures value { IfOk result (λ value.
-        view value ≡ object (member (codes "board") (written_number board) (word_data word.now no_members))) }
+    ensures value { IfOk result (λ value. view value ≡ parts_data word.now (kinds.Board says board ∷ [])) }
 {
     ObjectWriter::new(alloc)
         .number("board", board)
@@ -98,7 +97,7 @@ fn at_board(alloc: Global, word: &str, board: u8) -> Result<Value, AllocError>
 fn at_cell(alloc: Global, word: &str, cell: Cell) -> Result<Value, AllocError>
     ensures writable { IsWritable (command.Void cell) }
     ensures value { IfOk result (λ value.
-        view value ≡ object (written_board cell (word_data word.now (table_data cell)))) }
+        view value ≡ parts_data word.now (kinds.Table says cell.table ∷ kinds.Board says cell.board ∷ [])) }
 {
     ObjectWriter::new(alloc)
         .number("board", cell.board)
@@ -115,9 +114,8 @@ fn told(
     play: &Play,
 ) -> Result<Value, AllocError>
     ensures writable { IsWritable (command.Enter cell outcome play.now) }
-    ensures value { IfOk result (λ value. view value ≡ object (written_board cell (word_data word.now
-        (member (codes "play") (written_play play.now)
-        (member (codes "result") (written_outcome outcome) (table_data cell)))))) }
+    ensures value { IfOk result (λ value. view value ≡ parts_data word.now
+        (kinds.Table says cell.table ∷ kinds.Board says cell.board ∷ kinds.Result says outcome ∷ kinds.Play says play.now ∷ [])) }
 {
     ObjectWriter::new(alloc)
         .number("board", cell.board)
@@ -196,8 +194,8 @@ fn added(alloc: Global, name: &Name, digest: Digest) -> Result<Value, AllocError
 
 fn assigned(alloc: Global, word: &str, name: &Name, role: Role) -> Result<Value, AllocError>
     ensures writable { IsWritable (command.Assign name.now role) }
-    ensures value { IfOk result (λ value. view value ≡ object (word_data word.now
-        (member (codes "name") (string name.now) (member (codes "role") (string (role_name role)) no_members)))) }
+    ensures value { IfOk result (λ value.
+        view value ≡ parts_data word.now (kinds.Name says name.now ∷ kinds.Role says role ∷ [])) }
 {
     ObjectWriter::new(alloc)
         .member("cmd", Value::try_from_str(alloc, word))
@@ -218,9 +216,7 @@ fn renamed(alloc: Global, name: &Name, shown: &ShownName) -> Result<Value, Alloc
 }
 
 fn inherited(alloc: Global, word: &str, senior: Role, junior: Role) -> Result<Value, AllocError>
-    ensures { IfOk result (λ value. view value ≡ object (word_data word.now
-        (member (codes "junior") (string (role_name junior))
-        (member (codes "senior") (string (role_name senior)) no_members)))) }
+    ensures { IfOk result (λ value. view value ≡ parts_data word.now (kinds.Senior says senior ∷ kinds.Junior says junior ∷ [])) }
 {
     ObjectWriter::new(alloc)
         .member("cmd", Value::try_from_str(alloc, word))

@@ -13,7 +13,8 @@ ghost use Rattle.command_writing.specs.NumberData.{numbers_data};
 ghost use Rattle.command_writing.specs.ResultData.{written_play};
 ghost use Rattle.command_writing.specs.FoundData.{written_strains, written_tricks, written_answer, contract_data};
 ghost use Rattle.command_writing.specs.CommandData.{solved_data, analysed_data};
-ghost use Rattle.command_writing.specs.Writable.{IsContract, IsWritablePlay, IsWritable};
+ghost use Rattle.command_writing.specs.Values.{IsContract, IsWritablePlay};
+ghost use Rattle.command_writing.specs.Writable.{IsWritable};
 
 use crate::play::cards_value;
 use crate::result::contract_writer;

@@ -6,7 +6,7 @@ ghost use Rattle.serde_json.specs.View.{view, items_of};
 ghost use Rattle.json_fields.specs.Written.{HasItems};
 ghost use Rattle.cards.specs.Card.{card_text};
 ghost use Rattle.command_writing.specs.ResultData.{written_play};
-ghost use Rattle.command_writing.specs.Writable.{IsWritablePlay};
+ghost use Rattle.command_writing.specs.Values.{IsWritablePlay};
 
 use cards::{Card, Play};
 use json_fields::{ArrayWriter, string_value};

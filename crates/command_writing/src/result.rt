@@ -6,7 +6,7 @@ ghost use Rattle.serde_json.specs.View.{view};
 ghost use Rattle.json_fields.specs.Written.{HasMembers};
 ghost use Rattle.scoring.specs.declared.outcome.Outcome.TheVariants.{Played};
 ghost use Rattle.command_writing.specs.ResultData.{written_outcome, contract_members};
-ghost use Rattle.command_writing.specs.Writable.{IsContract, IsWritableOutcome};
+ghost use Rattle.command_writing.specs.Values.{IsContract, IsWritableOutcome};
 
 use json_fields::{ObjectWriter, string_value};
 use scoring::{Contract, Outcome, Tricks};

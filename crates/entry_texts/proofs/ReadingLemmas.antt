@@ -27,7 +27,8 @@ use Rattle.command_object.specs.Play.{play}
 use Rattle.command_object.proofs.MemberLemmas.{play_agrees}
 use Rattle.command_writing.specs.ResultData.{written_play}
 use Rattle.command_writing.specs.CommandData.{command_data, solved_data, analysed_data}
-use Rattle.command_writing.specs.Writable.{IsWritablePlay, IsWritable}
+use Rattle.command_writing.specs.Values.{IsWritablePlay}
+use Rattle.command_writing.specs.Writable.{IsWritable}
 use Rattle.command_writing.proofs.WrittenLemmas.{play_is, read_back}
 use Rattle.entry_texts.specs.declared.kept_entry.KeptEntry.{KeptEntry}
 use Rattle.entry_texts.specs.declared.kept_entry.KeptEntry.TheVariants.{Given, Solved, Analysed}
@@ -39,28 +40,9 @@ use Rattle.entry_texts.proofs.UserLemmas.{is_users}
 
 -- a command that isn't the solver's is told whole
 pub told_whole : (entry : Entry) (c : Command) → is_solvers c ≡ false → Given entry ≡ kept_command entry c
-told_whole entry (command.Enter cell outcome play) is = refl
-told_whole entry (command.Confirm cell outcome) is = refl
-told_whole entry (command.Correct cell outcome play) is = refl
-told_whole entry (command.Rule cell north_south east_west reason) is = refl
-told_whole entry (command.Void cell) is = refl
-told_whole entry (command.Hold board) is = refl
-told_whole entry (command.Release board) is = refl
-told_whole entry (command.Seat name pair place) is = refl
-told_whole entry (command.Unseat name) is = refl
-told_whole entry command.NextRound is = refl
-told_whole entry command.Close is = refl
-told_whole entry command.Finalise is = refl
-told_whole entry (command.AddUser name digest) is = refl
-told_whole entry (command.Assign name role) is = refl
-told_whole entry (command.Deassign name role) is = refl
-told_whole entry (command.AddInheritance senior junior) is = refl
-told_whole entry (command.DeleteInheritance senior junior) is = refl
 told_whole entry (command.Solved board table) is = absurd (cc)
 told_whole entry (command.Analysed cell costs) is = absurd (cc)
-told_whole entry command.Embargo is = refl
-told_whole entry command.Lift is = refl
-told_whole entry (command.Rename name shown) is = refl
+told_whole entry _ is = refl
 
 -- with the actor that was read
 with_actor : (entry : Entry) (actor : Actor) (read : Result KeptEntry TextFault) → entry.actor ≡ actor
@@ -99,49 +81,10 @@ command_told : (actor : Actor) (c : Command) (d : Data) (read : Result KeptEntry
     → TellsEntry (record { actor = actor; command = c }) read
 command_told actor (command.Solved board deal) d read is readable same solves analyses gives =
     subst (TellsEntry (record { actor = actor; command = command.Solved board deal }))
-    (sym (solves board deal is.0 is.1 (sym same))) refl
+    (sym (solves board deal is.0 is.1.0 (sym same))) refl
 command_told actor (command.Analysed cell played) d read is readable same solves analyses gives =
     analyses cell played is (sym same)
-command_told actor (command.Enter cell outcome play) d read is readable same solves analyses gives =
-    sent_told actor (command.Enter cell outcome play) d read is readable same gives
-command_told actor (command.Confirm cell outcome) d read is readable same solves analyses gives =
-    sent_told actor (command.Confirm cell outcome) d read is readable same gives
-command_told actor (command.Correct cell outcome play) d read is readable same solves analyses gives =
-    sent_told actor (command.Correct cell outcome play) d read is readable same gives
-command_told actor (command.Rule cell north_south east_west reason) d read is readable same solves analyses gives =
-    sent_told actor (command.Rule cell north_south east_west reason) d read is readable same gives
-command_told actor (command.Void cell) d read is readable same solves analyses gives =
-    sent_told actor (command.Void cell) d read is readable same gives
-command_told actor (command.Hold board) d read is readable same solves analyses gives =
-    sent_told actor (command.Hold board) d read is readable same gives
-command_told actor (command.Release board) d read is readable same solves analyses gives =
-    sent_told actor (command.Release board) d read is readable same gives
-command_told actor (command.Seat name pair place) d read is readable same solves analyses gives =
-    sent_told actor (command.Seat name pair place) d read is readable same gives
-command_told actor (command.Unseat name) d read is readable same solves analyses gives =
-    sent_told actor (command.Unseat name) d read is readable same gives
-command_told actor command.NextRound d read is readable same solves analyses gives =
-    sent_told actor command.NextRound d read is readable same gives
-command_told actor command.Close d read is readable same solves analyses gives =
-    sent_told actor command.Close d read is readable same gives
-command_told actor command.Finalise d read is readable same solves analyses gives =
-    sent_told actor command.Finalise d read is readable same gives
-command_told actor (command.AddUser name digest) d read is readable same solves analyses gives =
-    sent_told actor (command.AddUser name digest) d read is readable same gives
-command_told actor (command.Assign name role) d read is readable same solves analyses gives =
-    sent_told actor (command.Assign name role) d read is readable same gives
-command_told actor (command.Deassign name role) d read is readable same solves analyses gives =
-    sent_told actor (command.Deassign name role) d read is readable same gives
-command_told actor (command.AddInheritance senior junior) d read is readable same solves analyses gives =
-    sent_told actor (command.AddInheritance senior junior) d read is readable same gives
-command_told actor (command.DeleteInheritance senior junior) d read is readable same solves analyses gives =
-    sent_told actor (command.DeleteInheritance senior junior) d read is readable same gives
-command_told actor command.Embargo d read is readable same solves analyses gives =
-    sent_told actor command.Embargo d read is readable same gives
-command_told actor command.Lift d read is readable same solves analyses gives =
-    sent_told actor command.Lift d read is readable same gives
-command_told actor (command.Rename name shown) d read is readable same solves analyses gives =
-    sent_told actor (command.Rename name shown) d read is readable same gives
+command_told actor c d read is readable same solves analyses gives = sent_told actor c d read is readable same gives
 
 pub entry_told : (entry : Entry) (actor : Actor) (d : Data) (read : Result KeptEntry TextFault) → entry.actor ≡ actor
     → IsKeepable entry → IsReadable entry.actor entry.command → command_data entry.command ≡ d

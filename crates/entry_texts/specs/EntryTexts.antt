@@ -7,7 +7,8 @@ use Rattle.session_commands.specs.declared.actor.Actor.TheVariants.{User, Solver
 use Rattle.session_commands.specs.declared.command.Command.{Command}
 use Rattle.session_commands.specs.declared.entry.Entry.{Entry}
 use Rattle.command_writing.specs.CommandData.{command_data}
-use Rattle.command_writing.specs.Writable.{IsName, IsWritable}
+use Rattle.command_writing.specs.Values.{IsName}
+use Rattle.command_writing.specs.Writable.{IsWritable}
 use Rattle.entry_texts.specs.declared.writing.EntryText.{EntryText}
 
 -- the bytes of both

@@ -19,7 +19,8 @@ ghost use Rattle.session_roles.specs.declared.edition.Edition.TheVariants.{Secon
 ghost use Rattle.command_object.specs.Command.{command_of};
 ghost use Rattle.command_writing.specs.CommandData.{command_data, solved_data, analysed_data};
 ghost use Rattle.command_writing.specs.FoundData.{contract_data};
-ghost use Rattle.command_writing.specs.Writable.{IsWritableCell, IsContract, IsWritable};
+ghost use Rattle.command_writing.specs.Values.{IsWritableCell, IsContract};
+ghost use Rattle.command_writing.specs.Writable.{IsWritable};
 ghost use Rattle.entry_texts.specs.declared.kept_entry.KeptEntry.TheVariants.{Solved, Analysed};
 ghost use Rattle.entry_texts.specs.EntryTexts.{texts_of_entry, actor_text, IsActor, IsKeepable};
 ghost use Rattle.entry_texts.specs.Kept.{IsReadable, IsOwn, TellsEntry, fault_of};

@@ -12,21 +12,9 @@ use Rattle.session_state.specs.Apply.{apply, effect, confirmed}
 use Rattle.session_state.specs.Refusal.{hindrance_of}
 use Rattle.session_state.specs.SessionState.{SessionState, cell_at}
 use Rattle.session_commands.specs.declared.cell_state.CellState.{CellState}
-use Rattle.session_commands.specs.declared.cell_state.CellState.TheVariants.{Empty, Entered, Confirmed, Ruled}
+use Rattle.session_commands.specs.declared.cell_state.CellState.TheVariants.{Empty}
 use Rattle.session_commands.specs.declared.command.Command.{Command}
-use Rattle.session_commands.specs.declared.command.Command.TheVariants.{
-  Enter,
-  Confirm,
-  Correct,
-  Rule,
-  Void,
-  Hold,
-  Release,
-}
-use Rattle.session_commands.specs.declared.command.Command.TheVariants.{Seat, Unseat, NextRound, Close, Finalise}
-use Rattle.session_commands.specs.declared.command.Command.TheVariants.{AddUser, Assign, Deassign, AddInheritance}
-use Rattle.session_commands.specs.declared.command.Command.TheVariants.{DeleteInheritance, Solved, Analysed}
-use Rattle.session_commands.specs.declared.command.Command.TheVariants.{Embargo, Lift, Rename}
+use Rattle.session_commands.specs.declared.command.Command.TheVariants.{Confirm, AddUser, Assign, Deassign}
 use Rattle.session_commands.specs.declared.entry.Entry.{Entry}
 use Rattle.session_book.specs.Exposure.{users_of}
 use Rattle.session_book.specs.Replay.{replay}
@@ -48,9 +36,7 @@ nobody before after users movement = record {
 
 confirmed_lasts : (state : SessionState) (cell : Cell) (known : CellState) → Lasts state (confirmed state cell known)
 confirmed_lasts state cell Empty = nobody state state refl refl
-confirmed_lasts state cell (Entered outcome play) = nobody state _ refl refl
-confirmed_lasts state cell (Confirmed outcome play costs) = nobody state state refl refl
-confirmed_lasts state cell (Ruled north_south east_west reason) = nobody state state refl refl
+confirmed_lasts state cell known = nobody state _ refl refl
 
 -- whatever roles are assigned, users keep their names
 names_kept : (change : List Role → List Role) (name : List ℕ) (accounts : List Account) →
@@ -66,33 +52,16 @@ joined_last : (accounts : List Account) (account : Account) →
 joined_last [] account = refl
 joined_last (first ∷ accounts) account = ap (λ names. first.name ∷ names) (joined_last accounts account)
 
--- one line for each command
+-- whatever a command does; accounts are those of three alone
 effect_lasts : (state : SessionState) (command : Command) → Lasts state (effect state command)
-effect_lasts state (Enter cell outcome play) = nobody state _ refl refl
 effect_lasts state (Confirm cell outcome) = confirmed_lasts state cell (cell_at state cell)
-effect_lasts state (Correct cell outcome play) = nobody state _ refl refl
-effect_lasts state (Rule cell north_south east_west reason) = nobody state _ refl refl
-effect_lasts state (Void cell) = nobody state _ refl refl
-effect_lasts state (Hold board) = nobody state _ refl refl
-effect_lasts state (Release board) = nobody state _ refl refl
-effect_lasts state (Seat name pair place) = nobody state _ refl refl
-effect_lasts state (Unseat name) = nobody state _ refl refl
-effect_lasts state NextRound = nobody state _ refl refl
-effect_lasts state Close = nobody state _ refl refl
-effect_lasts state Finalise = nobody state _ refl refl
 effect_lasts state (AddUser name digest) =
     record { joined = name ∷ []; users = joined_last state.roles.accounts (new_account name); movement = refl }
 effect_lasts state (Assign name role) =
     nobody state _ (names_kept (λ set. with_role set role) name state.roles.accounts) refl
 effect_lasts state (Deassign name role) =
     nobody state _ (names_kept (λ set. without_role set role) name state.roles.accounts) refl
-effect_lasts state (AddInheritance senior junior) = nobody state _ refl refl
-effect_lasts state (DeleteInheritance senior junior) = nobody state _ refl refl
-effect_lasts state (Solved board table) = nobody state _ refl refl
-effect_lasts state (Analysed cell costs) = nobody state _ refl refl
-effect_lasts state Embargo = nobody state _ refl refl
-effect_lasts state Lift = nobody state _ refl refl
-effect_lasts state (Rename name shown) = nobody state _ refl refl
+effect_lasts state command = nobody state _ refl refl
 
 pub apply_lasts : (state : SessionState) (entry : Entry) → Lasts state (apply state entry)
 apply_lasts state entry = by_hindrance (is_some (hindrance_of state entry.command))

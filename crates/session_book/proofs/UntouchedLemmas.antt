@@ -1,4 +1,4 @@
--- What an entry doesn't touch, nobody sees who didn't see it before: one line for each command.
+-- What an entry doesn't touch, nobody sees who didn't see it before.
 use Rattle.std.proofs.Common.{
   ◌≡◌,
   ◌≢◌,
@@ -70,14 +70,25 @@ use Rattle.session_state.specs.Refusal.{hindrance_of}
 use Rattle.session_state.specs.Seats.{without_seat}
 use Rattle.session_state.specs.SessionState.{SessionState, cell_at}
 use Rattle.session_commands.specs.declared.cell_state.CellState.{CellState}
-use Rattle.session_commands.specs.declared.cell_state.CellState.TheVariants.{Empty, Entered, Confirmed, Ruled}
+use Rattle.session_commands.specs.declared.cell_state.CellState.TheVariants.{Entered, Confirmed, Ruled}
 use Rattle.session_commands.specs.declared.command.Command.{Command}
-use Rattle.session_commands.specs.declared.command.Command.TheVariants.{Enter, Confirm, Correct, Void, Hold, Release}
 use Rattle.session_commands.specs.declared.command.Command.TheVariants as command
-use Rattle.session_commands.specs.declared.command.Command.TheVariants.{Seat, Unseat, NextRound, Close, Finalise}
-use Rattle.session_commands.specs.declared.command.Command.TheVariants.{AddUser, Assign, Deassign, AddInheritance}
-use Rattle.session_commands.specs.declared.command.Command.TheVariants.{DeleteInheritance, Solved, Analysed}
-use Rattle.session_commands.specs.declared.command.Command.TheVariants.{Embargo, Lift, Rename}
+use Rattle.session_commands.specs.declared.command.Command.TheVariants.{
+  Confirm,
+  Correct,
+  Void,
+  Hold,
+  Release,
+  Seat,
+  Unseat,
+  AddUser,
+  Assign,
+  Deassign,
+  AddInheritance,
+  DeleteInheritance,
+  Embargo,
+  Lift,
+}
 use Rattle.session_commands.specs.declared.entry.Entry.{Entry}
 use Rattle.session_commands.specs.declared.refusal.Refusal.{Refusal}
 use Rattle.session_commands.specs.declared.refusal.Refusal.TheVariants.{NoSuchCell}
@@ -293,28 +304,14 @@ result_elsewhere state cell known user board from from_other differ = record {
 confirmed_elsewhere : (state : SessionState) (cell : Cell) (known : CellState) (user : List ℕ) (board : ℕ) →
     1 ≤ cell.board → 1 ≤ board → board ≢ cell.board →
     ShowsNoMore state (confirmed state cell known) user board
-confirmed_elsewhere state cell Empty user board from from_other differ = nothing_changed state user board
 confirmed_elsewhere state cell (Entered outcome play) user board from from_other differ =
     result_elsewhere state cell (Confirmed outcome play None) user board from from_other differ
-confirmed_elsewhere state cell (Confirmed outcome play costs) user board from from_other differ = nothing_changed state
-    user board
-confirmed_elsewhere state cell (Ruled north_south east_west reason) user board from from_other differ =
-    nothing_changed state user board
+confirmed_elsewhere state cell known user board from from_other differ = nothing_changed state user board
 
--- one line for each command: of what it doesn't touch it shows no more
+-- of what a command doesn't touch it shows no more: a line for each that changes something that a rule looks at
 effect_shows : (state : SessionState) (command : Command) (user : List ℕ) (board : ℕ) →
     ((cell : Cell) → subject_cell command ≡ Some cell → 1 ≤ cell.board) → 1 ≤ board → board ≤ most_boards →
     is_touched (touched_by command) user board ≡ false → ShowsNoMore state (effect state command) user board
-effect_shows state (Enter cell outcome play) user board from low high untouched =
-    record {
-      movement = refl;
-      roles = λ role. refl;
-      seat = inl refl;
-      edition = refl;
-      embargo = λ is. is;
-      held = λ is. is;
-      live = λ place is. is;
-    }
 effect_shows state (Confirm cell outcome) user board from low high untouched =
     confirmed_elsewhere state cell (cell_at state cell) user board (from cell refl) low
     (not_equal board cell.board untouched)
@@ -371,36 +368,6 @@ effect_shows state (Unseat name) user board from low high untouched = record {
   held = λ is. is;
   live = λ place is. is;
 }
-effect_shows state NextRound user board from low high untouched =
-    record {
-      movement = refl;
-      roles = λ role. refl;
-      seat = inl refl;
-      edition = refl;
-      embargo = λ is. is;
-      held = λ is. is;
-      live = λ place is. is;
-    }
-effect_shows state Close user board from low high untouched =
-    record {
-      movement = refl;
-      roles = λ role. refl;
-      seat = inl refl;
-      edition = refl;
-      embargo = λ is. is;
-      held = λ is. is;
-      live = λ place is. is;
-    }
-effect_shows state Finalise user board from low high untouched =
-    record {
-      movement = refl;
-      roles = λ role. refl;
-      seat = inl refl;
-      edition = refl;
-      embargo = λ is. is;
-      held = λ is. is;
-      live = λ place is. is;
-    }
 effect_shows state (AddUser name digest) user board from low high untouched = record {
   movement = refl;
   roles = joined_none state.roles.pairs state.roles.accounts name user;
@@ -432,26 +399,6 @@ effect_shows state (AddInheritance senior junior) user board from low high untou
     absurd (false≢true (sym untouched))
 effect_shows state (DeleteInheritance senior junior) user board from low high untouched =
     absurd (false≢true (sym untouched))
-effect_shows state (Solved number table) user board from low high untouched =
-    record {
-      movement = refl;
-      roles = λ role. refl;
-      seat = inl refl;
-      edition = refl;
-      embargo = λ is. is;
-      held = λ is. is;
-      live = λ place is. is;
-    }
-effect_shows state (Analysed cell costs) user board from low high untouched =
-    record {
-      movement = refl;
-      roles = λ role. refl;
-      seat = inl refl;
-      edition = refl;
-      embargo = λ is. is;
-      held = λ is. is;
-      live = λ place is. is;
-    }
 effect_shows state Embargo user board from low high untouched =
     record {
       movement = refl;
@@ -463,16 +410,15 @@ effect_shows state Embargo user board from low high untouched =
       live = λ place is. is;
     }
 effect_shows state Lift user board from low high untouched = absurd (false≢true (sym untouched))
-effect_shows state (Rename name shown) user board from low high untouched =
-    record {
-      movement = refl;
-      roles = λ role. refl;
-      seat = inl refl;
-      edition = refl;
-      embargo = λ is. is;
-      held = λ is. is;
-      live = λ place is. is;
-    }
+effect_shows state command user board from low high untouched = record {
+  movement = refl;
+  roles = λ role. refl;
+  seat = inl refl;
+  edition = refl;
+  embargo = λ is. is;
+  held = λ is. is;
+  live = λ place is. is;
+}
 
 second_free : (a b rest : Option Refusal) → option_or a (option_or b rest) ≡ None → b ≡ None
 second_free None None rest none = refl

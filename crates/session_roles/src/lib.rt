@@ -4,7 +4,6 @@
 
 mod edition;
 mod operation;
-mod permission;
 mod role;
 mod role_set;
 mod separation_set;

@@ -3,32 +3,9 @@ use Rattle.std.proofs.Common.{◌≡◌, refl}
 use Rattle.std.specs.Prelude.{Option, Some, None, is_some, if◌then◌else◌}
 use Rattle.movement.specs.declared.cell.Cell.{Cell}
 use Rattle.session_commands.specs.declared.cell_state.CellState.{CellState}
-use Rattle.session_commands.specs.declared.cell_state.CellState.TheVariants.{Empty, Entered, Confirmed, Ruled}
+use Rattle.session_commands.specs.declared.cell_state.CellState.TheVariants.{Empty}
 use Rattle.session_commands.specs.declared.command.Command.{Command}
-use Rattle.session_commands.specs.declared.command.Command.TheVariants as command
-use Rattle.session_commands.specs.declared.command.Command.TheVariants.{
-  Enter,
-  Confirm,
-  Correct,
-  Rule,
-  Void,
-  Hold,
-  Release,
-  Unseat,
-  NextRound,
-  Close,
-  Finalise,
-  AddUser,
-  Assign,
-  Deassign,
-  AddInheritance,
-  DeleteInheritance,
-  Solved,
-  Analysed,
-  Embargo,
-  Lift,
-  Rename,
-}
+use Rattle.session_commands.specs.declared.command.Command.TheVariants.{Confirm, Seat, Unseat}
 use Rattle.session_commands.specs.declared.entry.Entry.{Entry}
 use Rattle.session_commands.specs.declared.refusal.Refusal.{Refusal}
 use Rattle.session_state.specs.Apply.{apply, effect, confirmed}
@@ -45,33 +22,13 @@ ArePlaced state = AreSeatsOf state.public.movement state.seats
 module _ (state : SessionState) (are : ArePlaced state) where
   confirmed_placed : (cell : Cell) (known : CellState) → ArePlaced (confirmed state cell known)
   confirmed_placed cell Empty = are
-  confirmed_placed cell (Entered outcome play) = are
-  confirmed_placed cell (Confirmed outcome play costs) = are
-  confirmed_placed cell (Ruled north_south east_west reason) = are
+  confirmed_placed cell known = are
 
   effect_placed : (command : Command) → hindrance_of state command ≡ None → ArePlaced (effect state command)
-  effect_placed (Enter cell outcome play) unhindered = are
   effect_placed (Confirm cell outcome) unhindered = confirmed_placed _ (cell_at state cell)
-  effect_placed (Correct cell outcome play) unhindered = are
-  effect_placed (Rule cell north_south east_west reason) unhindered = are
-  effect_placed (Void cell) unhindered = are
-  effect_placed (Hold board) unhindered = are
-  effect_placed (Release board) unhindered = are
-  effect_placed (command.Seat name pair place) unhindered = seats_still_placed state name pair place unhindered are
+  effect_placed (Seat name pair place) unhindered = seats_still_placed state name pair place unhindered are
   effect_placed (Unseat name) unhindered = one_less_placed state.public.movement state.seats name are
-  effect_placed NextRound unhindered = are
-  effect_placed Close unhindered = are
-  effect_placed Finalise unhindered = are
-  effect_placed (AddUser name digest) unhindered = are
-  effect_placed (Assign name role) unhindered = are
-  effect_placed (Deassign name role) unhindered = are
-  effect_placed (AddInheritance senior junior) unhindered = are
-  effect_placed (DeleteInheritance senior junior) unhindered = are
-  effect_placed (Solved board table) unhindered = are
-  effect_placed (Analysed cell costs) unhindered = are
-  effect_placed Embargo unhindered = are
-  effect_placed Lift unhindered = are
-  effect_placed (Rename name shown) unhindered = are
+  effect_placed command unhindered = are
 
 pub entry_placed : (state : SessionState) (entry : Entry) → AreSeatsOf state.public.movement state.seats →
     AreSeatsOf (apply state entry).public.movement (apply state entry).seats

@@ -10,30 +10,7 @@ use Rattle.session_roles.specs.declared.operation.Operation.{Operation}
 use Rattle.session_commands.specs.declared.actor.Actor.{Actor}
 use Rattle.session_commands.specs.declared.actor.Actor.TheVariants.{User, Solver}
 use Rattle.session_commands.specs.declared.command.Command.{Command}
-use Rattle.session_commands.specs.declared.command.Command.TheVariants.{
-  Enter,
-  Confirm,
-  Correct,
-  Rule,
-  Void,
-  Hold,
-  Release,
-  Seat,
-  Unseat,
-  NextRound,
-  Close,
-  Finalise,
-  AddUser,
-  Assign,
-  Deassign,
-  AddInheritance,
-  DeleteInheritance,
-  Solved,
-  Analysed,
-  Embargo,
-  Lift,
-  Rename,
-}
+use Rattle.session_commands.specs.declared.command.Command.TheVariants.{Solved, Analysed}
 use Rattle.session_commands.specs.declared.refusal.Refusal.{Refusal}
 use Rattle.session_commands.specs.declared.refusal.Refusal.TheVariants.{
   NotPermitted,
@@ -112,30 +89,11 @@ by_spoiler false spoiler met same = absurd cc
 -- the solver's commands are about no user, and none of their own causes is about one
 solvers_not_strange : (state : SessionState) (command : Command) → is_solvers command ≡ true →
     (subject_user command ≡ None) × NoneStrange (own_causes state command)
-solvers_not_strange state (Enter cell outcome play) never = absurd (false≢true never)
-solvers_not_strange state (Confirm cell outcome) never = absurd (false≢true never)
-solvers_not_strange state (Correct cell outcome play) never = absurd (false≢true never)
-solvers_not_strange state (Rule cell north_south east_west reason) never = absurd (false≢true never)
-solvers_not_strange state (Void cell) never = absurd (false≢true never)
-solvers_not_strange state (Hold board) never = absurd (false≢true never)
-solvers_not_strange state (Release board) never = absurd (false≢true never)
-solvers_not_strange state (Seat name pair place) never = absurd (false≢true never)
-solvers_not_strange state (Unseat name) never = absurd (false≢true never)
-solvers_not_strange state NextRound never = absurd (false≢true never)
-solvers_not_strange state Close never = absurd (false≢true never)
-solvers_not_strange state Finalise never = absurd (false≢true never)
-solvers_not_strange state (AddUser name digest) never = absurd (false≢true never)
-solvers_not_strange state (Assign name role) never = absurd (false≢true never)
-solvers_not_strange state (Deassign name role) never = absurd (false≢true never)
-solvers_not_strange state (AddInheritance senior junior) never = absurd (false≢true never)
-solvers_not_strange state (DeleteInheritance senior junior) never = absurd (false≢true never)
 solvers_not_strange state (Solved board table) solvers =
     (refl, (other _ StrangeDeal refl, (other _ AlreadySolved refl, tt)))
 solvers_not_strange state (Analysed cell costs) solvers =
     (refl, (other _ NotLive refl, (other _ StrangePlay refl, (other _ AlreadySolved refl, tt))))
-solvers_not_strange state Embargo never = absurd (false≢true never)
-solvers_not_strange state Lift never = absurd (false≢true never)
-solvers_not_strange state (Rename name shown) never = absurd (false≢true never)
+solvers_not_strange state command never = absurd (false≢true never)
 
 pub numbers_name_nobody : (state : SessionState) (spoiler : Option (List ℕ)) (actor : Actor) (command : Command)
     (entries : ℕ) → is_solvers command ≡ true →

@@ -69,23 +69,8 @@ use Rattle.session_commands.specs.declared.command.Command.TheVariants.{
   Correct,
   Rule,
   Void,
-  Hold,
-  Release,
-  Seat,
-  Unseat,
-  NextRound,
-  Close,
-  Finalise,
-  AddUser,
-  Assign,
-  Deassign,
-  AddInheritance,
-  DeleteInheritance,
   Solved,
   Analysed,
-  Embargo,
-  Lift,
-  Rename,
 }
 use Rattle.user_names.specs.declared.digest.Digest.{Digest}
 use Rattle.session_commands.specs.declared.entry.Entry.{Entry}
@@ -263,12 +248,10 @@ module _ (state : SessionState) (keeps : KeepsOwn state) where
   }
 
   with_confirmed : (own : Cell) (known : CellState) → IsPlaced own → KeepsOwn (confirmed state own known)
-  with_confirmed own Empty placed_own = keeps
   with_confirmed own (Entered outcome play) placed_own =
       with_known own (Confirmed outcome play None) _ placed_own
       (costless state.deals own.board (Confirmed outcome play None) refl)
-  with_confirmed own (Confirmed outcome play costs) placed_own = keeps
-  with_confirmed own (Ruled north_south east_west reason) placed_own = keeps
+  with_confirmed own known placed_own = keeps
 
   with_table : (board : ℕ) (table : Hands) → IsHandsOf state.deals board table →
       KeepsOwn (record state { tables = slice_set state.tables (board - 1) (Some table) })
@@ -310,27 +293,13 @@ module _ (state : SessionState) (keeps : KeepsOwn state) where
   effect_keeps is_section (Void cell) unhindered =
       with_known _ _ _ (scheduled_placed state _ is_section (cell_unhindered state (Void cell) unhindered))
       (costless _ _ Empty refl)
-  effect_keeps is_section (Hold board) unhindered = unchanged _ _ _ _ _
-  effect_keeps is_section (Release board) unhindered = unchanged _ _ _ _ _
-  effect_keeps is_section (Seat name pair place) unhindered = unchanged _ _ _ _ _
-  effect_keeps is_section (Unseat name) unhindered = unchanged _ _ _ _ _
-  effect_keeps is_section NextRound unhindered = unchanged _ _ _ _ _
-  effect_keeps is_section Close unhindered = unchanged _ _ _ _ _
-  effect_keeps is_section Finalise unhindered = unchanged _ _ _ _ _
-  effect_keeps is_section (AddUser name digest) unhindered = unchanged _ _ _ _ _
-  effect_keeps is_section (Assign name role) unhindered = unchanged _ _ _ _ _
-  effect_keeps is_section (Deassign name role) unhindered = unchanged _ _ _ _ _
-  effect_keeps is_section (AddInheritance senior junior) unhindered = unchanged _ _ _ _ _
-  effect_keeps is_section (DeleteInheritance senior junior) unhindered = unchanged _ _ _ _ _
   effect_keeps is_section (Solved board table) unhindered = with_table board table
       (solved_own state board table unhindered).0
   effect_keeps is_section (Analysed cell costs) unhindered =
       with_known _ _ _ (scheduled_placed state _ is_section (cell_unhindered state (Analysed cell costs)
       unhindered))
       (counted _ costs (analysed_own state cell costs unhindered))
-  effect_keeps is_section Embargo unhindered = unchanged _ _ _ _ _
-  effect_keeps is_section Lift unhindered = unchanged _ _ _ _ _
-  effect_keeps is_section (Rename name shown) unhindered = unchanged _ _ _ _ _
+  effect_keeps is_section command unhindered = unchanged _ _ _ _ _
 
 -- each entry keeps them
 pub entry_keeps : (state : SessionState) (entry : Entry) → IsSection state.public.movement → KeepsOwn state →

@@ -1,19 +1,15 @@
 -- A command changes the part of a state that it is about, and no other.
-use Rattle.std.proofs.Common.{◌≡◌, ◌≢◌, ℕ, Bool, true, false, List, refl, sym, ap}
+use Rattle.std.proofs.Common.{◌≡◌, ◌≢◌, Bool, true, false, refl, sym, ap}
 use Rattle.std.specs.Prelude.{Option, Some, None, is_some, not, if◌then◌else◌}
 use Rattle.std.proofs.lemmas.Bool.{false≢true}
-use Rattle.cards.specs.Hands.{Hands}
 use Rattle.movement.specs.declared.cell.Cell.{Cell}
 use Rattle.movement.specs.Movement.{IsSection}
 use Rattle.movement.specs.Schedule.{is_scheduled}
 use Rattle.session_state.proofs.movement_lemmas.CellLemmas.{cell_in_range}
 use Rattle.session_state.proofs.movement_lemmas.ScheduleTests.{scheduled-cell}
-use Rattle.rbac.specs.declared.account.Account.{Account}
-use Rattle.rbac.specs.declared.inheritance.Inheritance.{Inheritance}
 use Rattle.disclosure_rules.specs.Seating.{some_that}
-use Rattle.disclosure_rules.specs.declared.phase.Phase.{Phase}
 use Rattle.session_commands.specs.declared.cell_state.CellState.{CellState}
-use Rattle.session_commands.specs.declared.cell_state.CellState.TheVariants.{Empty, Entered, Confirmed, Ruled}
+use Rattle.session_commands.specs.declared.cell_state.CellState.TheVariants.{Entered, Confirmed}
 use Rattle.session_commands.specs.declared.command.Command.{Command}
 use Rattle.session_commands.specs.declared.command.Command.TheVariants.{
   Enter,
@@ -21,332 +17,41 @@ use Rattle.session_commands.specs.declared.command.Command.TheVariants.{
   Correct,
   Rule,
   Void,
-  Hold,
-  Release,
-  Seat,
-  Unseat,
-  NextRound,
-  Close,
-  Finalise,
   AddUser,
-  Assign,
-  Deassign,
-  AddInheritance,
-  DeleteInheritance,
-  Solved,
   Analysed,
-  Embargo,
-  Lift,
-  Rename,
 }
-use Rattle.user_names.specs.declared.digest.Digest.{Digest}
 use Rattle.session_commands.specs.declared.entry.Entry.{Entry}
 use Rattle.session_commands.specs.declared.refusal.Refusal.{Refusal}
-use Rattle.session_state.specs.declared.seated.Seated.{Seated}
-use Rattle.session_state.specs.Apply.{apply, effect, confirmed}
+use Rattle.session_state.specs.Apply.{apply, effect, part_of, confirmed}
 use Rattle.session_commands.specs.Command.{subject_cell}
-use Rattle.session_state.specs.Parts.{
-  Part,
-  Results,
-  HeldBoards,
-  Seats,
-  Rounds,
-  Phases,
-  Accounts,
-  Hierarchy,
-  Tables,
-  Embargoes,
-  Names,
-  part_of,
-  IsSameBut,
-}
+use Rattle.session_state.specs.Parts.{Part, Results, IsSameBut}
 use Rattle.session_state.specs.Refusal.{hindrance_of}
 use Rattle.session_state.specs.SessionState.{SessionState, cell_at, with_cell, cell_index, IsPlaced}
 use Rattle.session_state.proofs.HindranceLemmas.{cell_unhindered}
 use Rattle.session_state.proofs.LiveLemmas.{own_place, known_elsewhere}
 use Rattle.session_state.proofs.ScheduleLemmas.{placed}
 
--- a state with one part changed
+-- what is in the part that may change need not be the same
+its_own : {A : Type 0} {part : Part} → part ≢ part → A
+its_own other = absurd (other refl)
+
+-- nor what is in two parts, where one of them may change
+in_two : {A : Type 0} {part second : Part} → part ≢ part → part ≢ second → A
+in_two other also = absurd (other refl)
+
+-- what is in another part is the same
 module _ (state : SessionState) where
   same : (part : Part) → IsSameBut part state state
-  same part = record {
-    movement = refl;
-    marks = refl;
-    deals = refl;
-    notices = refl;
-    edition = refl;
-    roles_edition = refl;
-    cells = λ _. refl;
-    live = λ _. refl;
-    held = λ _. refl;
-    seats = λ _. refl;
-    round = λ _. refl;
-    phase = λ _. refl;
-    accounts = λ _. refl;
-    digests = λ _. refl;
-    names = λ _ _. refl;
-    pairs = λ _. refl;
-    tables = λ _. refl;
-    embargo = λ _. refl;
-  }
-
-  same_but_cells : (cells : List CellState) (live : List (List ℕ)) → IsSameBut Results state
-      (record state { cells = cells; public = record state.public { live = live } })
-  same_but_cells cells live = record {
-    movement = refl;
-    marks = refl;
-    deals = refl;
-    notices = refl;
-    edition = refl;
-    roles_edition = refl;
-    cells = λ other. absurd (other refl);
-    live = λ other. absurd (other refl);
-    held = λ _. refl;
-    seats = λ _. refl;
-    round = λ _. refl;
-    phase = λ _. refl;
-    accounts = λ _. refl;
-    digests = λ _. refl;
-    names = λ _ _. refl;
-    pairs = λ _. refl;
-    tables = λ _. refl;
-    embargo = λ _. refl;
-  }
-
-  same_but_held : (held : List ℕ) → IsSameBut HeldBoards state
-      (record state { public = record state.public { held = held } })
-  same_but_held held = record {
-    movement = refl;
-    marks = refl;
-    deals = refl;
-    notices = refl;
-    edition = refl;
-    roles_edition = refl;
-    cells = λ _. refl;
-    live = λ _. refl;
-    held = λ other. absurd (other refl);
-    seats = λ _. refl;
-    round = λ _. refl;
-    phase = λ _. refl;
-    accounts = λ _. refl;
-    digests = λ _. refl;
-    names = λ _ _. refl;
-    pairs = λ _. refl;
-    tables = λ _. refl;
-    embargo = λ _. refl;
-  }
-
-  same_but_seats : (seats : List Seated) → IsSameBut Seats state (record state { seats = seats })
-  same_but_seats seats = record {
-    movement = refl;
-    marks = refl;
-    deals = refl;
-    notices = refl;
-    edition = refl;
-    roles_edition = refl;
-    cells = λ _. refl;
-    live = λ _. refl;
-    held = λ _. refl;
-    seats = λ other. absurd (other refl);
-    round = λ _. refl;
-    phase = λ _. refl;
-    accounts = λ _. refl;
-    digests = λ _. refl;
-    names = λ _ _. refl;
-    pairs = λ _. refl;
-    tables = λ _. refl;
-    embargo = λ _. refl;
-  }
-
-  same_but_round : (round : ℕ) → IsSameBut Rounds state
-      (record state { public = record state.public { round = round } })
-  same_but_round round = record {
-    movement = refl;
-    marks = refl;
-    deals = refl;
-    notices = refl;
-    edition = refl;
-    roles_edition = refl;
-    cells = λ _. refl;
-    live = λ _. refl;
-    held = λ _. refl;
-    seats = λ _. refl;
-    round = λ other. absurd (other refl);
-    phase = λ _. refl;
-    accounts = λ _. refl;
-    digests = λ _. refl;
-    names = λ _ _. refl;
-    pairs = λ _. refl;
-    tables = λ _. refl;
-    embargo = λ _. refl;
-  }
-
-  same_but_phase : (phase : Phase) → IsSameBut Phases state
-      (record state { public = record state.public { phase = phase } })
-  same_but_phase phase = record {
-    movement = refl;
-    marks = refl;
-    deals = refl;
-    notices = refl;
-    edition = refl;
-    roles_edition = refl;
-    cells = λ _. refl;
-    live = λ _. refl;
-    held = λ _. refl;
-    seats = λ _. refl;
-    round = λ _. refl;
-    phase = λ other. absurd (other refl);
-    accounts = λ _. refl;
-    digests = λ _. refl;
-    names = λ _ _. refl;
-    pairs = λ _. refl;
-    tables = λ _. refl;
-    embargo = λ _. refl;
-  }
-
-  same_but_accounts : (accounts : List Account) (digests : List Digest) (names : List (List ℕ))
-      → IsSameBut Accounts state
-      (record state { roles = record state.roles { accounts = accounts }; digests = digests; names = names })
-  same_but_accounts accounts digests names = record {
-    movement = refl;
-    marks = refl;
-    deals = refl;
-    notices = refl;
-    edition = refl;
-    roles_edition = refl;
-    cells = λ _. refl;
-    live = λ _. refl;
-    held = λ _. refl;
-    seats = λ _. refl;
-    round = λ _. refl;
-    phase = λ _. refl;
-    accounts = λ other. absurd (other refl);
-    digests = λ other. absurd (other refl);
-    names = λ other _. absurd (other refl);
-    pairs = λ _. refl;
-    tables = λ _. refl;
-    embargo = λ _. refl;
-  }
-
-  same_but_pairs : (pairs : List Inheritance) → IsSameBut Hierarchy state
-      (record state { roles = record state.roles { pairs = pairs } })
-  same_but_pairs pairs = record {
-    movement = refl;
-    marks = refl;
-    deals = refl;
-    notices = refl;
-    edition = refl;
-    roles_edition = refl;
-    cells = λ _. refl;
-    live = λ _. refl;
-    held = λ _. refl;
-    seats = λ _. refl;
-    round = λ _. refl;
-    phase = λ _. refl;
-    accounts = λ _. refl;
-    digests = λ _. refl;
-    names = λ _ _. refl;
-    pairs = λ other. absurd (other refl);
-    tables = λ _. refl;
-    embargo = λ _. refl;
-  }
-
-  same_but_tables : (tables : List (Option Hands)) → IsSameBut Tables state (record state { tables = tables })
-  same_but_tables tables = record {
-    movement = refl;
-    marks = refl;
-    deals = refl;
-    notices = refl;
-    edition = refl;
-    roles_edition = refl;
-    cells = λ _. refl;
-    live = λ _. refl;
-    held = λ _. refl;
-    seats = λ _. refl;
-    round = λ _. refl;
-    phase = λ _. refl;
-    accounts = λ _. refl;
-    digests = λ _. refl;
-    names = λ _ _. refl;
-    pairs = λ _. refl;
-    tables = λ other. absurd (other refl);
-    embargo = λ _. refl;
-  }
-
-  same_but_embargo : (embargo : Bool) → IsSameBut Embargoes state
-      (record state { public = record state.public { embargo = embargo } })
-  same_but_embargo embargo = record {
-    movement = refl;
-    marks = refl;
-    deals = refl;
-    notices = refl;
-    edition = refl;
-    roles_edition = refl;
-    cells = λ _. refl;
-    live = λ _. refl;
-    held = λ _. refl;
-    seats = λ _. refl;
-    round = λ _. refl;
-    phase = λ _. refl;
-    accounts = λ _. refl;
-    digests = λ _. refl;
-    names = λ _ _. refl;
-    pairs = λ _. refl;
-    tables = λ _. refl;
-    embargo = λ other. absurd (other refl);
-  }
-
-  same_but_names : (names : List (List ℕ)) → IsSameBut Names state (record state { names = names })
-  same_but_names names = record {
-    movement = refl;
-    marks = refl;
-    deals = refl;
-    notices = refl;
-    edition = refl;
-    roles_edition = refl;
-    cells = λ _. refl;
-    live = λ _. refl;
-    held = λ _. refl;
-    seats = λ _. refl;
-    round = λ _. refl;
-    phase = λ _. refl;
-    accounts = λ _. refl;
-    digests = λ _. refl;
-    names = λ _ other. absurd (other refl);
-    pairs = λ _. refl;
-    tables = λ _. refl;
-    embargo = λ _. refl;
-  }
+  same part = search
 
   confirmed_part : (cell : Cell) (known : CellState) → IsSameBut Results state (confirmed state cell known)
-  confirmed_part cell Empty = same Results
-  confirmed_part cell (Entered outcome play) = same_but_cells _ _
-  confirmed_part cell (Confirmed outcome play costs) = same Results
-  confirmed_part cell (Ruled north_south east_west reason) = same Results
+  confirmed_part cell (Entered outcome play) = search its_own
+  confirmed_part cell known = search
 
   effect_part : (command : Command) → IsSameBut (part_of command) state (effect state command)
-  effect_part (Enter cell outcome play) = same_but_cells _ _
-  effect_part (Confirm cell outcome) = confirmed_part _ _
-  effect_part (Correct cell outcome play) = same_but_cells _ _
-  effect_part (Rule cell north_south east_west reason) = same_but_cells _ _
-  effect_part (Void cell) = same_but_cells _ _
-  effect_part (Hold board) = same_but_held _
-  effect_part (Release board) = same_but_held _
-  effect_part (Seat name pair place) = same_but_seats _
-  effect_part (Unseat name) = same_but_seats _
-  effect_part NextRound = same_but_round _
-  effect_part Close = same_but_phase _
-  effect_part Finalise = same_but_phase _
-  effect_part (AddUser name digest) = same_but_accounts _ _ _
-  effect_part (Assign name role) = same_but_accounts _ _ _
-  effect_part (Deassign name role) = same_but_accounts _ _ _
-  effect_part (AddInheritance senior junior) = same_but_pairs _
-  effect_part (DeleteInheritance senior junior) = same_but_pairs _
-  effect_part (Solved board table) = same_but_tables _
-  effect_part (Analysed cell costs) = same_but_cells _ _
-  effect_part Embargo = same_but_embargo _
-  effect_part Lift = same_but_embargo _
-  effect_part (Rename name shown) = same_but_names _
+  effect_part (Confirm cell outcome) = confirmed_part cell (cell_at state cell)
+  effect_part (AddUser name digest) = search (its_own, in_two)
+  effect_part command = search its_own
 
 -- an entry changes one part at most
 pub entry_part : (state : SessionState) (entry : Entry) → IsSameBut (part_of entry.command) state (apply state entry)
@@ -368,10 +73,8 @@ module _ (state : SessionState) (own cell : Cell) (placed_own : IsPlaced own) (p
   kept_elsewhere known = known_elsewhere state.cells own cell known apart
 
   kept_confirmed : (known : CellState) → cell_at (confirmed state own known) cell ≡ cell_at state cell
-  kept_confirmed Empty = refl
   kept_confirmed (Entered outcome play) = kept_elsewhere (Confirmed outcome play None)
-  kept_confirmed (Confirmed outcome play costs) = refl
-  kept_confirmed (Ruled north_south east_west reason) = refl
+  kept_confirmed known = refl
 
 no_other : {cell : Cell} (own : Cell) → Some own ≢ Some cell → own ≢ cell
 no_other own other same = other (ap Some same)
@@ -409,24 +112,9 @@ effect_elsewhere state command cell is_section placed_cell unhindered other = by
         (own_placed _ there) placed_cell (no_other _ other) _
     by_command (Void own) there other = kept_elsewhere state _ cell (own_placed _ there) placed_cell
         (no_other _ other) _
-    by_command (Hold board) there other = refl
-    by_command (Release board) there other = refl
-    by_command (Seat name pair place) there other = refl
-    by_command (Unseat name) there other = refl
-    by_command NextRound there other = refl
-    by_command Close there other = refl
-    by_command Finalise there other = refl
-    by_command (AddUser name digest) there other = refl
-    by_command (Assign name role) there other = refl
-    by_command (Deassign name role) there other = refl
-    by_command (AddInheritance senior junior) there other = refl
-    by_command (DeleteInheritance senior junior) there other = refl
-    by_command (Solved board table) there other = refl
     by_command (Analysed own costs) there other = kept_elsewhere state _ cell (own_placed _ there) placed_cell
         (no_other _ other) _
-    by_command Embargo there other = refl
-    by_command Lift there other = refl
-    by_command (Rename name shown) there other = refl
+    by_command command there other = refl
 
 -- an entry changes what is known of its own cell alone
 pub entry_elsewhere : (state : SessionState) (entry : Entry) (cell : Cell) → IsSection state.public.movement →

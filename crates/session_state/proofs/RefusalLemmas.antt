@@ -18,34 +18,11 @@ use Rattle.std.specs.Bool.{then_some}
 use Rattle.std.specs.Option.{option_map_or, option_or}
 use Rattle.std.proofs.lemmas.Bool.{cases_lt, le-leb, false≢true, false_from_ne_true}
 use Rattle.rbac.specs.Authorization.{HasPermission, IsValid, has_permission}
-use Rattle.rbac.specs.RoleData.{RoleData, assign_user, deassign_user, add_inheritance, delete_inheritance}
+use Rattle.rbac.specs.RoleData.{RoleData}
 use Rattle.session_roles.specs.declared.separation_set.SeparationSet.{SeparationSet}
 use Rattle.rbac.proofs.LawLemmas.{permission_exact}
 use Rattle.session_commands.specs.declared.command.Command.{Command}
-use Rattle.session_commands.specs.declared.command.Command.TheVariants.{
-  Enter,
-  Confirm,
-  Correct,
-  Rule,
-  Void,
-  Hold,
-  Release,
-  Seat,
-  Unseat,
-  NextRound,
-  Close,
-  Finalise,
-  AddUser,
-  Assign,
-  Deassign,
-  AddInheritance,
-  DeleteInheritance,
-  Solved,
-  Analysed,
-  Embargo,
-  Lift,
-  Rename,
-}
+use Rattle.session_commands.specs.declared.command.Command.TheVariants.{Rename}
 use Rattle.session_commands.specs.declared.refusal.Refusal.{Refusal}
 use Rattle.session_commands.specs.declared.refusal.Refusal.TheVariants.{
   NotPermitted,
@@ -54,43 +31,10 @@ use Rattle.session_commands.specs.declared.refusal.Refusal.TheVariants.{
   NoSuchBoard,
   WrongPhase,
   RoundNotStarted,
-  BadResult,
-  AlreadyLive,
-  NothingEntered,
-  Mismatch,
   Spoiled,
-  NotLive,
-  BadRuling,
-  AlreadyHeld,
-  NotHeld,
-  AlreadyEmbargoed,
-  NotEmbargoed,
-  NoSuchPair,
-  WrongDirection,
-  NotContestant,
-  AlreadySeated,
-  SeatTaken,
-  NotSeated,
-  NoMoreRounds,
-  NotAllLive,
-  BadName,
-  UserExists,
-  TooManyUsers,
-  NoSuchRole,
-  AlreadyAssigned,
   Separation,
-  NotAssigned,
-  StillSeated,
-  LastAdministrator,
-  Cycle,
-  AlreadyThere,
-  NotThere,
-  StrangeDeal,
-  AlreadySolved,
-  StrangePlay,
   JournalFull,
 }
-use Rattle.session_state.specs.Accounts.{first_broken}
 use Rattle.session_commands.specs.Command.{operation_of, is_told_by_table}
 use Rattle.session_commands.specs.declared.actor.Actor.{Actor}
 use Rattle.session_commands.specs.declared.actor.Actor.TheVariants.{User, Solver}
@@ -100,7 +44,6 @@ use Rattle.session_state.specs.Refusal.{
   is_permitted,
   MayGive,
   first_cause,
-  needed_causes,
   own_causes,
   hindrances,
   causes,
@@ -231,49 +174,10 @@ of_spoiler true (Some name) met same = let is : Spoiled name ≡ met = cc in sym
 of_spoiler true None met same = absurd cc
 of_spoiler false spoiler met same = absurd cc
 
-none_needed : (state : SessionState) (after : RoleData) → NoneApart (needed_causes state after)
-none_needed state after = (of _ StillSeated refl, (of _ LastAdministrator refl, tt))
-
 -- none of a command's own causes
 own_not_apart : (state : SessionState) (command : Command) → NoneApart (own_causes state command)
-own_not_apart state (Enter cell outcome play) = (of _ BadResult refl, (of _ AlreadyLive refl, tt))
-own_not_apart state (Confirm cell outcome) =
-    (of _ AlreadyLive refl, (of _ NothingEntered refl, (of _ Mismatch refl, tt)))
-own_not_apart state (Correct cell outcome play) = (of _ BadResult refl, (of _ NotLive refl, tt))
-own_not_apart state (Rule cell north_south east_west reason) = (of _ BadRuling refl, tt)
-own_not_apart state (Void cell) = (of _ NotLive refl, tt)
-own_not_apart state (Hold board) = (of _ AlreadyHeld refl, tt)
-own_not_apart state (Release board) = (of _ NotHeld refl, tt)
-own_not_apart state (Seat name pair place) = (
-  of _ NoSuchPair refl,
-  (of _ WrongDirection refl, (of _ NotContestant refl, (of _ AlreadySeated refl, (of _ SeatTaken refl, tt)))),
-)
-own_not_apart state (Unseat name) = (of _ NotSeated refl, tt)
-own_not_apart state NextRound = (of _ NoMoreRounds refl, tt)
-own_not_apart state Close = (of _ NotAllLive refl, tt)
-own_not_apart state Finalise = (of _ NotAllLive refl, tt)
-own_not_apart state (AddUser name digest) = (of _ BadName refl, (of _ UserExists refl, (of _ TooManyUsers refl, tt)))
-own_not_apart state (Assign name role) = (
-  of _ NoSuchRole refl,
-  (of _ AlreadyAssigned refl, (of_set (first_broken (assign_user state.roles name role)), tt)),
-)
-own_not_apart state (Deassign name role) =
-    (of _ NoSuchRole refl, (of _ NotAssigned refl, none_needed state (deassign_user state.roles name role)))
-own_not_apart state (AddInheritance senior junior) = (
-  of _ NoSuchRole refl,
-  (
-    of _ Cycle refl,
-    (of _ AlreadyThere refl, (of_set (first_broken (add_inheritance state.roles senior junior)), tt)),
-  ),
-)
-own_not_apart state (DeleteInheritance senior junior) =
-    (of _ NoSuchRole refl, (of _ NotThere refl, none_needed state (delete_inheritance state.roles senior junior)))
-own_not_apart state (Solved board table) = (of _ StrangeDeal refl, (of _ AlreadySolved refl, tt))
-own_not_apart state (Analysed cell costs) =
-    (of _ NotLive refl, (of _ StrangePlay refl, (of _ AlreadySolved refl, tt)))
-own_not_apart state Embargo = (of _ AlreadyEmbargoed refl, tt)
-own_not_apart state Lift = (of _ NotEmbargoed refl, tt)
 own_not_apart state (Rename name shown) = tt
+own_not_apart state command = search (of, of_set)
 
 -- nor of the others
 later_not_apart : (state : SessionState) (spoiler : Option (List ℕ)) (command : Command) (entries : ℕ) →

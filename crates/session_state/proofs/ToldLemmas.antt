@@ -9,32 +9,9 @@ use Rattle.disclosure_rules.specs.Seating.{some_that}
 use Rattle.notices.specs.declared.notices.Notices.{Notices}
 use Rattle.session_commands.specs.declared.actor.Actor.{Actor}
 use Rattle.session_commands.specs.declared.cell_state.CellState.{CellState}
-use Rattle.session_commands.specs.declared.cell_state.CellState.TheVariants.{Empty, Entered, Confirmed, Ruled}
+use Rattle.session_commands.specs.declared.cell_state.CellState.TheVariants.{Empty}
 use Rattle.session_commands.specs.declared.command.Command.{Command}
-use Rattle.session_commands.specs.declared.command.Command.TheVariants.{
-  Enter,
-  Confirm,
-  Correct,
-  Rule,
-  Void,
-  Hold,
-  Release,
-  Seat,
-  Unseat,
-  NextRound,
-  Close,
-  Finalise,
-  AddUser,
-  Assign,
-  Deassign,
-  AddInheritance,
-  DeleteInheritance,
-  Solved,
-  Analysed,
-  Embargo,
-  Lift,
-  Rename,
-}
+use Rattle.session_commands.specs.declared.command.Command.TheVariants.{Confirm, NextRound}
 use Rattle.session_commands.specs.declared.entry.Entry.{Entry}
 use Rattle.session_commands.specs.declared.refusal.Refusal.TheVariants.{
   NotPermitted,
@@ -67,28 +44,8 @@ module _ (state : SessionState) (names : List (List ℕ)) (notices : Notices) wh
   told = told_as state names notices
 
   same_own : (command : Command) → own_causes told command ≡ own_causes state command
-  same_own (Enter cell outcome play) = refl
-  same_own (Confirm cell outcome) = refl
-  same_own (Correct cell outcome play) = refl
-  same_own (Rule cell north_south east_west reason) = refl
-  same_own (Void cell) = refl
-  same_own (Hold board) = refl
-  same_own (Release board) = refl
-  same_own (Seat name pair place) = refl
-  same_own (Unseat name) = refl
   same_own NextRound = refl
-  same_own Close = refl
-  same_own Finalise = refl
-  same_own (AddUser name digest) = refl
-  same_own (Assign name role) = refl
-  same_own (Deassign name role) = refl
-  same_own (AddInheritance senior junior) = refl
-  same_own (DeleteInheritance senior junior) = refl
-  same_own (Solved board table) = refl
-  same_own (Analysed cell costs) = refl
-  same_own Embargo = refl
-  same_own Lift = refl
-  same_own (Rename name shown) = refl
+  same_own command = refl
 
   same_hindrances : (command : Command) → hindrances told command ≡ hindrances state command
   same_hindrances command =
@@ -118,33 +75,11 @@ module _ (state : SessionState) (names : List (List ℕ)) (notices : Notices) wh
     same_confirmed : (cell : Cell) (known : CellState) →
         otherwise (confirmed told cell known) ≡ otherwise (confirmed state cell known)
     same_confirmed cell Empty = refl
-    same_confirmed cell (Entered outcome play) = refl
-    same_confirmed cell (Confirmed outcome play costs) = refl
-    same_confirmed cell (Ruled north_south east_west reason) = refl
+    same_confirmed cell known = refl
 
     same_effect : (command : Command) → otherwise (effect told command) ≡ otherwise (effect state command)
-    same_effect (Enter cell outcome play) = refl
     same_effect (Confirm cell outcome) = same_confirmed cell (cell_at state cell)
-    same_effect (Correct cell outcome play) = refl
-    same_effect (Rule cell north_south east_west reason) = refl
-    same_effect (Void cell) = refl
-    same_effect (Hold board) = refl
-    same_effect (Release board) = refl
-    same_effect (Seat name pair place) = refl
-    same_effect (Unseat name) = refl
-    same_effect NextRound = refl
-    same_effect Close = refl
-    same_effect Finalise = refl
-    same_effect (AddUser name digest) = refl
-    same_effect (Assign name role) = refl
-    same_effect (Deassign name role) = refl
-    same_effect (AddInheritance senior junior) = refl
-    same_effect (DeleteInheritance senior junior) = refl
-    same_effect (Solved board table) = refl
-    same_effect (Analysed cell costs) = refl
-    same_effect Embargo = refl
-    same_effect Lift = refl
-    same_effect (Rename name shown) = refl
+    same_effect command = refl
 
     by_hindrance : (hindered : Bool) (command : Command) →
         otherwise (if hindered then told else effect told command)

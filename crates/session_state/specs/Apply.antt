@@ -1,4 +1,4 @@
--- What an entry makes of a state.
+-- What an entry makes of a state, and which part of it. A line for each command, in the order of the commands.
 use Rattle.std.specs.Prelude.{
   ◌+◌,
   ◌-◌,
@@ -38,6 +38,19 @@ use Rattle.session_commands.specs.declared.cell_state.CellState.{CellState}
 use Rattle.session_commands.specs.declared.cell_state.CellState.TheVariants.{Empty, Entered, Confirmed, Ruled}
 use Rattle.session_commands.specs.declared.entry.Entry.{Entry}
 use Rattle.session_commands.specs.CellState.{with_costs}
+use Rattle.session_state.specs.Parts.{
+  Part,
+  Results,
+  HeldBoards,
+  Seats,
+  Rounds,
+  Phases,
+  Accounts,
+  Hierarchy,
+  Tables,
+  Embargoes,
+  Names,
+}
 use Rattle.session_state.specs.Refusal.{hindrance_of}
 use Rattle.session_state.specs.Seats.{without_seat}
 use Rattle.session_state.specs.Readers.{account_place}
@@ -107,6 +120,31 @@ effect state Lift = with_public state (record state.public { embargo = false })
 -- the user's name to show is another, or the empty text, which is none
 effect state (Rename name shown) =
     record state { names = slice_set state.names (account_place state.roles.accounts name) shown }
+
+-- the part of a state that it is about: it changes no other
+abbrev pub part_of : Command → Part
+part_of (Enter cell outcome play) = Results
+part_of (Confirm cell outcome) = Results
+part_of (Correct cell outcome play) = Results
+part_of (Rule cell north_south east_west reason) = Results
+part_of (Void cell) = Results
+part_of (Hold board) = HeldBoards
+part_of (Release board) = HeldBoards
+part_of (Seat name pair place) = Seats
+part_of (Unseat name) = Seats
+part_of NextRound = Rounds
+part_of Close = Phases
+part_of Finalise = Phases
+part_of (AddUser name digest) = Accounts
+part_of (Assign name role) = Accounts
+part_of (Deassign name role) = Accounts
+part_of (AddInheritance senior junior) = Hierarchy
+part_of (DeleteInheritance senior junior) = Hierarchy
+part_of (Solved board table) = Tables
+part_of (Analysed cell costs) = Results
+part_of Embargo = Embargoes
+part_of Lift = Embargoes
+part_of (Rename name shown) = Names
 
 -- what an entry does: nothing where the state hinders it
 abbrev pub apply : SessionState → Entry → SessionState

@@ -1,17 +1,16 @@
 //! When a command is refused.
-ghost use Rattle.std.specs.Prelude.{◌≡◌, not, true, false, IfSome, IfNone};
+ghost use Rattle.std.specs.Prelude.{◌≡◌, not, true, IfSome, IfNone};
 ghost use Rattle.std.specs.Option.{option_map_or};
 ghost use Rattle.disclosure_rules.specs.Seating.{some_that};
 ghost use Rattle.session_state.specs.Accounts.{has_account};
-ghost use Rattle.session_commands.specs.Command.{subject_user, subject_cell, subject_board};
+ghost use Rattle.session_commands.specs.Command.{subject_cell, subject_board};
 ghost use Rattle.rbac.specs.Authorization.{has_permission};
-ghost use Rattle.session_state.specs.Refusal.{first_cause, own_causes, is_permitted, hindrance_of, refusal_of};
+ghost use Rattle.session_state.specs.Refusal.{is_permitted, hindrance_of, refusal_of};
 ghost use Rattle.session_state.specs.SessionState.{IsPlaced, IsKeptBoard};
 
-use crate::causes::{accounts, first_cause, progress, results, seats, solved};
+use crate::causes::first_cause;
 use crate::schedule::{awaits_round, misses_board, misses_cell};
 use crate::state::State;
-use disclosure_rules::Seat;
 use session_commands::{Actor, Command, Refusal};
 use session_roles::Operation;
 use user_names::Name;
@@ -67,7 +66,7 @@ pub fn hindrance(state: &State, command: &Command) -> Option<Refusal>
     if !command.is_solvers() && awaits_round(&public.movement, cell, public.round) {
         return Some(Refusal::RoundNotStarted);
     }
-    own_cause(state, command)
+    state.own_cause(command)
 }
 
 // Whether who gives a command may: a user who has the permission for its operation, if it has one, or the solver for
@@ -98,61 +97,5 @@ fn misses_user(state: &State, user: Option<Name>) -> bool
     match user {
         Some(name) => !state.has_account(name),
         None => false,
-    }
-}
-
-// The first of a command's own causes that is met.
-fn own_cause(state: &State, command: &Command) -> Option<Refusal>
-    requires user { some_that (subject_user command.now) (λ name. not (has_account state.now.roles name)) ≡ false }
-    requires cell { IfSome (subject_cell command.now) IsPlaced }
-    requires board { IfSome (subject_board command.now) IsKeptBoard }
-    ensures { result ≡ first_cause (own_causes state.now command.now) }
-{
-    match command {
-        Command::Enter {
-            cell,
-            outcome,
-            play,
-        } => results::enter_cause(state, *cell, *outcome, play),
-        Command::Confirm { cell, outcome } => results::confirm_cause(state, *cell, *outcome),
-        Command::Correct {
-            cell,
-            outcome,
-            play,
-        } => results::correct_cause(state, *cell, *outcome, play),
-        Command::Rule {
-            north_south,
-            east_west,
-            reason,
-            ..
-        } => results::rule_cause(*north_south, *east_west, *reason),
-        Command::Void { cell } => results::void_cause(state, *cell),
-        Command::Hold { board } => progress::hold_cause(state, *board),
-        Command::Release { board } => progress::release_cause(state, *board),
-        Command::Seat { name, pair, place } => seats::seat_cause(
-            state,
-            *name,
-            Seat {
-                pair: *pair,
-                place: *place,
-            },
-        ),
-        Command::Unseat { name } => seats::unseat_cause(state, *name),
-        Command::NextRound => progress::next_round_cause(state),
-        Command::Close | Command::Finalise => progress::all_live_cause(state),
-        Command::AddUser { name, .. } => accounts::add_user_cause(state, *name),
-        Command::Assign { name, role } => accounts::assign_cause(state, *name, *role),
-        Command::Deassign { name, role } => accounts::deassign_cause(state, *name, *role),
-        Command::AddInheritance { senior, junior } => {
-            accounts::add_inheritance_cause(state, *senior, *junior)
-        }
-        Command::DeleteInheritance { senior, junior } => {
-            accounts::delete_inheritance_cause(state, *senior, *junior)
-        }
-        Command::Solved { board, table } => solved::solved_cause(state, *board, table),
-        Command::Analysed { cell, costs } => solved::analysed_cause(state, *cell, costs),
-        Command::Embargo => progress::embargo_cause(state),
-        Command::Lift => progress::lift_cause(state),
-        Command::Rename { .. } => None,
     }
 }

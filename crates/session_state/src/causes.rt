@@ -1,10 +1,4 @@
-//! The causes of each command's own, in their order.
-pub mod accounts;
-pub mod progress;
-pub mod results;
-pub mod seats;
-pub mod solved;
-
+//! The first of several causes.
 ghost use Rattle.std.specs.Prelude.{◌≡◌};
 ghost use Rattle.session_state.specs.Refusal.{first_cause};
 

@@ -10,8 +10,7 @@ mod shown_user;
 mod state;
 
 pub use causes::first_cause;
-pub use causes::seats::is_of_side;
 pub use schedule::has_cell;
-pub use seated::Seated;
+pub use seated::{Seated, is_of_side};
 pub use shown_user::ShownUser;
 pub use state::State;

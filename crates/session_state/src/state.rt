@@ -1,4 +1,4 @@
-ghost use Rattle.std.specs.Prelude.{◌≡◌, ◌-◌, ◌<◌, ◌≤◌, ◌↔◌, [], length, slice_get, vec_len, vec_capacity, Some, None, IfOk, IfSome, IsTrue, replicate};
+ghost use Rattle.std.specs.Prelude.{◌≡◌, ◌-◌, ◌<◌, ◌≤◌, ◌↔◌, [], length, slice_get, vec_len, vec_capacity, Some, None, IfOk, IsTrue, replicate};
 ghost use Rattle.movement.specs.Movement.{boards_of, most_tables, most_boards};
 ghost use Rattle.rbac.specs.Account.{most_users};
 ghost use Rattle.rbac.specs.Authorization.{HasPermission, IsValid, has_permission};
@@ -6,14 +6,14 @@ ghost use Rattle.disclosure_rules.specs.LiveCells.{is_live};
 ghost use Rattle.disclosure_rules.specs.Policy.{first_rule};
 ghost use Rattle.session_state.specs.Accounts.{has_account};
 ghost use Rattle.session_state.specs.Seats.{is_taken, AreSeated, AreSeatsOf};
-ghost use Rattle.session_state.specs.Apply.{apply, effect};
+ghost use Rattle.session_state.specs.Apply.{apply};
 ghost use Rattle.session_commands.specs.CellState.{has_result};
-ghost use Rattle.session_commands.specs.Command.{subject_cell, subject_board};
-ghost use Rattle.session_state.specs.Refusal.{hindrance_of, refusal_of};
-ghost use Rattle.session_state.specs.SessionState.{authorized_of, seat_of, viewer_of, cell_at, table_at, is_dealt, with_cell, cell_index, most_cells, IsPlaced, IsKeptBoard, AreLive};
+ghost use Rattle.session_state.specs.Refusal.{refusal_of};
+ghost use Rattle.session_state.specs.SessionState.{authorized_of, seat_of, viewer_of, cell_at, table_at, is_dealt, with_cell, cell_index, most_cells, IsPlaced, AreLive};
 ghost use Rattle.session_commands.specs.declared.cell_state.CellState.TheVariants.{Empty};
 
 mod accounts;
+mod commands;
 mod progress;
 mod readers;
 mod results;
@@ -348,54 +348,6 @@ impl State {
     {
         if hindrance(self, &entry.command).is_none() {
             self.take_effect(&entry.command);
-        }
-    }
-
-    // Does what a command does where nothing hinders it.
-    fn take_effect(&mut self, command: &Command)
-        requires unhindered { hindrance_of self.old command.now ≡ None }
-        requires cell { IfSome (subject_cell command.now) IsPlaced }
-        requires board { IfSome (subject_board command.now) IsKeptBoard }
-        ensures { self.new ≡ effect self.old command.now }
-    {
-        match *command {
-            Command::Enter {
-                cell,
-                outcome,
-                play,
-            } => self.enter(cell, outcome, play),
-            Command::Confirm { cell, outcome } => self.confirm(cell, outcome),
-            Command::Correct {
-                cell,
-                outcome,
-                play,
-            } => self.correct(cell, outcome, play),
-            Command::Rule {
-                cell,
-                north_south,
-                east_west,
-                reason,
-            } => self.rule(cell, north_south, east_west, reason),
-            Command::Void { cell } => self.void(cell),
-            Command::Hold { board } => self.hold(board),
-            Command::Release { board } => self.release(board),
-            Command::Seat { name, pair, place } => self.take_seat(name, Seat { pair, place }),
-            Command::Unseat { name } => self.unseat(name),
-            Command::NextRound => self.next_round(),
-            Command::Close => self.close(),
-            Command::Finalise => self.finalise(),
-            Command::AddUser { name, digest } => self.add_user(name, digest),
-            Command::Assign { name, role } => self.assign(name, role),
-            Command::Deassign { name, role } => self.deassign(name, role),
-            Command::AddInheritance { senior, junior } => self.add_inheritance(senior, junior),
-            Command::DeleteInheritance { senior, junior } => {
-                self.delete_inheritance(senior, junior)
-            }
-            Command::Solved { board, table } => self.solve(board, table),
-            Command::Analysed { cell, costs } => self.analyse(cell, costs),
-            Command::Embargo => self.embargo(),
-            Command::Lift => self.lift(),
-            Command::Rename { name, shown } => self.rename(name, shown),
         }
     }
 }

@@ -6,11 +6,11 @@ use Rattle.rbac.specs.RoleData.{deassign_user}
 use Rattle.session_state.specs.Accounts.{deassignment_refusal}
 use Rattle.session_state.specs.Refusal.{first_cause, needed_causes}
 use Rattle.session_state.proofs.AccountCauseLemmas.{deassignment_cause_told}
-use Rattle.session_state.proofs.causes.accounts.deassign_cause.Goals as goal
+use Rattle.session_state.proofs.state.State.deassign_cause.Goals as goal
 
 pub returns-in-None : goal.returns-in-None
 returns-in-None c =
-    let state = c.args.state.now in
+    let state = c.args.self.now in
     let none : None ≡ deassignment_cause state.roles c.args.name c.args.role =
     sym c.in-None.is ∙ c.deassignment_cause.ensures
     ∙ (λ i. deassignment_cause (c.roles.ensures i) (c.as_str.ensures.text i) c.args.role) in
