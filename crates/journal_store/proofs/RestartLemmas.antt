@@ -1,5 +1,5 @@
 -- What a run finds of the run before it.
-use Rattle.std.proofs.Common.{false, Ordering, true, Ok, Err, Result, Vec, IfOk, IfErr, MatchResult, ◌==◌, ◌≡◌, ◌≢◌, ◌⊎◌, inl, inr, ◌<◌, ◌≤◌, ◌+◌, ◌++◌, append-nil, ap₂, ℕ, zero, suc, pos, List, [], ◌∷◌, map, IsPermutation, refl, sym, ap, subst, ◌∙◌, arith, Less}
+use Rattle.std.proofs.Common.{false, IsUtf8, Ordering, true, Ok, Err, Result, Vec, IfOk, IfErr, MatchResult, ◌==◌, ◌≡◌, ◌≢◌, ◌⊎◌, inl, inr, ◌<◌, ◌≤◌, ◌+◌, ◌++◌, append-nil, ap₂, ℕ, zero, suc, pos, List, [], ◌∷◌, map, IsPermutation, refl, sym, ap, subst, ◌∙◌, arith, Less}
 use Rattle.std.specs.Ordering.{on, is_gt}
 use Rattle.std.specs.Cmp.{IsTotalOrder}
 use Rattle.std.specs.List.{AllByRecursion, AllZip}
@@ -16,6 +16,7 @@ use Rattle.sqlite_keyed.proofs.ListLemmas.{ascending_weaker}
 use Rattle.sqlite_keyed.proofs.SortLemmas.{sorted_unique}
 use Rattle.sqlite_exec.proofs.PartitionLemmas.{sorted_from_ascending}
 use Rattle.sqlite.specs.Recovery.{Image}
+use Rattle.sqlite.proofs.Callers.{one_permutation}
 use Rattle.sqlite.specs.Order.{Row}
 use Rattle.sqlite.specs.Tree.{Trees}
 use Rattle.sqlite.specs.Effect.{Database, IsDatabase}
@@ -37,10 +38,11 @@ use Rattle.std.specs.declared.alloc.Global.{Global}
 use Rattle.journal_store.specs.declared.row_text.RowText.{RowText}
 use Rattle.journal_store.specs.declared.take_fault.TakeFault.{TakeFault}
 use Rattle.journal_store.specs.declared.take_fault.TakeFault.TheVariants.{Busy, Damaged, Unread, OutOfMemory, NotAJournal, OtherSession, Misnumbered}
-use Rattle.journal_store.specs.Tables.{no_schema, journal_schema, RowBytes, entry_row, entry_rows}
+use Rattle.journal_store.specs.Tables.{no_schema, journal_schema, session_row, RowBytes, entry_row, entry_rows}
 use Rattle.journal_store.specs.Kept.{texts_of, AreKept, AreInOrder, last_publication, IsNextPublication, Keeps}
-use Rattle.journal_store.specs.Faults.{is_failure}
-use Rattle.journal_store.specs.Taken.{IsIdle, TakesUp, ReadsKept, RefusesJournal}
+use Rattle.journal_store.specs.Faults.{HoldsNone, is_failure}
+use Rattle.journal_store.specs.Made.{HasNone}
+use Rattle.journal_store.specs.Taken.{IsIdle, TakesUp, ReadsKept, RefusesJournal, RefusesToRead}
 use Rattle.journal_store.specs.Restart.{AreFound, IsTakenUp, IsRefusedAt, IsRefusedJournal, IsKeptAt, HoldsRows, HoldsEither, HoldsFirst, rows_of_publication, AreWhole}
 use Rattle.journal_store.proofs.TextLemmas.{same_value, lower_id}
 
@@ -265,6 +267,57 @@ first_not_refused left session fault = not_refused left session fault
       | inl none ↦ not_for_blank session fault schema db none sound cause
       | inr rows ↦ not_for_rows session [] fault schema db rows sound cause
     ])
+
+-- ---- what holds a journal's rows
+
+rows_hold : (left : Image) (session : List Row) (rows : List RowBytes) (Cause : Database → Type 0)
+    → ((schema : Schema) (db : Trees) → AreKept session rows db → IsDatabase (record { schema = schema; trees = db })
+    → ¬ Cause (record { schema = schema; trees = db }))
+    → HoldsRows left session rows → ¬ IsRefusedAt left Cause
+rows_hold left session rows Cause never holds refused = ∥∥₁_elim holds (λ one other. absurd one)
+    (λ it. never refused.schema refused.db (subst (AreKept session rows) (sym (refused.found.holds it.0 it.1)) it.2)
+    refused.sound refused.cause)
+
+pub rows_hold_some : (left : Image) (session : List Row) (rows : List RowBytes) → HoldsRows left session rows → ¬ HoldsNone left
+rows_hold_some left session rows holds none = ∥∥₁_elim holds (λ one other. absurd one) (λ it. none.0 (it.0, it.1))
+
+-- there is a table
+pub rows_hold_tables : (left : Image) (session : List Row) (rows : List RowBytes) → HoldsRows left session rows
+    → ¬ IsRefusedAt left HasNone
+rows_hold_tables left session rows = rows_hold left session rows HasNone
+    (λ schema db kept sound none. never_both db
+    (subst (λ s. IsDatabase (record { schema = s; trees = db })) none sound) kept.sound)
+
+-- they are read, whichever session they are of
+pub rows_read : (left : Image) (object boards : List ℕ) (rows : List RowBytes) → IsUtf8 object
+    → HoldsRows left (session_row object boards ∷ []) rows → ¬ IsRefusedAt left (λ db. RefusesToRead db NotAJournal)
+rows_read left object boards rows text = rows_hold left (session_row object boards ∷ []) rows (λ db. RefusesToRead db NotAJournal)
+    (λ schema db kept sound cause. elim cause [
+      | inl other ↦ other (one_schema db schema journal_schema.tables sound kept.sound)
+      | inr none ↦ none object boards text kept.session_is
+    ])
+
+pub rows_numbered : (left : Image) (session : List Row) (rows : List RowBytes) → HoldsRows left session rows
+    → ¬ IsRefusedAt left (λ db. RefusesToRead db Misnumbered)
+rows_numbered left session rows = rows_hold left session rows (λ db. RefusesToRead db Misnumbered)
+    (λ schema db kept sound cause. cause.1 rows kept.are_entries kept.entries)
+
+abbrev first_of : List Row → Row
+first_of [] = []
+first_of (row ∷ rows) = row
+
+-- the session that they are of is the one whose rows they are
+pub same_session : (left : Image) (object boards other others : List ℕ) (rows found : List RowBytes)
+    → HoldsRows left (session_row object boards ∷ []) rows
+    → ((db : Trees) → HoldsDatabase left db → AreKept (session_row other others ∷ []) found db)
+    → (other ≡ object) × (others ≡ boards)
+same_session left object boards other others rows found holds held =
+    let same : session_row object boards ∷ [] ≡ session_row other others ∷ [] = ∥∥₁_elim holds (rows_set _ _)
+    (λ it. one_permutation (session_row other others) (session_row object boards ∷ [])
+    (IsPermutation-trans _ _ _ (IsPermutation-sym _ _ (held it.0 it.1).session_is) it.2.session_is)) in (
+      sym (ap (λ l. bytes (column (first_of l) 1)) same),
+      sym (ap (λ l. bytes (column (first_of l) 2)) same),
+    )
 
 -- ---- whole publications
 

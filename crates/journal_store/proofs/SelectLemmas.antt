@@ -1,11 +1,14 @@
 -- What the journal's query shows.
 use Rattle.std.proofs.lemmas.List.Sorted.{IsPermutation-map, IsPermutation-sym, IsPermutation-trans}
-use Rattle.std.proofs.Common.{Bool, true, cond, unwrap_or, IsPermutation, Result, Ok, Err, IfOk, OnOk, Vec, ◌≡◌, ◌≢◌, IsSome, ℕ, suc, ◌<◌, pos, negsuc, List, [], ◌∷◌, map, codes, false, None, refl, sym, ap, subst, ◌∙◌, arith, Ordering, Less}
+use Rattle.std.proofs.Common.{Bool, true, cond, unwrap_or, IsPermutation, Result, Ok, Err, IfOk, OnOk, Vec, ◌≡◌, ◌≢◌, IsSome, ℕ, suc, ◌<◌, ◌≤◌, length, pos, negsuc, List, [], ◌∷◌, map, codes, false, None, refl, sym, ap, subst, ◌∙◌, arith, Ordering, Less}
 use Rattle.std.proofs.lemmas.List.Concat.{flat_map_single}
 use Rattle.sqlite_value.specs.Order.{column}
 use Rattle.sqlite_value.specs.Keys.{ascending}
 use Rattle.sqlite.specs.Collation.TheVariants.{Binary}
 use Rattle.sqlite.specs.declared.types.Value.TheVariants.{Null, Int}
+use Rattle.sqlite_typing.specs.Types.{accepts_program}
+use Rattle.sqlite_resolve.specs.declared.compiled.Compiled.{Compiled}
+use Rattle.sqlite_resolve.specs.declared.error.CompileError.{CompileError}
 use Rattle.sqlite.specs.Order.{Row}
 use Rattle.sqlite.specs.Term.{lit, col}
 use Rattle.sqlite.specs.Query.{Query, inner, end, IsAnswer, output, Output}
@@ -55,6 +58,11 @@ query tree project = record {
 abbrev pub sorted_by : Row → Output
 sorted_by row = (column row 0 ∷ [], row)
 
+-- the whole text is one statement with no parameter
+abbrev pub IsWhole : List ℕ → Result Compiled CompileError → Type 0
+IsWhole text (Ok c) = (length text ≤ c.tail) × (c.names ≡ [])
+IsWhole text (Err fault) = ⊥
+
 -- the text asks for the rows of a tree, and shows this of each
 pub record Asks (text : List ℕ) (tree : ℕ) (shown : Row → Row) : Type 0 where
   pub project : List Term
@@ -62,6 +70,8 @@ pub record Asks (text : List ℕ) (tree : ℕ) (shown : Row → Row) : Type 0 wh
   pub is : command_of (understood journal_schema text) ≡ Select (record { lets = []; body = query tree project }) names
   pub unlisted : reads_listing journal_schema text ≡ false
   pub plain : IsPlain (understood journal_schema text)
+  pub whole : IsWhole text (understood journal_schema text)
+  pub typed : accepts_program journal_schema [] (query tree project) [] ≡ true
   pub shows : (row : Row) → output (query tree project) ([] ∷ row ∷ []) ≡ sorted_by (shown row)
 
 pub asks_entries : Asks entry_text 1 shown_entry
@@ -72,6 +82,8 @@ asks_entries = record {
   is = refl;
   unlisted = refl;
   plain = (refl, refl);
+  whole = (omega arith, refl);
+  typed = refl;
   shows = λ row. refl;
 }
 
@@ -83,6 +95,8 @@ asks_session = record {
   is = refl;
   unlisted = refl;
   plain = (refl, refl);
+  whole = (omega arith, refl);
+  typed = refl;
   shows = λ row. refl;
 }
 

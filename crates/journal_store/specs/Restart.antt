@@ -10,7 +10,7 @@ use Rattle.sqlite.specs.Files.{HoldsDatabase, AreFoundIn}
 use Rattle.journal_store.specs.declared.take_fault.TakeFault.{TakeFault}
 use Rattle.journal_store.specs.Tables.{no_schema, RowBytes}
 use Rattle.journal_store.specs.Kept.{AreKept, Rests}
-use Rattle.journal_store.specs.Faults.{is_failure}
+use Rattle.journal_store.specs.Faults.{is_failure, IsUnmade}
 use Rattle.journal_store.specs.Taken.{RefusesJournal, RefusesToRead}
 
 -- the rows are those of the database that the files held, or that had no table
@@ -42,7 +42,11 @@ abbrev pub IsRefusedJournal : Image → List Row → TakeFault → Type 0
 IsRefusedJournal image session fault =
     (is_failure fault ≡ true) ⊎ IsRefusedAt image (λ db. RefusesJournal session db fault)
 
--- the same, where the journal of any session is read
+-- the journal isn't made, where the files held a database with no table, or none
+abbrev pub IsUnmadeAt : Image → TakeFault → Type 0
+IsUnmadeAt image fault = IsRefusedAt image (λ db. IsUnmade db fault)
+
+-- the same as `IsRefusedJournal`, where the journal of any session is read
 abbrev pub IsNotRead : Image → TakeFault → Type 0
 IsNotRead image fault = (is_failure fault ≡ true) ⊎ IsRefusedAt image (λ db. RefusesToRead db fault)
 

@@ -1,13 +1,13 @@
 //! Journals at paths, as a runtime opens them.
 
-ghost use Rattle.std.specs.Prelude.{◌≡◌, ◌∷◌, [], true, false, List, map, IfOk, IfErr, MatchOption, MatchResult};
+ghost use Rattle.std.specs.Prelude.{◌≡◌, ◌⊎◌, ◌∷◌, [], true, false, List, map, IfOk, IfErr, MatchOption, MatchResult};
 ghost use Rattle.sqlite.specs.State.{HasCleanDisk};
 ghost use Rattle.sqlite.specs.Files.{file_state, IsCleanLeft};
 ghost use Rattle.sqlite.specs.WalFiles.{image_at};
 ghost use Rattle.journal_store.specs.Tables.{RowBytes, session_row};
 ghost use Rattle.journal_store.specs.Kept.{texts_of, row_of_session};
-ghost use Rattle.journal_store.specs.Faults.{is_failure};
-ghost use Rattle.journal_store.specs.Restart.{IsTakenUp, IsRefusedJournal, HoldsRows, IsKeptAt, IsNotRead};
+ghost use Rattle.journal_store.specs.Faults.{is_failure, is_unopened, LeavesFor};
+ghost use Rattle.journal_store.specs.Restart.{IsTakenUp, IsRefusedJournal, IsUnmadeAt, HoldsRows, IsKeptAt, IsNotRead};
 
 use crate::kept::open_kept;
 use crate::opening::open_journal;
@@ -36,6 +36,8 @@ pub trait JournalFiles {
         ensures alone { IfOk result (λ o. o.0.in_transaction ≡ false) }
         ensures refuses { IfErr result (λ e. MatchOption e.1 (is_failure e.0 ≡ true) (λ left. IsCleanLeft left
             → IsRefusedJournal (image_at S.Start) (session_row object.now boards.now ∷ []) e.0)) }
+        ensures cause { IfErr result (λ e. MatchOption e.1 (is_unopened e.0 ≡ true) (λ left. IsCleanLeft left
+            → LeavesFor (image_at S.Start) left e.0 ⊎ IsUnmadeAt (image_at S.Start) e.0)) }
         ensures again { (rows : List RowBytes) → HoldsRows (image_at S.Start) (session_row object.now boards.now ∷ []) rows
             → MatchResult result (λ o. HasCleanDisk (file_state o.0) → map texts_of o.1.items ≡ rows)
             (λ e. MatchOption e.1 (is_failure e.0 ≡ true) (λ left. IsCleanLeft left → is_failure e.0 ≡ true)) };
@@ -57,7 +59,9 @@ pub trait JournalFiles {
             → IsKeptAt (image_at S.Start) (row_of_session o.1 ∷ []) (map texts_of o.2.items) (file_state o.0)) }
         ensures alone { IfOk result (λ o. o.0.in_transaction ≡ false) }
         ensures refuses { IfErr result (λ e. MatchOption e.1 (is_failure e.0 ≡ true) (λ left. IsCleanLeft left
-            → IsNotRead (image_at S.Start) e.0)) };
+            → IsNotRead (image_at S.Start) e.0)) }
+        ensures cause { IfErr result (λ e. MatchOption e.1 (is_unopened e.0 ≡ true) (λ left. IsCleanLeft left
+            → LeavesFor (image_at S.Start) left e.0)) };
 }
 
 impl JournalFiles for HostRuntime {

@@ -1,13 +1,13 @@
 //! The journal that is there already, whichever session it is of.
 
-ghost use Rattle.std.specs.Prelude.{◌≡◌, ◌≢◌, ◌∷◌, [], true, false, map, IfOk, IfErr, MatchOption};
+ghost use Rattle.std.specs.Prelude.{◌≡◌, ◌≢◌, ◌∷◌, [], None, true, false, map, IfOk, IfErr, MatchOption};
 ghost use Rattle.sqlite.specs.State.{HasCleanDisk, Survives};
 ghost use Rattle.sqlite.specs.Held.{state};
 ghost use Rattle.sqlite.specs.Files.{file_state, IsCleanLeft};
 ghost use Rattle.sqlite.specs.WalFiles.{image_at};
 ghost use Rattle.journal_store.specs.Tables.{journal_schema};
 ghost use Rattle.journal_store.specs.Kept.{texts_of, row_of_session};
-ghost use Rattle.journal_store.specs.Faults.{is_failure};
+ghost use Rattle.journal_store.specs.Faults.{is_failure, is_unopened, ComesOf, LeavesFor};
 ghost use Rattle.journal_store.specs.Taken.{IsIdle, ReadsKept, RefusesToRead};
 ghost use Rattle.journal_store.specs.Restart.{IsKeptAt, IsNotRead};
 
@@ -33,6 +33,8 @@ pub fn read_kept<S: Alter>(
         (state S.Store conn.old) (state S.Store conn.new)) }
     ensures refuses { HasCleanDisk (state S.Store conn.new) → IsIdle (state S.Store conn.old)
         → IfErr result (RefusesToRead (state S.Store conn.old).now) }
+    ensures cause { HasCleanDisk (state S.Store conn.new) → IsIdle (state S.Store conn.old)
+        → (state S.Store conn.old).step_limit ≡ None → IfErr result (ComesOf (state S.Store conn.new)) }
     ensures survives { Survives (state S.Store conn.old) (state S.Store conn.new) (λ _. ⊥) }
 {
     if !is_journal(conn.schema()) {
@@ -53,6 +55,8 @@ fn read_both<S: Alter>(
         (state S.Store conn.old) (state S.Store conn.new)) }
     ensures refuses { HasCleanDisk (state S.Store conn.new) → IsIdle (state S.Store conn.old)
         → IfErr result (RefusesToRead (state S.Store conn.old).now) }
+    ensures cause { HasCleanDisk (state S.Store conn.new) → IsIdle (state S.Store conn.old)
+        → (state S.Store conn.old).step_limit ≡ None → IfErr result (ComesOf (state S.Store conn.new)) }
     ensures survives { Survives (state S.Store conn.old) (state S.Store conn.new) (λ _. ⊥) }
 {
     let session = match read_session(alloc, conn) {
@@ -86,6 +90,8 @@ pub fn open_kept<S: Start>(
     ensures alone { IfOk result (λ o. o.0.in_transaction ≡ false) }
     ensures refuses { IfErr result (λ e. MatchOption e.1 (is_failure e.0 ≡ true) (λ left. IsCleanLeft left
         → IsNotRead (image_at S.Start) e.0)) }
+    ensures cause { IfErr result (λ e. MatchOption e.1 (is_unopened e.0 ≡ true) (λ left. IsCleanLeft left
+        → LeavesFor (image_at S.Start) left e.0)) }
 {
     let mut conn = match Connection::open_from(rt, path, true, start) {
         Ok(conn) => conn,

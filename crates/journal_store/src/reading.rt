@@ -1,13 +1,14 @@
 //! Rows are read back in their order, and taken for a journal's where they are numbered from 1.
 
-ghost use Rattle.std.specs.Prelude.{◌≡◌, ◌+◌, ◌^◌, ◌<◌, ◌∷◌, [], false, map, length, pos, string_bytes, IsUtf8, IfOk, IfSome, IfNone, OnOk, IsPermutation, MatchBool, List, ℕ};
+ghost use Rattle.std.specs.Prelude.{◌≡◌, ◌+◌, ◌^◌, ◌<◌, ◌∷◌, [], false, map, length, pos, string_bytes, IsUtf8, IfOk, IfErr, IfSome, IfNone, OnOk, IsPermutation, MatchBool, List, ℕ};
 ghost use Rattle.sqlite.specs.State.{HasCleanDisk, IsUnchanged};
 ghost use Rattle.sqlite.specs.Held.{state};
 ghost use Rattle.sqlite.specs.Order.{column};
 ghost use Rattle.sqlite.specs.declared.types.Value.TheVariants.{Int, Text as Words, Blob as Bytes};
 ghost use Rattle.journal_store.specs.Tables.{RowBytes, journal_schema, session_row, entry_rows, shown_session, shown_entry};
 ghost use Rattle.journal_store.specs.Kept.{texts_of, row_of_session, AreEntries};
-ghost use Rattle.journal_store.specs.Reading.{IsRowOf, OnlyLooks};
+ghost use Rattle.journal_store.specs.Reading.{IsRowOf, OnlyLooks, MayBeAsked};
+ghost use Rattle.journal_store.specs.Faults.{IsExcused};
 
 use crate::row_text::RowText;
 use crate::session_text::SessionText;
@@ -36,6 +37,8 @@ pub(crate) fn read_entries<S: Alter>(
     ensures same { HasCleanDisk (state S.Store conn.new) → (state S.Store conn.old).now.schema ≡ journal_schema
         → OnOk result (IsUnchanged (state S.Store conn.old) (state S.Store conn.new)) }
     ensures looks { OnlyLooks (state S.Store conn.old) (state S.Store conn.new) }
+    ensures fails { HasCleanDisk (state S.Store conn.new) → MayBeAsked (state S.Store conn.old)
+        → IfErr result (IsExcused (state S.Store conn.new)) }
 {
     let shown = ask_entries(conn)?;
     Ok(texts_in(alloc, shown.as_slice())?)
@@ -59,6 +62,8 @@ pub(crate) fn is_session<S: Alter>(
     ensures same { HasCleanDisk (state S.Store conn.new) → (state S.Store conn.old).now.schema ≡ journal_schema
         → OnOk result (IsUnchanged (state S.Store conn.old) (state S.Store conn.new)) }
     ensures looks { OnlyLooks (state S.Store conn.old) (state S.Store conn.new) }
+    ensures fails { HasCleanDisk (state S.Store conn.new) → MayBeAsked (state S.Store conn.old)
+        → IfErr result (IsExcused (state S.Store conn.new)) }
 {
     let shown = ask_session(conn)?;
     Ok(is_only_row(shown.as_slice(), object, boards))
@@ -82,6 +87,8 @@ pub(crate) fn read_session<S: Alter>(
     ensures same { HasCleanDisk (state S.Store conn.new) → (state S.Store conn.old).now.schema ≡ journal_schema
         → OnOk result (IsUnchanged (state S.Store conn.old) (state S.Store conn.new)) }
     ensures looks { OnlyLooks (state S.Store conn.old) (state S.Store conn.new) }
+    ensures fails { HasCleanDisk (state S.Store conn.new) → MayBeAsked (state S.Store conn.old)
+        → IfErr result (IsExcused (state S.Store conn.new)) }
 {
     let shown = ask_session(conn)?;
     Ok(session_in(alloc, shown.as_slice())?)
@@ -102,6 +109,8 @@ fn ask_entries<S: Alter>(conn: &mut Connection<S>) -> Result<Vec<Row>, Error>
     ensures same { HasCleanDisk (state S.Store conn.new) → (state S.Store conn.old).now.schema ≡ journal_schema
         → OnOk result (IsUnchanged (state S.Store conn.old) (state S.Store conn.new)) }
     ensures looks { OnlyLooks (state S.Store conn.old) (state S.Store conn.new) }
+    ensures fails { HasCleanDisk (state S.Store conn.new) → MayBeAsked (state S.Store conn.old)
+        → IfErr result (IsExcused (state S.Store conn.new)) }
 {
     conn.query_all(
         "SELECT number, publication, actor, command FROM entry ORDER BY number",
@@ -118,6 +127,8 @@ fn ask_session<S: Alter>(conn: &mut Connection<S>) -> Result<Vec<Row>, Error>
     ensures same { HasCleanDisk (state S.Store conn.new) → (state S.Store conn.old).now.schema ≡ journal_schema
         → OnOk result (IsUnchanged (state S.Store conn.old) (state S.Store conn.new)) }
     ensures looks { OnlyLooks (state S.Store conn.old) (state S.Store conn.new) }
+    ensures fails { HasCleanDisk (state S.Store conn.new) → MayBeAsked (state S.Store conn.old)
+        → IfErr result (IsExcused (state S.Store conn.new)) }
 {
     conn.query_all(
         "SELECT number, object, boards FROM session ORDER BY number",

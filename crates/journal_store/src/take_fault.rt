@@ -1,7 +1,7 @@
 //! Why a journal isn't taken up.
 
-ghost use Rattle.std.specs.Prelude.{◌≡◌, true};
-ghost use Rattle.journal_store.specs.Faults.{is_failure};
+ghost use Rattle.std.specs.Prelude.{◌≡◌, ◌⊎◌, true};
+ghost use Rattle.journal_store.specs.Faults.{fault_named, is_failure};
 
 use sqlite::{Error, ErrorCode};
 
@@ -26,12 +26,24 @@ pub enum TakeFault {
 
 /// What an error of the database is to one who takes up a journal.
 pub(crate) fn fault_of(error: Error) -> TakeFault
-    ensures { is_failure result ≡ true }
+    ensures failure { is_failure result ≡ true }
+    ensures named { result ≡ fault_named error }
 {
     match error {
         Error::SqliteFailure(ErrorCode::DatabaseBusy) => TakeFault::Busy,
         Error::SqliteFailure(ErrorCode::NotADatabase) => TakeFault::Damaged,
         Error::SqliteFailure(ErrorCode::DatabaseCorrupt) => TakeFault::Damaged,
+        Error::SqliteFailure(ErrorCode::OutOfMemory) => TakeFault::OutOfMemory,
+        _ => TakeFault::Unread,
+    }
+}
+
+/// What an error of the database is to one who makes a journal in a database that was just opened and has no table.
+pub(crate) fn fault_of_making(error: Error) -> TakeFault
+    ensures failure { is_failure result ≡ true }
+    ensures either { (result ≡ TakeFault.OutOfMemory) ⊎ (result ≡ TakeFault.Unread) }
+{
+    match error {
         Error::SqliteFailure(ErrorCode::OutOfMemory) => TakeFault::OutOfMemory,
         _ => TakeFault::Unread,
     }

@@ -1,18 +1,18 @@
 //! A journal is taken up: made where there is no table, read where it is there.
 
-ghost use Rattle.std.specs.Prelude.{◌≡◌, ◌∷◌, [], false, true, List, map, IfOk, IfErr, MatchResult};
+ghost use Rattle.std.specs.Prelude.{◌≡◌, ◌⊎◌, ◌∷◌, [], None, false, true, List, map, IfOk, IfErr, MatchResult};
 ghost use Rattle.sqlite.specs.State.{HasCleanDisk};
 ghost use Rattle.sqlite.specs.Held.{state};
 ghost use Rattle.journal_store.specs.Tables.{RowBytes, no_schema, journal_schema, session_row};
 ghost use Rattle.journal_store.specs.Kept.{texts_of, Keeps};
-ghost use Rattle.journal_store.specs.Faults.{is_failure};
+ghost use Rattle.journal_store.specs.Faults.{is_failure, ComesOf, IsUnmade};
 ghost use Rattle.journal_store.specs.Taken.{IsIdle, TakesUp, RefusesJournal, LeavesMade, LeavesFirst};
 
 use crate::creating::create;
 use crate::reading::{is_session, read_entries};
 use crate::row_text::RowText;
 use crate::tables::{is_blank_schema, is_journal};
-use crate::take_fault::{TakeFault, fault_of};
+use crate::take_fault::{TakeFault, fault_of, fault_of_making};
 use sqlite::{Alter, Connection};
 use std::alloc::Global;
 
@@ -32,6 +32,9 @@ pub fn take_up<S: Alter>(
         (state S.Store conn.old) (state S.Store conn.new)) }
     ensures refuses { HasCleanDisk (state S.Store conn.new) → IsIdle (state S.Store conn.old)
         → IfErr result (RefusesJournal (session_row object.now boards.now ∷ []) (state S.Store conn.old).now) }
+    ensures cause { HasCleanDisk (state S.Store conn.new) → IsIdle (state S.Store conn.old)
+        → (state S.Store conn.old).step_limit ≡ None → IfErr result (λ fault. ComesOf (state S.Store conn.new) fault
+        ⊎ IsUnmade (state S.Store conn.old).now fault) }
     ensures again { (rows : List RowBytes) → HasCleanDisk (state S.Store conn.new) → IsIdle (state S.Store conn.old)
         → Keeps (session_row object.now boards.now ∷ []) rows (state S.Store conn.old).now
         → MatchResult result (λ found. map texts_of found.items ≡ rows) (λ fault. is_failure fault ≡ true) }
@@ -66,12 +69,15 @@ fn begin<S: Alter>(
         (state S.Store conn.old) (state S.Store conn.new)) }
     ensures refuses { HasCleanDisk (state S.Store conn.new) → IsIdle (state S.Store conn.old)
         → IfErr result (RefusesJournal (session_row object.now boards.now ∷ []) (state S.Store conn.old).now) }
+    ensures cause { HasCleanDisk (state S.Store conn.new) → IsIdle (state S.Store conn.old)
+        → (state S.Store conn.old).step_limit ≡ None → IfErr result (λ fault. ComesOf (state S.Store conn.new) fault
+        ⊎ IsUnmade (state S.Store conn.old).now fault) }
     ensures leaves { HasCleanDisk (state S.Store conn.new) → IsIdle (state S.Store conn.old)
         → LeavesMade (session_row object.now boards.now ∷ []) (state S.Store conn.old) (state S.Store conn.new) }
 {
     match create(conn, object, boards) {
         Ok(()) => Ok(Vec::new(alloc)),
-        Err(error) => Err(fault_of(error)),
+        Err(error) => Err(fault_of_making(error)),
     }
 }
 
@@ -91,6 +97,9 @@ fn go_on<S: Alter>(
         (state S.Store conn.old) (state S.Store conn.new)) }
     ensures refuses { HasCleanDisk (state S.Store conn.new) → IsIdle (state S.Store conn.old)
         → IfErr result (RefusesJournal (session_row object.now boards.now ∷ []) (state S.Store conn.old).now) }
+    ensures cause { HasCleanDisk (state S.Store conn.new) → IsIdle (state S.Store conn.old)
+        → (state S.Store conn.old).step_limit ≡ None → IfErr result (λ fault. ComesOf (state S.Store conn.new) fault
+        ⊎ IsUnmade (state S.Store conn.old).now fault) }
     ensures leaves { HasCleanDisk (state S.Store conn.new) → IsIdle (state S.Store conn.old)
         → LeavesMade (session_row object.now boards.now ∷ []) (state S.Store conn.old) (state S.Store conn.new) }
 {

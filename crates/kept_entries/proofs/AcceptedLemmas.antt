@@ -71,49 +71,12 @@ not_own is = cc
 
 -- who gives a command may, and nothing hinders it: then its texts are read
 free_readable : (state : SessionState) (actor : Actor) (c : Command) → IsFree state actor c → IsReadable actor c
-free_readable state (User giver) (command.Enter cell outcome play) is = tt
-free_readable state Solver (command.Enter cell outcome play) is = absurd (not_own is.permitted)
-free_readable state (User giver) (command.Confirm cell outcome) is = tt
-free_readable state Solver (command.Confirm cell outcome) is = absurd (not_own is.permitted)
-free_readable state (User giver) (command.Correct cell outcome play) is = tt
-free_readable state Solver (command.Correct cell outcome play) is = absurd (not_own is.permitted)
-free_readable state (User giver) (command.Rule cell north_south east_west reason) is = tt
-free_readable state Solver (command.Rule cell north_south east_west reason) is = absurd (not_own is.permitted)
-free_readable state (User giver) (command.Void cell) is = tt
-free_readable state Solver (command.Void cell) is = absurd (not_own is.permitted)
-free_readable state (User giver) (command.Hold board) is = tt
-free_readable state Solver (command.Hold board) is = absurd (not_own is.permitted)
-free_readable state (User giver) (command.Release board) is = tt
-free_readable state Solver (command.Release board) is = absurd (not_own is.permitted)
-free_readable state (User giver) (command.Seat name pair place) is =
-    pair_from_one state.public.movement pair (seats_at_a_pair state name pair place is.unhindered)
-free_readable state Solver (command.Seat name pair place) is = absurd (not_own is.permitted)
-free_readable state (User giver) (command.Unseat name) is = tt
-free_readable state Solver (command.Unseat name) is = absurd (not_own is.permitted)
-free_readable state (User giver) command.NextRound is = tt
-free_readable state Solver command.NextRound is = absurd (not_own is.permitted)
-free_readable state (User giver) command.Close is = tt
-free_readable state Solver command.Close is = absurd (not_own is.permitted)
-free_readable state (User giver) command.Finalise is = tt
-free_readable state Solver command.Finalise is = absurd (not_own is.permitted)
-free_readable state (User giver) (command.AddUser name digest) is = tt
-free_readable state Solver (command.AddUser name digest) is = absurd (not_own is.permitted)
-free_readable state (User giver) (command.Assign name role) is = tt
-free_readable state Solver (command.Assign name role) is = absurd (not_own is.permitted)
-free_readable state (User giver) (command.Deassign name role) is = tt
-free_readable state Solver (command.Deassign name role) is = absurd (not_own is.permitted)
-free_readable state (User giver) (command.AddInheritance senior junior) is = tt
-free_readable state Solver (command.AddInheritance senior junior) is = absurd (not_own is.permitted)
-free_readable state (User giver) (command.DeleteInheritance senior junior) is = tt
-free_readable state Solver (command.DeleteInheritance senior junior) is = absurd (not_own is.permitted)
 free_readable state actor (command.Solved board table) is = tt
 free_readable state actor (command.Analysed cell costs) is = tt
-free_readable state (User giver) command.Embargo is = tt
-free_readable state Solver command.Embargo is = absurd (not_own is.permitted)
-free_readable state (User giver) command.Lift is = tt
-free_readable state Solver command.Lift is = absurd (not_own is.permitted)
-free_readable state (User giver) (command.Rename name shown) is = tt
-free_readable state Solver (command.Rename name shown) is = absurd (not_own is.permitted)
+free_readable state (User giver) (command.Seat name pair place) is =
+    pair_from_one state.public.movement pair (seats_at_a_pair state name pair place is.unhindered)
+free_readable state (User giver) _ is = tt
+free_readable state Solver _ is = absurd (not_own is.permitted)
 
 pub entry_readable : (opening : SessionState) (before : List Entry) (entry : Entry) → MayFollow opening before entry
     → IsReadable entry.actor entry.command

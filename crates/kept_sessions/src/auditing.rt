@@ -44,7 +44,7 @@ pub fn audit_of_journal<R: Files + Threads + JournalFiles + AllocGlobal + Sync, 
     ensures told { IfOk result (λ told. TellsJournal (string_bytes told.audit)) }
     ensures kept { IfOk result (λ told.
         TellsKeptJournal (image_at S.Start) (string_bytes told.audit) (file_state told.store.conn)) }
-    ensures why { IfErr result (λ e. AreCleanlyLeft e.1 → WhyJournalNotTold (image_at S.Start) e.0) }
+    ensures why { IfErr result (λ e. AreCleanlyLeft e.1 → WhyJournalNotTold (image_at S.Start) e.1 e.0) }
 {
     let KeptSession { session, journal } = match kept_session(rt, path, start, workers) {
         Ok(kept) => kept,

@@ -24,7 +24,7 @@ pub fn copy_journal<R: Files + JournalFiles + AllocGlobal, S: Start>(
     start: S,
     to: &str,
 ) -> Result<(), (KeptSessionFault, Option<Leftover<FileFrom<S>>>)>
-    ensures why { IfErr result (λ e. AreCleanlyLeft e.1 → WhyNotCopied (image_at S.Start) e.0) }
+    ensures why { IfErr result (λ e. AreCleanlyLeft e.1 → WhyNotCopied (image_at S.Start) e.1 e.0) }
 {
     match may_hold_database(rt, path) {
         Ok(true) => {}

@@ -49,7 +49,7 @@ pub fn kept_session_of_texts<R: JournalFiles + Threads + AllocGlobal + Sync, S: 
     ensures leaves { IfOk result (λ kept. KeepsJust (file_state kept.journal.store.conn)
         (lists_in kept.journal.publications.items)) }
     ensures why { IfErr result (λ e. AreCleanlyLeft e.1
-        → WhyNotTakenUp (image_at S.Start) texts.now.object.items texts.now.boards.items e.0) }
+        → WhyNotTakenUp (image_at S.Start) texts.now.object.items texts.now.boards.items e.1 e.0) }
 {
     let boards = texts.boards.as_slice();
     let session = match session_of_texts(rt.alloc(), texts.object.as_slice(), boards) {
@@ -85,7 +85,8 @@ pub fn kept_session_of_files<R: Files + JournalFiles + Threads + AllocGlobal + S
         (lists_in kept.journal.publications.items) (file_state kept.journal.store.conn)) }
     ensures leaves { IfOk result (λ kept. KeepsJust (file_state kept.journal.store.conn)
         (lists_in kept.journal.publications.items)) }
-    ensures why { IfErr result (λ e. AreCleanlyLeft e.1 → WhyFilesNotTakenUp R.File.remaining (image_at S.Start) e.0) }
+    ensures why { IfErr result (λ e. AreCleanlyLeft e.1
+        → WhyFilesNotTakenUp R.File.remaining (image_at S.Start) e.1 e.0) }
 {
     match texts_of_files(rt, object_path, boards_path) {
         Ok(texts) => kept_session_of_texts(rt, path, start, &texts, workers),
@@ -105,7 +106,7 @@ pub fn kept_session<R: Files + JournalFiles + Threads + AllocGlobal + Sync, S: S
         (lists_in kept.journal.publications.items) (file_state kept.journal.store.conn)) }
     ensures leaves { IfOk result (λ kept. KeepsJust (file_state kept.journal.store.conn)
         (lists_in kept.journal.publications.items)) }
-    ensures why { IfErr result (λ e. AreCleanlyLeft e.1 → WhyNotReopened (image_at S.Start) e.0) }
+    ensures why { IfErr result (λ e. AreCleanlyLeft e.1 → WhyNotReopened (image_at S.Start) e.1 e.0) }
 {
     let (texts, found) = match kept_texts(rt, path, start) {
         Ok(kept) => kept,
@@ -129,7 +130,7 @@ pub(crate) fn kept_texts<R: Files + JournalFiles, S: Start>(
     ensures opens { IfOk result (λ kept. HasCleanDisk (file_state kept.1.conn)
         → IsKeptAt (image_at S.Start) (row_of_session kept.0 ∷ []) (map texts_of kept.1.rows)
         (file_state kept.1.conn)) }
-    ensures why { IfErr result (λ e. AreCleanlyLeft e.1 → WhyNotReopened (image_at S.Start) e.0) }
+    ensures why { IfErr result (λ e. AreCleanlyLeft e.1 → WhyNotReopened (image_at S.Start) e.1 e.0) }
 {
     match may_hold_database(rt, path) {
         Ok(true) => {}

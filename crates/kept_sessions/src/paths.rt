@@ -2,7 +2,7 @@
 
 ghost use Rattle.std.specs.Prelude.{◌≡◌, ◌≢◌, ℕ, List, false, true, IfOk, IfErr};
 ghost use Rattle.operator_lines.specs.declared.file_fault.FileFault.TheVariants.{TooLong};
-ghost use Rattle.row_journal.specs.Faults.{is_file_failure};
+ghost use Rattle.row_journal.specs.Faults.{is_file_unopened};
 ghost use Rattle.kept_sessions.specs.declared.source_fault.KeptSessionFault.TheVariants.{Unread};
 ghost use Rattle.kept_sessions.specs.Sources.{AreOfFiles, IsFaultOfFile, IsSessionOf, IsUnread, WhyFilesOpenNone};
 ghost use Rattle.kept_sessions.specs.Sources.{is_of_a_journal};
@@ -76,7 +76,7 @@ pub(crate) fn fault_of_reading(file: SessionFile, kind: ErrorKind) -> KeptSessio
 /// Whether there is something at a path that may hold a database. A shorter file holds none, and an open would make one in
 /// it.
 pub(crate) fn may_hold_database<R: Files>(rt: &R, path: &str) -> Result<bool, JournalFault>
-    ensures { IfErr result (λ fault. is_file_failure fault ≡ true) }
+    ensures { IfErr result (λ fault. is_file_unopened fault ≡ true) }
 {
     match fs::metadata(rt, path) {
         Ok(found) => Ok(!found.is_file() || found.len() >= LEAST_DATABASE_BYTES),

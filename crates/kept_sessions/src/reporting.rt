@@ -53,7 +53,7 @@ pub fn report_of_journal<R: Files + Threads + JournalFiles + AllocGlobal + Sync,
     ensures session { IfOk result (λ reported. IsReportOfSession reported.report) }
     ensures kept { IfOk result (λ reported.
         IsReportOfJournal (image_at S.Start) reported.report (file_state reported.store.conn)) }
-    ensures why { IfErr result (λ e. AreCleanlyLeft e.1 → WhyJournalNotTold (image_at S.Start) e.0) }
+    ensures why { IfErr result (λ e. AreCleanlyLeft e.1 → WhyJournalNotTold (image_at S.Start) e.1 e.0) }
 {
     let (texts, found) = match kept_texts(rt, path, start) {
         Ok(kept) => kept,

@@ -7,7 +7,7 @@ ghost use Rattle.sqlite.specs.WalFiles.{image_at};
 ghost use Rattle.journal_store.specs.Tables.{RowBytes, session_row};
 ghost use Rattle.journal_store.specs.Kept.{texts_of, row_of_session};
 ghost use Rattle.journal_store.specs.Restart.{IsTakenUp, IsKeptAt, HoldsRows};
-ghost use Rattle.row_journal.specs.Faults.{WhyNotTaken, WhyNotKept, is_file_failure};
+ghost use Rattle.row_journal.specs.Faults.{WhyNotTaken, WhyNotKept, is_file_failure, is_file_unopened};
 
 use crate::found_journal::FoundJournal;
 use crate::journal_fault::{JournalFault, fault_of_file};
@@ -26,8 +26,8 @@ pub fn open_row_journal<R: JournalFiles, S: Start>(
     ensures opens { IfOk result (λ found. HasCleanDisk (file_state found.conn)
         → IsTakenUp (image_at S.Start) (session_row object.now boards.now ∷ []) (map texts_of found.rows)
         (file_state found.conn)) }
-    ensures refuses { IfErr result (λ e. MatchOption e.1 (is_file_failure e.0 ≡ true) (λ left. IsCleanLeft left
-        → WhyNotTaken (image_at S.Start) (session_row object.now boards.now ∷ []) e.0)) }
+    ensures refuses { IfErr result (λ e. MatchOption e.1 (is_file_unopened e.0 ≡ true) (λ left. IsCleanLeft left
+        → WhyNotTaken (image_at S.Start) (session_row object.now boards.now ∷ []) left e.0)) }
     ensures again { (rows : List RowBytes) → HoldsRows (image_at S.Start) (session_row object.now boards.now ∷ []) rows
         → MatchResult result (λ found. HasCleanDisk (file_state found.conn) → map texts_of found.rows ≡ rows)
         (λ e. MatchOption e.1 (is_file_failure e.0 ≡ true) (λ left. IsCleanLeft left → is_file_failure e.0 ≡ true)) }
@@ -51,8 +51,8 @@ pub fn open_kept_journal<R: JournalFiles, S: Start>(
     ensures opens { IfOk result (λ kept. HasCleanDisk (file_state kept.1.conn)
         → IsKeptAt (image_at S.Start) (row_of_session kept.0 ∷ []) (map texts_of kept.1.rows)
         (file_state kept.1.conn)) }
-    ensures refuses { IfErr result (λ e. MatchOption e.1 (is_file_failure e.0 ≡ true) (λ left. IsCleanLeft left
-        → WhyNotKept (image_at S.Start) e.0)) }
+    ensures refuses { IfErr result (λ e. MatchOption e.1 (is_file_unopened e.0 ≡ true) (λ left. IsCleanLeft left
+        → WhyNotKept (image_at S.Start) left e.0)) }
 {
     match rt.open_kept_at(path, start) {
         Ok((conn, session, rows)) => Ok((session, FoundJournal::new(conn, rows))),

@@ -3,6 +3,7 @@ use Rattle.sqlite.specs.Effect.{Database}
 use Rattle.sqlite.specs.State.{HasCleanDisk, IsUnchanged}
 use Rattle.sqlite.specs.Held.{state}
 use Rattle.journal_store.specs.Tables.{journal_schema}
+use Rattle.journal_store.proofs.FailLemmas.{asked, asked_again, excused_comes_of}
 use Rattle.journal_store.proofs.KeptLemmas.{reads_on}
 use Rattle.journal_store.proofs.kept.read_both.Goals as goal
 
@@ -20,3 +21,21 @@ returns-in-Ok-Some-read_entries-clause-reads g c clean idle =
     reads_on a b d _ _ idle c.requires.journal one two
     (λ is_open db may. g.met.S.Store.settled c.read_entries.new.conn.store db is_open may)
     (search rules) (search rules) (search rules)
+
+pub returns-in-Err-clause-cause : goal.returns-in-Err-clause-cause
+returns-in-Err-clause-cause g c clean idle unlimited =
+    let a = state g.S.Store c.args.conn.now in
+    let b = state g.S.Store c.read_session.new.conn in
+    excused_comes_of b c.in-Err.error _ c.fault_of.ensures.named
+    (c.in-Err.ensures.fails clean (asked a idle c.requires.journal unlimited))
+
+pub returns-in-Err-read_entries-clause-cause : goal.returns-in-Err-read_entries-clause-cause
+returns-in-Err-read_entries-clause-cause g c clean idle unlimited =
+    let a = state g.S.Store c.args.conn.now in
+    let b = state g.S.Store c.read_session.new.conn in
+    let d = state g.S.Store c.read_entries.new.conn in
+    let early : HasCleanDisk b = c.read_entries.ensures.clean clean in
+    let may = asked_again a b (asked a idle c.requires.journal unlimited)
+    (c.in-Ok-Some.ensures.same early c.requires.journal) c.read_session.ensures.looks.limit in
+    excused_comes_of d c.in-Err-read_entries.error _ c.fault_of-in-Err-read_entries.ensures.named
+    (c.in-Err-read_entries.ensures.fails clean may)

@@ -1,12 +1,22 @@
-use Rattle.std.proofs.Common.{◌≡◌, ◌∷◌, [], inr, arith}
+use Rattle.std.proofs.Common.{◌≡◌, ℕ, Bool, cond, inl, inr, [], ◌∷◌, List, ap₂, arith}
+use Rattle.sqlite_disk.specs.Events.{Event, replay}
+use Rattle.sqlite.specs.Recovery.{Image}
+use Rattle.sqlite.specs.declared.file.Leftover.TheVariants.{Store}
 use Rattle.sqlite_trees.specs.View.{doubt}
 use Rattle.sqlite_trees.proofs.Doubt.{no_doubt}
 use Rattle.sqlite_store.specs.FileStore.{view}
 use Rattle.sqlite.specs.State.{HasCleanDisk}
 use Rattle.sqlite.specs.Files.{file_state}
 use Rattle.journal_store.specs.Tables.{session_row}
+use Rattle.journal_store.proofs.FailLemmas.{either_left, left_of_open, left_of_state, named_unopened}
 use Rattle.journal_store.proofs.RestartLemmas.{idle_if_opened, goes_on, refused_at, reads_same, rows_not_refused}
 use Rattle.journal_store.proofs.opening.open_journal.Goals as goal
+
+abbrev image : List ℕ → List ℕ → Image
+image log db = record { log = log; db = db }
+
+abbrev seen : List ℕ → List ℕ → Bool → List Event → List ℕ
+seen log db is_log history = (replay (cond is_log log db) history).seen
 
 pub returns-in-Ok-take_up-clause-opens : goal.returns-in-Ok-take_up-clause-opens
 returns-in-Ok-take_up-clause-opens g c clean =
@@ -33,3 +43,25 @@ pub returns-in-Err-take_up-clause-again : goal.returns-in-Err-take_up-clause-aga
 returns-in-Err-take_up-clause-again g c rows holds left_is =
     let session = session_row c.args.object.now c.args.boards.now ∷ [] in
     rows_not_refused _ session rows _ holds (returns-in-Err-take_up-clause-refuses g c left_is)
+
+pub returns-in-Err-take_up-clause-cause : goal.returns-in-Err-take_up-clause-cause
+returns-in-Err-take_up-clause-cause g c left_is =
+    let sure : doubt (view c.into_store.result).is_clean ≡ 0 = no_doubt (view c.into_store.result).is_clean left_is in
+    let clean : HasCleanDisk (file_state c.take_up.new.conn) = omega (arith, c.into_store.ensures.quiet.clean, sure) in
+    let early : HasCleanDisk (file_state c.in-Ok.conn) = c.take_up.ensures.clean clean in
+    let idle = idle_if_opened (file_state c.in-Ok.conn) (c.in-Ok.ensures.opened early) in
+    elim (c.in-Err-take_up.ensures.cause clean idle c.in-Ok.ensures.fresh.unlimited) [
+      | inl comes ↦ inl (left_of_state _ (Store c.into_store.result) (file_state c.take_up.new.conn) _
+          c.into_store.ensures.quiet.counts comes)
+      | inr unmade ↦ inr (refused_at _ (file_state c.in-Ok.conn) _ idle (c.in-Ok.ensures.found early) unmade)
+    ]
+
+pub returns-in-Err-clause-cause : goal.returns-in-Err-clause-cause
+returns-in-Err-clause-cause g c =
+    either_left c.in-Err.left
+    (λ none. named_unopened c.in-Err.error _ c.fault_of.ensures.named (c.in-Err.ensures.unopened none))
+    (λ left it clean.
+    let same = ap₂ image (ap₂ (seen g.S.Start.log g.S.Start.db) it.1.0 it.1.1)
+    (ap₂ (seen g.S.Start.log g.S.Start.db) it.2.0 it.2.1) in
+    inl (left_of_open _ left it.0 c.in-Err.error _ c.fault_of.ensures.named same (it.3 clean).0))
+    c.in-Err.ensures.cause

@@ -1,4 +1,4 @@
-use Rattle.std.proofs.Common.{subst}
+use Rattle.std.proofs.Common.{Some, subst}
 use Rattle.sqlite.specs.Files.{file_state}
 use Rattle.sqlite.specs.Held.{Held}
 use Rattle.sqlite.specs.State.{HasCleanDisk}
@@ -27,7 +27,7 @@ returns-in-Ok-audit_of_publications-clause-kept g c =
 
 pub returns-in-Err-clause-why : goal.returns-in-Err-clause-why
 returns-in-Err-clause-why g c = λ clean.
-    not_reopened_told (image_at g.S.Start) c.in-Err.refused.0 (c.in-Err.ensures.why clean)
+    not_reopened_told (image_at g.S.Start) c.in-Err.refused.1 c.in-Err.refused.0 (c.in-Err.ensures.why clean)
 
 pub returns-clause-why : goal.returns-clause-why
 returns-clause-why g c = λ clean.
@@ -38,5 +38,5 @@ returns-clause-why g c = λ clean.
     let was = subst (λ (conn : Held _). HasCleanDisk (file_state conn)) c.into_connection.ensures.conn
     (c.left_of.ensures clean) in
     entries_not_told (image_at g.S.Start) kept.object kept.boards session.book.opening session.book.journal session.budget
-    publications c.in-Err-audit_of_publications.fault kept.session (kept.kept was).found
+    publications (Some c.left_of.result) c.in-Err-audit_of_publications.fault kept.session (kept.kept was).found
     (rw c.as_slice.ensures.value at c.in-Err-audit_of_publications.ensures.fault)

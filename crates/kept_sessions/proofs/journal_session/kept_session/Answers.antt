@@ -1,4 +1,4 @@
-use Rattle.std.proofs.Common.{ap, sym, subst, ◌∷◌, [], map}
+use Rattle.std.proofs.Common.{Some, ap, sym, subst, ◌∷◌, [], map}
 use Rattle.std.specs.Prelude.{string_bytes}
 use Rattle.std.proofs.lemmas.Result.{IfOk-weaker, IfErr-weaker}
 use Rattle.sqlite.specs.Files.{file_state}
@@ -34,7 +34,7 @@ returns-in-Ok-session_of_texts-clause-why g c =
     let texts = c.in-Ok.kept.0 in
     let found = c.in-Ok.kept.1 in
     IfErr-weaker c.with_journal.result _ _ (λ e unread clean.
-    rows_not_reopened (image_at g.S.Start) (string_bytes texts.object) texts.boards.items found.rows e.0
+    rows_not_reopened (image_at g.S.Start) (string_bytes texts.object) texts.boards.items found.rows e.1 e.0
     (c.in-Ok.ensures.opens (unread.1 clean)).found unread.0)
     c.with_journal.ensures.unread
 
@@ -44,5 +44,5 @@ returns-clause-why g c = λ clean.
     let found = c.in-Ok.kept.1 in
     let was = subst (λ (conn : Held _). HasCleanDisk (file_state conn)) c.into_connection.ensures (c.left_of.ensures clean) in
     texts_not_reopened (image_at g.S.Start) (string_bytes texts.object) texts.boards.items (map texts_of found.rows)
-    c.in-Err-session_of_texts.fault (c.in-Ok.ensures.opens was).found
+    (Some c.left_of.result) c.in-Err-session_of_texts.fault (c.in-Ok.ensures.opens was).found
     (rw (c.as_bytes.ensures.value, c.as_slice.ensures.value) at c.in-Err-session_of_texts.ensures.why)

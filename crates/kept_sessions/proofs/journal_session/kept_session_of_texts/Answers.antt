@@ -1,4 +1,4 @@
-use Rattle.std.proofs.Common.{◌≡◌, ◌∙◌, inl, ap, sym, subst, ◌∷◌, [], map}
+use Rattle.std.proofs.Common.{◌≡◌, ◌∙◌, inl, inr, ap, sym, subst, ◌∷◌, [], map}
 use Rattle.std.proofs.lemmas.Result.{IfOk-weaker, IfErr-weaker}
 use Rattle.sqlite.specs.Files.{file_state}
 use Rattle.sqlite.specs.WalFiles.{image_at}
@@ -6,8 +6,8 @@ use Rattle.journal_store.specs.Kept.{texts_of}
 use Rattle.journal_store.specs.Tables.{session_row}
 use Rattle.kept_entries.specs.KeptRows.{lists_in, rows_of}
 use Rattle.kept_sessions.specs.Sources.{IsSessionOf}
-use Rattle.kept_sessions.specs.Faults.{WhyNotTakenUp}
-use Rattle.kept_sessions.proofs.FaultLemmas.{never_cut, rows_not_taken, taken_cause, texts_not_taken}
+use Rattle.kept_sessions.specs.Faults.{WhyFilesNotTaken, WhyNotTakenUp}
+use Rattle.kept_sessions.proofs.FaultLemmas.{cleanly, never_cut, rows_not_taken, memory_or_texts}
 use Rattle.kept_sessions.proofs.KeptLemmas.{taken_as}
 use Rattle.kept_sessions.proofs.journal_session.kept_session_of_texts.Goals as goal
 
@@ -36,9 +36,9 @@ returns-in-Ok-open_row_journal-clause-why g c =
     let found = c.in-Ok-open_row_journal.found in
     let text : c.in-Ok-from_utf8.object.now ≡ object = c.in-Ok-from_utf8.ensures.cases.0 ∙ c.as_slice-2.ensures.value in
     IfErr-weaker c.with_journal.result _ _ (λ e unread clean.
-    subst (λ o. WhyNotTakenUp (image_at g.S.Start) o boards e.0) text
-    (subst (λ b. WhyNotTakenUp (image_at g.S.Start) c.in-Ok-from_utf8.object.now b e.0) c.as_slice-boards.ensures.value
-    (rows_not_taken (image_at g.S.Start) c.in-Ok-from_utf8.object.now c.as_slice-boards.result.now found.rows e.0
+    subst (λ o. WhyNotTakenUp (image_at g.S.Start) o boards e.1 e.0) text
+    (subst (λ b. WhyNotTakenUp (image_at g.S.Start) c.in-Ok-from_utf8.object.now b e.1 e.0) c.as_slice-boards.ensures.value
+    (rows_not_taken (image_at g.S.Start) c.in-Ok-from_utf8.object.now c.as_slice-boards.result.now found.rows e.1 e.0
     (c.in-Ok-open_row_journal.ensures.opens (unread.1 clean)).found unread.0)))
     c.with_journal.ensures.unread
 
@@ -48,15 +48,18 @@ returns-in-Err-open_row_journal-clause-why g c = λ clean.
     let boards = c.args.texts.now.boards.items in
     let refused = c.in-Err-open_row_journal in
     let text : c.in-Ok-from_utf8.object.now ≡ object = c.in-Ok-from_utf8.ensures.cases.0 ∙ c.as_slice-2.ensures.value in
-    let why = taken_cause (image_at g.S.Start)
-    (session_row c.in-Ok-from_utf8.object.now c.as_slice-boards.result.now ∷ []) refused.fault refused.left
+    let why : WhyFilesNotTaken (image_at g.S.Start)
+    (session_row c.in-Ok-from_utf8.object.now c.as_slice-boards.result.now ∷ []) refused.left refused.fault = cleanly _ _ refused.left
     refused.ensures.refuses clean in
     inl (rw (text, c.as_slice-boards.ensures.value) at why)
 
 pub returns-in-Err-clause-why : goal.returns-in-Err-clause-why
 returns-in-Err-clause-why g c = λ clean.
-    texts_not_taken (image_at g.S.Start) c.args.texts.now.object.items c.args.texts.now.boards.items c.in-Err.fault
-    (rw (c.as_slice.ensures.value, c.as_slice-boards.ensures.value) at c.in-Err.ensures.why)
+    elim (memory_or_texts c.args.texts.now.object.items c.args.texts.now.boards.items c.in-Err.fault
+    (rw (c.as_slice.ensures.value, c.as_slice-boards.ensures.value) at c.in-Err.ensures.why)) [
+      | inl memory ↦ rw memory tt
+      | inr cause ↦ rw cause.1.0 cause.1.1
+    ]
 
 pub returns-in-Err-from_utf8-clause-why : goal.returns-in-Err-from_utf8-clause-why
 returns-in-Err-from_utf8-clause-why g c = λ clean.

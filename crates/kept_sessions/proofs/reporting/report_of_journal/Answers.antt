@@ -1,4 +1,4 @@
-use Rattle.std.proofs.Common.{ap, inl, inr, sym, subst, ◌∷◌, [], map}
+use Rattle.std.proofs.Common.{Some, ap, inl, inr, sym, subst, ◌∷◌, [], map}
 use Rattle.std.specs.Prelude.{string_bytes}
 use Rattle.sqlite.specs.Files.{file_state}
 use Rattle.sqlite.specs.Held.{Held}
@@ -59,7 +59,7 @@ returns-in-Ok-report_of_publications-clause-session g c =
 
 pub returns-in-Err-clause-why : goal.returns-in-Err-clause-why
 returns-in-Err-clause-why g c = λ clean.
-    not_reopened_told (image_at g.S.Start) c.in-Err.refused.0 (c.in-Err.ensures.why clean)
+    not_reopened_told (image_at g.S.Start) c.in-Err.refused.1 c.in-Err.refused.0 (c.in-Err.ensures.why clean)
 
 pub returns-in-Err-session_of_texts-clause-why : goal.returns-in-Err-session_of_texts-clause-why
 returns-in-Err-session_of_texts-clause-why g c = λ clean.
@@ -67,8 +67,9 @@ returns-in-Err-session_of_texts-clause-why g c = λ clean.
     let found = c.in-Ok.kept.1 in
     let fault = c.in-Err-session_of_texts.fault in
     let was = subst (λ (conn : Held _). HasCleanDisk (file_state conn)) c.into_connection.ensures (c.left_of.ensures clean) in
-    not_reopened_told (image_at g.S.Start) fault
-    (texts_not_reopened (image_at g.S.Start) (string_bytes texts.object) texts.boards.items (map texts_of found.rows) fault
+    not_reopened_told (image_at g.S.Start) (Some c.left_of.result) fault
+    (texts_not_reopened (image_at g.S.Start) (string_bytes texts.object) texts.boards.items (map texts_of found.rows)
+    (Some c.left_of.result) fault
     (c.in-Ok.ensures.opens was).found
     (rw (c.as_bytes-object.ensures.value, c.as_slice-boards.ensures.value) at c.in-Err-session_of_texts.ensures.why))
 
@@ -77,11 +78,12 @@ returns-in-Err-memberships_of_texts-clause-why g c = λ clean.
     let texts = c.in-Ok.kept.0 in
     let found = c.in-Ok.kept.1 in
     let fault = c.in-Err-memberships_of_texts.fault in
+    let left = Some c.left_of-in-Err-memberships_of_texts.result in
     let was = subst (λ (conn : Held _). HasCleanDisk (file_state conn)) c.into_connection-in-Err-memberships_of_texts.ensures (c.left_of-in-Err-memberships_of_texts.ensures clean) in
     elim c.in-Err-memberships_of_texts.ensures.why [
-      | inl memory ↦ subst (WhyJournalNotTold (image_at g.S.Start)) (sym memory) tt
-      | inr why ↦ not_reopened_told (image_at g.S.Start) fault
-          (texts_not_reopened (image_at g.S.Start) (string_bytes texts.object) texts.boards.items (map texts_of found.rows) fault
+      | inl memory ↦ subst (WhyJournalNotTold (image_at g.S.Start) left) (sym memory) tt
+      | inr why ↦ not_reopened_told (image_at g.S.Start) left fault
+          (texts_not_reopened (image_at g.S.Start) (string_bytes texts.object) texts.boards.items (map texts_of found.rows) left fault
           (c.in-Ok.ensures.opens was).found (rw (c.as_bytes-object.ensures.value, c.as_slice-boards.ensures.value) at why))
     ]
 
@@ -91,8 +93,8 @@ returns-in-Err-with_journal-clause-why g c = λ clean.
     let found = c.in-Ok.kept.1 in
     let refused = c.in-Err-with_journal.refused in
     let unread = c.in-Err-with_journal.ensures.unread in
-    not_reopened_told (image_at g.S.Start) refused.0
-    (rows_not_reopened (image_at g.S.Start) (string_bytes texts.object) texts.boards.items found.rows refused.0
+    not_reopened_told (image_at g.S.Start) refused.1 refused.0
+    (rows_not_reopened (image_at g.S.Start) (string_bytes texts.object) texts.boards.items found.rows refused.1 refused.0
     (c.in-Ok.ensures.opens (unread.1 clean)).found unread.0)
 
 pub returns-clause-why : goal.returns-clause-why
@@ -113,5 +115,6 @@ returns-clause-why g c = λ clean.
     let held = kept_as _ (row_of_session texts ∷ []) (map texts_of found.rows) (rows_of publications) (file_state found.conn)
     (file_state kept.journal.store.conn) (ap (λ conn. file_state conn) read.1) read.2 c.in-Ok.ensures.opens in
     entries_not_told (image_at g.S.Start) object boards kept.session.book.opening kept.session.book.journal
-    kept.session.budget publications c.in-Err-report_of_publications.fault session (held was).found
+    kept.session.budget publications (Some c.left_of-in-Err-report_of_publications.result)
+    c.in-Err-report_of_publications.fault session (held was).found
     (rw c.as_slice-entered.ensures.value at c.in-Err-report_of_publications.ensures.fault)

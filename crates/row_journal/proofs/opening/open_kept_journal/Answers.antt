@@ -1,11 +1,12 @@
-use Rattle.std.proofs.Common.{[], ◌∷◌, map, sym, subst}
+use Rattle.std.proofs.Common.{◌≡◌, true, [], ◌∷◌, map, sym, subst}
 use Rattle.sqlite.specs.State.{HasCleanDisk}
 use Rattle.sqlite.specs.Files.{file_state}
 use Rattle.sqlite.specs.WalFiles.{image_at}
 use Rattle.journal_store.specs.Kept.{texts_of, row_of_session}
+use Rattle.journal_store.specs.Faults.{is_failure}
 use Rattle.journal_store.specs.Restart.{IsKeptAt}
 use Rattle.row_journal.specs.Leaving.{FoundRows}
-use Rattle.row_journal.proofs.FaultLemmas.{either_way, failure_same, kept_why}
+use Rattle.row_journal.proofs.FaultLemmas.{both_ways, kept_why, unopened_same}
 use Rattle.row_journal.proofs.opening.open_kept_journal.Goals as goal
 
 pub new-requires-clause-rests : goal.new-requires-clause-rests
@@ -19,5 +20,5 @@ returns-in-Ok-clause-opens g c =
 
 pub returns-in-Err-clause-refuses : goal.returns-in-Err-clause-refuses
 returns-in-Err-clause-refuses g c =
-    rw c.fault_of_file.ensures (either_way c.in-Err.left (failure_same c.in-Err.fault)
-    (λ left why clean. kept_why _ c.in-Err.fault (why clean)) c.in-Err.ensures.refuses)
+    rw c.fault_of_file.ensures (both_ways (is_failure c.in-Err.fault ≡ true) c.in-Err.left (unopened_same c.in-Err.fault)
+    (λ left why cause clean. kept_why _ left c.in-Err.fault (why clean) (cause clean)) c.in-Err.ensures.refuses c.in-Err.ensures.cause)
