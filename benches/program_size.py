@@ -4,8 +4,8 @@
     benches/program_size.py [PROGRAM] [CRATES]
 
 It needs binutils' `nm`. A generic function counts to the crate that has it, whoever called for it. The last lines join them: the kit's
-SQLite, the crates of this repository that a journal needs and nothing else does, all other crates of this repository, and the rest,
-which is the kit's and C's.
+SQLite, the crates of this repository that a journal needs (with `kept_sessions`, which opens sessions without one too), all other
+crates of this repository, and the rest, which is the kit's and C's.
 """
 import collections
 import pathlib

@@ -147,6 +147,8 @@ def tell(program, words, passed, seconds):
         print(said, end="" if said.endswith("\n") else "\n")
     counted = re.findall(r"^\d+ passed, \d+ failed$", said, re.MULTILINE)
     print(f"{'ok    ' if passed else 'FAILED'} {seconds:7.1f} s  {name}{': ' + counted[-1] if counted else ''}", flush=True)
+    for left_out in re.findall(r"^not run, .*$", said, re.MULTILINE) if passed else ():
+        print(f"                    {left_out}", flush=True)
 
 
 def run_side_by_side(checks):

@@ -117,6 +117,8 @@ AT_START = [*WHILE_KEPT, ("open", EMFILE), ("lock", ENOLCK)]
 UNREAD = (3, b"", fault("JournalUnread"))
 OTHER_FAULTS = [(3, b"", fault(name)) for name in ("JournalDamaged", "JournalBusy")]
 KEPT_BEFORE, BATCHES = 3, 4
+# A batch is written by three calls and synced twice: of these each that fails keeps back a receipt.
+LEAST_NOTICED = {("while_kept", "write"): 3 * BATCHES, ("while_kept", "sync"): 2 * BATCHES}
 
 
 def batch(size=2):
@@ -291,6 +293,8 @@ def fail_each(pool, what, run, ample, room, kind, error):
     assert word == ample, (kind, word)
     words = list(pool.map(lambda n: run(room, kind, error, n)[0], range(1, count + 1)))
     assert error or set(words) <= {ample}, f"a {kind} of a byte alone is a failure: {words}"
+    noticed = sum(word != ample for word in words)
+    assert not error or noticed >= LEAST_NOTICED.get((run.__name__, kind), 0), f"a {kind} failed, and nobody noticed: {words}"
     told_apart = ", ".join(f"{one}: {words.count(one)}" for one in sorted(set(words))) or "none is made"
     print(f"ok      {what}, {kind}, {f'error {error}' if error else 'a byte alone'}: each of {count} calls; {told_apart}", flush=True)
 
