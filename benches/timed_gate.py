@@ -1,0 +1,86 @@
+#!/usr/bin/env python3
+"""Runs the gate (`rt ci`), and writes a line for each of its checks as it ends, which benches/gate_picture.py draws:
+
+    22:09:38    21.3s mitchell proof: ok
+
+    benches/timed_gate.py LOG
+
+The gate is the kit's own, and so are what it says and its status. To LOG is added, of each check, the time of day at which it ended,
+how long it took, its crate, what it was (`proof`, `tests` or `edits`), and `ok` or `FAILED`. A program's proof has its two builds in it.
+The last line, `ended after`, has the whole time, with the runs of the programs and of the tests.
+
+Kit 13b looks at the files below a library once for each path of crates.txt that leads there (docs/GATE.md). Here it does so once, since
+nobody may edit a file while a gate runs.
+"""
+import importlib.machinery
+import os
+import pathlib
+import shutil
+import sys
+import time
+import types
+
+ROOT = pathlib.Path(__file__).resolve().parent.parent
+
+
+def kits_rt():
+    """The kit's command as a module."""
+    path = os.path.realpath(shutil.which("rt"))
+    rt = types.ModuleType("rt")
+    rt.__file__ = path
+    importlib.machinery.SourceFileLoader("rt", path).exec_module(rt)
+    return rt
+
+
+def once(method):
+    """A method without arguments that remembers what it returned."""
+
+    def remembered(self):
+        known = self.__dict__.setdefault("known", {})
+        if method not in known:
+            known[method] = method(self)
+        return known[method]
+
+    return remembered
+
+
+def time_checks(rt, log):
+    """Has each check of the gate write its line."""
+    prove, try_edits = rt.Crate.ci, rt.must_fail_all
+
+    def tell(crate, kind, began, is_well):
+        times = f"{time.strftime('%H:%M:%S')} {time.time() - began:7.1f}s"
+        print(f"{times} {crate.name} {kind}: {'ok' if is_well else 'FAILED'}", file=log, flush=True)
+
+    def timed_proof(crate, flags, tests):
+        began = time.time()
+        status = prove(crate, flags, tests)
+        tell(crate, "tests" if tests else "proof", began, not status)
+        return status
+
+    def timed_edits(crate, edits, flags):
+        began = time.time()
+        tried = try_edits(crate, edits, flags)
+        if edits:
+            tell(crate, "edits", began, all(is_refused for is_refused, _ in tried))
+        return tried
+
+    rt.Crate.ci, rt.must_fail_all = timed_proof, timed_edits
+
+
+def main():
+    if len(sys.argv) != 2:
+        sys.exit(__doc__)
+    rt = kits_rt()
+    rt.rtlib.Crate.stamp, rt.rtlib.Crate.below = once(rt.rtlib.Crate.stamp), once(rt.rtlib.Crate.below)
+    with open(sys.argv[1], "a", encoding="utf-8") as log:
+        os.chdir(ROOT)
+        time_checks(rt, log)
+        began = time.time()
+        status = rt.main(["ci"])
+        print(f"ended after {time.time() - began:.0f}s, with status {status}", file=log)
+    return status
+
+
+if __name__ == "__main__":
+    sys.exit(main())
