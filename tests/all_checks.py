@@ -7,11 +7,11 @@
     tests/all_checks.py --fast              # those that need no program, and beside them those of built programs that need neither a
                                             # browser nor a socket and are short: `make test-fast`
 
-What needs no program runs side by side, and so does all of `--fast`; the other checks run one after another, since some look at time. What
-a check says stands in out/checks/, and here where it failed. The last line is `N passed, M failed`, the gate's own numbers and one for
-each check; the status is 1 where something failed. The tests of the page's functions need Node.js 20 or later, and those of the page's
-types Debian's node-typescript: they are not run where it is missing. What the checks of built programs need is in README.md, "Checking it";
-where it is missing, they fail.
+What needs no program runs side by side, and so does all of `--fast`. Of the checks of built programs those that look at no time run side
+by side too, and then the others one after another. What a check says stands in out/checks/, and here where it failed. The last line is
+`N passed, M failed`, the gate's own numbers and one for each check; the status is 1 where something failed. The tests of the page's
+functions need Node.js 20 or later, and those of the page's types Debian's node-typescript: they are not run where it is missing. What the
+checks of built programs need is in README.md, "Checking it"; where it is missing, they fail.
 """
 import concurrent.futures
 import os
@@ -75,28 +75,32 @@ SHORT = (
     (PYTHON, ("tests/drivers/failing_devices.py", SERVER)),
     (PYTHON, ("tests/drivers/fuzz_movements.py", SERVER)),
 )
-LONG = (
-    (PYTHON, ("tests/memory/refuse_growths.py", BOARDS, "crates/pbn_boards/data/255_boards.pbn", "255")),
-    (PYTHON, ("tests/memory/refuse_growths.py", STORED_RUNS, "solver")),
-    (PYTHON, ("tests/memory/refuse_connection_growths.py", STORED_RUNS)),
+# of built programs, and long: none looks at time, but for how long it waits at most, so they run beside one another, the longest first
+BESIDE = (
     (PYTHON, ("tests/memory/refuse_serving_growths.py", SERVER)),
+    (PYTHON, ("tests/memory/refuse_growths.py", STORED_RUNS, "solver")),
+    (PYTHON, ("tests/journals/journal_logs.py", SERVER)),
+    (PYTHON, ("tests/journals/journal_disks.py", SERVER)),
+    (PYTHON, ("tests/memory/refuse_connection_growths.py", STORED_RUNS)),
     (PYTHON, ("tests/memory/refuse_reports.py", SERVER)),
+    (PYTHON, ("tests/memory/refuse_growths.py", BOARDS, "crates/pbn_boards/data/255_boards.pbn", "255")),
+    (DEBIAN_PYTHON, ("tests/drivers/fuzz_texts.py", SERVER)),
+    (PYTHON, ("tests/drivers/failing_calls.py", SERVER)),
+    (PYTHON, ("tests/drivers/conformance.py", SERVER)),
+    (PYTHON, ("tests/journals/journal_starts.py", SERVER)),
+    (DEBIAN_PYTHON, ("tests/drivers/websocket_client.py", SERVER)),
+    (PYTHON, ("tests/drivers/event_log.py", SERVER)),
+)
+# of built programs, and each looks at time, or at the whole machine's sockets: one after another
+ALONE = (
     (PYTHON, ("tests/drivers/report.py", SERVER, "--browser")),
     (PYTHON, ("tests/drivers/hold_ups.py", SERVER)),
     (PYTHON, ("tests/drivers/full_hall.py", SERVER)),
     (PYTHON, ("tests/drivers/jobs_in_turn.py", SERVER)),
     (PYTHON, ("tests/drivers/page_files.py", SERVER)),
-    (PYTHON, ("tests/drivers/event_log.py", SERVER)),
     (PYTHON, ("tests/drivers/proxies.py", SERVER)),
-    (PYTHON, ("tests/drivers/conformance.py", SERVER)),
-    (PYTHON, ("tests/drivers/failing_calls.py", SERVER)),
-    (PYTHON, ("tests/journals/journal_starts.py", SERVER)),
-    (PYTHON, ("tests/journals/journal_logs.py", SERVER)),
-    (PYTHON, ("tests/journals/journal_disks.py", SERVER)),
     (DEBIAN_PYTHON, ("tests/journals/journal_kills.py", SERVER)),
     (DEBIAN_PYTHON, ("tests/drivers/load.py", SERVER)),
-    (DEBIAN_PYTHON, ("tests/drivers/fuzz_texts.py", SERVER)),
-    (DEBIAN_PYTHON, ("tests/drivers/websocket_client.py", SERVER)),
     (DEBIAN_PYTHON, ("tests/drivers/many_clients.py", SERVER)),
     (DEBIAN_PYTHON, ("tests/browser/page_session.py", SERVER)),
     (DEBIAN_PYTHON, ("tests/browser/evening.py", SERVER)),
@@ -211,7 +215,8 @@ def main():
     found = list(run_side_by_side(checks))
     if "--built" in options:
         with tempfile.TemporaryDirectory() as folder:
-            found += run_in_turn([*SHORT, *checks_of_lines(folder), *LONG])
+            found += run_side_by_side([*BESIDE, *checks_of_lines(folder), *SHORT])
+        found += run_in_turn(ALONE)
     passed, failed = passed + found.count(True), failed + found.count(False)
     print(f"{passed} passed, {failed} failed")
     return 1 if failed else 0
