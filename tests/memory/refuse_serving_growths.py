@@ -7,11 +7,13 @@ Starts the program with one display and no worker, for two connections, first wi
 memory refused, for N from 1 until a run asks less often. On the first connection a director signs in, has board 1 held and released in
 turn by one batch of 64 commands, and asks for the board; on the second one a director signs in and asks again. That is done twice: in a
 session where nothing is entered, from the start of the program; and where 254 commands are, from the batch on, so that the journal
-outgrows its first room, which is for 256 entries, in the midst of it. And three times more with the journal in a file (`--journal`): in
-a new one, from the start of the program; in one that has six commands, from the start; and in a new one, where 254 commands are entered
-before the batch, from that on. Several runs go on at once, each with files and a port of its own. What each must do:
+outgrows its first room, which is for 256 entries, in the midst of it. And four times more with the journal in a file (`--journal`): in
+a new one, from the start of the program; in one that has six commands, from the start; in one that has the solver's three tables, which
+a start solves again, from the start; and in a new one, where 254 commands are entered before the batch, from that on. Several runs go on
+at once, each with files and a port of its own. What each must do:
 
-- Before it listens, and where the display's thread has no room to begin: end with status 4. Nothing is half open.
+- Before it listens, and where the display's thread has no room to begin: end with status 4, or with status 1 and `Unsolved(n)` where a
+  table wasn't found again. Nothing is half open.
 - Later: that connection ends, or one message is answered {"error":"OutOfMemory"}, or the command that found no room is answered
   OutOfMemory, the ones before it `ok` and those after it NotTried, with the numbers of those before. With a file the batch may be answered
   {"error":"NotKept"} too, and then nothing of it stands. All else is as with ample
@@ -42,18 +44,25 @@ from refuse_growths import REFUSING
 from write_stored_runs import BOARDS, USERS, text_of
 
 SESSION = {"budget": 0, "per_set": 1, "rounds": 3, "tables": 3, "users": USERS}
+# the same, whose tables a worker finds
+SOLVED_SESSION = {**SESSION, "budget": 10**9}
+# board 1, where each player has a whole suit: the side of the trumps takes all tricks, and without trumps the side that leads
+TABLE = {"N": [13, 0, 13, 0, 0], "S": [13, 0, 13, 0, 0], "E": [0, 13, 0, 13, 0], "W": [0, 13, 0, 13, 0]}
 COMMANDS = 64
 KEPT, TRIED = "kept.journal", "tried.journal"
 HELLO = {"hello": "d", "token": "abc"}
-# how many commands a file has before the start, or None where there is no file; and how many are entered before the batch: even
-# numbers, after which board 1 isn't held
-SESSIONS = ((None, 0), (None, 254), (0, 0), (6, 0), (0, 254))
+# what a file has before the start: so many commands, the solver's tables, or None where there is no file; and how many commands are
+# entered before the batch: even numbers, after which board 1 isn't held
+TABLES = "three tables"
+SESSIONS = ((None, 0), (None, 254), (0, 0), (6, 0), (TABLES, 0), (0, 254))
 # how many runs go on at once: most of a run is spent waiting, for the disk or for the program's start
 AT_ONCE = 2 * (os.cpu_count() or 2)
 ASK = {"ask": "analysis", "board": 1}
 NO_MEMORY, NOT_KEPT = {"error": "OutOfMemory"}, {"error": "NotKept"}
 # what a start says that finds no memory (docs/RUNNING.md)
 NO_ROOM = re.compile(rb"bridge_server: (OutOfMemory|NoPlace|NoThread) \([a-z ]+\)\n")
+# and what one says that doesn't find a table again, for which there is no memory
+UNSOLVED = re.compile(rb"bridge_server: Unsolved\([123]\)\n")
 HANDSHAKE = ("GET / HTTP/1.1\r\nHost: 127.0.0.1\r\nUpgrade: websocket\r\nConnection: Upgrade\r\n"
              "Sec-WebSocket-Key: dGhlIHNhbXBsZSBub25jZQ==\r\nSec-WebSocket-Version: 13\r\n\r\n").encode()
 
@@ -134,20 +143,29 @@ def connection(process, port, messages, before=(), counted=None):
     return told
 
 
-def start(program, room, words, env=None):
+def start(program, room, words, env=None, workers=0, connections=2):
     """The program with one display for two connections, and its port."""
     port = free_port()
     process = subprocess.Popen(
         [program, "serve", "--session", f"{room}/session.json", "--deals", f"{room}/deals.pbn", "--port", str(port), "--displays", "1",
-         "--workers", "0", "--connections", "2", *words], env=env, stdin=subprocess.DEVNULL, stdout=subprocess.PIPE, stderr=subprocess.PIPE)
+         "--workers", str(workers), "--connections", str(connections), *words], env=env, stdin=subprocess.DEVNULL, stdout=subprocess.PIPE, stderr=subprocess.PIPE)
     return process, port
 
 
 def prepare(program, room, kept):
-    """Makes a file that has so many commands, and keeps a copy of it."""
+    """Makes the session's files, and a journal that has so many commands, or the solver's tables."""
     for end in ("", "-wal"):
         pathlib.Path(f"{room}/{KEPT}{end}").unlink(missing_ok=True)
-    if kept:
+    pathlib.Path(room, "session.json").write_text(text_of(SOLVED_SESSION if kept == TABLES else SESSION), encoding="utf-8")
+    if kept == TABLES:
+        process, port = start(program, room, ["--journal", f"{room}/{KEPT}"], workers=1, connections=100_000)
+        asked = [{"ask": "analysis", "board": board} for board in (1, 2, 3)]
+        while any(reply["analysis"]["tricks"] is None for reply in connection(process, port, [HELLO, *asked])[1:]):
+            time.sleep(0.01)
+        process.kill()
+        process.communicate()
+        assert [row.done["cmd"] for row in rows_of(f"{room}/{KEPT}")] == ["Solved"] * 3
+    elif kept:
         process, port = start(program, room, ["--journal", f"{room}/{KEPT}"])
         assert connection(process, port, [HELLO, *batches(kept)])[-1]["last"] == kept
         process.kill()
@@ -189,11 +207,11 @@ def standing(receipt, entered):
 
 
 def outcome(ample, told, status, entered, is_signed_in):
-    """What a run with one request refused did, in a word, and how many commands may stand after it."""
+    """What a run with one request refused did, in a word, and how many entries may stand after it."""
     first, second = told
     if status != 0:
-        assert status == 4 and not first and not second, (status, told)
-        return "status 4", {entered}
+        assert not first and not second, (status, told)
+        return f"status {status}", {entered}
     faults = 0
     # how many commands may stand after the batch: where its receipt was lost, any number
     stands = {entered} if len(first) < 1 or first[0] == NO_MEMORY else set(range(entered, entered + COMMANDS + 1))
@@ -244,7 +262,6 @@ def main():
     with tempfile.TemporaryDirectory() as room:
         path = pathlib.Path(room)
         (path / "refusing.c").write_text(REFUSING)
-        (path / "session.json").write_text(text_of(SESSION))
         (path / "deals.pbn").write_text(BOARDS)
         subprocess.run(["cc", "-O1", "-shared", "-fPIC", "-o", f"{room}/refusing.so", f"{room}/refusing.c", "-ldl"], check=True)
         for kept, entered in SESSIONS:
@@ -252,13 +269,17 @@ def main():
             refuse_each(program, room, kept, entered)
 
 
+def of_file(kept):
+    return kept if kept == TABLES else f"{kept} commands"
+
+
 def refuse_each(program, room, kept, by_client):
     """Each request in turn, where a file has so many commands, if there is one, and so many more were entered before."""
     ample, status, said, asked, _rows = run(program, room, kept, by_client, 0)
-    entered = by_client + (kept or 0)
+    entered = by_client + (3 if kept == TABLES else kept or 0)
     after = entered + COMMANDS
     wanted = b"" if kept is not None else NOTHING_IS_KEPT
-    shown = {"analysis": {"board": 1, "tricks": None}, "version": after}
+    shown = {"analysis": {"board": 1, "tricks": TABLE if kept == TABLES else None}, "version": after}
     receipt = {"answers": ["ok"] * COMMANDS, "first": entered + 1, "last": after, "version": after}
     assert (ample, status, said) == ([[{"hello": "d"}, receipt, shown], [{"hello": "d"}, shown]], 0, wanted), (ample, status, said)
     assert asked > 0, "the program asked for no memory through this allocator: nothing is tried"
@@ -270,20 +291,24 @@ def refuse_each(program, room, kept, by_client):
             # a start that finds no memory says for what, maybe before it says that nothing is kept; else it may find none for saying how it serves
             if status == 4:
                 assert NO_ROOM.fullmatch(said.removeprefix(wanted)), said
+            elif status == 1:
+                assert kept == TABLES and UNSOLVED.fullmatch(said), said
             else:
-                assert said == wanted, (status, said)
+                assert (status, said) == (0, wanted), (status, said)
             kind, stands = outcome(ample, told, status, entered, by_client > 0)
             if kept is not None:
                 assert rows in stands, (rows, "rows of the file, and not", stands)
         except AssertionError as fault:
-            raise SystemExit(f"with {kept} commands in a file and {by_client} more, and request {n} of {asked} refused: {fault}")
+            raise SystemExit(f"with {of_file(kept)} in a file and {by_client} more, and request {n} of {asked} refused: {fault}")
         kinds.setdefault(kind, []).append(n)
-    where = "without a file" if kept is None else f"with {kept} commands in a file"
-    print(f"{where}, and {by_client} more, {asked} requests for memory, each refused in turn:", flush=True)
+    where = "without a file" if kept is None else f"with {of_file(kept)} in a file"
+    print(f"{where}, and {by_client} commands more, {asked} requests for memory, each refused in turn:", flush=True)
     for kind, numbers in kinds.items():
         print(f"    {kind}: {len(numbers)}, from request {numbers[0]} to {numbers[-1]}")
     if by_client:
         assert "a command found no room" in kinds, "the journal didn't outgrow its room in the batch"
+    if kept == TABLES:
+        assert "status 1" in kinds, "no table was left unsolved"
 
 
 if __name__ == "__main__":

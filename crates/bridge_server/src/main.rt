@@ -4,21 +4,7 @@
 //! list of people and of deals.
 #![tactic(auto)]
 
-mod auditing;
-mod calling;
-mod checking;
-mod copying;
-mod folder_fault;
-mod reporting;
-mod serving;
-mod serving_announcement;
-mod serving_fault;
-mod serving_means;
-mod session_folder;
-#[cfg(test)]
-mod tests;
-
-use crate::calling::run_program;
+use called_program::run_program;
 use std::process::ExitCode;
 
 fn main(rt: HostRuntime) -> ExitCode {

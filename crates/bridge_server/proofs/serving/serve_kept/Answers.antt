@@ -1,5 +1,0 @@
-use Rattle.bridge_server.proofs.KeptLemmas.{leaves_just}
-use Rattle.bridge_server.proofs.serving.serve_kept.Goals as goal
-
-pub serve_session-requires-clause-kept : goal.serve_session-requires-clause-kept
-serve_session-requires-clause-kept g c = λ lifetimes lives. leaves_just _ _ c.requires.kept

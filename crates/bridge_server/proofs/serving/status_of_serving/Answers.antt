@@ -1,7 +1,0 @@
-use Rattle.bridge_server.proofs.ServingLemmas.{told_unserved}
-use Rattle.bridge_server.proofs.serving.status_of_serving.Goals as goal
-
-pub returns-in-Err-clause-unserved : goal.returns-in-Err-clause-unserved
-returns-in-Err-clause-unserved g c = λ failed.
-    told_unserved c.args.serving.now.source c.status_of_opening_fault.result (g.E.Write.contents c.args.errors.now) _
-    (c.status_of_opening_fault.ensures.why failed)
