@@ -11,7 +11,7 @@ use event_log::SharedLog;
 use movement::Cell;
 use published_view::{NoEntry, QueryFault};
 use session_book::Answer;
-use session_commands::Command;
+use session_commands::{Command, Target, Touched};
 use session_keeper::{AuditReceipt, BatchReceipt, CommandKeeper, Keeper, SubmitFault};
 use session_queries::{Query, Reply};
 use session_roles::Edition;
@@ -122,25 +122,12 @@ impl<'a, N: Server, K: EntryStore, R: Wait + Clock> CommandKeeper<R> for Analysi
     }
 }
 
-// The cell of a result that a command makes.
+// The cell whose result a command makes or changes so that its board may be complete. What is left to find there, if anything,
+// the desk says.
 fn counted_cell(command: &Command) -> Option<Cell> {
-    match command {
-        Command::Confirm { cell, .. } | Command::Correct { cell, .. } => Some(*cell),
-        Command::Enter { .. } | Command::Rule { .. } | Command::Void { .. } => None,
-        Command::Hold { .. }
-        | Command::Release { .. }
-        | Command::Seat { .. }
-        | Command::Unseat { .. } => None,
-        Command::NextRound
-        | Command::Close
-        | Command::Finalise
-        | Command::Embargo
-        | Command::Lift => None,
-        Command::AddUser { .. }
-        | Command::Rename { .. }
-        | Command::Assign { .. }
-        | Command::Deassign { .. } => None,
-        Command::AddInheritance { .. } | Command::DeleteInheritance { .. } => None,
-        Command::Solved { .. } | Command::Analysed { .. } => None,
+    let row = command.row();
+    match (row.target, row.touched) {
+        (Target::Cell(cell), Touched::Board(_)) => Some(cell),
+        _ => None,
     }
 }

@@ -1,12 +1,12 @@
 //! The jobs of a session, on their way to the workers.
 
-use crossbeam_channel::Sender;
+use crossbeam_channel::{Receiver, Sender, unbounded};
 use desks::work_of;
 use movement::Cell;
 use session_book::Book;
 use session_state::State;
 use solver_pool::{Job, Pool, Work};
-use std::alloc::Global;
+use std::alloc::{AllocError, Global};
 use std::sync::{Mutex, Wait};
 use std::time::Duration;
 
@@ -16,6 +16,8 @@ use std::time::Duration;
 pub(crate) struct JobQueue {
     pool: Mutex<Pool>,
     waiting: Mutex<Waiting>,
+    // What the workers receive.
+    jobs: Receiver<Job>,
     workers: u8,
 }
 
@@ -40,19 +42,27 @@ struct WantedTable {
 }
 
 impl JobQueue {
-    /// The way to so many workers, who receive what is sent by `jobs`.
-    pub(crate) fn new(alloc: Global, pool: Pool, jobs: Sender<Job>, workers: u8) -> JobQueue {
+    /// The way to so many workers.
+    pub(crate) fn open(alloc: Global, workers: u8) -> Result<JobQueue, AllocError> {
+        let pool = Pool::new(alloc)?;
+        let (to_workers, jobs) = unbounded::<Job, Global>(alloc)?;
         let waiting = Waiting {
             tables: Vec::new(alloc),
             given: 0,
-            jobs: Some(jobs),
+            jobs: Some(to_workers),
             times: Vec::new(alloc),
         };
-        JobQueue {
+        Ok(JobQueue {
             pool: Mutex::new(pool),
             waiting: Mutex::new(waiting),
+            jobs,
             workers,
-        }
+        })
+    }
+
+    /// The jobs that are given to the workers, who share them.
+    pub(crate) fn jobs(&self) -> &Receiver<Job> {
+        &self.jobs
     }
 
     /// The pool that numbers the jobs.

@@ -1,4 +1,7 @@
 //! Serving a session in threads, from its book to the end of the last of them.
+//!
+//! On a way out at a fault a book, a view, a display or a desk is dropped by name: that is one call, where it would otherwise be
+//! dropped there field by field, each a step of the proof.
 
 ghost use Rattle.std.specs.Prelude.{◌≡◌, ◌⊎◌, List, [], All, map, IfOk, OnErr};
 ghost use Rattle.session_commands.specs.declared.entry.Entry.{Entry};
@@ -9,13 +12,13 @@ ghost use Rattle.desks.specs.Places.{IsTallyOf};
 
 use crate::announcement::Announcement;
 use crate::job_queue::JobQueue;
-use crate::tasks::{CloseQueue, Collect, ServeClients, Solve};
+use crate::tasks::{CloseQueue, Collect, Hall, ServeClients, Solve};
 use crossbeam_channel::{Receiver, Sender, unbounded};
 use desks::{DeskPlaces, ReentryFault, Shared, new_tally, reenter_all};
 use displays::{Display, OpenError, Publisher, Server, open_displays};
 use entry_store::EntryStore;
 use event_log::SharedLog;
-use hall_door::{HallPage, Room};
+use hall_door::Room;
 use hall_threads::{HallPlan, HallWatch, WatchError};
 use history::History;
 use page_answers::PageAnswers;
@@ -23,7 +26,7 @@ use published_view::View;
 use service_threads::run_tasks;
 use session_book::Book;
 use session_commands::Entry;
-use solver_pool::{Done, Job, Pool};
+use solver_pool::Done;
 use std::alloc::{AllocError, Global};
 use std::fmt;
 use std::hash::RandomState;
@@ -120,6 +123,10 @@ where
     ensures unannounced { OnErr result ((errors.new ≡ errors.old)
         ⊎ A.tells announcement.now (E.contents errors.old) (E.contents errors.new)) }
 {
+    let Ok(queue) = JobQueue::open(alloc, plan.workers) else {
+        drop(book);
+        return Err(ServingError::OutOfMemory);
+    };
     let history = History::new();
     let tally = new_tally();
     serve_named::<Brand, R, K, A, E>(
@@ -131,6 +138,7 @@ where
         plan,
         store,
         publications,
+        &queue,
         announcement,
         errors,
     )
@@ -152,6 +160,7 @@ fn serve_named<
     plan: ServingPlan<'_>,
     store: K,
     publications: Vec<Vec<Entry>>,
+    queue: &JobQueue,
     announcement: &A,
     errors: &mut E,
 ) -> Result<K, ServingError>
@@ -169,15 +178,13 @@ where
     ensures unannounced { OnErr result ((errors.new ≡ errors.old)
         ⊎ A.tells announcement.now (E.contents errors.old) (E.contents errors.new)) }
 {
-    let (Ok(pool), Ok((to_workers, jobs)), Ok((from_workers, results))) = (
-        Pool::new(alloc),
-        unbounded::<Job, Global>(alloc),
-        unbounded::<Done, Global>(alloc),
-    ) else {
-        return Err(ServingError::OutOfMemory);
+    let (publisher, displays) = match open_views::<N, R>(rt, alloc, &book, history, plan.displays) {
+        Ok(opened) => opened,
+        Err(error) => {
+            drop(book);
+            return Err(error);
+        }
     };
-    let (publisher, displays) = open_views::<N, R>(rt, alloc, &book, history, plan.displays)?;
-    let queue = JobQueue::new(alloc, pool, to_workers, plan.workers);
     let (shared, places) = share::<N, R, K>(
         rt,
         alloc,
@@ -186,7 +193,7 @@ where
         store,
         tally,
         publications,
-        &queue,
+        queue,
         plan.workers,
     )?;
     let served = serve_shared(
@@ -195,10 +202,7 @@ where
         &shared,
         places,
         displays,
-        &queue,
-        &jobs,
-        from_workers,
-        results,
+        queue,
         plan,
         announcement,
         errors,
@@ -224,8 +228,16 @@ fn open_views<N: Server, R: Wait>(
     ensures publisher { IfOk result (λ t. t.0 ≡ nothing_outgoing) }
     ensures displays { IfOk result (λ t. All (λ display. display ≡ []) t.1.items) }
 {
-    let (Ok(first), Ok(second)) = (View::open(alloc, book), View::open(alloc, book)) else {
-        return Err(ServingError::OutOfMemory);
+    let first = match View::open(alloc, book) {
+        Ok(view) => view,
+        Err(_) => return Err(ServingError::OutOfMemory),
+    };
+    let second = match View::open(alloc, book) {
+        Ok(view) => view,
+        Err(_) => {
+            drop(first);
+            return Err(ServingError::OutOfMemory);
+        }
     };
     match open_displays::<N, R>(rt, alloc, history, first, second, displays as usize) {
         Ok(opened) => Ok(opened),
@@ -261,6 +273,7 @@ fn share<N: Server, R: Wait, K: EntryStore>(
         }
         Err((number, fault)) => {
             publisher.close(rt);
+            drop(book);
             Err(not_reentered(number, fault))
         }
     }
@@ -276,7 +289,7 @@ fn not_reentered(number: usize, fault: ReentryFault) -> ServingError {
     }
 }
 
-// Serves a session that threads share.
+// Serves a session that threads share, at a port.
 fn serve_shared<
     N: Server + Send + Sync,
     R: Threads + Wait + Clock + Net + Sync,
@@ -290,9 +303,6 @@ fn serve_shared<
     places: DeskPlaces<N>,
     displays: Vec<Display<N>>,
     queue: &JobQueue,
-    jobs: &Receiver<Job>,
-    from_workers: Sender<Done>,
-    results: Receiver<Done>,
     plan: ServingPlan<'_>,
     announcement: &A,
     errors: &mut E,
@@ -305,63 +315,110 @@ where
     ensures unannounced { OnErr result ((errors.new ≡ errors.old)
         ⊎ A.tells announcement.now (E.contents errors.old) (E.contents errors.new)) }
 {
-    let Ok(listener) = listen(rt, plan.address) else {
-        return Err(ServingError::NotListening);
-    };
-    // No display waits for the listener alone.
-    if listener.set_nonblocking(true).is_err() {
-        return Err(ServingError::NotListening);
-    }
+    let listener = open_port(rt, plan.address)?;
     let room = Room::new(plan.clients);
     let crowd = AtomicUsize::new(0);
-    let hall = HallPlan {
-        connections: plan.connections,
-        idle: plan.idle,
-        origin: plan.origin,
-        room: &room,
-        crowd: &crowd,
-        threads: plan.displays as usize,
-        keys: plan.keys,
-    };
-    let Ok(workers) = solvers(alloc, queue, jobs, from_workers, plan) else {
-        return Err(ServingError::OutOfMemory);
-    };
-    let mut places = places;
-    let Some(collecting) = places.take() else {
-        return Err(ServingError::NoPlace);
-    };
-    let serving = servers(
-        rt,
+    let hall = Hall {
         alloc,
-        &listener,
+        listener: &listener,
+        queue: queue_of(queue, plan.workers),
+        page: plan.page,
+        plan: HallPlan {
+            connections: plan.connections,
+            idle: plan.idle,
+            origin: plan.origin,
+            room: &room,
+            crowd: &crowd,
+            threads: plan.displays as usize,
+            keys: plan.keys,
+        },
+        log: plan.log,
+    };
+    serve_hall(
+        rt,
+        &hall,
         shared,
         places,
         displays,
         queue,
-        plan.workers,
-        plan.page,
-        plan.log,
-        hall,
-    )?;
-    announcement.announce(errors);
-    let collector = Collect {
-        desk: shared.desk(collecting),
-        queue,
-        results,
-        log: plan.log,
+        plan,
+        announcement,
+        errors,
+    )
+}
+
+// Listens at a port. No display waits for the listener alone.
+fn open_port<R: Net>(rt: &R, address: SocketAddr) -> Result<R::Listener, ServingError> {
+    let Ok(listener) = listen(rt, address) else {
+        return Err(ServingError::NotListening);
     };
-    let ending = CloseQueue { jobs, queue };
+    if listener.set_nonblocking(true).is_err() {
+        return Err(ServingError::NotListening);
+    }
+    Ok(listener)
+}
+
+// Serves a session in a hall whose port is open.
+fn serve_hall<
+    N: Server + Send + Sync,
+    R: Threads + Wait + Clock + Net + Sync,
+    K: EntryStore + Send,
+    A: Announcement,
+    E: Write,
+>(
+    rt: &R,
+    hall: &Hall<'_, R::Listener>,
+    shared: &Shared<N, K>,
+    places: DeskPlaces<N>,
+    displays: Vec<Display<N>>,
+    queue: &JobQueue,
+    plan: ServingPlan<'_>,
+    announcement: &A,
+    errors: &mut E,
+) -> Result<(), ServingError>
+where
+    R::Listener: Sync,
+    R::Stream: Send,
+    requires { All (λ display. display ≡ []) displays.items }
+    ensures announced { IfOk result (λ _. A.tells announcement.now (E.contents errors.old) (E.contents errors.new)) }
+    ensures unannounced { OnErr result ((errors.new ≡ errors.old)
+        ⊎ A.tells announcement.now (E.contents errors.old) (E.contents errors.new)) }
+{
+    let Ok((workers, results)) = workers_of(hall.alloc, queue, plan) else {
+        return Err(ServingError::OutOfMemory);
+    };
+    let mut places = places;
+    let collector = collector_of(shared, &mut places, queue, results, plan.log)?;
+    let serving = match servers(rt, hall, shared, &mut places, displays) {
+        Ok(serving) => serving,
+        Err(error) => {
+            drop(collector);
+            return Err(error);
+        }
+    };
+    announcement.announce(errors);
+    let ending = CloseQueue { queue };
     match run_tasks(rt, STACK, collector, workers, serving, ending) {
         0 => Err(ServingError::NoThread),
         _ => Ok(()),
     }
 }
 
+// What the workers do, and where what they find comes.
+fn workers_of<'a>(
+    alloc: Global,
+    queue: &'a JobQueue,
+    plan: ServingPlan<'_>,
+) -> Result<(Vec<Solve<'a>>, Receiver<Done>), AllocError> {
+    let (from_workers, results) = unbounded::<Done, Global>(alloc)?;
+    let solvers = solvers(alloc, queue, from_workers, plan)?;
+    Ok((solvers, results))
+}
+
 // What the workers do.
 fn solvers<'a>(
     alloc: Global,
     queue: &'a JobQueue,
-    jobs: &'a Receiver<Job>,
     from_workers: Sender<Done>,
     plan: ServingPlan<'_>,
 ) -> Result<Vec<Solve<'a>>, AllocError>
@@ -373,7 +430,6 @@ fn solvers<'a>(
         solvers.push(Solve {
             alloc,
             queue,
-            jobs,
             results,
             budget: plan.budget,
             is_timed: plan.log.is_some(),
@@ -382,51 +438,93 @@ fn solvers<'a>(
     Ok(solvers)
 }
 
+// What the thread does that takes in what the workers find, at a desk of its own.
+fn collector_of<'a, N: Server, K: EntryStore>(
+    shared: &'a Shared<N, K>,
+    places: &mut DeskPlaces<N>,
+    queue: &'a JobQueue,
+    results: Receiver<Done>,
+    log: Option<&'a SharedLog>,
+) -> Result<Collect<'a, N, K>, ServingError> {
+    let Some(place) = places.take() else {
+        return Err(ServingError::NoPlace);
+    };
+    Ok(Collect {
+        desk: shared.desk(place),
+        queue,
+        results,
+        log,
+    })
+}
+
 // What the displays' threads do.
 fn servers<'a, N: Server, K: EntryStore, R: Net + Clock, L: OpenListener + AsRawFd>(
     rt: &R,
-    alloc: Global,
-    listener: &'a L,
+    hall: &'a Hall<'a, L>,
     shared: &'a Shared<N, K>,
-    places: DeskPlaces<N>,
+    places: &mut DeskPlaces<N>,
     displays: Vec<Display<N>>,
-    queue: &'a JobQueue,
-    workers: u8,
-    page: Option<&'a PageAnswers>,
-    log: Option<&'a SharedLog>,
-    plan: HallPlan<'a>,
 ) -> Result<Vec<ServeClients<'a, N, K, L>>, ServingError>
     requires { All (λ display. display ≡ []) displays.items }
 {
-    let Ok(mut servers) = Vec::with_capacity(alloc, displays.len()) else {
+    let Ok(mut servers) = Vec::with_capacity(hall.alloc, displays.len()) else {
         return Err(ServingError::OutOfMemory);
     };
-    let mut places = places;
     for display in displays {
-        let Some(place) = places.take() else {
-            return Err(ServingError::NoPlace);
-        };
-        let watch = match HallWatch::open(rt, alloc, listener) {
-            Ok(watch) => watch,
-            Err(WatchError::OutOfMemory) => return Err(ServingError::OutOfMemory),
-            Err(WatchError::Refused) => return Err(ServingError::NoThread),
-        };
-        let server = ServeClients {
-            alloc,
-            listener,
-            watch,
-            desk: shared.desk(place),
-            display,
-            queue: queue_of(queue, workers),
-            page: HallPage::new(page),
-            plan,
-            log,
-        };
-        if servers.push(server).is_err() {
-            return Err(ServingError::OutOfMemory);
-        }
+        add_server(rt, hall, shared, places, display, &mut servers)?;
     }
     Ok(servers)
+}
+
+// Adds what the thread of a display does.
+fn add_server<'a, N: Server, K: EntryStore, R: Net + Clock, L: OpenListener + AsRawFd>(
+    rt: &R,
+    hall: &'a Hall<'a, L>,
+    shared: &'a Shared<N, K>,
+    places: &mut DeskPlaces<N>,
+    display: Display<N>,
+    servers: &mut Vec<ServeClients<'a, N, K, L>>,
+) -> Result<(), ServingError>
+    requires { display ≡ [] }
+{
+    let Some(place) = places.take() else {
+        drop(display);
+        return Err(ServingError::NoPlace);
+    };
+    let watch = match watch_of(rt, hall) {
+        Ok(watch) => watch,
+        Err(error) => {
+            drop(display);
+            return Err(error);
+        }
+    };
+    let server = ServeClients {
+        hall,
+        watch,
+        desk: shared.desk(place),
+        display,
+    };
+    add(servers, server)
+}
+
+// Adds an item, which is dropped where memory is refused. It stands by itself, since it needs to know nothing of the item.
+fn add<T: Drop>(items: &mut Vec<T>, item: T) -> Result<(), ServingError> {
+    match items.push(item) {
+        Ok(()) => Ok(()),
+        Err(_) => Err(ServingError::OutOfMemory),
+    }
+}
+
+// What the thread of a display waits by.
+fn watch_of<R: Net + Clock, L: OpenListener + AsRawFd>(
+    rt: &R,
+    hall: &Hall<'_, L>,
+) -> Result<HallWatch, ServingError> {
+    match HallWatch::open(rt, hall.alloc, hall.listener) {
+        Ok(watch) => Ok(watch),
+        Err(WatchError::OutOfMemory) => Err(ServingError::OutOfMemory),
+        Err(WatchError::Refused) => Err(ServingError::NoThread),
+    }
 }
 
 // The way to the workers, if there are any.

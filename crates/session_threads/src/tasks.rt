@@ -13,9 +13,10 @@ use entry_store::EntryStore;
 use event_log::SharedLog;
 use hall_door::HallPage;
 use hall_threads::{HallPlan, HallWatch};
+use page_answers::PageAnswers;
 use service_threads::Task;
 use session_clients::serve_session_hall;
-use solver_pool::{Done, Gate, Job, run_worker};
+use solver_pool::{Done, Gate, run_worker};
 use std::alloc::Global;
 use std::cell::Cell;
 use std::io::{Read, Write};
@@ -24,18 +25,24 @@ use std::os::fd::AsRawFd;
 use std::sync::Wait;
 use std::time::{Clock, Instant};
 
+/// What the threads of all displays have in common.
+#[derive(Drop)]
+pub(crate) struct Hall<'a, L: OpenListener> {
+    pub(crate) alloc: Global,
+    pub(crate) listener: &'a L,
+    pub(crate) queue: Option<&'a JobQueue>,
+    pub(crate) page: Option<&'a PageAnswers>,
+    pub(crate) plan: HallPlan<'a>,
+    pub(crate) log: Option<&'a SharedLog>,
+}
+
 /// Serves the clients that come to a listener, all beside one another, by one display: so many, or with 0 all that come.
 #[derive(Drop)]
 pub(crate) struct ServeClients<'a, N: Server, K: EntryStore, L: OpenListener> {
-    pub(crate) alloc: Global,
-    pub(crate) listener: &'a L,
+    pub(crate) hall: &'a Hall<'a, L>,
     pub(crate) watch: HallWatch,
     pub(crate) desk: Desk<'a, N, K>,
     pub(crate) display: Display<N>,
-    pub(crate) queue: Option<&'a JobQueue>,
-    pub(crate) page: HallPage<'a>,
-    pub(crate) plan: HallPlan<'a>,
-    pub(crate) log: Option<&'a SharedLog>,
     // The display has seen nothing yet.
     ghost unseen: { display ≡ [] },
 }
@@ -46,18 +53,25 @@ where
 {
     fn run<R: Wait + Clock>(self, rt: &R) {
         let ServeClients {
-            alloc,
-            listener,
+            hall,
             watch,
             desk,
             display,
-            queue,
-            page,
-            plan,
-            log,
         } = self;
-        let keeper = AnalysingKeeper::new(DeskKeeper::new(desk, display), queue, log);
-        let _keeper = serve_session_hall(rt, alloc, listener, watch, plan, page, keeper, log);
+        let keeper = AnalysingKeeper::new(DeskKeeper::new(desk, display), hall.queue, hall.log);
+        let page = HallPage::new(hall.page);
+        let keeper = serve_session_hall(
+            rt,
+            hall.alloc,
+            hall.listener,
+            watch,
+            hall.plan,
+            page,
+            keeper,
+            hall.log,
+        );
+        // One call, where it would otherwise be dropped field by field, each a step of the proof.
+        drop(keeper);
     }
 }
 
@@ -67,7 +81,6 @@ where
 pub(crate) struct Solve<'a> {
     pub(crate) alloc: Global,
     pub(crate) queue: &'a JobQueue,
-    pub(crate) jobs: &'a Receiver<Job>,
     pub(crate) results: Sender<Done>,
     pub(crate) budget: u64,
     pub(crate) is_timed: bool,
@@ -78,7 +91,6 @@ impl<'a> Task for Solve<'a> {
         let Solve {
             alloc,
             queue,
-            jobs,
             results,
             budget,
             is_timed,
@@ -89,7 +101,7 @@ impl<'a> Task for Solve<'a> {
             is_timed,
             begun: Cell::new(None),
         };
-        run_worker(rt, alloc, &gate, jobs, &results, budget);
+        run_worker(rt, alloc, &gate, queue.jobs(), &results, budget);
     }
 }
 
@@ -160,14 +172,13 @@ fn enter<N: Server, K: EntryStore, R: Wait>(
 /// Closes the way to the workers, and drops the jobs that still wait: nobody is left to see what they would find.
 #[derive(Drop)]
 pub(crate) struct CloseQueue<'a> {
-    pub(crate) jobs: &'a Receiver<Job>,
     pub(crate) queue: &'a JobQueue,
 }
 
 impl<'a> Task for CloseQueue<'a> {
     fn run<R: Wait + Clock>(self, rt: &R) {
-        let CloseQueue { jobs, queue } = self;
+        let CloseQueue { queue } = self;
         queue.close(rt);
-        for _job in jobs.try_iter(rt) {}
+        for _job in queue.jobs().try_iter(rt) {}
     }
 }
