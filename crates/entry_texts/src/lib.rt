@@ -4,8 +4,6 @@
 mod kept_entry;
 pub mod laws;
 mod reading;
-#[cfg(test)]
-mod tests;
 mod text_fault;
 mod writing;
 

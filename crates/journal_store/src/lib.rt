@@ -14,8 +14,6 @@ mod session_text;
 mod tables;
 mod take_fault;
 mod taking;
-#[cfg(test)]
-mod tests;
 
 pub use append_rows::{AppendFault, append};
 pub use closing::close_journal;

@@ -8,8 +8,6 @@ mod publications;
 mod read_fault;
 mod reading;
 mod solving;
-#[cfg(test)]
-mod tests;
 mod writing;
 
 pub use publications::read_publications;

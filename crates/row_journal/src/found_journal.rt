@@ -59,7 +59,7 @@ impl<S: Alter> Model for FoundJournal<S> {
 
 impl<S: Alter> FoundJournal<S> {
     /// A journal with the rows that its database keeps.
-    pub(crate) fn new(conn: Connection<S>, rows: Vec<RowText>) -> FoundJournal<S>
+    pub fn new(conn: Connection<S>, rows: Vec<RowText>) -> FoundJournal<S>
         requires alone { conn.in_transaction ≡ false }
         requires rests { HasCleanDisk (state S.Store conn) →
             (session : List Row) × Rests session (map texts_of rows.items) (state S.Store conn) }

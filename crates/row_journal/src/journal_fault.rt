@@ -54,7 +54,7 @@ pub fn fault_of_file(fault: TakeFault) -> JournalFault
 }
 
 /// What a fault of the rows is called here.
-pub(crate) fn fault_of_rows(fault: RowFault) -> JournalFault
+pub fn fault_of_rows(fault: RowFault) -> JournalFault
     ensures { result ≡ rows_fault fault }
 {
     match fault {

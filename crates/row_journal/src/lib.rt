@@ -6,10 +6,8 @@ mod journal_fault;
 pub mod laws;
 mod opening;
 mod row_journal;
-#[cfg(test)]
-mod tests;
 
 pub use found_journal::{FoundJournal, OpenedJournal};
-pub use journal_fault::{JournalFault, fault_of_file};
+pub use journal_fault::{JournalFault, fault_of_file, fault_of_rows};
 pub use opening::{open_kept_journal, open_row_journal};
 pub use row_journal::RowJournal;

@@ -47,7 +47,7 @@ impl<S: Alter> Model for RowJournal<S> {
 impl<S: Alter> RowJournal<S> {
     /// The journal in a database that keeps the rows of some publications, up to the number of the last. The next row
     /// gets the number `next`.
-    pub(crate) fn new(alloc: Global, conn: Connection<S>, next: u32, last: u32) -> RowJournal<S>
+    pub fn new(alloc: Global, conn: Connection<S>, next: u32, last: u32) -> RowJournal<S>
         requires alone { conn.in_transaction ≡ false }
         requires before { last < next }
         requires few { next ≤ most_entry_rows + 1 }

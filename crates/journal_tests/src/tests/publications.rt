@@ -1,38 +1,17 @@
-use crate::{read_publications, row_texts};
-use cards::Deal;
-use double_dummy::{Budget, table};
+//! Publications written as rows and read again.
+
+use super::entries::{held, solved};
 use journal_store::RowText;
-use session_commands::{Actor, Command, Entry};
+use kept_entries::{read_publications, row_texts};
 use std::alloc::{AllocError, Global};
 use std::test::Fail;
 use std::thread::Threads;
-use user_names::Name;
-
-// Each player has a suit: the solver needs few visits.
-const DEAL: &str = "N:AKQJT98765432... .AKQJT98765432.. ..AKQJT98765432. ...AKQJT98765432";
 
 const BEGINNING: &str = "1 user Ann {\"board\":7,\"cmd\":\"Hold\"}
 1 user Bob {\"board\":8,\"cmd\":\"Hold\"}
 2 solver {\"board\":1,";
 
 // The helpers have no clause, so that a test's proof does not carry what its calls say.
-
-fn held(name: &str, board: u8) -> Option<Entry> {
-    let name = Name::new(name).ok()?;
-    Some(Entry {
-        actor: Actor::User(name),
-        command: Command::Hold { board },
-    })
-}
-
-fn solved(alloc: Global, board: u8) -> Option<Entry> {
-    let deal = DEAL.parse::<Deal>().ok()?;
-    let table = table(alloc, deal, &mut Budget::new(1_000_000)).ok()?;
-    Some(Entry {
-        actor: Actor::Solver,
-        command: Command::Solved { board, table },
-    })
-}
 
 /// The rows of three publications: of two entries, of the solver's, and of one.
 fn rows(alloc: Global) -> Result<Vec<RowText>, AllocError> {

@@ -6,7 +6,7 @@ use Rattle.sqlite.specs.Steps.{over_memory}
 use Rattle.journal_store.specs.Made.{IsBlank}
 use Rattle.journal_store.specs.Tables.{session_row}
 use Rattle.kept_entries.specs.KeptRows.{IsKeptPublication}
-use Rattle.row_journal.proofs.tests.new_journal.Goals as goal
+use Rattle.journal_tests.proofs.tests.rows.new_journal.Goals as goal
 
 pub new-requires-clause-follows : goal.new-requires-clause-follows
 new-requires-clause-follows c = λ clean.

@@ -1,7 +1,7 @@
 //! That the texts are those that a client sends and that people are told of, and which texts are no entry's.
 
-use crate::{KeptEntry, TextFault, entry_text, read_entry};
 use cards::Deal;
+use entry_texts::{KeptEntry, TextFault, entry_text, read_entry};
 use session_commands::{Actor, Entry};
 use std::alloc::Global;
 

@@ -3,7 +3,7 @@ use Rattle.sqlite.specs.State.{HasCleanDisk}
 use Rattle.sqlite.specs.Files.{file_state}
 use Rattle.journal_store.specs.Tables.{session_row}
 use Rattle.journal_store.proofs.RestartLemmas.{idle_if_opened}
-use Rattle.row_journal.proofs.tests.found_in.Goals as goal
+use Rattle.journal_tests.proofs.tests.rows.found_in.Goals as goal
 
 pub new-requires-in-Ok-take_up-clause-rests : goal.new-requires-in-Ok-take_up-clause-rests
 new-requires-in-Ok-take_up-clause-rests g c = λ clean.

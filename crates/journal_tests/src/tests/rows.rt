@@ -1,49 +1,30 @@
 //! A journal in memory, and over disks in memory.
 
-use crate::journal_fault::fault_of_rows;
-use crate::{FoundJournal, RowJournal, fault_of_file};
-use cards::Deal;
-use double_dummy::{Budget, table};
+use super::entries::{held, solved};
 use entry_store::{EntryStore, KeepFault};
 use journal_store::{TakeFault, create, read_kept, take_up};
 use kept_entries::{read_publications, row_texts};
-use session_commands::{Actor, Command, Entry};
+use row_journal::{FoundJournal, RowJournal, fault_of_file, fault_of_rows};
+use session_commands::Entry;
 use sqlite::{Alter, Connection, Error, FileStore, Leftover, MemStore, Options};
 use sqlite_disk::{Crash, Disk, Files, Fuse, Memory};
 use std::alloc::{AllocError, Global};
 use std::test::Fail;
 use std::thread::Threads;
-use user_names::Name;
 
-// Each player has a suit: the solver needs few visits.
-const DEAL: &str = "N:AKQJT98765432... .AKQJT98765432.. ..AKQJT98765432. ...AKQJT98765432";
-
-// The helpers have no clause, so that a test's proof does not carry what its calls say.
+// The helpers have no clause, so that a test's proof does not carry what its calls say; and each lets a database go by a call, since any
+// other way out takes it apart field by field.
 
 /// A journal with no entry.
 fn new_journal(alloc: Global) -> Result<RowJournal<MemStore>, Error> {
     let mut conn = Connection::open_in_memory(alloc)?;
     match create(&mut conn, "{}", b"boards") {
         Ok(()) => Ok(RowJournal::new(alloc, conn, 1, 0)),
-        Err(error) => Err(error),
+        Err(error) => {
+            drop(conn);
+            Err(error)
+        }
     }
-}
-
-fn held(name: &str, board: u8) -> Option<Entry> {
-    let name = Name::new(name).ok()?;
-    Some(Entry {
-        actor: Actor::User(name),
-        command: Command::Hold { board },
-    })
-}
-
-fn solved(alloc: Global, board: u8) -> Option<Entry> {
-    let deal = DEAL.parse::<Deal>().ok()?;
-    let table = table(alloc, deal, &mut Budget::new(1_000_000)).ok()?;
-    Some(Entry {
-        actor: Actor::Solver,
-        command: Command::Solved { board, table },
-    })
 }
 
 /// Whether a publication is kept.
@@ -61,10 +42,20 @@ fn read_again<R: Threads + Sync>(
     journal: RowJournal<MemStore>,
 ) -> Result<String, AllocError> {
     let mut conn = journal.into_connection();
+    let told = read_rows(rt, alloc, &mut conn);
+    drop(conn);
+    told
+}
+
+fn read_rows<R: Threads + Sync>(
+    rt: &R,
+    alloc: Global,
+    conn: &mut Connection<MemStore>,
+) -> Result<String, AllocError> {
     if !conn.is_autocommit() {
         return String::from_str(alloc, "in a transaction");
     }
-    match read_kept(alloc, &mut conn) {
+    match read_kept(alloc, conn) {
         Ok((_session, rows)) => match read_publications(rt, alloc, rows.as_slice(), 1_000_000, 2) {
             Ok(published) => lines(alloc, published.as_slice()),
             Err(fault) => format!(in alloc; "{fault:?}"),
@@ -162,8 +153,13 @@ fn changed_journal(alloc: Global, sql: &str) -> Result<Connection<MemStore>, Err
         let _kept = is_kept(&mut journal, &[solver]);
     }
     let mut conn = journal.into_connection();
-    conn.execute_batch(sql)?;
-    Ok(conn)
+    match conn.execute_batch(sql) {
+        Ok(()) => Ok(conn),
+        Err(error) => {
+            drop(conn);
+            Err(error)
+        }
+    }
 }
 
 /// The publications of the journal of a session, or why it isn't opened.
@@ -187,12 +183,27 @@ fn opened_again<R: Threads + Sync>(
     }
 }
 
+/// The same of a journal in which something was changed.
+fn changed_again<R: Threads + Sync>(
+    rt: &R,
+    alloc: Global,
+    sql: &str,
+    object: &str,
+    visits: u64,
+) -> Result<String, AllocError> {
+    let Ok(mut conn) = changed_journal(alloc, sql) else {
+        return String::from_str(alloc, "not changed");
+    };
+    let told = opened_again(rt, alloc, &mut conn, object, visits);
+    drop(conn);
+    told
+}
+
 #[test]
 fn a_journal_that_is_not_opened_is_refused_by_name(rt: HostRuntime) -> Result<(), Fail> {
     for (sql, object, visits, name) in OPENED {
-        let mut conn = changed_journal(rt.alloc(), sql)?;
         assert_eq!(rt;
-            opened_again(&rt, rt.alloc(), &mut conn, object, visits)?.as_str(),
+            changed_again(&rt, rt.alloc(), sql, object, visits)?.as_str(),
             name,
             "{sql} {object} {visits}"
         );
@@ -229,15 +240,22 @@ fn fused(alloc: Global, log_calls: u64, db_calls: u64) -> Files<Fuse<Memory>> {
 /// The journal in two files, which is made if there is none.
 fn found_in<D: Disk + Drop>(alloc: Global, files: Files<D>) -> Option<FoundJournal<FileStore<D>>> {
     if !files.may_be_used() {
+        drop(files);
         return None;
     }
     let mut conn = match Connection::open_files(alloc, files, Options::new(1)) {
         Ok(conn) => conn,
-        Err(_) => return None,
+        Err(refused) => {
+            drop(refused);
+            return None;
+        }
     };
     match take_up(alloc, &mut conn, "{}", b"boards") {
         Ok(rows) => Some(FoundJournal::new(conn, rows)),
-        Err(_) => None,
+        Err(_) => {
+            drop(conn);
+            None
+        }
     }
 }
 
@@ -249,7 +267,10 @@ fn made_in<R: Threads + Sync, D: Disk + Drop>(
 ) -> Option<RowJournal<FileStore<D>>> {
     match found_in(alloc, files)?.read(rt, alloc, 0, 1) {
         Ok(opened) => Some(opened.store),
-        Err(_) => None,
+        Err(refused) => {
+            drop(refused);
+            None
+        }
     }
 }
 
@@ -260,8 +281,15 @@ fn count_in<R: Threads + Sync, D: Disk + Drop>(
     files: Files<D>,
 ) -> Option<usize> {
     match found_in(alloc, files)?.read(rt, alloc, 0, 1) {
-        Ok(opened) => Some(opened.publications.len()),
-        Err(_) => None,
+        Ok(opened) => {
+            let count = opened.publications.len();
+            drop(opened);
+            Some(count)
+        }
+        Err(refused) => {
+            drop(refused);
+            None
+        }
     }
 }
 

@@ -1,7 +1,8 @@
-use crate::{RowText, append, read_kept, take_up};
-use sqlite::{Connection, Error, MemStore};
+//! A journal's tables in a database in memory.
+
+use journal_store::{RowText, append, read_kept, take_up};
+use sqlite::{Connection, MemStore};
 use std::alloc::{AllocError, Global};
-use std::test::Fail;
 
 const OBJECT: &str = "{\"edition\":1}";
 
@@ -10,7 +11,21 @@ const BOARDS: &[u8] = b"[Deal \"\xff\"]\x00";
 
 const HOLD: &str = "{\"board\":7,\"cmd\":\"Hold\"}";
 
-// The helpers have no clause, so that a test's proof does not carry the states of its calls.
+// The helpers have no clause, so that a test's proof does not carry the states of its calls; and none but one has a connection of its own,
+// which it lets go by a call: any other way out would take it apart field by field.
+
+/// What is done to a database.
+#[derive(Clone, Copy)]
+enum Step<'t> {
+    /// The journal of a session is taken up, or made.
+    Take(&'t str, &'t [u8]),
+    /// The journal that is there is read.
+    Read,
+    /// Behind so many rows others are added, of a publication, so many.
+    Append(u32, u32, usize),
+    /// Something is changed.
+    Change(&'t str),
+}
 
 /// The rows as lines.
 fn lines(alloc: Global, rows: &[RowText]) -> Result<String, AllocError> {
@@ -75,52 +90,92 @@ fn is_kept(
     Ok(append(conn, first, rows.as_slice()).is_ok())
 }
 
-fn change(conn: &mut Connection<MemStore>, sql: &str) -> Result<(), Error> {
-    conn.execute_batch(sql)
+/// A word for whether something was done.
+fn word(alloc: Global, is_done: bool) -> Result<String, AllocError> {
+    String::from_str(alloc, if is_done { "done" } else { "not done" })
 }
 
-/// A journal of three entries in two publications.
-fn journal(alloc: Global) -> Result<Connection<MemStore>, Fail> {
-    let mut conn = Connection::open_in_memory(alloc)?;
-    let _none = taken(alloc, &mut conn, OBJECT, BOARDS)?;
-    let _one = is_kept(alloc, &mut conn, 1, 1, 2)?;
-    let _other = is_kept(alloc, &mut conn, 3, 2, 1)?;
-    Ok(conn)
+/// What comes of a step.
+fn answer(
+    alloc: Global,
+    conn: &mut Connection<MemStore>,
+    step: &Step<'_>,
+) -> Result<String, AllocError> {
+    match step {
+        Step::Take(object, boards) => taken(alloc, conn, object, boards),
+        Step::Read => kept(alloc, conn),
+        Step::Append(first, publication, count) => {
+            let is_done = is_kept(alloc, conn, *first, *publication, *count)?;
+            word(alloc, is_done)
+        }
+        Step::Change(sql) => word(alloc, conn.execute_batch(sql).is_ok()),
+    }
 }
+
+fn is_answered(
+    alloc: Global,
+    conn: &mut Connection<MemStore>,
+    step: &Step<'_>,
+    wanted: &str,
+) -> bool {
+    matches!(answer(alloc, conn, step), Ok(told) if told.as_str() == wanted)
+}
+
+/// The first of the steps over a new database of which comes something else than what is wanted.
+fn first_wrong(alloc: Global, steps: &[(Step<'_>, &str)]) -> Option<usize> {
+    let Ok(mut conn) = Connection::open_in_memory(alloc) else {
+        return Some(steps.len());
+    };
+    let mut wrong = None;
+    for (number, (step, wanted)) in steps.iter().enumerate() {
+        if wrong.is_none() && !is_answered(alloc, &mut conn, step, wanted) {
+            wrong = Some(number);
+        }
+    }
+    drop(conn);
+    wrong
+}
+
+const TAKE: Step<'static> = Step::Take(OBJECT, BOARDS);
+
+const NEW: (Step<'static>, &str) = (TAKE, "");
+
+// Two entries of a first publication, and one of a second.
+const FIRST: (Step<'static>, &str) = (Step::Append(1, 1, 2), "done");
+
+const SECOND: (Step<'static>, &str) = (Step::Append(3, 2, 1), "done");
 
 const ROWS: &str = "1 user Ann {\"board\":7,\"cmd\":\"Hold\"}
 1 user Ann {\"board\":7,\"cmd\":\"Hold\"}
 2 user Ann {\"board\":7,\"cmd\":\"Hold\"}
 ";
 
-#[test]
-fn a_new_journal_has_no_entry(rt: HostRuntime) -> Result<(), Fail> {
-    let mut conn = Connection::open_in_memory(rt.alloc())?;
-    assert_eq!(rt; kept(rt.alloc(), &mut conn)?.as_str(), "NotAJournal");
-    assert_eq!(rt; taken(rt.alloc(), &mut conn, OBJECT, BOARDS)?.as_str(), "");
-    assert_eq!(rt; taken(rt.alloc(), &mut conn, OBJECT, BOARDS)?.as_str(), "");
-    assert_eq!(rt;
-        kept(rt.alloc(), &mut conn)?.as_str(),
-        "{\"edition\":1} true\n"
-    );
-    Ok(())
-}
+static NO_ENTRY: [(Step<'static>, &str); 4] = [
+    (Step::Read, "NotAJournal"),
+    NEW,
+    NEW,
+    (Step::Read, "{\"edition\":1} true\n"),
+];
 
 #[test]
-fn what_was_appended_is_read_back(rt: HostRuntime) -> Result<(), Fail> {
-    let mut conn = journal(rt.alloc())?;
-    assert_eq!(rt;
-        taken(rt.alloc(), &mut conn, OBJECT, BOARDS)?.as_str(),
-        ROWS
-    );
+fn a_new_journal_has_no_entry(rt: HostRuntime) {
+    assert_eq!(rt; first_wrong(rt.alloc(), &NO_ENTRY), None);
+}
+
+static APPENDED: [(Step<'static>, &str); 7] = [
+    NEW,
+    FIRST,
+    SECOND,
+    (TAKE, ROWS),
     // A number that is taken: none of the publication is there, and the next is.
-    assert!(rt; !is_kept(rt.alloc(), &mut conn, 2, 3, 2)?);
-    assert_eq!(rt;
-        taken(rt.alloc(), &mut conn, OBJECT, BOARDS)?.as_str(),
-        ROWS
-    );
-    assert!(rt; is_kept(rt.alloc(), &mut conn, 4, 3, 1)?);
-    Ok(())
+    (Step::Append(2, 3, 2), "not done"),
+    (TAKE, ROWS),
+    (Step::Append(4, 3, 1), "done"),
+];
+
+#[test]
+fn what_was_appended_is_read_back(rt: HostRuntime) {
+    assert_eq!(rt; first_wrong(rt.alloc(), &APPENDED), None);
 }
 
 /// What is done to a journal of three entries, and why it isn't taken up then, nor read.
@@ -180,38 +235,30 @@ const CHANGES: [(&str, &str, &str); 12] = [
 ];
 
 #[test]
-fn what_is_no_journal_of_the_session_is_refused_by_name(rt: HostRuntime) -> Result<(), Fail> {
+fn what_is_no_journal_of_the_session_is_refused_by_name(rt: HostRuntime) {
     for (sql, why_not_taken, why_not_read) in CHANGES {
-        let mut conn = journal(rt.alloc())?;
-        change(&mut conn, sql)?;
-        assert_eq!(rt;
-            taken(rt.alloc(), &mut conn, OBJECT, BOARDS)?.as_str(),
-            why_not_taken,
-            "{sql}"
-        );
-        assert_eq!(rt;
-            kept(rt.alloc(), &mut conn)?.as_str(),
-            why_not_read,
-            "{sql}"
-        );
+        let steps = [
+            NEW,
+            FIRST,
+            SECOND,
+            (Step::Change(sql), "done"),
+            (TAKE, why_not_taken),
+            (Step::Read, why_not_read),
+        ];
+        assert_eq!(rt; first_wrong(rt.alloc(), &steps), None, "{sql}");
     }
-    Ok(())
 }
 
+static OTHERS: [(Step<'static>, &str); 6] = [
+    NEW,
+    FIRST,
+    SECOND,
+    (Step::Take("{\"edition\":2}", BOARDS), "OtherSession"),
+    (Step::Take(OBJECT, b"[Deal \"\xff\"]"), "OtherSession"),
+    (TAKE, ROWS),
+];
+
 #[test]
-fn another_session_is_refused(rt: HostRuntime) -> Result<(), Fail> {
-    let mut conn = journal(rt.alloc())?;
-    assert_eq!(rt;
-        taken(rt.alloc(), &mut conn, "{\"edition\":2}", BOARDS)?.as_str(),
-        "OtherSession"
-    );
-    assert_eq!(rt;
-        taken(rt.alloc(), &mut conn, OBJECT, b"[Deal \"\xff\"]")?.as_str(),
-        "OtherSession"
-    );
-    assert_eq!(rt;
-        taken(rt.alloc(), &mut conn, OBJECT, BOARDS)?.as_str(),
-        ROWS
-    );
-    Ok(())
+fn another_session_is_refused(rt: HostRuntime) {
+    assert_eq!(rt; first_wrong(rt.alloc(), &OTHERS), None);
 }

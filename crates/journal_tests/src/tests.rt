@@ -1,0 +1,5 @@
+mod entries;
+mod files;
+mod publications;
+mod rows;
+mod texts;
