@@ -76,11 +76,13 @@ pub fn audit_of_publications(
     let mut text = String::new(alloc);
     for publication in publications {
         if let Err(fault) = tell_all(alloc, &mut book, &mut text, publication.as_slice()) {
+            drop(book);
             return Err(fault);
         }
     }
     // Each book's journal is accepted.
     let _version = book.version();
+    drop(book);
     Ok(text)
 }
 

@@ -60,13 +60,17 @@ pub fn kept_session_of_texts<R: JournalFiles + Threads + AllocGlobal + Sync, S: 
     let object = match str::from_utf8(texts.object.as_slice()) {
         Ok(object) => object,
         Err(_) => {
+            drop(session);
             let fault = OpeningFault::Session(SessionFault::Malformed);
             return Err((KeptSessionFault::Unopened(fault), None));
         }
     };
     match open_row_journal(rt, path, start, object, boards) {
         Ok(found) => with_journal(rt, session, found, workers),
-        Err((fault, left)) => Err((KeptSessionFault::Journal(fault), left)),
+        Err((fault, left)) => {
+            drop(session);
+            Err((KeptSessionFault::Journal(fault), left))
+        }
     }
 }
 
@@ -160,6 +164,9 @@ pub(crate) fn with_journal<R: Threads + AllocGlobal + Sync, S: Start>(
     // Of what was found once the session's visits are no measure any more: a later solver may take others to find it again.
     match found.read(rt, rt.alloc(), u64::MAX, workers) {
         Ok(journal) => Ok(KeptSession { session, journal }),
-        Err((fault, conn)) => Err((KeptSessionFault::Journal(fault), Some(left_of(conn)))),
+        Err((fault, conn)) => {
+            drop(session);
+            Err((KeptSessionFault::Journal(fault), Some(left_of(conn))))
+        }
     }
 }

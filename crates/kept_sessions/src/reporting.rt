@@ -67,7 +67,10 @@ pub fn report_of_journal<R: Files + Threads + JournalFiles + AllocGlobal + Sync,
     };
     let memberships = match memberships_of_texts(rt.alloc(), object, boards) {
         Ok(memberships) => memberships,
-        Err(fault) => return Err((fault, Some(left_of(found.into_connection())))),
+        Err(fault) => {
+            drop(session);
+            return Err((fault, Some(left_of(found.into_connection()))));
+        }
     };
     let KeptSession { session, journal } = match with_journal(rt, session, found, workers) {
         Ok(kept) => kept,
@@ -103,10 +106,13 @@ fn report_of_publications(
     let mut book = book;
     for publication in publications {
         if let Err(fault) = enter_all(&mut book, publication.as_slice()) {
+            drop(book);
             return Err(fault);
         }
     }
-    report_of_book(alloc, &book, memberships)
+    let report = report_of_book(alloc, &book, memberships);
+    drop(book);
+    report
 }
 
 // What a book comes to.

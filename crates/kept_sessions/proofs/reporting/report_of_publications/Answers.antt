@@ -38,5 +38,5 @@ returns-in-Err-clause-fault c =
 
 pub returns-clause-fault : goal.returns-clause-fault
 returns-clause-fault c =
-    memory_not_told c.args.book.opening (entries_of (lists_in c.args.publications.now)) c.report_of_book.result
-    c.report_of_book.ensures.fault
+    memory_not_told c.args.book.opening (entries_of (lists_in c.args.publications.now)) c.report_of_book-report.result
+    c.report_of_book-report.ensures.fault
