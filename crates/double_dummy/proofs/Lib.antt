@@ -4,6 +4,7 @@ pub mod LastTrickLemmas
 pub mod LiveLemmas
 pub mod PlayedLemmas
 pub mod RunLemmas
+pub mod RunnerLemmas
 pub mod SearchLemmas
 pub mod SureLemmas
 pub mod TrickLemmas

@@ -35,16 +35,15 @@ use Rattle.table_terms.specs.declared.suit.Suit.{Suit}
 use Rattle.table_terms.specs.declared.place.Place.{Place}
 use Rattle.table_terms.specs.declared.place.Place.TheVariants.{North, East, South, West}
 use Rattle.table_terms.specs.declared.side.Side.{Side}
-use Rattle.table_terms.specs.declared.strain.Strain.{Strain}
 use Rattle.table_terms.specs.Suit.{suit_number}
 use Rattle.table_terms.specs.Place.{left_of, partner_of, side_of}
 use Rattle.table_terms.specs.Strain.{trump_of}
-use Rattle.cards.specs.Play.{IsPosition, Position, is_of, is_trump, legal_of, strength, strength_by, strength_in}
+use Rattle.cards.specs.Play.{IsPosition, Position, is_of, is_trump, legal_of, strength, strength_by}
 use Rattle.double_dummy.proofs.RunLemmas.{none_in}
 use Rattle.position_patterns.proofs.SetLemmas.{in_first, in_second, just_inserted, still_inserted, inserted}
 use Rattle.double_dummy_laws.proofs.HandLemmas.{follows_legal, in_suit, legal_follows}
 use Rattle.double_dummy_laws.proofs.BestTrumpLemmas.{opponent_cases, opponents, trump_beats}
-use Rattle.double_dummy_laws.proofs.SureTrickLemmas.{guarded_found, long_found, masters_found, winning_found}
+use Rattle.double_dummy_laws.proofs.SureTrickLemmas.{guarded_found, long_found, winning_found}
 use Rattle.double_dummy_laws.proofs.WinnerLemmas.{both_of, both_trumps, height_below, same_suit, same_trump}
 use Rattle.double_dummy_laws.specs.Found.{IsFound, wanted_answer}
 use Rattle.double_dummy_laws.specs.SureTricks.{AreEnough, IsGuarded, IsWinningCard, IsWinningCardKnown}
@@ -259,76 +258,6 @@ no_trumps trump suit cards suited trump_is suited_is none card held =
     never : (b : Bool) → is_of suit card ≡ b → is_of suit card ≡ false
     never false e = e
     never true e = absurd (none_in suited card none (in_of_suit cards suited suit card suited_is held e))
-
--- a card that is led beats what is no trump, lower cards of its suit, and other suits
-led_beats : (to_trump lt led lc : Bool) (ho hc : ℕ) → ho < 13 → lc ≡ true → (led ≡ true → ho < hc) →
-    strength_by false led ho < strength_by to_trump lc hc
-led_beats true lt true true ho hc fits is lower = let less : ho < hc = lower refl in omega arith
-led_beats true lt false true ho hc fits is lower = omega arith
-led_beats false lt true true ho hc fits is lower = let less : ho < hc = lower refl in omega arith
-led_beats false lt false true ho hc fits is lower = omega arith
-led_beats t lt led false ho hc fits is lower = absurd (true≢false (sym is))
-
-pub unbeaten : (strain : Strain) (card other : Card) → is_trump (trump_of strain) other ≡ false →
-    (other.suit ≡ card.suit → height other.rank < height card.rank) →
-    strength_in strain card other < strength_in strain card card
-unbeaten strain card other no_trump lower =
-    subst (λ t. strength_by t (is_of card.suit other) (height other.rank)
-    < strength_by (is_trump (trump_of strain) card) (is_of card.suit card) (height card.rank)) (sym no_trump)
-    (led_beats (is_trump (trump_of strain) card) true (is_of card.suit other) (is_of card.suit card) _ _
-    (height_below other.rank) (eq-eqb _ _ refl)
-    (λ same. lower (both_of card.suit other card same (eq-eqb _ _ refl))))
-
--- the leader's masters
-pub masters_sure : (p : Position) (mine others lone named taken : Cards) (target wanted : ℕ) → IsPosition p →
-    p.table ≡ [] → mine ≡ hand_of p.hands p.leader →
-    ((place : Place) (card : Card) → place ≢ p.leader → set.contains (hand_of p.hands place) card ≡ true →
-    set.contains others card ≡ true) →
-    ((card : Card) → set.contains others card ≡ true → is_trump (trump_of p.strain) card ≡ false) →
-    AreAmong lone mine → AreAlone lone others → AreAmong named mine → AreAbove named others →
-    taken ≡ set.union lone named →
-    ((tricks : ℕ) → wanted ≤ tricks → AreEnough (side_of p.leader) tricks p target) → wanted ≤ set.len taken →
-    IsFound p target named (wanted_answer (side_of p.leader))
-masters_sure p mine others lone named taken target wanted valid none mine_is others_has no_trump lone_in lone_alone
-    named_in named_above taken_is enough many =
-    masters_found p taken named target valid none (record {
-      held = λ card held. ap (λ s. set.contains s card) (sym mine_is)
-          ∙ among_both lone named taken mine taken_is lone_in named_in card held;
-      unbeaten = λ card other place held ne there.
-          let other_in = others_has place other ne there in
-          unbeaten p.strain card other (no_trump other other_in)
-          (λ same. elim (either lone named taken card taken_is held) [
-            | inl h ↦ absurd (lone_alone card other h other_in same)
-            | inr h ↦ named_above card other h other_in same
-          ]);
-    })
-    (λ card other place held ne there same. elim (either lone named taken card taken_is held) [
-      | inl h ↦ absurd (lone_alone card other h (others_has place other ne there) same)
-      | inr h ↦ h
-    ])
-    (enough (set.len taken) many)
-
--- the same, as the search says it
-pub masters_answer : (p : Position) (leader : Place) (side side' : Side) (mine others lone named taken known : Cards)
-    (target wanted : ℕ) (holds : Bool) → IsPosition p → p.table ≡ [] → leader ≡ p.leader → side ≡ side_of leader →
-    side' ≡ side_of leader → mine ≡ hand_of p.hands leader →
-    ((place : Place) (card : Card) → place ≢ leader → set.contains (hand_of p.hands place) card ≡ true →
-    set.contains others card ≡ true) →
-    ((card : Card) → set.contains others card ≡ true → is_trump (trump_of p.strain) card ≡ false) →
-    AreAmong lone mine → AreAlone lone others → AreAmong named mine → AreAbove named others →
-    taken ≡ set.union lone named →
-    ((tricks : ℕ) → wanted ≤ tricks → AreEnough side tricks p target) → wanted ≤ set.len taken →
-    holds ≡ wanted_answer side' → known ≡ named → IsFound p target known holds
-masters_answer p leader side side' mine others lone named taken known target wanted holds valid none leader_is side_is
-    side_is' mine_is others_has no_trump lone_in lone_alone named_in named_above taken_is enough many holds_is
-    known_is =
-    let of_leader = ap side_of leader_is in
-    subst (λ k. IsFound p target k holds) (sym known_is)
-    (subst (λ b. IsFound p target named b) (sym (holds_is ∙ ap wanted_answer (side_is' ∙ of_leader)))
-    (masters_sure p mine others lone named taken target wanted valid none (mine_is ∙ ap (hand_of p.hands) leader_is)
-    (λ place card ne. others_has place card (λ e. ne (e ∙ leader_is))) no_trump lone_in lone_alone named_in named_above
-    taken_is
-    (λ tricks more. subst (λ s. AreEnough s tricks p target) (side_is ∙ of_leader) (enough tricks more)) many))
 
 -- a player's trumps, and the opponents' that may beat one of them
 pub trumps_answer : (p : Position) (trump : Suit) (holder : Place) (side side' : Side)

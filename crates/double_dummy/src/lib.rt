@@ -10,6 +10,7 @@ mod card_costs;
 mod dd_table;
 mod error;
 mod likely;
+mod masters;
 mod order;
 mod played_costs;
 mod run;

@@ -11,6 +11,7 @@ ghost use Rattle.double_dummy_laws.specs.Found.{IsFound, wanted_answer};
 ghost use Rattle.double_dummy.specs.Search.{MayNotRuff};
 ghost use Rattle.double_dummy_laws.specs.SureTricks.{AreEnough, IsGuarded, IsWinningCard, IsWinningCardKnown};
 
+use crate::masters::runners;
 use crate::run;
 use crate::run::common;
 use crate::weights::top;
@@ -19,8 +20,8 @@ use position_patterns::Finding;
 use table_terms::{Place, Side, Suit};
 
 /// Whether North and South take so many tricks, at the beginning of a trick, where a player's trumps, a guarded second
-/// best one or the leader's masters take as many as that needs. DDS counts more; what is counted here is known by the
-/// cards that it names.
+/// best one, or masters and long cards of the leader and the partner take as many as that needs. DDS counts more; what
+/// is counted here is known by the cards that it names.
 pub fn sure_tricks(position: &Position, target: u8, tricks_left: u8) -> Option<Finding>
     requires start { position.now.table ≡ [] }
     requires left { 4 * tricks_left ≡ cards_left position.now + length position.now.table }
@@ -219,28 +220,16 @@ fn guarded(position: &Position, trump: Suit, holder: Place) -> Option<Card>
     }
 }
 
-/// The same, by the leader's cards that no card of another player beats: no other player has a trump.
+/// The same, by masters and long cards of the leader and then of the partner: no other player has a trump.
 fn by_masters(position: &Position, target: u8, tricks_left: u8) -> Option<Finding>
     requires start { position.now.table ≡ [] }
     requires left { 4 * tricks_left ≡ cards_left position.now + length position.now.table }
     requires some { target ≤ tricks_left }
     ensures { IfSome result (λ found. IsFound position.now target found.known found.holds) }
 {
-    let leader = position.leader();
-    let others = others_cards(position, leader);
-    if has_trump(position, others) {
-        return None;
-    }
-    let wanted = tricks_wanted(leader.side(), target, tricks_left);
-    let mine = position.hand(leader);
-    let alone = all_lone(mine, others);
-    let missing = wanted.saturating_sub(alone.len());
-    let named = fewest(all_higher(mine, others), missing);
-    let taken = alone.union(named);
-    if taken.len() < wanted {
-        return None;
-    }
-    Some(answer(leader.side(), named))
+    let side = position.leader().side();
+    let known = runners(position, tricks_wanted(side, target, tricks_left))?;
+    Some(answer(side, known))
 }
 
 /// Whether North and South take so many tricks, with one card on the table, where the trick under way is enough for
@@ -342,7 +331,7 @@ fn opponents_cards(position: &Position, holder: Place) -> Hand
 }
 
 /// The cards of the other three players.
-fn others_cards(position: &Position, leader: Place) -> Hand
+pub fn others_cards(position: &Position, leader: Place) -> Hand
     ensures { (place : Place) (card : Card) → place ≢ leader →
         set.contains (hand_of position.now.hands place) card ≡ true → set.contains result card ≡ true }
 {
@@ -355,7 +344,7 @@ fn others_cards(position: &Position, leader: Place) -> Hand
 }
 
 /// Whether there is a trump among these cards.
-fn has_trump(position: &Position, cards: Hand) -> bool
+pub fn has_trump(position: &Position, cards: Hand) -> bool
     ensures { result ≡ false → (card : Card) → set.contains cards card ≡ true →
         is_trump (trump_of position.now.strain) card ≡ false }
 {
@@ -365,69 +354,8 @@ fn has_trump(position: &Position, cards: Hand) -> bool
     !cards.of_suit(suit).is_empty()
 }
 
-/// A player's cards of a suit of which no other has any.
-fn lone(mine: Hand, others: Hand, suit: Suit) -> Hand
-    ensures among { (card : Card) → set.contains result card ≡ true → set.contains mine card ≡ true }
-    ensures alone { (card other : Card) → set.contains result card ≡ true → set.contains others other ≡ true →
-        other.suit ≢ card.suit }
-{
-    if !others.of_suit(suit).is_empty() {
-        return Hand::new();
-    }
-    mine.of_suit(suit)
-}
-
-/// The same of all suits.
-fn all_lone(mine: Hand, others: Hand) -> Hand
-    ensures among { (card : Card) → set.contains result card ≡ true → set.contains mine card ≡ true }
-    ensures alone { (card other : Card) → set.contains result card ≡ true → set.contains others other ≡ true →
-        other.suit ≢ card.suit }
-{
-    let spades = lone(mine, others, Suit::Spades);
-    let hearts = lone(mine, others, Suit::Hearts);
-    let diamonds = lone(mine, others, Suit::Diamonds);
-    let clubs = lone(mine, others, Suit::Clubs);
-    spades.union(hearts).union(diamonds.union(clubs))
-}
-
-/// A player's cards of a suit that are higher than all of the others', of whom some have a card of it.
-fn higher(mine: Hand, others: Hand, suit: Suit) -> Hand
-    ensures among { (card : Card) → set.contains result card ≡ true → set.contains mine card ≡ true }
-    ensures above { (card other : Card) → set.contains result card ≡ true → set.contains others other ≡ true →
-        other.suit ≡ card.suit → height other.rank < height card.rank }
-{
-    let held = mine.of_suit(suit);
-    let against = others.of_suit(suit);
-    let word = against.word();
-    if word == 0 {
-        return Hand::new();
-    }
-    if held.word() <= word {
-        return Hand::new();
-    }
-    let upper = held.word() >> word.ilog2() << word.ilog2();
-    let reach = upwards(Card::from_number(upper.trailing_zeros().min(51) as u8));
-    if !against.is_disjoint(reach) {
-        return Hand::new();
-    }
-    common(held, reach)
-}
-
-/// The same of all suits.
-fn all_higher(mine: Hand, others: Hand) -> Hand
-    ensures among { (card : Card) → set.contains result card ≡ true → set.contains mine card ≡ true }
-    ensures above { (card other : Card) → set.contains result card ≡ true → set.contains others other ≡ true →
-        other.suit ≡ card.suit → height other.rank < height card.rank }
-{
-    let spades = higher(mine, others, Suit::Spades);
-    let hearts = higher(mine, others, Suit::Hearts);
-    let diamonds = higher(mine, others, Suit::Diamonds);
-    let clubs = higher(mine, others, Suit::Clubs);
-    spades.union(hearts).union(diamonds.union(clubs))
-}
-
 /// The cards of the pack from one to the ace of its suit.
-fn upwards(lowest: Card) -> Hand
+pub fn upwards(lowest: Card) -> Hand
     ensures up { (card : Card) → set.contains result card ≡ true →
         (card.suit ≡ lowest.suit) × (height lowest.rank ≤ height card.rank) }
     ensures all { (card : Card) → card.suit ≡ lowest.suit → height lowest.rank ≤ height card.rank →
@@ -453,18 +381,4 @@ fn only(card: Card) -> Hand
     let mut cards = Hand::new();
     cards.insert(card);
     cards
-}
-
-/// So many of these cards at most, without the lowest.
-fn fewest(cards: Hand, most: u32) -> Hand
-    ensures { (card : Card) → set.contains result card ≡ true → set.contains cards card ≡ true }
-{
-    let mut rest = cards;
-    while rest.len() > most {
-        let Some(card) = rest.first() else {
-            return rest;
-        };
-        rest.remove(card);
-    }
-    rest
 }

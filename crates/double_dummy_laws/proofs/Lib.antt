@@ -7,7 +7,6 @@ pub mod EqualCardsLemmas
 pub mod GuardedTrumpLemmas
 pub mod HandLemmas
 pub mod LongTrumpLemmas
-pub mod MasterLemmas
 pub mod NeighbourLemmas
 pub mod OwnerLemmas
 pub mod OwnershipLemmas
@@ -15,6 +14,7 @@ pub mod PairingLemmas
 pub mod PatternLemmas
 pub mod RefusedLemmas
 pub mod RenamingLemmas
+pub mod RunnerLemmas
 pub mod SureTrickLemmas
 pub mod TakingLemmas
 pub mod WinnerLemmas

@@ -1,11 +1,10 @@
 -- A trump of the opponents beats one trump at most, so a player's trumps that are more than those take the rest.
-use Rattle.std.proofs.Common.{◌≡◌, ◌≢◌, ◌⊎◌, ℕ, ◌-◌, ◌<◌, ◌≤◌, true, [], ◌∷◌, refl, sym, ap, ◌∙◌, inl, inr, arith, zero, suc}
+use Rattle.std.proofs.Common.{◌≡◌, ◌≢◌, ◌⊎◌, ℕ, ◌-◌, ◌<◌, ◌≤◌, true, [], ◌∷◌, sym, ap, ◌∙◌, inl, inr, arith, zero, suc}
 use Rattle.std.proofs.lemmas.Bool.{cases_Bool, false_from_ne_true, true≢false}
 use Rattle.std.specs.FinSet as set
 use Rattle.cards.specs.declared.card.Card.{Card}
 use Rattle.cards.specs.Cards.{Cards}
 use Rattle.table_terms.specs.declared.place.Place.{Place}
-use Rattle.table_terms.specs.declared.place.Place.TheVariants.{North, East, South, West}
 use Rattle.table_terms.specs.declared.strain.Strain.{Strain}
 use Rattle.table_terms.specs.Place.{left_of, side_of}
 use Rattle.table_terms.specs.Strain.{trump_of}
@@ -16,7 +15,7 @@ use Rattle.double_dummy_laws.proofs.BestTrumpLemmas.{opponents, partners, side_o
 use Rattle.double_dummy_laws.proofs.CountLemmas.{has_less, has_same, no_more}
 use Rattle.double_dummy_laws.proofs.HandLemmas.{has_without, without_had}
 use Rattle.double_dummy_laws.proofs.NeighbourLemmas.{one_less_after}
-use Rattle.double_dummy_laws.proofs.TakingLemmas.{CardTakes, all_play, at, goes_on, has_removed, held_by, removed_had, some_left, some_of, takes_none, trick_over, trick_won}
+use Rattle.double_dummy_laws.proofs.TakingLemmas.{AreFrom, CardTakes, all_play, at, goes_on, has_removed, held_by, removed_had, seat, some_left, some_of, takes_none, trick_over, trick_won}
 use Rattle.double_dummy_laws.proofs.WinnerLemmas.{turns_1, turns_2, turns_3}
 use Rattle.double_dummy_laws.specs.SureTricks.{AreLongTrumps, TakesAtLeast}
 
@@ -146,40 +145,6 @@ module _ (s : Cards) (a b c d : Card) where
         has_less (set.remove (set.remove (set.remove s a) b) c) d (has_removed (set.remove (set.remove s a) b) c d
             (has_removed (set.remove s a) b d (has_removed s a d in' da) db) dc),
       )
-
--- a player leads, or plays second, third or fourth
-seat : (leader holder : Place) →
-    (holder ≡ leader) ⊎ ((holder ≡ left_of leader) ⊎ ((holder ≡ left_of (left_of leader))
-    ⊎ (holder ≡ left_of (left_of (left_of leader)))))
-seat North North = inl refl
-seat North East = inr (inl refl)
-seat North South = inr (inr (inl refl))
-seat North West = inr (inr (inr refl))
-seat East North = inr (inr (inr refl))
-seat East East = inl refl
-seat East South = inr (inl refl)
-seat East West = inr (inr (inl refl))
-seat South North = inr (inr (inl refl))
-seat South East = inr (inr (inr refl))
-seat South South = inl refl
-seat South West = inr (inl refl)
-seat West North = inr (inl refl)
-seat West East = inr (inr (inl refl))
-seat West South = inr (inr (inr refl))
-seat West West = inl refl
-
--- the cards of a trick came from these hands, from the leader's on, one each
-record AreFrom (h : Hands) (leader : Place) (a b c d : Card) : Type 0 where
-  pub first : set.contains (hand_of h leader) a ≡ true
-  pub second : set.contains (hand_of h (left_of leader)) b ≡ true
-  pub third : set.contains (hand_of h (left_of (left_of leader))) c ≡ true
-  pub fourth : set.contains (hand_of h (left_of (left_of (left_of leader)))) d ≡ true
-  pub ba : b ≢ a
-  pub ca : c ≢ a
-  pub cb : c ≢ b
-  pub da : d ≢ a
-  pub db : d ≢ b
-  pub dc : d ≢ c
 
 module _ (strain : Strain) (holder : Place) where
   -- the trumps of these hands, and those that may beat them

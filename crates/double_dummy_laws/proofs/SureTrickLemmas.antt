@@ -1,9 +1,9 @@
 -- Sure tricks stay sure when the cards get other names.
-use Rattle.std.proofs.Common.{◌≡◌, ◌≢◌, ◌⊎◌, ℕ, ◌-◌, ◌<◌, ◌≤◌, true, List, [], ◌∷◌, length, map, refl, sym, ap, ◌∙◌, subst, inl, inr, arith, zero, suc}
+use Rattle.std.proofs.Common.{◌≡◌, ◌≢◌, ◌⊎◌, ℕ, ◌+◌, ◌-◌, ◌<◌, ◌≤◌, true, List, [], ◌∷◌, length, map, refl, sym, ap, ◌∙◌, subst, inl, inr, arith}
 use Rattle.std.specs.Prelude.{nat_eq, nat_le}
 use Rattle.std.specs.List.{list_any}
 use Rattle.std.specs.Ordering.{eq_by_cmp}
-use Rattle.std.proofs.lemmas.Bool.{cases_eq, false_from_ne_true, le-leb, lt-leb, or_cases, or_left, or_right, true≢false}
+use Rattle.std.proofs.lemmas.Bool.{false_from_ne_true, le-leb, lt-leb, or_cases, or_left, or_right, true≢false}
 use Rattle.std.specs.FinSet as set
 use Rattle.cards.specs.declared.card.Card.{Card}
 use Rattle.cards.specs.Card.{card_cmp}
@@ -15,6 +15,7 @@ use Rattle.table_terms.specs.declared.place.Place.TheVariants.{North, East, Sout
 use Rattle.table_terms.specs.declared.side.Side.{Side}
 use Rattle.table_terms.specs.declared.side.Side.TheVariants.{NorthSouth, EastWest}
 use Rattle.table_terms.specs.declared.strain.Strain.{Strain}
+use Rattle.table_terms.specs.declared.suit.Suit.{Suit}
 use Rattle.table_terms.specs.Suit.{suit_number}
 use Rattle.table_terms.specs.Place.{left_of, partner_of, side_of}
 use Rattle.table_terms.specs.Strain.{trump_of}
@@ -22,46 +23,20 @@ use Rattle.cards.specs.Hands.{Hands, hand_of}
 use Rattle.cards.specs.Play.{IsApart, IsPosition, Position, cards_left, is_of, is_trump, legal_of, strength, strength_in}
 use Rattle.cards.specs.DoubleDummy.{tricks}
 use Rattle.double_dummy_laws.proofs.BestLemmas.{Among}
-use Rattle.double_dummy_laws.proofs.CountLemmas.{has_less}
 use Rattle.double_dummy_laws.proofs.HandLemmas.{among_items, follows_legal, items_among, legal_follows, tied}
-use Rattle.double_dummy_laws.proofs.MasterLemmas as masters
 use Rattle.double_dummy_laws.proofs.BestTrumpLemmas as trumps
 use Rattle.double_dummy_laws.proofs.BestTrumpLemmas.{partners}
 use Rattle.double_dummy_laws.proofs.GuardedTrumpLemmas as guarded
 use Rattle.double_dummy_laws.proofs.LongTrumpLemmas as long
 use Rattle.double_dummy_laws.proofs.WinningCardLemmas as winning
 use Rattle.double_dummy_laws.proofs.WinningCardLemmas.{opposite}
-use Rattle.double_dummy_laws.proofs.TakingLemmas.{at, has_removed, removed_had, some_of}
+use Rattle.double_dummy_laws.proofs.RunnerLemmas as runners
+use Rattle.double_dummy_laws.proofs.RunnerLemmas.{has_suit, suit_had}
+use Rattle.double_dummy_laws.proofs.TakingLemmas.{at, paired_len}
 use Rattle.double_dummy_laws.proofs.WinnerLemmas.{both_trumps, same_trump, stronger_stays}
 use Rattle.double_dummy_laws.specs.Found.{IsFound, wanted_answer}
 use Rattle.double_dummy_laws.specs.Renaming.{HasNames, IsLiveCardOf, IsRenaming, Ownership, knowing}
-use Rattle.double_dummy_laws.specs.SureTricks.{AreBestTrumps, AreEnough, AreLongTrumps, AreLongTrumpsKnown, AreMasters, AreMastersKnown, AreTrumpsKnown, IsGuarded, IsWinningCard, IsWinningCardKnown, TakesAtLeast}
-
--- where each card of a set has its own partner in another, the other has as many
-paired_len : (n : ℕ) (R : Card → Card → Type 0) (s t : Cards) → set.len s ≤ n →
-    ((card : Card) → set.contains s card ≡ true → (other : Card) × (set.contains t other ≡ true) × R card other) →
-    ((a b c : Card) → set.contains s a ≡ true → set.contains s b ≡ true → R a c → R b c → a ≡ b) →
-    set.len s ≤ set.len t
-paired_len zero R s t few pair single = omega (arith, few)
-paired_len (suc n) R s t few pair single =
-    elim (cases_eq (set.len s) 0) [
-      | inl none ↦ omega (arith, none)
-      | inr some ↦
-          let one = some_of s some in
-          let to = pair one.0 one.1 in
-          let rest = paired_len n R (set.remove s one.0) (set.remove t to.0)
-          (omega (arith, few, has_less s one.0 one.1))
-          (λ card in'.
-          let had = removed_had s one.0 card in' in
-          let there = pair card had.0 in (
-            there.0,
-            has_removed t to.0 there.0 there.1
-                (λ e. had.1 (single card one.0 there.0 had.0 one.1 there.2 (subst (R one.0) (sym e) to.2))),
-            there.2,
-          ))
-          (λ a b c in_a in_b. single a b c (removed_had s one.0 a in_a).0 (removed_had s one.0 b in_b).0) in
-          omega (arith, rest, has_less s one.0 one.1, has_less t to.0 to.1)
-    ]
+use Rattle.double_dummy_laws.specs.SureTricks.{AreBestTrumps, AreEnough, AreInReach, AreLongTrumps, AreLongTrumpsKnown, AreMasters, AreMastersKnown, AreRunners, AreTrumpsKnown, IsGuarded, IsWinningCard, IsWinningCardKnown, TakesAtLeast, led_by}
 
 -- the cards' other names, as a set
 abbrev named_cards : (Card → Card) → Cards → Cards
@@ -202,6 +177,106 @@ module _ (ownership : Ownership) (name : Card → Card) (renaming : IsRenaming o
   no_more_named cards =
       paired_len (set.len (named_cards name cards)) (λ card old. name old ≡ card) (named_cards name cards) cards
       (omega arith) (λ card in'. named_old name cards card in') (λ a b c in_a in_b e f. sym e ∙ f)
+
+  -- of a suit each player has no more cards, and of some cards there are as many
+  hand_suited : (place : Place) (suit : Suit) →
+      set.len (set.retain (hand_of hands place) (is_of suit)) ≤ set.len (set.retain (hand_of h place) (is_of suit))
+  hand_suited place suit =
+      paired_len (set.len (set.retain (hand_of hands place) (is_of suit))) (λ card old. name old ≡ card)
+      (set.retain (hand_of hands place) (is_of suit)) (set.retain (hand_of h place) (is_of suit)) (omega arith)
+      (λ card in'.
+      let had = suit_had (hand_of hands place) suit card in' in
+      let old = named.onto place card had.0 in
+      let same = ap (λ s. nat_eq (suit_number suit) (suit_number s))
+      (sym (renaming.suit old.0 (named.live place old.0 old.1).0) ∙ ap (λ x. x.suit) old.2) in
+      (old.0, has_suit (hand_of h place) suit old.0 old.1 (same ∙ had.1), old.2))
+      (λ a b c in_a in_b e f. sym e ∙ f)
+
+  cards_suited : (place : Place) (cards : Cards) (suit : Suit) →
+      ((card : Card) → set.contains cards card ≡ true → set.contains (hand_of h place) card ≡ true) →
+      set.len (set.retain cards (is_of suit)) ≤ set.len (set.retain (named_cards name cards) (is_of suit))
+  cards_suited place cards suit held =
+      let live = λ (card : Card) (in' : set.contains (set.retain cards (is_of suit)) card ≡ true).
+      (named.live place card (held card (suit_had cards suit card in').0)).0 in
+      paired_len (set.len (set.retain cards (is_of suit))) (λ old card. name old ≡ card)
+      (set.retain cards (is_of suit)) (set.retain (named_cards name cards) (is_of suit)) (omega arith)
+      (λ old in'.
+      let had = suit_had cards suit old in' in
+      let same = ap (λ s. nat_eq (suit_number suit) (suit_number s)) (renaming.suit old (live old in')) in
+      (name old, has_suit (named_cards name cards) suit (name old) (in_named name cards old had.0) (same ∙ had.1), refl))
+      (λ a b c in_a in_b e f. renaming.apart a b (live a in_a) (live b in_b) (e ∙ sym f))
+
+  runners_named : (strain : Strain) (leader : Place) (cards masters : Cards) →
+      AreRunners (at h strain leader []) cards masters →
+      ((card other : Card) (place : Place) → set.contains masters card ≡ true → place ≢ leader →
+      set.contains (hand_of h place) other ≡ true → other.suit ≡ card.suit → ownership.is_known card ≡ true) →
+      AreRunners (at hands strain leader []) (named_cards name cards) (named_cards name masters)
+  runners_named strain leader cards masters are known = record {
+    held = λ card in'.
+        let old = named_old name cards card in' in
+        subst (λ x. set.contains (hand_of hands leader) x ≡ true) old.2
+        (named.into leader old.0 (are.held old.0 old.1));
+    among = λ card in'.
+        let old = named_old name masters card in' in
+        subst (λ x. set.contains (named_cards name cards) x ≡ true) old.2
+        (in_named name cards old.0 (are.among old.0 old.1));
+    unbeaten = masters_named strain leader masters are.unbeaten known;
+    long = λ card other place in' ne there.
+        let old = named_old name cards card in' in
+        let beside = named.onto place other there in
+        let mine = named.live leader old.0 (are.held old.0 old.1) in
+        let theirs = named.live place beside.0 beside.1 in
+        elim (are.long old.0 beside.0 place old.1 ne beside.1) [
+          | inl is ↦ inl (subst (λ x. set.contains (named_cards name masters) x ≡ true) old.2
+              (in_named name masters old.0 is))
+          | inr both ↦ inr (
+            ap (is_trump (trump_of strain)) (sym beside.2)
+                ∙ same_trump (trump_of strain) (name beside.0) beside.0 (renaming.suit beside.0 theirs.0) ∙ both.0,
+            subst (λ suit. set.len (set.retain (hand_of hands place) (is_of suit))
+                ≤ set.len (set.retain (named_cards name masters) (is_of suit)))
+                (sym (renaming.suit old.0 mine.0) ∙ ap (λ x. x.suit) old.2)
+                (omega (
+                  arith,
+                  both.1,
+                  hand_suited place old.0.suit,
+                  cards_suited leader masters old.0.suit are.unbeaten.held,
+                )),
+          )
+        ];
+  }
+
+  reach_named : (strain : Strain) (leader place : Place) (own cards masters : Cards) →
+      ((card : Card) → set.contains own card ≡ true → set.contains (hand_of h leader) card ≡ true) →
+      AreInReach (at h strain leader []) place own cards masters →
+      ((card other : Card) (player : Place) → set.contains masters card ≡ true → player ≢ place →
+      set.contains (hand_of h player) other ≡ true → other.suit ≡ card.suit → ownership.is_known card ≡ true) →
+      AreInReach (at hands strain leader []) place (named_cards name own) (named_cards name cards)
+      (named_cards name masters)
+  reach_named strain leader place own cards masters held are known = record {
+    runners = runners_named strain place cards masters are.runners known;
+    apart = λ card other in' there e.
+        let mine = named_old name own card in' in
+        let theirs = named_old name cards other there in
+        are.apart mine.0 theirs.0 mine.1 theirs.1
+        (sym (renaming.suit mine.0 (named.live leader mine.0 (held mine.0 mine.1)).0) ∙ ap (λ x. x.suit) mine.2 ∙ e
+        ∙ ap (λ x. x.suit) (sym theirs.2)
+        ∙ renaming.suit theirs.0 (named.live place theirs.0 (are.runners.held theirs.0 theirs.1)).0);
+    entry = λ card in'.
+        let old = named_old name cards card in' in
+        let has = are.entry old.0 old.1 in
+        record {
+          own = name has.own;
+          entry = name has.entry;
+          held = named.into leader has.own has.held;
+          there = in_named name masters has.entry has.there;
+          suit = renaming.suit has.own (named.live leader has.own has.held).0 ∙ has.suit
+              ∙ sym (renaming.suit has.entry (named.live place has.entry
+              (are.runners.held has.entry (are.runners.among has.entry has.there))).0);
+        };
+    room = λ card in'.
+        let old = named_old name cards card in' in
+        omega (arith, are.room old.0 old.1, no_more_named own, no_more_named cards, len_named place);
+  }
 
   long_named : (strain : Strain) (holder : Place) (cards beaters : Cards) →
       AreLongTrumps (at h strain holder []) holder cards beaters →
@@ -354,28 +429,43 @@ answered NorthSouth k more p q target enough fewer same as_many takes =
 answered EastWest k more p q target enough fewer same as_many takes =
     lt-leb target _ (omega (arith, enough, fewer, takes, same, ap (λ n. tricks n q) same, as_many))
 
--- masters take a trick each
-masters_at : (h : Hands) (strain : Strain) (leader : Place) (cards : Cards) → IsPosition (at h strain leader []) →
-    AreMasters (at h strain leader []) cards →
-    TakesAtLeast (side_of leader) (set.len cards) (at h strain leader [])
-masters_at h strain leader cards valid are =
-    masters.taken strain leader (cards_left (at h strain leader [])) h cards (omega arith) valid are
+-- runners take a trick each, and the partner's in reach too
+runners_at : (h : Hands) (strain : Strain) (leader : Place) (cards masters partners theirs : Cards) →
+    IsPosition (at h strain leader []) → AreRunners (at h strain leader []) cards masters →
+    AreInReach (at h strain leader []) (partner_of leader) cards partners theirs →
+    TakesAtLeast (side_of leader) (set.len cards + set.len partners) (at h strain leader [])
+runners_at h strain leader cards masters partners theirs valid are reach =
+    runners.taken strain (cards_left (at h strain leader [])) h leader cards masters partners theirs valid (omega arith)
+    (record {
+      runners = are;
+      reach = subst (λ place. AreInReach (at h strain leader []) place cards partners theirs) (opposite leader) reach;
+    })
 
-masters_found_at : (h : Hands) (strain : Strain) (leader : Place) (cards known : Cards) (target : ℕ) →
-    IsPosition (at h strain leader []) → AreMasters (at h strain leader []) cards →
-    AreMastersKnown (at h strain leader []) cards known →
-    AreEnough (side_of leader) (set.len cards) (at h strain leader []) target →
+runners_found_at : (h : Hands) (strain : Strain) (leader : Place) (cards masters partners theirs known : Cards) (target : ℕ) →
+    IsPosition (at h strain leader []) → AreRunners (at h strain leader []) cards masters →
+    AreInReach (at h strain leader []) (partner_of leader) cards partners theirs →
+    AreMastersKnown (at h strain leader []) masters known →
+    AreMastersKnown (at h strain (partner_of leader) []) theirs known →
+    AreEnough (side_of leader) (set.len cards + set.len partners) (at h strain leader []) target →
     IsFound (at h strain leader []) target known (wanted_answer (side_of leader))
-masters_found_at h strain leader cards known target valid are are_known enough ownership owned tight_p name hands
-    renaming named =
+runners_found_at h strain leader cards masters partners theirs known target valid are reach are_known also_known enough
+    ownership owned tight_p name hands renaming named =
     let own = knowing ownership known in
-    answered (side_of leader) (set.len cards) (set.len (named_cards name cards)) (at h strain leader [])
+    answered (side_of leader) (set.len cards + set.len partners)
+    (set.len (named_cards name cards) + set.len (named_cards name partners)) (at h strain leader [])
     (at hands strain leader []) target enough
-    (len_of_named own name renaming h hands named leader cards are.held)
+    (omega (
+      arith,
+      len_of_named own name renaming h hands named leader cards are.held,
+      len_of_named own name renaming h hands named (partner_of leader) partners reach.runners.held,
+    ))
     (left_named own name renaming h hands named strain leader) refl
-    (masters_at hands strain leader (named_cards name cards)
+    (runners_at hands strain leader (named_cards name cards) (named_cards name masters) (named_cards name partners)
+    (named_cards name theirs)
     (position_named own name renaming h hands named strain leader valid)
-    (masters_named own name renaming h hands named strain leader cards are are_known))
+    (runners_named own name renaming h hands named strain leader cards masters are are_known)
+    (reach_named own name renaming h hands named strain leader (partner_of leader) cards partners theirs are.held reach
+    also_known))
 
 -- best trumps take a trick each
 trumps_at : (h : Hands) (strain : Strain) (leader holder : Place) (cards : Cards) →
@@ -503,21 +593,26 @@ at_start P p none here = subst (λ table. P (at p.hands p.strain p.leader table)
 from_start : (P : Position → Type 0) (p : Position) → p.table ≡ [] → P p → P (at p.hands p.strain p.leader [])
 from_start P p none here = subst (λ table. P (at p.hands p.strain p.leader table)) none here
 
-pub masters_take : (p : Position) (cards : Cards) → IsPosition p → p.table ≡ [] → AreMasters p cards →
-    TakesAtLeast (side_of p.leader) (set.len cards) p
-masters_take p cards valid none are =
-    at_start (λ q. TakesAtLeast (side_of p.leader) (set.len cards) q) p none
-    (masters_at p.hands p.strain p.leader cards (from_start IsPosition p none valid)
-    (from_start (λ q. AreMasters q cards) p none are))
+pub runners_take : (p : Position) (cards masters partners theirs : Cards) → IsPosition p → p.table ≡ [] →
+    AreRunners p cards masters → AreInReach p (partner_of p.leader) cards partners theirs →
+    TakesAtLeast (side_of p.leader) (set.len cards + set.len partners) p
+runners_take p cards masters partners theirs valid none are reach =
+    at_start (λ q. TakesAtLeast (side_of p.leader) (set.len cards + set.len partners) q) p none
+    (runners_at p.hands p.strain p.leader cards masters partners theirs (from_start IsPosition p none valid)
+    (from_start (λ q. AreRunners q cards masters) p none are)
+    (from_start (λ q. AreInReach q (partner_of p.leader) cards partners theirs) p none reach))
 
-pub masters_found : (p : Position) (cards known : Cards) (target : ℕ) → IsPosition p → p.table ≡ [] →
-    AreMasters p cards → AreMastersKnown p cards known → AreEnough (side_of p.leader) (set.len cards) p target →
+pub runners_found : (p : Position) (cards masters partners theirs known : Cards) (target : ℕ) → IsPosition p →
+    p.table ≡ [] → AreRunners p cards masters → AreInReach p (partner_of p.leader) cards partners theirs →
+    AreMastersKnown p masters known → AreMastersKnown (led_by (partner_of p.leader) p) theirs known →
+    AreEnough (side_of p.leader) (set.len cards + set.len partners) p target →
     IsFound p target known (wanted_answer (side_of p.leader))
-masters_found p cards known target valid none are are_known enough =
+runners_found p cards masters partners theirs known target valid none are reach are_known also_known enough =
     at_start (λ q. IsFound q target known (wanted_answer (side_of p.leader))) p none
-    (masters_found_at p.hands p.strain p.leader cards known target (from_start IsPosition p none valid)
-    (from_start (λ q. AreMasters q cards) p none are) are_known
-    (from_start (λ q. AreEnough (side_of p.leader) (set.len cards) q target) p none enough))
+    (runners_found_at p.hands p.strain p.leader cards masters partners theirs known target
+    (from_start IsPosition p none valid) (from_start (λ q. AreRunners q cards masters) p none are)
+    (from_start (λ q. AreInReach q (partner_of p.leader) cards partners theirs) p none reach) are_known also_known
+    (from_start (λ q. AreEnough (side_of p.leader) (set.len cards + set.len partners) q target) p none enough))
 
 pub trumps_take : (p : Position) (holder : Place) (cards : Cards) → IsPosition p → p.table ≡ [] →
     AreBestTrumps p holder cards → TakesAtLeast (side_of holder) (set.len cards) p

@@ -2,7 +2,7 @@
 use Rattle.std.proofs.Common.{◌≡◌, ◌≢◌, ◌⊎◌, ℕ, ◌+◌, ◌*◌, ◌<◌, ◌≤◌, true, List, [], ◌∷◌, map, length, refl, sym, ap, ◌∙◌, subst, inl, inr, arith, zero, suc}
 use Rattle.std.specs.List.{list_any}
 use Rattle.std.specs.Ordering.{eq_by_cmp}
-use Rattle.std.proofs.lemmas.Bool.{and_from, and_parts, cases_Bool, false_from_ne_true, not-true, not_from_false, true≢false}
+use Rattle.std.proofs.lemmas.Bool.{and_from, and_parts, cases_Bool, cases_eq, false_from_ne_true, not-true, not_from_false, true≢false}
 use Rattle.std.specs.FinSet as set
 use Rattle.cards.specs.declared.card.Card.{Card}
 use Rattle.cards.specs.Card.{card_cmp}
@@ -14,12 +14,13 @@ use Rattle.table_terms.specs.declared.place.Place.TheVariants.{North, East, Sout
 use Rattle.table_terms.specs.declared.side.Side.{Side}
 use Rattle.table_terms.specs.declared.side.Side.TheVariants.{NorthSouth, EastWest}
 use Rattle.table_terms.specs.declared.strain.Strain.{Strain}
-use Rattle.table_terms.specs.Place.{side_of}
+use Rattle.table_terms.specs.Place.{left_of, side_of}
 use Rattle.cards.specs.Hands.{Hands, hand_of}
 use Rattle.cards.specs.Play.{IsPosition, IsUnderWay, Position, after, cards_left, legal, point_of, table_after, to_play, trick_for, winner}
 use Rattle.cards.specs.DoubleDummy.{best, double_dummy, tricks, worth}
 use Rattle.cards.proofs.PlayLemmas.{can_play, has_some}
 use Rattle.double_dummy_laws.proofs.BestLemmas.{Among, attained}
+use Rattle.double_dummy_laws.proofs.CountLemmas.{has_less}
 use Rattle.double_dummy_laws.proofs.DoubleDummyLemmas.{best_card, east_west_gains_nothing, north_south_gains_nothing}
 use Rattle.double_dummy_laws.proofs.HandLemmas.{among_items, items_among, legal_follows, tied}
 use Rattle.double_dummy_laws.proofs.NeighbourLemmas.{one_less_after}
@@ -207,3 +208,83 @@ pub has_removed : (cards : Cards) (gone card : Card) → set.contains cards card
 has_removed cards gone card in' other =
     set.contains-remove card_cmp_total cards gone card
     ∙ and_from _ _ (not_from_false _ (false_from_ne_true _ (λ t. other (tied_is_equal card gone t)))) in'
+
+-- where each card of a set has its own partner in another, the other has as many
+pub paired_len : (n : ℕ) (R : Card → Card → Type 0) (s t : Cards) → set.len s ≤ n →
+    ((card : Card) → set.contains s card ≡ true → (other : Card) × (set.contains t other ≡ true) × R card other) →
+    ((a b c : Card) → set.contains s a ≡ true → set.contains s b ≡ true → R a c → R b c → a ≡ b) →
+    set.len s ≤ set.len t
+paired_len zero R s t few pair single = omega (arith, few)
+paired_len (suc n) R s t few pair single =
+    elim (cases_eq (set.len s) 0) [
+      | inl none ↦ omega (arith, none)
+      | inr some ↦
+          let one = some_of s some in
+          let to = pair one.0 one.1 in
+          let rest = paired_len n R (set.remove s one.0) (set.remove t to.0)
+          (omega (arith, few, has_less s one.0 one.1))
+          (λ card in'.
+          let had = removed_had s one.0 card in' in
+          let there = pair card had.0 in (
+            there.0,
+            has_removed t to.0 there.0 there.1
+                (λ e. had.1 (single card one.0 there.0 had.0 one.1 there.2 (subst (R one.0) (sym e) to.2))),
+            there.2,
+          ))
+          (λ a b c in_a in_b. single a b c (removed_had s one.0 a in_a).0 (removed_had s one.0 b in_b).0) in
+          omega (arith, rest, has_less s one.0 one.1, has_less t to.0 to.1)
+    ]
+
+-- a set has at most as many cards as another that has all of them
+pub within : (s t : Cards) →
+    ((card : Card) → set.contains s card ≡ true → set.contains t card ≡ true) → set.len s ≤ set.len t
+within s t each =
+    paired_len (set.len s) (λ a b. a ≡ b) s t (omega arith) (λ card in'. (card, each card in', refl))
+    (λ a b c in_a in_b e f. e ∙ sym f)
+
+-- and fewer, if the other has one more
+pub fewer_within : (s t : Cards) (card : Card) →
+    ((other : Card) → set.contains s other ≡ true → set.contains t other ≡ true) → set.contains t card ≡ true →
+    (set.contains s card ≡ true → ⊥) → set.len s < set.len t
+fewer_within s t card each in' out =
+    omega (
+      arith,
+      has_less t card in',
+      within s (set.remove t card) (λ other there.
+          has_removed t card other (each other there)
+          (λ e. out (subst (λ x. set.contains s x ≡ true) e there))),
+    )
+
+-- a player leads, or plays second, third or fourth
+pub seat : (leader holder : Place) →
+    (holder ≡ leader) ⊎ ((holder ≡ left_of leader) ⊎ ((holder ≡ left_of (left_of leader))
+    ⊎ (holder ≡ left_of (left_of (left_of leader)))))
+seat North North = inl refl
+seat North East = inr (inl refl)
+seat North South = inr (inr (inl refl))
+seat North West = inr (inr (inr refl))
+seat East North = inr (inr (inr refl))
+seat East East = inl refl
+seat East South = inr (inl refl)
+seat East West = inr (inr (inl refl))
+seat South North = inr (inr (inl refl))
+seat South East = inr (inr (inr refl))
+seat South South = inl refl
+seat South West = inr (inl refl)
+seat West North = inr (inl refl)
+seat West East = inr (inr (inl refl))
+seat West South = inr (inr (inr refl))
+seat West West = inl refl
+
+-- the cards of a trick came from these hands, from the leader's on, one each
+pub record AreFrom (h : Hands) (leader : Place) (a b c d : Card) : Type 0 where
+  pub first : set.contains (hand_of h leader) a ≡ true
+  pub second : set.contains (hand_of h (left_of leader)) b ≡ true
+  pub third : set.contains (hand_of h (left_of (left_of leader))) c ≡ true
+  pub fourth : set.contains (hand_of h (left_of (left_of (left_of leader)))) d ≡ true
+  pub ba : b ≢ a
+  pub ca : c ≢ a
+  pub cb : c ≢ b
+  pub da : d ≢ a
+  pub db : d ≢ b
+  pub dc : d ≢ c

@@ -27,7 +27,7 @@ use Rattle.table_terms.specs.Suit.{suit_number}
 use Rattle.cards.specs.Rank.{height}
 use Rattle.table_terms.specs.Place.{left_of}
 use Rattle.table_terms.specs.Strain.{trump_of}
-use Rattle.cards.specs.Play.{is_of, is_trump, strength, strength_by, strongest, winner}
+use Rattle.cards.specs.Play.{is_of, is_trump, strength, strength_by, strength_in, strongest, winner}
 use Rattle.double_dummy_laws.specs.Renaming.{IsLiveCardOf, IsRenaming, Ownership}
 use Rattle.double_dummy_laws.specs.Known.{IsAbove, IsSettled, IsTrickKnown}
 
@@ -328,3 +328,22 @@ winner_stays ownership name strain leader a b c d renaming trick known =
           at.yw at.zw (known.fourth top) top)
           ∙ sym (fourth_wins leader _ _ _ _ top)
     ]
+
+-- a card that is led beats what is no trump, lower cards of its suit, and other suits
+led_beats : (to_trump lt led lc : Bool) (ho hc : ℕ) → ho < 13 → lc ≡ true → (led ≡ true → ho < hc) →
+    strength_by false led ho < strength_by to_trump lc hc
+led_beats true lt true true ho hc fits is lower = let less : ho < hc = lower refl in omega arith
+led_beats true lt false true ho hc fits is lower = omega arith
+led_beats false lt true true ho hc fits is lower = let less : ho < hc = lower refl in omega arith
+led_beats false lt false true ho hc fits is lower = omega arith
+led_beats t lt led false ho hc fits is lower = absurd (true≢false (sym is))
+
+pub unbeaten : (strain : Strain) (card other : Card) → is_trump (trump_of strain) other ≡ false →
+    (other.suit ≡ card.suit → height other.rank < height card.rank) →
+    strength_in strain card other < strength_in strain card card
+unbeaten strain card other no_trump lower =
+    subst (λ t. strength_by t (is_of card.suit other) (height other.rank)
+    < strength_by (is_trump (trump_of strain) card) (is_of card.suit card) (height card.rank)) (sym no_trump)
+    (led_beats (is_trump (trump_of strain) card) true (is_of card.suit other) (is_of card.suit card) _ _
+    (height_below other.rank) (eq-eqb _ _ refl)
+    (λ same. lower (both_of card.suit other card same (eq-eqb _ _ refl))))

@@ -1,5 +1,5 @@
 -- Cards that take tricks whatever the others play, and which of them have to be known.
-use Rattle.std.specs.Prelude.{◌≡◌, ◌≢◌, ◌+◌, ◌*◌, ◌<◌, ◌≤◌, ◌⊎◌, ℕ, true, length, [], ◌∷◌}
+use Rattle.std.specs.Prelude.{◌≡◌, ◌≢◌, ◌+◌, ◌*◌, ◌<◌, ◌≤◌, ◌⊎◌, ℕ, true, false, length, [], ◌∷◌}
 use Rattle.std.specs.FinSet as set
 use Rattle.cards.specs.declared.card.Card.{Card}
 use Rattle.table_terms.specs.declared.place.Place.{Place}
@@ -10,7 +10,7 @@ use Rattle.table_terms.specs.Strain.{trump_of}
 use Rattle.cards.specs.Cards.{Cards}
 use Rattle.cards.specs.Hands.{hand_of}
 use Rattle.cards.specs.Rank.{height}
-use Rattle.cards.specs.Play.{Position, cards_left, is_trump, legal_of, strength_in}
+use Rattle.cards.specs.Play.{Position, cards_left, is_of, is_trump, legal_of, strength_in}
 use Rattle.cards.specs.DoubleDummy.{double_dummy}
 
 -- a side takes so many tricks at least of those that are left
@@ -38,6 +38,41 @@ AreMastersKnown position cards known =
     (card other : Card) (place : Place) → set.contains cards card ≡ true → place ≢ position.leader →
     set.contains (hand_of position.hands place) other ≡ true → other.suit ≡ card.suit →
     set.contains known card ≡ true
+
+-- the cards are in the leader's hand, and some of them are masters; the others are long: no other player has more cards
+-- of the suit than there are masters of it, nor a trump
+pub record AreRunners (position : Position) (cards masters : Cards) : Type 0 where
+  pub held : (card : Card) → set.contains cards card ≡ true →
+      set.contains (hand_of position.hands position.leader) card ≡ true
+  pub among : (card : Card) → set.contains masters card ≡ true → set.contains cards card ≡ true
+  pub unbeaten : AreMasters position masters
+  pub long : (card other : Card) (place : Place) → set.contains cards card ≡ true → place ≢ position.leader →
+      set.contains (hand_of position.hands place) other ≡ true →
+      (set.contains masters card ≡ true) ⊎ ((is_trump (trump_of position.strain) other ≡ false)
+      × (set.len (set.retain (hand_of position.hands place) (is_of card.suit))
+      ≤ set.len (set.retain masters (is_of card.suit))))
+
+-- the position with another player on lead
+abbrev pub led_by : Place → Position → Position
+led_by place position = record { hands = position.hands; strain = position.strain; leader = place; table = [] }
+
+-- the leader has a card of the suit of one of these
+pub record HasEntry (position : Position) (cards : Cards) : Type 0 where
+  pub own : Card
+  pub entry : Card
+  pub held : set.contains (hand_of position.hands position.leader) own ≡ true
+  pub there : set.contains cards entry ≡ true
+  pub suit : own.suit ≡ entry.suit
+
+-- runners of another player, whom the leader can give the lead after his own cards: they are of other suits than those,
+-- the leader has a card to lead to a master among them, and the player has enough other cards to play to the leader's
+pub record AreInReach (position : Position) (place : Place) (own cards masters : Cards) : Type 0 where
+  pub runners : AreRunners (led_by place position) cards masters
+  pub apart : (card other : Card) → set.contains own card ≡ true → set.contains cards other ≡ true →
+      card.suit ≢ other.suit
+  pub entry : (card : Card) → set.contains cards card ≡ true → HasEntry position masters
+  pub room : (card : Card) → set.contains cards card ≡ true →
+      set.len own + set.len cards ≤ set.len (hand_of position.hands place)
 
 -- the cards are trumps in a player's hand, each of them higher than every trump of the opponents
 pub record AreBestTrumps (position : Position) (holder : Place) (cards : Cards) : Type 0 where

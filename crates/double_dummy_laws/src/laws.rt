@@ -7,14 +7,14 @@ ghost use Rattle.table_terms.specs.declared.side.Side.TheVariants.{NorthSouth, E
 ghost use Rattle.table_terms.specs.declared.suit.Suit.{Suit};
 ghost use Rattle.cards.specs.Cards.{Cards};
 ghost use Rattle.cards.specs.Hands.{Hands, hand_of};
-ghost use Rattle.table_terms.specs.Place.{side_of};
+ghost use Rattle.table_terms.specs.Place.{partner_of, side_of};
 ghost use Rattle.cards.specs.Play.{Position, IsPosition, IsApart, legal, to_play, cards_left};
 ghost use Rattle.cards.specs.DoubleDummy.{best, tricks, double_dummy, worth};
 ghost use Rattle.double_dummy_laws.specs.Found.{IsCardFound, IsFound, wanted_answer};
 ghost use Rattle.double_dummy_laws.specs.Neighbours.{AreNeighbours, AreUnparted, IsRun};
 ghost use Rattle.double_dummy_laws.specs.Pattern.{IsOfPattern, IsTop, holding};
 ghost use Rattle.double_dummy_laws.specs.Renaming.{Ownership, IsRenaming, HasNames, ArePlayed, AllKnown, renamed};
-ghost use Rattle.double_dummy_laws.specs.SureTricks.{AreBestTrumps, AreEnough, AreLongTrumps, AreLongTrumpsKnown, AreMasters, AreMastersKnown, AreTrumpsKnown, IsGuarded, IsWinningCard, IsWinningCardKnown, TakesAtLeast};
+ghost use Rattle.double_dummy_laws.specs.SureTricks.{AreBestTrumps, AreEnough, AreInReach, AreLongTrumps, AreLongTrumpsKnown, AreMastersKnown, AreRunners, AreTrumpsKnown, IsGuarded, IsWinningCard, IsWinningCardKnown, TakesAtLeast, led_by};
 
 /// With cards left, a position is worth the best that the side to play gets by a legal card: the trick that the card
 /// completes and what the position after it is worth. With none left it is worth no trick.
@@ -81,14 +81,21 @@ pub fn partition()
         IsFound position target known answer → IsFound other target more answer }
 {}
 
-/// Masters take a trick each: who is on lead takes one with each of his cards that no card of another player beats. To
-/// know so, those of them have to be known of whose suit another player has a card.
-pub fn masters_take_tricks()
-    ensures tricks { (position : Position) (cards : Cards) → IsPosition position → position.table ≡ [] →
-        AreMasters position cards → TakesAtLeast (side_of position.leader) (set.len cards) position }
-    ensures found { (position : Position) (cards known : Cards) (target : ℕ) → IsPosition position →
-        position.table ≡ [] → AreMasters position cards → AreMastersKnown position cards known →
-        AreEnough (side_of position.leader) (set.len cards) position target →
+/// Runners take a trick each: who is on lead takes one with each of his cards that no card of another player beats, and
+/// with each one of a suit of which no other player has more cards than he has such masters. Then the partner does the
+/// same, if the leader has a card of the suit of one of the partner's masters, and the partner enough others to play to
+/// the leader's. To know so, those masters have to be known of whose suit another player has a card.
+pub fn runners_take_tricks()
+    ensures tricks { (position : Position) (cards masters partners theirs : Cards) → IsPosition position →
+        position.table ≡ [] → AreRunners position cards masters →
+        AreInReach position (partner_of position.leader) cards partners theirs →
+        TakesAtLeast (side_of position.leader) (set.len cards + set.len partners) position }
+    ensures found { (position : Position) (cards masters partners theirs known : Cards) (target : ℕ) →
+        IsPosition position → position.table ≡ [] → AreRunners position cards masters →
+        AreInReach position (partner_of position.leader) cards partners theirs →
+        AreMastersKnown position masters known →
+        AreMastersKnown (led_by (partner_of position.leader) position) theirs known →
+        AreEnough (side_of position.leader) (set.len cards + set.len partners) position target →
         IsFound position target known (wanted_answer (side_of position.leader)) }
 {}
 

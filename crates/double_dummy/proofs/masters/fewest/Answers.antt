@@ -1,6 +1,6 @@
 use Rattle.std.proofs.Common.{ap, arith}
 use Rattle.std.specs.FinSet as set
-use Rattle.double_dummy.proofs.sure.fewest.Goals as goal
+use Rattle.double_dummy.proofs.masters.fewest.Goals as goal
 use Rattle.double_dummy_laws.proofs.CountLemmas.{has_less}
 use Rattle.position_patterns.proofs.SetLemmas.{had}
 

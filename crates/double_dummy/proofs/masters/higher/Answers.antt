@@ -1,6 +1,6 @@
 use Rattle.double_dummy.proofs.RunLemmas.{none_in}
 use Rattle.double_dummy.proofs.SureLemmas.{above_in, among_common}
-use Rattle.double_dummy.proofs.sure.higher.Goals as goal
+use Rattle.double_dummy.proofs.masters.higher.Goals as goal
 
 pub returns-clause-among : goal.returns-clause-among
 returns-clause-among c =

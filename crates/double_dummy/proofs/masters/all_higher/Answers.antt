@@ -1,5 +1,5 @@
 use Rattle.double_dummy.proofs.SureLemmas.{above_both, among_both}
-use Rattle.double_dummy.proofs.sure.all_higher.Goals as goal
+use Rattle.double_dummy.proofs.masters.all_higher.Goals as goal
 
 pub returns-clause-among : goal.returns-clause-among
 returns-clause-among c =

@@ -1,6 +1,6 @@
 use Rattle.double_dummy.proofs.RunLemmas.{none_in}
 use Rattle.double_dummy.proofs.SureLemmas.{alone_in, of_suit}
-use Rattle.double_dummy.proofs.sure.lone.Goals as goal
+use Rattle.double_dummy.proofs.masters.lone.Goals as goal
 
 pub returns-clause-among : goal.returns-clause-among
 returns-clause-among c card held =

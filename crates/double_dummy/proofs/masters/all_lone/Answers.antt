@@ -1,5 +1,5 @@
 use Rattle.double_dummy.proofs.SureLemmas.{alone_both, among_both}
-use Rattle.double_dummy.proofs.sure.all_lone.Goals as goal
+use Rattle.double_dummy.proofs.masters.all_lone.Goals as goal
 
 pub returns-clause-among : goal.returns-clause-among
 returns-clause-among c =
