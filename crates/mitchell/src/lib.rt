@@ -4,8 +4,6 @@
 mod arithmetic;
 mod mitchell;
 mod movement_error;
-#[cfg(test)]
-mod tests;
 
 pub use mitchell::Mitchell;
 pub use movement_error::MovementError;

@@ -14,8 +14,6 @@ mod row;
 mod sitting;
 mod sittings;
 mod sound;
-#[cfg(test)]
-mod tests;
 
 pub use cell::Cell;
 pub use limits::Limits;

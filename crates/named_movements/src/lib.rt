@@ -6,8 +6,6 @@ pub mod laws;
 mod movement_word;
 mod named_movement;
 mod rows;
-#[cfg(test)]
-mod tests;
 
 pub use movement_word::MovementWord;
 pub use named_movement::NamedMovement;

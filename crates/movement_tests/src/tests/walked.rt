@@ -1,9 +1,8 @@
 //! Movements as they are walked through, of each size: after a round pairs and sets go from table to table.
 
-use crate::movement_word::MovementWord;
-use crate::named_movement::NamedMovement;
-use crate::tests::of;
+use super::named::of;
 use movement::Movement;
+use named_movements::{MovementWord, NamedMovement};
 use table_terms::{Pair, Side};
 
 /// What lies or sits at places in a row, from the first on.

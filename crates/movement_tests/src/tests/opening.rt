@@ -1,9 +1,8 @@
 //! Which movements there are, and the first cause why there is none.
 
-use crate::movement_word::MovementWord;
-use crate::named_movement::NamedMovement;
-use crate::tests::of;
+use super::named::of;
 use movement::ListError;
+use named_movements::{MovementWord, NamedMovement};
 use table_terms::{Pair, Side};
 
 const WORDS: [(MovementWord, &str); 4] = [

@@ -1,9 +1,8 @@
 //! Movements in full, as a script lists them that knows nothing of this program, or a printed guide card.
 
-use crate::movement_word::MovementWord;
-use crate::named_movement::NamedMovement;
-use crate::tests::of;
+use super::named::of;
 use movement::Movement;
+use named_movements::{MovementWord, NamedMovement};
 use std::alloc::{AllocError, Global};
 
 /// A Howell of three tables, a line a round.

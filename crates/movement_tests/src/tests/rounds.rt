@@ -2,16 +2,8 @@
 
 ghost use Rattle.std.specs.Prelude.{◌≤◌};
 
-use crate::mitchell::Mitchell;
-use crate::movement_error::MovementError;
-use table_terms::{Pair, Side};
-
-fn ns(number: u8) -> Pair {
-    Pair {
-        side: Side::NorthSouth,
-        number,
-    }
-}
+use super::pairs::ns;
+use mitchell::{Mitchell, MovementError};
 
 /// Whether a table plays a set against an East-West pair in a round.
 fn is_row(section: Mitchell, round: u8, table: u8, set: u8, pair: u8) -> bool

@@ -1,30 +1,11 @@
 //! A movement of three tables in which each pair meets each other and each set once, and lists that can't be played.
 
-use crate::limits::Limits;
-use crate::list_error::ListError;
-use crate::movement::Movement;
-use crate::movement_fault::MovementFault;
-use crate::row::Row;
-use crate::sound::first_misplaced;
-use mitchell::MovementError;
+use super::pairs::{ew, ns};
+use movement::{Limits, ListError, Movement, MovementError, MovementFault, Row, first_misplaced};
 use std::alloc::AllocError;
-use table_terms::{Pair, Side};
+use table_terms::Pair;
 
 const ROWS: usize = 15;
-
-fn ns(number: u8) -> Pair {
-    Pair {
-        side: Side::NorthSouth,
-        number,
-    }
-}
-
-fn ew(number: u8) -> Pair {
-    Pair {
-        side: Side::EastWest,
-        number,
-    }
-}
 
 fn row(round: u8, table: u8, set: u8, north_south: Pair, east_west: Pair) -> Row {
     Row {

@@ -1,0 +1,7 @@
+mod listed;
+mod lists;
+mod named;
+mod opening;
+mod pairs;
+mod rounds;
+mod walked;
