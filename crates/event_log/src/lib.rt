@@ -12,8 +12,6 @@ mod log_writer;
 mod moment;
 mod plain_text;
 mod shared_log;
-#[cfg(test)]
-mod tests;
 mod told_log;
 mod words;
 

@@ -6,8 +6,6 @@ mod door;
 mod hall_page;
 mod room;
 mod session_request;
-#[cfg(test)]
-mod tests;
 
 pub use door::Door;
 pub use hall_page::HallPage;

@@ -6,8 +6,6 @@ mod hall_server;
 mod hall_stream;
 mod round_terms;
 mod talkers;
-#[cfg(test)]
-mod tests;
 
 pub use hall_server::HallServer;
 pub use hall_stream::HallStream;

@@ -5,8 +5,6 @@ mod client;
 mod clients;
 pub mod laws;
 mod ready_stream;
-#[cfg(test)]
-mod tests;
 mod turn;
 mod turn_end;
 

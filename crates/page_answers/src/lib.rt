@@ -9,8 +9,6 @@ pub mod laws;
 mod page_answers;
 mod page_service;
 mod tagged_file;
-#[cfg(test)]
-mod tests;
 mod told_tags;
 
 pub use page_answers::PageAnswers;

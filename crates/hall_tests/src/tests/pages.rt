@@ -1,8 +1,8 @@
 //! Answers byte for byte, as `http_server` sends them.
 
-use crate::{PageAnswers, PageService};
 use bytes::Bytes;
 use http_server::{Config, Connection, serve};
+use page_answers::{PageAnswers, PageService};
 use page_files::PageFile;
 use std::alloc::{AllocError, Global};
 use std::hash::RandomState;

@@ -1,6 +1,8 @@
 //! Lines as they stand in a log, and logs that can't be written.
 
-use crate::{AnsweredCommand, BatchFault, Event, EventLog, Guest, LogOutcome, ToldLog, log_line};
+use event_log::{
+    AnsweredCommand, BatchFault, Event, EventLog, Guest, LogOutcome, ToldLog, log_line,
+};
 use hall_terms::ClientEnd;
 use session_commands::{CommandWord, Refusal};
 use session_roles::Operation;

@@ -1,6 +1,6 @@
 //! Paths that would lead out of a folder, or to a file by another name, where they were taken apart.
 
-use super::answers::{sent_for, small_page};
+use super::pages::{sent_for, small_page};
 use std::test::Fail;
 
 static PATHS: &[&str] = &[

@@ -1,10 +1,12 @@
+//! Those who talk: floods, greetings that are refused, and who is late.
+
 ghost use Rattle.std.specs.Prelude.{codes, false};
 
-use crate::{
-    HallServer, Newcomer, RoundTerms, Talkers, end_late, let_in, serve_listed, serve_talker,
-};
 use hall_door::Room;
 use hall_terms::{ClientEnd, ClientTime};
+use hall_turns::{
+    HallServer, Newcomer, RoundTerms, Talkers, end_late, let_in, serve_listed, serve_talker,
+};
 use many_clients::ReadyStream;
 use std::alloc::{AllocError, Global};
 use std::borrow::CowStr;

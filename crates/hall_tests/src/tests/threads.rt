@@ -1,8 +1,8 @@
 //! Threads that hand out one page.
 
-use super::answers::small_page;
-use crate::{PageAnswers, PageService};
+use super::pages::small_page;
 use http_server::{Config, Connection, serve};
+use page_answers::{PageAnswers, PageService};
 use std::hash::RandomState;
 use std::random::RandomSource;
 use std::test::Fail;

@@ -1,8 +1,10 @@
+//! Clients beside one another, over streams that give and take little.
+
 ghost use Rattle.std.specs.Prelude.{◌≡◌, Some, codes};
 ghost use Rattle.many_clients.specs.Talker.{IsAtStart};
 ghost use Rattle.websocket_server.specs.Messages.{longest_message};
 
-use crate::{Client, ReadyStream, TurnEnd, admit, dismiss, serve_all, serve_at};
+use many_clients::{Client, ReadyStream, TurnEnd, admit, dismiss, serve_all, serve_at};
 use slab::Slab;
 use std::alloc::{AllocError, Global};
 use std::borrow::CowStr;

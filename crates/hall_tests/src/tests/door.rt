@@ -1,4 +1,6 @@
-use crate::{Door, HallPage, HallPlace, Room};
+//! The door: handshakes, refusals, and places.
+
+use hall_door::{Door, HallPage, HallPlace, Room};
 use http_server::{Config, Connection};
 use std::alloc::Global;
 use std::hash::RandomState;
