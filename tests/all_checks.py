@@ -57,7 +57,7 @@ BOARDS = "crates/pbn_boards/out/pbn_boards"
 TABLES = "crates/deal_tables/out/deal_tables"
 STORED_RUNS = "crates/bridge_server_stored_runs/out/bridge_server_stored_runs"
 RULES = "crates/rules_tests/out/rules_tests_tests"
-OBJECTS = "crates/session_object/out/session_object_tests"
+OBJECTS = "crates/opening_tests/out/opening_tests_tests"
 # of built programs: neither a browser nor a socket, and seconds each
 SHORT = (
     (PYTHON, ("examples/say_answers.py", "examples/one_board.script", "--by", SERVER)),

@@ -14,7 +14,7 @@ import sys
 ROOT = pathlib.Path(__file__).resolve().parents[2]
 # each page with its chapter: the layers are the first indented lines in it
 PAGES = (("docs/ARCHITECTURE.md", "The layers"), ("README.md", "The house"))
-TESTS = {"bridge_server_stored_runs", "called_program_tests", "desks_tests", "display_times", "hall_tests", "journal_tests", "movement_tests", "rules_tests", "test_devices"}
+TESTS = {"bridge_server_stored_runs", "called_program_tests", "desks_tests", "display_times", "hall_tests", "journal_tests", "movement_tests", "opening_tests", "rules_tests", "test_devices"}
 WIDTH = 118
 
 

@@ -7,8 +7,6 @@ mod people_fault;
 mod person;
 mod reading;
 mod rows;
-#[cfg(test)]
-mod tests;
 
 pub use people_fault::{LineFault, PeopleFault};
 pub use person::Person;

@@ -10,8 +10,6 @@ mod plan;
 mod prepared;
 mod preparing_fault;
 mod sign_in_list;
-#[cfg(test)]
-mod tests;
 mod users;
 mod writable;
 

@@ -12,8 +12,6 @@ mod refused_user;
 mod statuses;
 mod summary;
 mod telling;
-#[cfg(test)]
-mod tests;
 
 pub use checking::check_session;
 pub use member::{MemberAt, MemberName};

@@ -12,8 +12,6 @@ mod object;
 mod parts;
 mod reading;
 mod session_fault;
-#[cfg(test)]
-mod tests;
 mod user;
 
 pub use asked_movement::AskedMovement;

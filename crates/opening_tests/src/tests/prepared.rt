@@ -1,12 +1,10 @@
 //! What is prepared for a small club.
 
-use crate::{Plan, prepare};
+use super::boards::deals;
 use people_list::read_people;
+use preparing::{Plan, prepare};
 use sign_ins::SignInToken;
 use std::alloc::{AllocError, Global};
-
-/// A deal in which each player has a suit.
-const DEAL: &str = "N:AKQJT98765432... .AKQJT98765432.. ..AKQJT98765432. ...AKQJT98765432";
 
 fn plan() -> Plan<'static> {
     Plan {
@@ -21,16 +19,6 @@ fn plan() -> Plan<'static> {
         date: None,
         address: "http://localhost:8000/",
     }
-}
-
-/// Three boards of this deal.
-fn boards(alloc: Global) -> Result<String, AllocError> {
-    let mut text = String::new(alloc);
-    for board in 1..4u32 {
-        let game = format!(in alloc; "[Board \"{board}\"]\n[Deal \"{DEAL}\"]\n\n")?;
-        text.push_str(game.as_str())?;
-    }
-    Ok(text)
 }
 
 /// What is said of people: the list of who signs in by what, or the fault.
@@ -48,7 +36,7 @@ fn outcome(alloc: Global, people: &str) -> Result<String, AllocError> {
         &plan(),
         people.as_slice(),
         tokens.as_slice(),
-        boards(alloc)?.as_bytes(),
+        deals(alloc, 3)?.as_bytes(),
     ) {
         Ok(prepared) => Ok(prepared.sign_ins),
         Err(fault) => fault.to_string(alloc),

@@ -1,14 +1,10 @@
 //! What is told of sessions that open and that don't, as it is printed.
 
-use crate::checking::check_session;
-use crate::member::{MemberAt, MemberName};
-use crate::misread::misread_at;
-use serde_json::Value;
+use super::boards::deals;
+use super::opened::movement_in;
+use session_check::{MemberAt, MemberName, check_session, first_misread};
+use session_object::SessionFault;
 use std::alloc::{AllocError, Global};
-use std::test::Fail;
-
-/// A deal in which each player has a suit.
-const DEAL: &str = "N:AKQJT98765432... .AKQJT98765432.. ..AKQJT98765432. ...AKQJT98765432";
 
 /// A digest.
 const DIGEST: &str = "5c8b48b667e98452c602b3a1eef2b59ccaefb1b592725c105a8c482ddee81a01";
@@ -111,25 +107,22 @@ static MISREAD: [(&[(&str, &str, &str)], Option<usize>, MemberName); 7] = [
 
 // The helpers have no clause, so that a test's proof does not carry what its calls say.
 
-/// The boards' text of three boards.
-fn deals(alloc: Global) -> Result<String, AllocError> {
-    let mut text = String::new(alloc);
-    for number in 1..=3_u8 {
-        let deal = format!(in alloc; "[Board \"{number}\"]\n[Deal \"{DEAL}\"]\n\n")?;
-        text.push_str(deal.as_str())?;
-    }
-    Ok(text)
+/// A user: a name, what `roles` lists and what else is said.
+fn user_of(alloc: Global, name: &str, roles: &str, rest: &str) -> Result<String, AllocError> {
+    format!(in alloc; "{{\"digest\":\"{DIGEST}\",\"name\":\"{name}\",\"roles\":[{roles}]{rest}}}")
 }
 
 /// The object of a session with these users after the administrator.
 fn object_of(alloc: Global, users: &[(&str, &str, &str)]) -> Result<String, AllocError> {
-    let mut text = format!(in alloc;
-        "{{\"budget\":0,\"per_set\":1,\"rounds\":3,\"tables\":3,\"users\":[{{\"digest\":\"{DIGEST}\",\"name\":\"a\",\"roles\":[\"Administrator\"]}}"
+    let mut text = String::from_str(
+        alloc,
+        r#"{"budget":0,"per_set":1,"rounds":3,"tables":3,"users":["#,
     )?;
+    let administrator = user_of(alloc, "a", r#""Administrator""#, "")?;
+    text.push_str(administrator.as_str())?;
     for (name, roles, rest) in users {
-        let user = format!(in alloc;
-            ",{{\"digest\":\"{DIGEST}\",\"name\":\"{name}\",\"roles\":[{roles}]{rest}}}"
-        )?;
+        let user = user_of(alloc, name, roles, rest)?;
+        text.push_str(",")?;
         text.push_str(user.as_str())?;
     }
     text.push_str("]}")?;
@@ -144,44 +137,62 @@ fn told(alloc: Global, object: &str, deals: &str) -> Result<String, AllocError> 
     }
 }
 
-/// The member that isn't as it should be, of an object whose boards are given beside it; none where the text is no JSON.
+/// The member that isn't as it should be, of an object whose boards are given beside it; none where the text is no object.
 fn misread_in(alloc: Global, object: &str) -> Option<MemberAt> {
-    match Value::from_str(alloc, object) {
-        Ok(value) => Some(misread_at(&value, true)),
-        Err(_) => None,
+    match movement_in(alloc, object.as_bytes(), Some(b"")) {
+        Err(SessionFault::BadField) => first_misread(alloc, object.as_bytes(), true).ok(),
+        Err(SessionFault::Deals(_)) => first_misread(alloc, object.as_bytes(), true).ok(),
+        _ => None,
+    }
+}
+
+/// Whether what is told of a session with these users begins so.
+fn begins(alloc: Global, users: &[(&str, &str, &str)], deals: &str, start: &str) -> bool {
+    match object_of(alloc, users) {
+        Ok(object) => match told(alloc, object.as_str(), deals) {
+            Ok(line) => line.as_str().starts_with(start),
+            Err(_) => false,
+        },
+        Err(_) => false,
+    }
+}
+
+/// The same over three boards.
+fn begins_over_boards(alloc: Global, users: &[(&str, &str, &str)], start: &str) -> bool {
+    match deals(alloc, 3) {
+        Ok(deals) => begins(alloc, users, deals.as_str(), start),
+        Err(_) => false,
+    }
+}
+
+/// Whether a session's object with these users has this member that isn't as it should be.
+fn is_misread(alloc: Global, users: &[(&str, &str, &str)], wanted: MemberAt) -> bool {
+    match object_of(alloc, users) {
+        Ok(object) => misread_in(alloc, object.as_str()) == Some(wanted),
+        Err(_) => false,
     }
 }
 
 #[test]
-fn the_user_is_told(rt: HostRuntime) -> Result<(), Fail> {
-    let deals = deals(rt.alloc())?;
-    for (row, users, start) in USERS {
-        let object = object_of(rt.alloc(), users)?;
-        let line = told(rt.alloc(), object.as_str(), deals.as_str())?;
-        assert!(rt; line.as_str().starts_with(start), "{row}: {line}");
+fn the_user_is_told(rt: HostRuntime) {
+    for &(row, users, start) in &USERS {
+        assert!(rt; begins_over_boards(rt.alloc(), users, start), "{row}");
     }
-    Ok(())
 }
 
 #[test]
-fn the_line_is_told(rt: HostRuntime) -> Result<(), Fail> {
-    let object = object_of(rt.alloc(), &[])?;
-    for (deals, start) in DEALS {
-        let line = told(rt.alloc(), object.as_str(), deals)?;
-        assert!(rt; line.as_str().starts_with(start), "{deals}: {line}");
+fn the_line_is_told(rt: HostRuntime) {
+    for &(deals, start) in &DEALS {
+        assert!(rt; begins(rt.alloc(), &[], deals, start), "{deals}");
     }
-    Ok(())
 }
 
 #[test]
-fn the_member_is_told(rt: HostRuntime) -> Result<(), Fail> {
-    for (users, user, name) in MISREAD {
-        let object = object_of(rt.alloc(), users)?;
-        let found = misread_in(rt.alloc(), object.as_str());
+fn the_member_is_told(rt: HostRuntime) {
+    for &(users, user, name) in &MISREAD {
         assert!(rt;
-            found == Some(MemberAt { user, name }),
-            "{object}: {name:?}"
+            is_misread(rt.alloc(), users, MemberAt { user, name }),
+            "{user:?} {name:?}"
         );
     }
-    Ok(())
 }

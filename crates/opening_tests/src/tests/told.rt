@@ -1,8 +1,7 @@
 //! What a session object tells of the session and of its users: the longest that may stand there, and one more.
 
-use crate::reading::read_session;
+use super::opened::movement_in;
 use std::alloc::{AllocError, Global};
-use std::test::Fail;
 
 /// What stands before a text of one letter, so often; what stands behind it; and what comes of it. First members of the
 /// session, then of a user.
@@ -104,7 +103,7 @@ fn between(
 /// What comes of an object with these members: `read`, where all that is wrong is that no board is there, or its fault.
 fn outcome(alloc: Global, members: &str, users: &str) -> Result<String, AllocError> {
     let object = format!(in alloc; "{{{BESIDE}{members}\"users\":[{users}]}}")?;
-    match read_session(alloc, object.as_bytes(), None) {
+    match movement_in(alloc, object.as_bytes(), None) {
         Ok(_) => String::from_str(alloc, "read without boards"),
         Err(fault) => {
             let name = format!(in alloc; "{fault}")?;
@@ -128,50 +127,72 @@ fn with_user(alloc: Global, member: &str) -> Result<String, AllocError> {
     outcome(alloc, "", user.as_str())
 }
 
-#[test]
-fn what_a_session_tells_of_itself(rt: HostRuntime) -> Result<(), Fail> {
-    for (before, times, after, name) in LENGTHS {
-        let member = between(rt.alloc(), before, "a", times, after)?;
-        assert_eq!(rt;
-            with_member(rt.alloc(), member.as_str())?.as_str(),
-            name,
-            "{member}"
-        );
+/// Whether this comes of a member.
+fn is_outcome(alloc: Global, is_of_user: bool, member: &str, wanted: &str) -> bool {
+    let told = if is_of_user {
+        with_user(alloc, member)
+    } else {
+        with_member(alloc, member)
+    };
+    match told {
+        Ok(told) => told.as_str() == wanted,
+        Err(_) => false,
     }
-    for (member, name) in MEMBERS {
-        assert_eq!(rt; with_member(rt.alloc(), member)?.as_str(), name, "{member}");
+}
+
+/// Whether this comes of a member in which a text stands so often.
+fn comes_of(
+    alloc: Global,
+    is_of_user: bool,
+    (before, times, after): (&str, usize, &str),
+    wanted: &str,
+) -> bool {
+    match between(alloc, before, "a", times, after) {
+        Ok(member) => is_outcome(alloc, is_of_user, member.as_str(), wanted),
+        Err(_) => false,
     }
-    Ok(())
 }
 
 #[test]
-fn a_user_may_be_shown_and_numbered(rt: HostRuntime) -> Result<(), Fail> {
-    for (before, times, after, name) in USER_LENGTHS {
-        let member = between(rt.alloc(), before, "a", times, after)?;
-        assert_eq!(rt;
-            with_user(rt.alloc(), member.as_str())?.as_str(),
-            name,
-            "{member}"
+fn what_a_session_tells_of_itself(rt: HostRuntime) {
+    for &(before, times, after, name) in &LENGTHS {
+        assert!(rt;
+            comes_of(rt.alloc(), false, (before, times, after), name),
+            "{before} {times} {after}"
         );
     }
-    for (member, name) in USER_MEMBERS {
-        assert_eq!(rt; with_user(rt.alloc(), member)?.as_str(), name, "{member}");
+    for &(member, name) in &MEMBERS {
+        assert!(rt; is_outcome(rt.alloc(), false, member, name), "{member}");
     }
-    Ok(())
+}
+
+#[test]
+fn a_user_may_be_shown_and_numbered(rt: HostRuntime) {
+    for &(before, times, after, name) in &USER_LENGTHS {
+        assert!(rt;
+            comes_of(rt.alloc(), true, (before, times, after), name),
+            "{before} {times} {after}"
+        );
+    }
+    for &(member, name) in &USER_MEMBERS {
+        assert!(rt; is_outcome(rt.alloc(), true, member, name), "{member}");
+    }
 }
 
 /// How many reasons beside the first, and what comes of it.
 static MORE: [(usize, &str); 2] = [(98, "read"), (99, "BadField")];
 
-#[test]
-fn there_are_99_reasons_at_most(rt: HostRuntime) -> Result<(), Fail> {
-    for (more, name) in MORE {
-        let member = between(rt.alloc(), r#""reasons":["a""#, r#","a""#, more, "]")?;
-        assert_eq!(rt;
-            with_member(rt.alloc(), member.as_str())?.as_str(),
-            name,
-            "{more}"
-        );
+/// Whether this comes of so many reasons beside the first.
+fn comes_of_more(alloc: Global, more: usize, wanted: &str) -> bool {
+    match between(alloc, r#""reasons":["a""#, r#","a""#, more, "]") {
+        Ok(member) => is_outcome(alloc, false, member.as_str(), wanted),
+        Err(_) => false,
     }
-    Ok(())
+}
+
+#[test]
+fn there_are_99_reasons_at_most(rt: HostRuntime) {
+    for &(more, name) in &MORE {
+        assert!(rt; comes_of_more(rt.alloc(), more, name), "{more}");
+    }
 }

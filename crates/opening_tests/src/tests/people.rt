@@ -1,6 +1,6 @@
 //! Lists of people, as a club writes them.
 
-use crate::{Person, read_people};
+use people_list::{Person, read_people};
 use std::alloc::Global;
 
 /// Lists that aren't read, and how their faults begin.

@@ -1,17 +1,12 @@
 //! Session objects that ask for a movement: a Howell of three tables as a list, its faults, other values of the members, and
 //! the longest list.
 
-mod told;
-
-use crate::reading::read_session;
-use crate::session_fault::SessionFault;
+use super::boards::deals;
+use super::opened::movement_in;
 use movement::Movement;
+use session_object::SessionFault;
 use std::alloc::{AllocError, Global};
-use std::test::Fail;
 use table_terms::{Pair, Side};
-
-/// A deal in which each player has a suit.
-const DEAL: &str = "N:AKQJT98765432... .AKQJT98765432.. ..AKQJT98765432. ...AKQJT98765432";
 
 /// A Howell of three tables, five rounds and five sets. In its first round all three tables play set 1.
 static HOWELL: [&str; 15] = [
@@ -242,17 +237,6 @@ static WORDS: [(&str, u8, u8, &str, &str); 30] = [
 
 // The helpers have no clause, so that a test's proof does not carry what its calls say.
 
-/// The boards' text of this many boards.
-fn deals(alloc: Global, boards: u8) -> Result<String, AllocError> {
-    let mut text = String::new(alloc);
-    for board in 0..boards {
-        let number = u32::from(board) + 1;
-        let deal = format!(in alloc; "[Board \"{number}\"]\n[Deal \"{DEAL}\"]\n\n")?;
-        text.push_str(deal.as_str())?;
-    }
-    Ok(text)
-}
-
 /// The object of a session without users that has these members.
 fn object_of(alloc: Global, members: &str) -> Result<String, AllocError> {
     let mut text = String::from_str(alloc, r#"{"budget":0,"users":[],"#)?;
@@ -284,50 +268,70 @@ fn with_howell(
 fn outcome(alloc: Global, members: &str, boards: u8) -> Result<String, AllocError> {
     let object = object_of(alloc, members)?;
     let deals = deals(alloc, boards)?;
-    match read_session(alloc, object.as_bytes(), Some(deals.as_bytes())) {
+    match movement_in(alloc, object.as_bytes(), Some(deals.as_bytes())) {
         Ok(_) => String::from_str(alloc, "read"),
         Err(fault) => format!(in alloc; "{fault}"),
     }
 }
 
-#[test]
-fn a_list_is_read_or_its_first_fault_told(rt: HostRuntime) -> Result<(), Fail> {
-    for (number, row, members, name) in LISTS {
-        let members = with_howell(rt.alloc(), members, number, row)?;
-        assert_eq!(rt;
-            outcome(rt.alloc(), members.as_str(), 5)?.as_str(),
-            name,
-            "{number} {row}"
-        );
+/// Whether this comes of an object, where the text of its members was made.
+fn comes_of(alloc: Global, members: Result<String, AllocError>, boards: u8, wanted: &str) -> bool {
+    match members {
+        Ok(members) => is_outcome(alloc, members.as_str(), boards, wanted),
+        Err(_) => false,
     }
-    Ok(())
+}
+
+fn is_outcome(alloc: Global, members: &str, boards: u8, wanted: &str) -> bool {
+    match outcome(alloc, members, boards) {
+        Ok(told) => told.as_str() == wanted,
+        Err(_) => false,
+    }
+}
+
+fn comes_of_list(alloc: Global, number: usize, row: &str, members: &str, wanted: &str) -> bool {
+    comes_of(alloc, with_howell(alloc, members, number, row), 5, wanted)
+}
+
+/// The members of a movement that a word names.
+fn with_word(
+    alloc: Global,
+    word: &str,
+    tables: u8,
+    rounds: u8,
+    rest: &str,
+) -> Result<String, AllocError> {
+    format!(in alloc;
+        "\"movement\":\"{word}\",\"per_set\":1,\"rounds\":{rounds},\"tables\":{tables}{rest}"
+    )
 }
 
 #[test]
-fn other_members_about_the_movement(rt: HostRuntime) -> Result<(), Fail> {
-    for (members, name) in OTHERS {
-        assert_eq!(rt;
-            outcome(rt.alloc(), members, 5)?.as_str(),
-            name,
-            "{members}"
+fn a_list_is_read_or_its_first_fault_told(rt: HostRuntime) {
+    for &(number, row, members, name) in &LISTS {
+        assert!(rt;
+            comes_of_list(rt.alloc(), number, row, members, name),
+            "{number} {row} {members}"
         );
     }
-    Ok(())
 }
 
 #[test]
-fn a_word_is_read_or_its_first_fault_told(rt: HostRuntime) -> Result<(), Fail> {
-    for (word, tables, rounds, rest, name) in WORDS {
-        let members = format!(in rt.alloc();
-            "\"movement\":\"{word}\",\"per_set\":1,\"rounds\":{rounds},\"tables\":{tables}{rest}"
-        )?;
-        assert_eq!(rt;
-            outcome(rt.alloc(), members.as_str(), 5)?.as_str(),
-            name,
-            "{members}"
+fn other_members_about_the_movement(rt: HostRuntime) {
+    for &(members, name) in &OTHERS {
+        assert!(rt; is_outcome(rt.alloc(), members, 5, name), "{members}");
+    }
+}
+
+#[test]
+fn a_word_is_read_or_its_first_fault_told(rt: HostRuntime) {
+    for &(word, tables, rounds, rest, name) in &WORDS {
+        let members = with_word(rt.alloc(), word, tables, rounds, rest);
+        assert!(rt;
+            comes_of(rt.alloc(), members, 5, name),
+            "{word} {tables} {rounds} {rest}"
         );
     }
-    Ok(())
 }
 
 // ---- who plays what
@@ -382,27 +386,33 @@ fn places_of(alloc: Global, movement: &Movement) -> Result<String, AllocError> {
 fn first_pair_plays(alloc: Global, members: &str) -> Result<String, AllocError> {
     let object = object_of(alloc, members)?;
     let deals = deals(alloc, 5)?;
-    match read_session(alloc, object.as_bytes(), Some(deals.as_bytes())) {
-        Ok(session) => places_of(alloc, &session.config.movement),
+    match movement_in(alloc, object.as_bytes(), Some(deals.as_bytes())) {
+        Ok(movement) => places_of(alloc, &movement),
         Err(_) => String::from_str(alloc, "not read"),
     }
 }
 
-#[test]
-fn the_rows_say_who_plays_what(rt: HostRuntime) -> Result<(), Fail> {
-    let howell = with_howell(rt.alloc(), BESIDE, 0, "")?;
-    assert_eq!(rt;
-        first_pair_plays(rt.alloc(), howell.as_str())?.as_str(),
-        "named 1.1 1.2 1.5 1.3 1.4"
-    );
-    for (members, places) in PLACES {
-        assert_eq!(rt;
-            first_pair_plays(rt.alloc(), members)?.as_str(),
-            places,
-            "{members}"
-        );
+/// Whether the first pair plays there, by these members.
+fn is_played(alloc: Global, members: &str, places: &str) -> bool {
+    match first_pair_plays(alloc, members) {
+        Ok(told) => told.as_str() == places,
+        Err(_) => false,
     }
-    Ok(())
+}
+
+fn is_played_by_list(alloc: Global, places: &str) -> bool {
+    match with_howell(alloc, BESIDE, 0, "") {
+        Ok(members) => is_played(alloc, members.as_str(), places),
+        Err(_) => false,
+    }
+}
+
+#[test]
+fn the_rows_say_who_plays_what(rt: HostRuntime) {
+    assert!(rt; is_played_by_list(rt.alloc(), "named 1.1 1.2 1.5 1.3 1.4"));
+    for &(members, places) in &PLACES {
+        assert!(rt; is_played(rt.alloc(), members, places), "{members}");
+    }
 }
 
 // ---- the longest list
@@ -453,18 +463,13 @@ fn all_against_all(alloc: Global, more: u8) -> Result<String, AllocError> {
 }
 
 #[test]
-fn a_list_has_496_rows_at_most(rt: HostRuntime) -> Result<(), Fail> {
-    let longest = all_against_all(rt.alloc(), 0)?;
-    assert_eq!(rt; outcome(rt.alloc(), longest.as_str(), 31)?.as_str(), "read");
-    let longer = all_against_all(rt.alloc(), 1)?;
-    assert_eq!(rt;
-        outcome(rt.alloc(), longer.as_str(), 31)?.as_str(),
-        "BadField"
-    );
-    Ok(())
+fn a_list_has_496_rows_at_most(rt: HostRuntime) {
+    let alloc = rt.alloc();
+    assert!(rt; comes_of(alloc, all_against_all(alloc, 0), 31, "read"));
+    assert!(rt; comes_of(alloc, all_against_all(alloc, 1), 31, "BadField"));
 }
 
-// ---- under every memory: run alone, with each request refused in turn (`tests/refuse_growths.py`), this passes
+// ---- under every memory: run alone, with each request refused in turn (`tests/memory/refuse_growths.py`), this passes
 
 /// Whether the Howell is read, or memory was refused.
 fn is_read_where_there_is_memory(alloc: Global) -> bool {
@@ -474,8 +479,8 @@ fn is_read_where_there_is_memory(alloc: Global) -> bool {
     let (Ok(object), Ok(deals)) = (object_of(alloc, members.as_str()), deals(alloc, 5)) else {
         return true;
     };
-    match read_session(alloc, object.as_bytes(), Some(deals.as_bytes())) {
-        Ok(session) => session.config.movement.boards() == 5,
+    match movement_in(alloc, object.as_bytes(), Some(deals.as_bytes())) {
+        Ok(movement) => movement.boards() == 5,
         Err(fault) => matches!(fault, SessionFault::OutOfMemory),
     }
 }

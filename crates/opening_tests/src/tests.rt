@@ -1,0 +1,7 @@
+mod boards;
+mod checks;
+mod objects;
+mod opened;
+mod people;
+mod prepared;
+mod told;
