@@ -163,6 +163,7 @@ fn clients_beside_one_another(rt: HostRuntime) {
     );
     let (Ok(one), Ok(other)) = (one, other) else {
         assert!(rt; false, "no memory");
+        drop(clients);
         return;
     };
     for _ in 0..100 {
@@ -181,6 +182,7 @@ fn clients_beside_one_another(rt: HostRuntime) {
         serve_all(&rt, alloc, &mut clients, &[one], &mut server);
     }
     assert!(rt; sent(&clients, one) == b"\x81\x05first\x81\x06second".as_slice());
+    drop(clients);
 }
 
 // A stream of one text message in empty parts, which doesn't end.
@@ -234,15 +236,18 @@ fn a_flood_of_empty_parts(rt: HostRuntime) {
     });
     let Ok(key) = admit::<HostRuntime, _, Counting>(&mut clients, socket(alloc, stream)) else {
         assert!(rt; false, "no memory");
+        drop(clients);
         return;
     };
     for _ in 0..3 {
         let end = serve_at(&rt, alloc, &mut clients, key, &mut server);
         assert!(rt; end == Some(TurnEnd::Reading));
         let Some(client) = clients.get(key) else {
+            drop(clients);
             return;
         };
         assert!(rt; client.stream().is_hungry());
         client.stream().begin();
     }
+    drop(clients);
 }

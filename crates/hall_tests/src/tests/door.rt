@@ -17,7 +17,29 @@ const LET_IN: &str =
 // How many writes an answer takes at most: the vector takes whatever it is given.
 const MOST_WRITES: u32 = 4;
 
-// What a door answers some bytes.
+// Whether a connection takes some bytes and writes what a door answers.
+fn is_answered<'a>(
+    connection: &mut Connection,
+    door: &mut Door<'a, HallPage<'a>>,
+    pieces: [&str; 2],
+    sent: &mut Vec<u8>,
+) -> bool {
+    for piece in pieces {
+        let mut bytes = piece.as_bytes();
+        if connection.read_from(&mut bytes).is_err() {
+            return false;
+        }
+        connection.advance(door);
+    }
+    for _ in 0..MOST_WRITES {
+        if connection.wants_write() && connection.write_to(sent).is_err() {
+            return false;
+        }
+    }
+    true
+}
+
+// What a door answers some bytes. The connection is let go by a call: any other way out takes it apart field by field.
 fn answer<'a>(
     rt: &HostRuntime,
     door: &mut Door<'a, HallPage<'a>>,
@@ -29,19 +51,9 @@ fn answer<'a>(
     };
     let mut connection = Connection::new(alloc, keys, Config::default());
     let mut sent = Vec::new(alloc);
-    for piece in pieces {
-        let mut bytes = piece.as_bytes();
-        if connection.read_from(&mut bytes).is_err() {
-            return None;
-        }
-        connection.advance(door);
-    }
-    for _ in 0..MOST_WRITES {
-        if connection.wants_write() && connection.write_to(&mut sent).is_err() {
-            return None;
-        }
-    }
-    Some(sent)
+    let is_whole = is_answered(&mut connection, door, pieces, &mut sent);
+    drop(connection);
+    if is_whole { Some(sent) } else { None }
 }
 
 // Whether an answer begins so.

@@ -6,6 +6,7 @@ use page_answers::{PageAnswers, PageService};
 use page_files::PageFile;
 use std::alloc::{AllocError, Global};
 use std::hash::RandomState;
+use std::io;
 use std::random::RandomSource;
 use std::test::Fail;
 
@@ -116,22 +117,34 @@ pub(super) fn small_page(alloc: Global) -> Result<PageAnswers, AllocError> {
     PageAnswers::new(alloc, files)
 }
 
-/// All that is sent for a request.
+/// All that is sent for a request. The connection is let go by a call: any other way out takes it apart field by field.
+pub(super) fn answered(
+    alloc: Global,
+    keys: RandomState,
+    page: &PageAnswers,
+    request: &[u8],
+) -> io::Result<Vec<u8>> {
+    let mut connection = Connection::new(alloc, keys, Config::default());
+    let mut unread = request;
+    let mut sent = Vec::new(alloc);
+    let served = serve(
+        &mut connection,
+        &mut PageService { page },
+        &mut unread,
+        &mut sent,
+    );
+    drop(connection);
+    served?;
+    Ok(sent)
+}
+
+/// The same, over keys of its own.
 pub(super) fn sent_for<R: RandomSource + AllocGlobal>(
     rt: &R,
     page: &PageAnswers,
     request: &[u8],
 ) -> Result<Vec<u8>, Fail> {
-    let mut connection = Connection::new(rt.alloc(), RandomState::new(rt)?, Config::default());
-    let mut unread = request;
-    let mut sent = Vec::new(rt.alloc());
-    serve(
-        &mut connection,
-        &mut PageService { page },
-        &mut unread,
-        &mut sent,
-    )?;
-    Ok(sent)
+    Ok(answered(rt.alloc(), RandomState::new(rt)?, page, request)?)
 }
 
 #[test]

@@ -1,8 +1,7 @@
 //! Threads that hand out one page.
 
-use super::pages::small_page;
-use http_server::{Config, Connection, serve};
-use page_answers::{PageAnswers, PageService};
+use super::pages::{answered, small_page};
+use page_answers::PageAnswers;
 use std::hash::RandomState;
 use std::random::RandomSource;
 use std::test::Fail;
@@ -12,16 +11,8 @@ fn is_found<R: RandomSource + AllocGlobal>(rt: &R, page: &PageAnswers) -> bool {
     let Ok(keys) = RandomState::new(rt) else {
         return false;
     };
-    let mut connection = Connection::new(rt.alloc(), keys, Config::default());
-    let mut unread = b"GET / HTTP/1.1\r\nHost: h\r\n\r\n".as_slice();
-    let mut sent = Vec::new(rt.alloc());
-    match serve(
-        &mut connection,
-        &mut PageService { page },
-        &mut unread,
-        &mut sent,
-    ) {
-        Ok(_) => sent.as_slice().starts_with(b"HTTP/1.1 200 "),
+    match answered(rt.alloc(), keys, page, b"GET / HTTP/1.1\r\nHost: h\r\n\r\n") {
+        Ok(sent) => sent.as_slice().starts_with(b"HTTP/1.1 200 "),
         Err(_) => false,
     }
 }

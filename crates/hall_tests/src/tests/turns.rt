@@ -199,6 +199,7 @@ fn floods(rt: HostRuntime) {
     let other = come(alloc, &room, &mut talkers, TEXT, b"", false);
     let (Some(parts), Some(texts), Some(other)) = (parts, texts, other) else {
         assert!(rt; false, "no memory");
+        drop(talkers);
         return;
     };
     for key in [parts, texts, other] {
@@ -209,6 +210,7 @@ fn floods(rt: HostRuntime) {
     serve_listed(&rt, alloc, &mut talkers, at(1), &mut server);
     assert!(rt; talkers.has_listed());
     assert!(rt; answers(&talkers, texts) == Some(32) && answers(&talkers, parts) == Some(0));
+    drop(talkers);
 }
 
 // After a greeting that is refused a client isn't read for a second, and then it is.
@@ -220,6 +222,7 @@ fn a_guess(rt: HostRuntime) {
     let mut server = Words::new();
     let Some(key) = come(alloc, &room, &mut talkers, b"", REFUSED, false) else {
         assert!(rt; false, "no memory");
+        drop(talkers);
         return;
     };
     for (now, count) in [(0, 1), (500, 1), (999, 1), (1_000, 2)] {
@@ -229,6 +232,7 @@ fn a_guess(rt: HostRuntime) {
         serve_talker(&rt, alloc, &mut talkers, key, at(now), &mut server);
         assert!(rt; answers(&talkers, key) == Some(count), "at {now}");
     }
+    drop(talkers);
 }
 
 // A stranger is ended ten seconds after its handshake, whatever it sends; who has signed in has longer, and each place is free
@@ -243,6 +247,7 @@ fn strangers_are_late(rt: HostRuntime) {
     let guest = come(alloc, &room, &mut talkers, IN, b"", false);
     let (Some(stranger), Some(guest)) = (stranger, guest) else {
         assert!(rt; false, "no memory");
+        drop(talkers);
         return;
     };
     for now in [0, 5_000, 9_999] {
@@ -260,4 +265,5 @@ fn strangers_are_late(rt: HostRuntime) {
     assert!(rt; server.ended.get() == Some((true, ClientEnd::Late, 300_000)));
     let (one, other) = (room.take(), room.take());
     assert!(rt; one.is_some() && other.is_some());
+    drop(talkers);
 }
