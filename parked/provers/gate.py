@@ -1,7 +1,7 @@
 #!/usr/bin/env python3
 """Proves the crates of ROOT crate by crate as rt ci does (Crate.ci), keeps what is proved by a hash of files and libraries.
    gate.py ROOT [--jobs N] [--tests] [--edits] [NAMES..]    names (with what is below) alone; --first A,B: these chains first"""
-import copy, hashlib, importlib.machinery, os, shutil, sys, time, types
+import copy, hashlib, importlib.machinery, os, re, shutil, sys, time, types
 from concurrent.futures import FIRST_COMPLETED, ThreadPoolExecutor, wait
 P = "/opt/rattle/bin/rt"
 rt = types.ModuleType("rt"); rt.__file__ = P
@@ -36,7 +36,11 @@ def key(crate, tests=False):
     if k not in KEYS:
         s = hashlib.sha256(repr((rtlib.KIT, crate.name, crate.said, tests)).encode())
         for f in sorted(rtlib.files_of(crate.folder)):
-            s.update(repr((f.replace(crate.folder, ""), open(f, "rb").read())).encode())
+            name, text = f.replace(crate.folder, ""), open(f, "rb").read()
+            # what is proved of a crate says nothing of its tests
+            if not tests and re.match(r"/(src|proofs)/tests(\.rt$|/)", name): continue
+            if not tests and name == "/src/lib.rt": text = text.replace(b"#[cfg(test)]\nmod tests;\n", b"")
+            s.update(repr((name, text)).encode())
         for d in crate.below(): s.update(key(d).encode())
         KEYS[k] = s.hexdigest()[:24]
     return KEYS[k]
