@@ -49,9 +49,10 @@ $(PROGRAM):
 	@echo "make demo builds $(PROGRAM)."; exit 1
 
 # The gate, the cheap checks of the pages, and then the built programs: want of memory at each growth, clients over real
-# sockets, and the page in a browser (README.md, "Checking it", says what they need). The last line is `N passed, M failed`.
+# sockets, and the page in a browser (README.md, "Checking it", says what they need). The last line is `N passed, M failed`. With
+# MINUTES=160 no check of a built program begins later than so many minutes after the gate did, and what isn't run is told.
 test:
-	python3 tests/all_checks.py "$(RT) ci" --built
+	python3 tests/all_checks.py "$(RT) ci" --built $(MINUTES:%=--minutes=%)
 
 # The checks that need no program, and after a gate the short ones of built programs: no browser, no socket, two minutes at most.
 test-fast:

@@ -4,12 +4,14 @@
     tests/all_checks.py                     # the checks that need no program
     tests/all_checks.py "rt ci"             # the gate before them
     tests/all_checks.py "rt ci" --built     # and the checks of built programs after them: `make test`
+    tests/all_checks.py "rt ci" --built --minutes=160   # of which none begins later than so many minutes after the gate did: .ci/run
     tests/all_checks.py --fast              # those that need no program, and beside them those of built programs that need neither a
                                             # browser nor a socket and are short: `make test-fast`
 
 What needs no program runs side by side, and so does all of `--fast`. Of the checks of built programs those that look at no time run side
 by side too, and then the others one after another. What a check says stands in out/checks/, and here where it failed. The last line is
-`N passed, M failed`, the gate's own numbers and one for each check; the status is 1 where something failed. The tests of the page's
+`N passed, M failed`, the gate's own numbers and one for each check, and a line before it names what was not run, since its time was over; the
+status is 1 where something failed. The tests of the page's
 functions need Node.js 20 or later, and those of the page's types Debian's node-typescript: they are not run where it is missing. What the
 checks of built programs need is in README.md, "Checking it"; where it is missing, they fail.
 """
@@ -131,8 +133,14 @@ def log_of(name):
     return LOGS / (re.sub(r"[^\w.]+", "_", name.replace(str(ROOT), ""))[:120] + ".log")
 
 
-# whether a check passed, and its time; all that it says goes into its log
+# when the last check may begin, or None
+LATEST = None
+
+
+# whether a check passed, or None where it is too late to begin it, and its time; all that it says goes into its log
 def run_check(program, words):
+    if LATEST is not None and time.monotonic() > LATEST:
+        return None, 0
     environment = os.environ | {"PYTHONDONTWRITEBYTECODE": "1"}
     began = time.monotonic()
     with log_of(name_of(program, words)).open("w", encoding="utf-8") as log:
@@ -146,6 +154,9 @@ def run_check(program, words):
 
 def tell(program, words, passed, seconds):
     name = name_of(program, words)
+    if passed is None:
+        print(f"not run, since its time was over: {name}", flush=True)
+        return
     said = log_of(name).read_text(encoding="utf-8", errors="replace")
     if not passed:
         print(said, end="" if said.endswith("\n") else "\n")
@@ -207,17 +218,23 @@ def checks_of_lines(folder):
 
 
 def main():
+    global LATEST
     options = {word for word in sys.argv[1:] if word.startswith("--")}
     words = [word for word in sys.argv[1:] if word not in options]
+    minutes = [int(word.partition("=")[2]) for word in options if word.startswith("--minutes=")]
+    latest = time.monotonic() + 60 * minutes[0] if minutes else None
     LOGS.mkdir(parents=True, exist_ok=True)
     passed, failed = run_gate(words[0].split()) if words else (0, 0)
     checks = [*cheap_checks(), *(SHORT if "--fast" in options else ())]
     found = list(run_side_by_side(checks))
     if "--built" in options:
+        LATEST = latest
         with tempfile.TemporaryDirectory() as folder:
             found += run_side_by_side([*BESIDE, *checks_of_lines(folder), *SHORT])
         found += run_in_turn(ALONE)
     passed, failed = passed + found.count(True), failed + found.count(False)
+    if None in found:
+        print(f"{found.count(None)} checks of built programs were not run, since their time was over")
     print(f"{passed} passed, {failed} failed")
     return 1 if failed else 0
 
