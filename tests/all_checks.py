@@ -79,12 +79,12 @@ SHORT = (
 )
 # of built programs, and long: none looks at time, but for how long it waits at most, so they run beside one another, the longest first
 BESIDE = (
+    (PYTHON, ("tests/memory/refuse_reports.py", SERVER)),
     (PYTHON, ("tests/memory/refuse_serving_growths.py", SERVER)),
     (PYTHON, ("tests/memory/refuse_growths.py", STORED_RUNS, "solver")),
     (PYTHON, ("tests/journals/journal_logs.py", SERVER)),
     (PYTHON, ("tests/journals/journal_disks.py", SERVER)),
     (PYTHON, ("tests/memory/refuse_connection_growths.py", STORED_RUNS)),
-    (PYTHON, ("tests/memory/refuse_reports.py", SERVER)),
     (PYTHON, ("tests/memory/refuse_growths.py", BOARDS, "crates/pbn_boards/data/255_boards.pbn", "255")),
     (DEBIAN_PYTHON, ("tests/drivers/fuzz_texts.py", SERVER)),
     (PYTHON, ("tests/drivers/failing_calls.py", SERVER)),
