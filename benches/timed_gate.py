@@ -46,17 +46,23 @@ def once(method):
 
 def time_checks(rt, log):
     """Has each check of the gate write its line."""
-    prove, try_edits = rt.Crate.ci, rt.must_fail_all
 
-    def tell(crate, kind, began, is_well):
+    def tell(crate, kind, began, is_well, what=""):
         times = f"{time.strftime('%H:%M:%S')} {time.time() - began:7.1f}s"
-        print(f"{times} {crate.name} {kind}: {'ok' if is_well else 'FAILED'}", file=log, flush=True)
+        print(f"{times} {crate.name} {kind}: {'ok' if is_well else 'FAILED'} {what}".rstrip(), file=log, flush=True)
+
+    prove = rt.Crate.ci
 
     def timed_proof(crate, flags, tests):
         began = time.time()
         status = prove(crate, flags, tests)
         tell(crate, "tests" if tests else "proof", began, not status)
         return status
+
+    rt.Crate.ci = timed_proof
+    if not hasattr(rt, "must_fail_all"):
+        return time_edits_over_a_seed(rt, tell)
+    try_edits = rt.must_fail_all
 
     def timed_edits(crate, edits, flags):
         began = time.time()
@@ -65,7 +71,26 @@ def time_checks(rt, log):
             tell(crate, "edits", began, all(is_refused for is_refused, _ in tried))
         return tried
 
-    rt.Crate.ci, rt.must_fail_all = timed_proof, timed_edits
+    rt.must_fail_all = timed_edits
+
+
+def time_edits_over_a_seed(rt, tell):
+    """As kit 13f tries edits: one check of the crate, the seed, and then each edit over what that proved, as a check of its own."""
+    seeded, must_fail = rt.seeded, rt.must_fail
+
+    def timed_seed(crate, flags, start=None):
+        began = time.time()
+        room = seeded(crate, flags, start)
+        tell(crate, "seed", began, room)
+        return room
+
+    def timed_edit(crate, edit, flags, kept=None):
+        began = time.time()
+        tried = must_fail(crate, edit, flags, kept)
+        tell(crate, "edit", began, tried[0] == rt.REFUSED, pathlib.Path(edit).stem)
+        return tried
+
+    rt.seeded, rt.must_fail = timed_seed, timed_edit
 
 
 def main():
