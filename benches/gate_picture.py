@@ -6,8 +6,9 @@
     benches/gate_picture.py LOG [SECONDS]      # the checks that took so long at least, 60 seconds where it isn't said
 
 A line has the time of day at which a check ended, how long it took, its crate, and what it was: the crate's `proof`, its `tests` (the
-crate proved once more, with them) or its `edits` (its wrong bodies). `rt ci` prints no times; `benches/timed_gate.py` runs it and writes
-such a log. Of several runs in a log the last is drawn.
+crate proved once more, with them) or its `edits` (its wrong bodies); kit 13f tries each of these as an `edit` of its own, over a `seed`, the
+crate proved once more for them, and the two are drawn as one bar, whose number is what they took together. `rt ci` prints no times;
+`benches/timed_gate.py` runs it and writes such a log. Of several runs in a log the last is drawn.
 
 `=` marks the proofs of the longest chain: crates of which each names the one before it in crates.txt, and whose proofs take the longest
 together. With any number of processors a gate takes no less.
@@ -23,11 +24,32 @@ DAY = 24 * 3600
 COLUMNS = 60
 MINUTES_OF_A_COLUMN = (0.25, 0.5, 1, 2, 5, 10)
 
-Check = collections.namedtuple("Check", "crate kind began ended told")
+Check = collections.namedtuple("Check", "crate kind began ended told took", defaults=(None,))
 
 
 def seconds_of(check):
-    return check.ended - check.began
+    """What it took; of wrong bodies that are drawn together, what they took one by one."""
+    return check.ended - check.began if check.took is None else check.took
+
+
+def drawn_together(checks):
+    """The same, with one check for all wrong bodies of a crate and their seed."""
+    of_edits = collections.defaultdict(list)
+    for it in checks:
+        if it.kind in ("edit", "seed"):
+            of_edits[it.crate].append(it)
+    edits = [Check(crate, "edits", min(it.began for it in them), max(it.ended for it in them), f"{len(them)}", sum(map(seconds_of, them)))
+             for crate, them in of_edits.items()]
+    return [it for it in checks if it.kind not in ("edit", "seed")] + edits
+
+
+def sums_of(checks):
+    """What the checks of each kind took together."""
+    sums = collections.Counter()
+    many = collections.Counter(it.kind for it in checks)
+    for it in checks:
+        sums[it.kind] += seconds_of(it)
+    return ", ".join(f"{kind} {sums[kind] / 60:.0f} ({many[kind]})" for kind, _ in sums.most_common())
 
 
 def checks_of(lines):
@@ -71,7 +93,7 @@ def picture(checks, least):
     first, last = min(it.began for it in checks), max(it.ended for it in checks)
     column = 60 * next(it for it in MINUTES_OF_A_COLUMN if last - first <= 60 * it * COLUMNS)
     chain = longest_chain(checks)
-    drawn = [it for it in sorted(checks, key=lambda it: (it.began, it.ended)) if seconds_of(it) >= least]
+    drawn = [it for it in sorted(drawn_together(checks), key=lambda it: (it.began, it.ended)) if seconds_of(it) >= least]
     names = [it.crate if it.kind == "proof" else f"{it.crate}: {it.kind}" for it in drawn]
     width = max(map(len, names), default=0)
     ticks = range(0, int((last - first) / column) + 1, 10)
@@ -83,7 +105,7 @@ def picture(checks, least):
     of_chain = sum(seconds_of(it) for it in checks if it.kind == "proof" and it.crate in chain)
     kept = sum("kept" in it.told for it in checks)
     yield ""
-    yield f"{len(checks)} checks in {(last - first) / 60:.0f} minutes, whose own times add up to {sum(map(seconds_of, checks)) / 60:.0f}."
+    yield f"{len(checks)} checks in {(last - first) / 60:.0f} minutes, whose own times add up to {sum(map(seconds_of, checks)) / 60:.0f}: {sums_of(checks)}."
     yield f"Those of {least:g} seconds or more are drawn."
     yield f"The longest chain (=) takes {of_chain / 60:.0f} minutes: {', '.join(chain)}."
     if kept:
