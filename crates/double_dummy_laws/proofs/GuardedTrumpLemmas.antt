@@ -109,7 +109,7 @@ leaders West South ne = absurd (ne refl)
 leaders West West ne = inl refl
 
 -- of two cards of a suit in a hand, both are legal or none
-legal_too : (p : Position) (card other : Card) → card.suit ≡ other.suit →
+pub legal_too : (p : Position) (card other : Card) → card.suit ≡ other.suit →
     set.contains (hand_of p.hands (to_play p)) other ≡ true → set.contains (legal p) card ≡ true →
     set.contains (legal p) other ≡ true
 legal_too p card other same held may =

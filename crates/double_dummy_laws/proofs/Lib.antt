@@ -15,6 +15,9 @@ pub mod PatternLemmas
 pub mod RefusedLemmas
 pub mod RenamingLemmas
 pub mod RunnerLemmas
+pub mod SharedTrumpLemmas
+pub mod SharedTrumpNameLemmas
+pub mod SharedTrumpPlayLemmas
 pub mod SureTrickLemmas
 pub mod TakingLemmas
 pub mod WinnerLemmas

@@ -20,7 +20,7 @@ use Rattle.double_dummy_laws.proofs.WinnerLemmas.{turns_1, turns_2, turns_3}
 use Rattle.double_dummy_laws.specs.SureTricks.{AreLongTrumps, TakesAtLeast}
 
 -- a set without the four cards of a trick
-abbrev rest_of : Cards → Card → Card → Card → Card → Cards
+abbrev pub rest_of : Cards → Card → Card → Card → Card → Cards
 rest_of s a b c d = set.remove (set.remove (set.remove (set.remove s a) b) c) d
 
 abbrev IsOut : Cards → Card → Type 0
@@ -39,7 +39,7 @@ one_fewer s card = elim (cases_Bool (set.contains s card)) [
 ]
 
 module _ (s : Cards) (a b c d : Card) where
-  no_more_left : set.len (rest_of s a b c d) ≤ set.len s
+  pub no_more_left : set.len (rest_of s a b c d) ≤ set.len s
   no_more_left =
       omega (
         arith,
@@ -105,7 +105,7 @@ module _ (s : Cards) (a b c d : Card) where
       )
 
   -- where one of them was in
-  first_gone : set.contains s a ≡ true → set.len (rest_of s a b c d) < set.len s
+  pub first_gone : set.contains s a ≡ true → set.len (rest_of s a b c d) < set.len s
   first_gone in' =
       omega (
         arith,
@@ -115,7 +115,7 @@ module _ (s : Cards) (a b c d : Card) where
         no_more (set.remove (set.remove (set.remove s a) b) c) d,
       )
 
-  second_gone : set.contains s b ≡ true → b ≢ a → set.len (rest_of s a b c d) < set.len s
+  pub second_gone : set.contains s b ≡ true → b ≢ a → set.len (rest_of s a b c d) < set.len s
   second_gone in' ba =
       omega (
         arith,
@@ -125,7 +125,7 @@ module _ (s : Cards) (a b c d : Card) where
         no_more (set.remove (set.remove (set.remove s a) b) c) d,
       )
 
-  third_gone : set.contains s c ≡ true → c ≢ a → c ≢ b → set.len (rest_of s a b c d) < set.len s
+  pub third_gone : set.contains s c ≡ true → c ≢ a → c ≢ b → set.len (rest_of s a b c d) < set.len s
   third_gone in' ca cb =
       omega (
         arith,
@@ -135,7 +135,7 @@ module _ (s : Cards) (a b c d : Card) where
         no_more (set.remove (set.remove (set.remove s a) b) c) d,
       )
 
-  fourth_gone : set.contains s d ≡ true → d ≢ a → d ≢ b → d ≢ c → set.len (rest_of s a b c d) < set.len s
+  pub fourth_gone : set.contains s d ≡ true → d ≢ a → d ≢ b → d ≢ c → set.len (rest_of s a b c d) < set.len s
   fourth_gone in' da db dc =
       omega (
         arith,

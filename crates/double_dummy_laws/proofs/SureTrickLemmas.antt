@@ -39,10 +39,10 @@ use Rattle.double_dummy_laws.specs.Renaming.{HasNames, IsLiveCardOf, IsRenaming,
 use Rattle.double_dummy_laws.specs.SureTricks.{AreBestTrumps, AreEnough, AreInReach, AreLongTrumps, AreLongTrumpsKnown, AreMasters, AreMastersKnown, AreRunners, AreTrumpsKnown, IsGuarded, IsWinningCard, IsWinningCardKnown, TakesAtLeast, led_by}
 
 -- the cards' other names, as a set
-abbrev named_cards : (Card → Card) → Cards → Cards
+abbrev pub named_cards : (Card → Card) → Cards → Cards
 named_cards name cards = set.from_list (map name (set.items cards))
 
-named_old : (name : Card → Card) (cards : Cards) (card : Card) →
+pub named_old : (name : Card → Card) (cards : Cards) (card : Card) →
     set.contains (named_cards name cards) card ≡ true →
     (old : Card) × (set.contains cards old ≡ true) × (name old ≡ card)
 named_old name cards card in' =
@@ -59,7 +59,7 @@ named_old name cards card in' =
           | inr later ↦ let found = look rest later in (found.0, inr found.1, found.2)
         ]
 
-in_named : (name : Card → Card) (cards : Cards) (card : Card) → set.contains cards card ≡ true →
+pub in_named : (name : Card → Card) (cards : Cards) (card : Card) → set.contains cards card ≡ true →
     set.contains (named_cards name cards) (name card) ≡ true
 in_named name cards card in' =
     set.contains-from_list card_cmp_total (map name (set.items cards)) (name card)
@@ -84,7 +84,7 @@ module _ (ownership : Ownership) (name : Card → Card) (renaming : IsRenaming o
       (λ a b c in_a in_b e f. renaming.apart a b (named.live place a in_a).0 (named.live place b in_b).0 (e ∙ sym f)) in
       omega (arith, less, more)
 
-  left_named : (strain : Strain) (leader : Place) →
+  pub left_named : (strain : Strain) (leader : Place) →
       cards_left (at hands strain leader []) ≡ cards_left (at h strain leader [])
   left_named strain leader =
       omega (arith, len_named North, len_named East, len_named South, len_named West)
@@ -98,7 +98,7 @@ module _ (ownership : Ownership) (name : Card → Card) (renaming : IsRenaming o
       (same.2 ∙ sym old.2) in
       apart place other old.0 old.1 (subst (λ x. set.contains (hand_of h other) x ≡ true) e same.1)
 
-  position_named : (strain : Strain) (leader : Place) → IsPosition (at h strain leader []) →
+  pub position_named : (strain : Strain) (leader : Place) → IsPosition (at h strain leader []) →
       IsPosition (at hands strain leader [])
   position_named strain leader valid = record {
     apart = position_apart valid.apart;
@@ -173,7 +173,7 @@ module _ (ownership : Ownership) (name : Card → Card) (renaming : IsRenaming o
   }
 
   -- no more of them, whoever has them
-  no_more_named : (cards : Cards) → set.len (named_cards name cards) ≤ set.len cards
+  pub no_more_named : (cards : Cards) → set.len (named_cards name cards) ≤ set.len cards
   no_more_named cards =
       paired_len (set.len (named_cards name cards)) (λ card old. name old ≡ card) (named_cards name cards) cards
       (omega arith) (λ card in'. named_old name cards card in') (λ a b c in_a in_b e f. sym e ∙ f)
@@ -421,7 +421,7 @@ module _ (ownership : Ownership) (name : Card → Card) (renaming : IsRenaming o
       }
 
 -- what a side takes answers the question
-answered : (side : Side) (k more : ℕ) (p q : Position) (target : ℕ) → AreEnough side k p target → k ≤ more →
+pub answered : (side : Side) (k more : ℕ) (p q : Position) (target : ℕ) → AreEnough side k p target → k ≤ more →
     cards_left q ≡ cards_left p → length q.table ≡ length p.table →
     TakesAtLeast side more q → nat_le target (tricks (cards_left p) q) ≡ wanted_answer side
 answered NorthSouth k more p q target enough fewer same as_many takes =
@@ -587,10 +587,10 @@ winning_found_at h strain leader holder led card known target valid is is_known 
     is_known.third))
 
 -- at the beginning of a trick
-at_start : (P : Position → Type 0) (p : Position) → p.table ≡ [] → P (at p.hands p.strain p.leader []) → P p
+pub at_start : (P : Position → Type 0) (p : Position) → p.table ≡ [] → P (at p.hands p.strain p.leader []) → P p
 at_start P p none here = subst (λ table. P (at p.hands p.strain p.leader table)) (sym none) here
 
-from_start : (P : Position → Type 0) (p : Position) → p.table ≡ [] → P p → P (at p.hands p.strain p.leader [])
+pub from_start : (P : Position → Type 0) (p : Position) → p.table ≡ [] → P p → P (at p.hands p.strain p.leader [])
 from_start P p none here = subst (λ table. P (at p.hands p.strain p.leader table)) none here
 
 pub runners_take : (p : Position) (cards masters partners theirs : Cards) → IsPosition p → p.table ≡ [] →

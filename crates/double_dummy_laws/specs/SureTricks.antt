@@ -108,6 +108,20 @@ AreLongTrumpsKnown position holder cards beaters known =
     set.contains (hand_of position.hands place) other ≡ true → other.suit ≡ card.suit →
     (set.contains beaters other ≡ true) ⊎ (set.contains known card ≡ true)
 
+-- the cards are trumps of a player or of the partner, no more of them than the player has trumps, and those trumps of the
+-- opponents that are not among the others are lower than each of them
+pub record AreSharedTrumps (position : Position) (holder : Place) (cards beaters : Cards) : Type 0 where
+  pub held : (card : Card) → set.contains cards card ≡ true →
+      (set.contains (hand_of position.hands holder) card ≡ true)
+      ⊎ (set.contains (hand_of position.hands (partner_of holder)) card ≡ true)
+  pub trumps : (card : Card) → set.contains cards card ≡ true → is_trump (trump_of position.strain) card ≡ true
+  pub lower : (card other : Card) (place : Place) → set.contains cards card ≡ true →
+      side_of place ≢ side_of holder → set.contains (hand_of position.hands place) other ≡ true →
+      is_trump (trump_of position.strain) other ≡ true →
+      (set.contains beaters other ≡ true) ⊎ (height other.rank < height card.rank)
+  pub long : set.len cards
+      ≤ set.len (set.retain (hand_of position.hands holder) (is_trump (trump_of position.strain)))
+
 -- a player has a trump that is higher than all trumps of the opponents but one, and another trump to guard it; that one
 -- is with the opponent at the player's right
 pub record IsGuarded (position : Position) (holder : Place) (best second guard : Card) : Type 0 where

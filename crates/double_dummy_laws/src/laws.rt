@@ -14,7 +14,7 @@ ghost use Rattle.double_dummy_laws.specs.Found.{IsCardFound, IsFound, wanted_ans
 ghost use Rattle.double_dummy_laws.specs.Neighbours.{AreNeighbours, AreUnparted, IsRun};
 ghost use Rattle.double_dummy_laws.specs.Pattern.{IsOfPattern, IsTop, holding};
 ghost use Rattle.double_dummy_laws.specs.Renaming.{Ownership, IsRenaming, HasNames, ArePlayed, AllKnown, renamed};
-ghost use Rattle.double_dummy_laws.specs.SureTricks.{AreBestTrumps, AreEnough, AreInReach, AreLongTrumps, AreLongTrumpsKnown, AreMastersKnown, AreRunners, AreTrumpsKnown, IsGuarded, IsWinningCard, IsWinningCardKnown, TakesAtLeast, led_by};
+ghost use Rattle.double_dummy_laws.specs.SureTricks.{AreBestTrumps, AreEnough, AreInReach, AreLongTrumps, AreLongTrumpsKnown, AreMastersKnown, AreRunners, AreSharedTrumps, AreTrumpsKnown, IsGuarded, IsWinningCard, IsWinningCardKnown, TakesAtLeast, led_by};
 
 /// With cards left, a position is worth the best that the side to play gets by a legal card: the trick that the card
 /// completes and what the position after it is worth. With none left it is worth no trick.
@@ -120,6 +120,19 @@ pub fn long_trumps_take_tricks()
         TakesAtLeast (side_of holder) (set.len cards - set.len beaters) position }
     ensures found { (position : Position) (holder : Place) (cards beaters known : Cards) (target : ℕ) →
         IsPosition position → position.table ≡ [] → AreLongTrumps position holder cards beaters →
+        AreLongTrumpsKnown position holder cards beaters known →
+        AreEnough (side_of holder) (set.len cards - set.len beaters) position target →
+        IsFound position target known (wanted_answer (side_of holder)) }
+{}
+
+/// The same of the trumps of both partners together, if one of the two has as many trumps as are counted: then a side need
+/// not play two of them to one trick.
+pub fn shared_trumps_take_tricks()
+    ensures tricks { (position : Position) (holder : Place) (cards beaters : Cards) → IsPosition position →
+        position.table ≡ [] → AreSharedTrumps position holder cards beaters →
+        TakesAtLeast (side_of holder) (set.len cards - set.len beaters) position }
+    ensures found { (position : Position) (holder : Place) (cards beaters known : Cards) (target : ℕ) →
+        IsPosition position → position.table ≡ [] → AreSharedTrumps position holder cards beaters →
         AreLongTrumpsKnown position holder cards beaters known →
         AreEnough (side_of holder) (set.len cards - set.len beaters) position target →
         IsFound position target known (wanted_answer (side_of holder)) }
