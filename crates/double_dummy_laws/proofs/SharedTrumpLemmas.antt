@@ -1,5 +1,5 @@
--- The trumps of both partners, one of whom has as many trumps as are counted: the partners' cards to a trick are chosen so
--- that not more than one of those falls, and one that takes it or falls to a trump of the opponents is the only one.
+-- The trumps of both partners, one of whom has as many trumps as are counted: what a trick leaves of them, where at most one
+-- that is counted is played to it, and a trump of the longer hand only with it or as it.
 use Rattle.std.proofs.Common.{◌≡◌, ◌≢◌, ◌⊎◌, ℕ, ◌+◌, ◌<◌, ◌≤◌, true, false, List, [], ◌∷◌, sym, ap, ◌∙◌, inl, inr, arith, cond, suc, refl}
 use Rattle.std.proofs.lemmas.Bool.{cases_Bool, cond-false, cond-true, false_from_ne_true, true≢false}
 use Rattle.std.specs.FinSet as set

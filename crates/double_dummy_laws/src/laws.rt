@@ -125,8 +125,9 @@ pub fn long_trumps_take_tricks()
         IsFound position target known (wanted_answer (side_of holder)) }
 {}
 
-/// The same of the trumps of both partners together, if one of the two has as many trumps as are counted: then a side need
-/// not play two of them to one trick.
+/// Both partners' trumps count together, if one of the two has as many trumps as are counted: then the side can play so
+/// that two of those never fall to one trick. Whoever is on lead, it takes as many tricks as these are more than the
+/// opponents' trumps that may beat one of them. To know so, they have to be known as those of one player have to be.
 pub fn shared_trumps_take_tricks()
     ensures tricks { (position : Position) (holder : Place) (cards beaters : Cards) → IsPosition position →
         position.table ≡ [] → AreSharedTrumps position holder cards beaters →
