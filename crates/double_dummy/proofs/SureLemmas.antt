@@ -43,6 +43,7 @@ use Rattle.double_dummy.proofs.RunLemmas.{none_in}
 use Rattle.position_patterns.proofs.SetLemmas.{in_first, in_second, just_inserted, still_inserted, inserted}
 use Rattle.double_dummy_laws.proofs.HandLemmas.{follows_legal, in_suit, legal_follows}
 use Rattle.double_dummy_laws.proofs.BestTrumpLemmas.{opponent_cases, opponents, trump_beats}
+use Rattle.double_dummy_laws.proofs.SharedTrumpNameLemmas.{shared_found}
 use Rattle.double_dummy_laws.proofs.SureTrickLemmas.{guarded_found, long_found, winning_found}
 use Rattle.double_dummy_laws.proofs.WinnerLemmas.{both_of, both_trumps, height_below, same_suit, same_trump}
 use Rattle.double_dummy_laws.specs.Found.{IsFound, wanted_answer}
@@ -320,6 +321,58 @@ from_one_up mine against reach counted beaters hand others trump lowest mine_is 
       | inl less ↦ inr (omega (arith, less, high.1), held)
       | inr reaches ↦ inl (beaters_is other ∙ and_from _ _ there (all other (same ∙ high.0) reaches))
     ]
+
+-- the trumps of both partners from one up, no more of them than one of the two has trumps
+pub shared_answer : (p : Position) (trump : Suit) (holder partner : Place) (side side' : Side)
+    (hand beside all mine both others against counted beaters known : Cards) (target wanted : ℕ) (holds : Bool) →
+    IsPosition p → p.table ≡ [] → trump_of p.strain ≡ Some trump → side ≡ side_of holder → side' ≡ side_of holder →
+    partner ≡ partner_of holder → hand ≡ hand_of p.hands holder → beside ≡ hand_of p.hands partner →
+    all ≡ set.union hand beside → mine ≡ set.retain hand (is_of trump) → both ≡ set.retain all (is_of trump) →
+    ((place : Place) (card : Card) → side_of place ≢ side_of holder →
+    set.contains (hand_of p.hands place) card ≡ true → set.contains others card ≡ true) →
+    against ≡ set.retain others (is_of trump) → AreAmong counted both →
+    ((card other : Card) → set.contains counted card ≡ true → set.contains against other ≡ true →
+    (set.contains beaters other ≡ true)
+    ⊎ ((height other.rank < height card.rank) × (set.contains counted card ≡ true))) →
+    ((tricks : ℕ) → wanted ≤ tricks → AreEnough side tricks p target) → set.len counted ≤ set.len mine →
+    wanted ≤ set.len counted - set.len beaters → holds ≡ wanted_answer side' → known ≡ counted →
+    IsFound p target known holds
+shared_answer p trump holder partner side side' hand beside all mine both others against counted beaters known target
+    wanted holds valid none trump_is side_is side_is' partner_is hand_is beside_is all_is mine_is both_is others_has
+    against_is counted_in beats enough long many holds_is known_is =
+    let own = λ (card : Card) (held : set.contains counted card ≡ true).
+    of_suit all both trump card both_is (counted_in card held) in
+    let opposed = λ (card other : Card) (place : Place) (held : set.contains counted card ≡ true)
+    (ne : side_of place ≢ side_of holder) (there : set.contains (hand_of p.hands place) other ≡ true)
+    (is : is_of trump other ≡ true).
+    beats card other held (in_of_suit others against trump other against_is (others_has place other ne there) is) in
+    let trumps : mine ≡ set.retain (hand_of p.hands holder) (is_trump (trump_of p.strain)) =
+    mine_is ∙ ap (λ s. set.retain s (is_of trump)) hand_is
+    ∙ ap (λ t. set.retain (hand_of p.hands holder) (is_trump t)) (sym trump_is) in
+    subst (λ k. IsFound p target k holds) (sym known_is)
+    (subst (λ b. IsFound p target counted b) (sym (holds_is ∙ ap wanted_answer side_is'))
+    (shared_found p holder counted beaters counted target valid none (record {
+      held = λ card held.
+          elim (either hand beside all card all_is (own card held).0) [
+            | inl first ↦ inl (ap (λ s. set.contains s card) (sym hand_is) ∙ first)
+            | inr second ↦ inr (ap (λ s. set.contains s card)
+                (sym (beside_is ∙ ap (hand_of p.hands) partner_is)) ∙ second)
+          ];
+      trumps = λ card held. ap (λ t. is_trump t card) trump_is ∙ (own card held).1;
+      lower = λ card other place held ne there is.
+          elim (opposed card other place held ne there (sym (ap (λ t. is_trump t other) trump_is) ∙ is)) [
+            | inl counts ↦ inl counts
+            | inr less ↦ inr less.0
+          ];
+      long = subst (λ s. set.len counted ≤ set.len s) trumps long;
+    })
+    (λ card other place held ne there same.
+    elim (opposed card other place held ne there (also_of trump card other (own card held).1 same)) [
+      | inl counts ↦ inl counts
+      | inr less ↦ inr less.1
+    ])
+    (subst (λ s. AreEnough s (set.len counted - set.len beaters) p target) side_is
+    (enough (set.len counted - set.len beaters) many))))
 
 -- a player's highest trump, and another one
 pub is_guarded : (p : Position) (trump : Suit) (holder right : Place)

@@ -15,6 +15,7 @@ mod order;
 mod played_costs;
 mod run;
 mod search;
+mod shared_trumps;
 mod solver;
 mod sure;
 mod trick;

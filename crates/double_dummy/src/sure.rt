@@ -14,6 +14,7 @@ ghost use Rattle.double_dummy_laws.specs.SureTricks.{AreEnough, IsGuarded, IsWin
 use crate::masters::runners;
 use crate::run;
 use crate::run::common;
+use crate::shared_trumps::by_shared_trumps;
 use crate::weights::top;
 use cards::{Card, Hand, Position, Rank};
 use position_patterns::Finding;
@@ -80,7 +81,7 @@ fn by_trumps_of_side(
     None
 }
 
-/// The same, by a player's trumps: by all of them, where no rank matters, or by the highest.
+/// The same, by a player's trumps: by all of them, where no rank matters, by the highest, or by these and the partner's.
 #[inline(never)]
 fn by_trumps_of(
     position: &Position,
@@ -98,7 +99,10 @@ fn by_trumps_of(
     if let Some(found) = by_many_trumps(position, trump, holder, target, tricks_left) {
         return Some(found);
     }
-    by_high_trumps(position, trump, holder, target, tricks_left)
+    if let Some(found) = by_high_trumps(position, trump, holder, target, tricks_left) {
+        return Some(found);
+    }
+    by_shared_trumps(position, trump, holder, target, tricks_left)
 }
 
 /// The same, by how many more trumps a player has than both opponents: a trump of theirs beats one at most.
@@ -154,7 +158,7 @@ fn by_high_trumps(
 }
 
 /// The highest of a player's trumps from which up they are more by so many than the opponents'.
-fn lowest_counted(mine: Hand, against: Hand, wanted: u32) -> Option<Card> {
+pub fn lowest_counted(mine: Hand, against: Hand, wanted: u32) -> Option<Card> {
     let mut rest = mine.word();
     for counted in 1..14u32 {
         if rest == 0 {
@@ -297,7 +301,7 @@ fn wins(position: &Position, led: Card, third: Hand, holder: Place) -> Option<Ha
 }
 
 /// How many tricks answer whether North and South take so many as the side would have it.
-fn tricks_wanted(side: Side, target: u8, tricks_left: u8) -> u32
+pub fn tricks_wanted(side: Side, target: u8, tricks_left: u8) -> u32
     requires { target ≤ tricks_left }
     ensures { (position : Position) (tricks : ℕ) →
         4 * tricks_left ≡ cards_left position + length position.table → result ≤ tricks →
@@ -310,7 +314,7 @@ fn tricks_wanted(side: Side, target: u8, tricks_left: u8) -> u32
 }
 
 /// The answer that a side would rather have, by these cards.
-fn answer(side: Side, known: Hand) -> Finding
+pub fn answer(side: Side, known: Hand) -> Finding
     ensures holds { result.holds ≡ wanted_answer side }
     ensures known { result.known ≡ known }
 {
@@ -322,7 +326,7 @@ fn answer(side: Side, known: Hand) -> Finding
 }
 
 /// The cards of a player's opponents.
-fn opponents_cards(position: &Position, holder: Place) -> Hand
+pub fn opponents_cards(position: &Position, holder: Place) -> Hand
     ensures { (place : Place) (card : Card) → side_of place ≢ side_of holder →
         set.contains (hand_of position.now.hands place) card ≡ true → set.contains result card ≡ true }
 {
