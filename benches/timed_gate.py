@@ -3,11 +3,12 @@
 
     22:09:38    21.3s mitchell proof: ok
 
-    benches/timed_gate.py LOG
+    benches/timed_gate.py LOG [--anew]
 
-The gate is the kit's own, and so are what it says and its status. To LOG is added, of each check, the time of day at which it ended,
-how long it took, its crate, what it was (`proof`, `tests` or `edits`), and `ok` or `FAILED`. A program's proof has its two builds in it.
-The last line, `ended after`, has the whole time, with the runs of the programs and of the tests.
+The gate is the kit's own, and so are what it says and its status; with `--anew` nothing counts that an earlier run proved. To LOG is
+added, of each check, the time of day at which it ended, how long it took, its crate, what it was (`proof`, `tests`, `edits`, or in kit 13f
+`seed` and `edit`), and `ok` or `FAILED`. A program's proof has its two builds in it. The last line, `ended after`, has the whole time, with
+the runs of the programs and of the tests.
 
 Kit 13b looks at the files below a library once for each path of crates.txt that leads there (docs/GATE.md). Here it does so once, since
 nobody may edit a file while a gate runs.
@@ -94,7 +95,7 @@ def time_edits_over_a_seed(rt, tell):
 
 
 def main():
-    if len(sys.argv) != 2:
+    if len(sys.argv) not in (2, 3) or sys.argv[2:] not in ([], ["--anew"]):
         sys.exit(__doc__)
     rt = kits_rt()
     rt.rtlib.Crate.stamp, rt.rtlib.Crate.below = once(rt.rtlib.Crate.stamp), once(rt.rtlib.Crate.below)
@@ -102,7 +103,7 @@ def main():
         os.chdir(ROOT)
         time_checks(rt, log)
         began = time.time()
-        status = rt.main(["ci"])
+        status = rt.main(["ci", *sys.argv[2:]])
         print(f"ended after {time.time() - began:.0f}s, with status {status}", file=log)
     return status
 
