@@ -123,11 +123,16 @@ released_elsewhere held own board other from to =
     has_number-numbers_that most_boards (λ n. not (nat_eq n own) && has_number held n) board from to
     ∙ ap (λ b. not b && has_number held board) (ne_eqb board own (λ same. other (sym same)))
 
+-- two boards are apart
+apart : (own board : ℕ) → Some own ≢ Some board → own ≢ board
+apart own board other same = other (ap Some same)
+
 confirmed_held : (state : SessionState) (cell : Cell) (known : CellState) → (confirmed state cell known).public.held ≡
     state.public.held
 confirmed_held state cell Empty = refl
 confirmed_held state cell known = refl
 
+-- a command on held boards is found to be about its own board alone
 held_after : (state : SessionState) (entry : Entry) (board : ℕ) → told_board entry.command ≢ Some board → 1 ≤ board →
     board ≤ most_boards →
     has_number (apply state entry).public.held board ≡ has_number state.public.held board
@@ -135,13 +140,9 @@ held_after state entry board other from to = by_hindrance (hindrance_of state en
   where
     by_command : (c : Command) → told_board c ≢ Some board → has_number (effect state c).public.held board ≡ has_number
         state.public.held board
-    by_command (command.Hold own) not_it = held_elsewhere state.public.held own board (λ same. not_it (ap Some same))
-        from to
-    by_command (command.Release own) not_it = released_elsewhere state.public.held own board
-        (λ same. not_it (ap Some same)) from to
     by_command (command.Confirm cell outcome) not_it =
         ap (λ held. has_number held board) (confirmed_held state cell (cell_at state cell))
-    by_command c not_it = refl
+    by_command c not_it = search (held_elsewhere, released_elsewhere, apart)
 
     by_hindrance : (found : Option Refusal) → has_number (if is_some found then state else effect state
         entry.command).public.held board ≡ has_number state.public.held board
@@ -384,11 +385,14 @@ sum_changed f g first (suc n) board from to same =
 no_board : (board : ℕ) → None ≢ Some board
 no_board board same = absurd cc
 
--- a command about a board is about no embargo
+-- a command on the embargo is about no board
+embargo_of_all : (c : Command) → part_of c ≡ Embargoes → told_board c ≡ None
+embargo_of_all command.Embargo is = refl
+embargo_of_all c is = search
+
+-- so a command about a board is on no embargo
 about_no_embargo : (c : Command) (board : ℕ) → told_board c ≡ Some board → part_of c ≢ Embargoes
-about_no_embargo command.Embargo board about is = absurd (no_board board about)
-about_no_embargo command.Lift board about is = absurd (no_board board about)
-about_no_embargo c board about is = absurd cc
+about_no_embargo c board about is = no_board board (sym (embargo_of_all c is) ∙ about)
 
 -- an entry changes what all boards count by what its own board counts
 pub counted_after : (count : Earning → ℕ) (state : SessionState) (entry : Entry) (class : Option UserClass)

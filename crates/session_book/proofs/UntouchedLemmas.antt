@@ -77,8 +77,6 @@ use Rattle.session_commands.specs.declared.command.Command.TheVariants.{
   Confirm,
   Correct,
   Void,
-  Hold,
-  Release,
   Seat,
   Unseat,
   AddUser,
@@ -86,7 +84,6 @@ use Rattle.session_commands.specs.declared.command.Command.TheVariants.{
   Deassign,
   AddInheritance,
   DeleteInheritance,
-  Embargo,
   Lift,
 }
 use Rattle.session_commands.specs.declared.entry.Entry.{Entry}
@@ -308,7 +305,8 @@ confirmed_elsewhere state cell (Entered outcome play) user board from from_other
     result_elsewhere state cell (Confirmed outcome play None) user board from from_other differ
 confirmed_elsewhere state cell known user board from from_other differ = nothing_changed state user board
 
--- of what a command doesn't touch it shows no more: a line for each that changes something that a rule looks at
+-- of what a command doesn't touch it shows no more: a line for each that changes results, seats or roles, or ends an
+-- embargo; of the others the last line finds that what is held stays so
 effect_shows : (state : SessionState) (command : Command) (user : List ℕ) (board : ℕ) →
     ((cell : Cell) → subject_cell command ≡ Some cell → 1 ≤ cell.board) → 1 ≤ board → board ≤ most_boards →
     is_touched (touched_by command) user board ≡ false → ShowsNoMore state (effect state command) user board
@@ -331,24 +329,6 @@ effect_shows state (Void cell) user board from low high untouched =
       held = λ is. is;
       live = λ place is. fewer_live state.public.live cell place board (from cell refl) is;
     }
-effect_shows state (Hold number) user board from low high untouched = record {
-  movement = refl;
-  roles = λ role. refl;
-  seat = inl refl;
-  edition = refl;
-  embargo = λ is. is;
-  held = still_held state.public.held number board low high;
-  live = λ place is. is;
-}
-effect_shows state (Release number) user board from low high untouched = record {
-  movement = refl;
-  roles = λ role. refl;
-  seat = inl refl;
-  edition = refl;
-  embargo = λ is. is;
-  held = other_held state.public.held number board low high untouched;
-  live = λ place is. is;
-}
 effect_shows state (Seat name pair place) user board from low high untouched = record {
   movement = refl;
   roles = λ role. refl;
@@ -399,24 +379,14 @@ effect_shows state (AddInheritance senior junior) user board from low high untou
     absurd (false≢true (sym untouched))
 effect_shows state (DeleteInheritance senior junior) user board from low high untouched =
     absurd (false≢true (sym untouched))
-effect_shows state Embargo user board from low high untouched =
-    record {
-      movement = refl;
-      roles = λ role. refl;
-      seat = inl refl;
-      edition = refl;
-      embargo = λ is. refl;
-      held = λ is. is;
-      live = λ place is. is;
-    }
 effect_shows state Lift user board from low high untouched = absurd (false≢true (sym untouched))
 effect_shows state command user board from low high untouched = record {
   movement = refl;
   roles = λ role. refl;
   seat = inl refl;
   edition = refl;
-  embargo = λ is. is;
-  held = λ is. is;
+  embargo = λ is. search;
+  held = λ is. search (still_held, other_held);
   live = λ place is. is;
 }
 
