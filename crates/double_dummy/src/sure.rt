@@ -20,9 +20,9 @@ use cards::{Card, Hand, Position, Rank};
 use position_patterns::Finding;
 use table_terms::{Place, Side, Suit};
 
-/// Whether North and South take so many tricks, at the beginning of a trick, where a player's trumps, a guarded second
-/// best one, or masters and long cards of the leader and the partner take as many as that needs. DDS counts more; what
-/// is counted here is known by the cards that it names.
+/// Whether North and South take so many tricks, at the beginning of a trick, where trumps of a player or of both
+/// partners, a guarded second best one, or masters and long cards of the leader and the partner take as many as that
+/// needs. DDS counts more; what is counted here is known by the cards that it names.
 pub fn sure_tricks(position: &Position, target: u8, tricks_left: u8) -> Option<Finding>
     requires start { position.now.table ≡ [] }
     requires left { 4 * tricks_left ≡ cards_left position.now + length position.now.table }
@@ -38,7 +38,7 @@ pub fn sure_tricks(position: &Position, target: u8, tricks_left: u8) -> Option<F
     by_masters(position, target, tricks_left)
 }
 
-/// The same, by the trumps of one player.
+/// The same, by the trumps of one side.
 fn by_trumps(position: &Position, target: u8, tricks_left: u8) -> Option<Finding>
     requires start { position.now.table ≡ [] }
     requires left { 4 * tricks_left ≡ cards_left position.now + length position.now.table }
@@ -52,7 +52,7 @@ fn by_trumps(position: &Position, target: u8, tricks_left: u8) -> Option<Finding
     by_trumps_of_side(position, trump, Place::East, target, tricks_left)
 }
 
-/// The same, by those of a player or of the partner.
+/// The same, by those of a player or of the partner, or of both.
 #[inline(always)]
 fn by_trumps_of_side(
     position: &Position,
