@@ -12,10 +12,10 @@ import pathlib
 import sys
 
 sys.path[:0] = [str(pathlib.Path(__file__).resolve().parents[1] / folder) for folder in ("models",)]
+from judged_run import EMBARGO, LIFT, OK, JudgedRun, add, assign, deassign, seat, unseat
 from judged_session import JudgedSession
 from stored_runs import put
 from write_connection_run import Run as ConnectionRun
-from write_edition_runs import EMBARGO, LIFT, OK, JudgedRun, add, assign, deassign, seat, unseat
 from write_query_runs import ACCOUNTS_0, CLOSE, DEALS, FINALISE, NEXT, R420_ROW, STATUS_0, played, rule
 from write_stored_runs import BOARDS, DIGEST, FOUR_SPADES, SECOND_USERS, SESSION, USERS, enter, text_of, user
 
