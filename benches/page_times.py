@@ -16,7 +16,9 @@ import tempfile
 import time
 
 sys.path[:0] = [str(pathlib.Path(__file__).resolve().parent.parent / "tests" / folder) for folder in ("browser",)]
-from page_devices import Browser, Hostile, Nginx, Server, until  # noqa: E402
+from page_browser import Browser  # noqa: E402
+from page_devices import Nginx, Server, until  # noqa: E402
+from page_hostile import Hostile  # noqa: E402
 
 SLOW_NETWORK = {"offline": False, "latency": 150, "downloadThroughput": 200_000, "uploadThroughput": 93_750}
 FAST_NETWORK = {"offline": False, "latency": 0, "downloadThroughput": -1, "uploadThroughput": -1}

@@ -20,8 +20,9 @@ import subprocess
 import sys
 import tempfile
 
+from page_browser import Browser
 from page_checks import FAILED, FIVE_CLUBS, PASSED, check, holds, part, type_result
-from page_devices import EXAMPLES, TOP, Browser, Nginx, Server, until
+from page_devices import EXAMPLES, TOP, Nginx, Server, until
 
 PEOPLE, DEALS = EXAMPLES / "people.csv", EXAMPLES / "club.pbn"
 # 100 random bits: twenty letters of Crockford's thirty-two, as five groups of four

@@ -1,6 +1,7 @@
 """How the page begins: on a slow network, and where a part of it can't be loaded."""
+from page_browser import Browser
 from page_checks import check, holds, part
-from page_devices import Browser, until
+from page_devices import until
 
 SLOW = {"offline": False, "latency": 150, "downloadThroughput": 200_000, "uploadThroughput": 93_750}
 FAST = {"offline": False, "latency": 0, "downloadThroughput": -1, "uploadThroughput": -1}

@@ -6,8 +6,9 @@ import stat
 import subprocess
 import sys
 
+from page_browser import Browser, Keys
 from page_checks import LeftOut, check, holds, part
-from page_devices import TOP, Browser, Keys, until
+from page_devices import TOP, until
 
 QR_CODES = TOP / "client" / "qr_codes.py"
 STORED = "return JSON.stringify([Object.entries(sessionStorage), Object.entries(localStorage), document.cookie])"

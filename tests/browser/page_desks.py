@@ -1,8 +1,8 @@
 """The director's and the administrator's desks, the audit, and the end of the session."""
 import re
 
-from page_checks import THREE_NO_TRUMP, LeftOut, check, holds, part, type_result
 from page_cards import STORED
+from page_checks import THREE_NO_TRUMP, LeftOut, check, holds, part, type_result
 from page_devices import until
 from page_scorer import in_view
 

@@ -3,8 +3,9 @@ import hashlib
 import json
 import pathlib
 
+from page_browser import Browser
 from page_checks import check, holds, part
-from page_devices import EXAMPLES, Browser, until
+from page_devices import EXAMPLES, until
 from page_layout import laid_out
 
 THOMAS = {"digest": hashlib.sha256(b"thomas-example").hexdigest(), "name": "thomas", "roles": ["Commentator"]}

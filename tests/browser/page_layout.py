@@ -3,8 +3,9 @@ import base64
 import re
 import time
 
+from page_browser import Keys
 from page_checks import check, holds, part
-from page_devices import Keys, until
+from page_devices import until
 
 NAMES = """
 const all = (selector) => [...document.querySelectorAll(selector)];

@@ -3,8 +3,9 @@ import json
 import pathlib
 import re
 
+from page_browser import Browser
 from page_checks import FIVE_CLUBS, check, holds, pair_in, part, type_result
-from page_devices import EXAMPLES, Browser, until
+from page_devices import EXAMPLES, until
 from page_layout import laid_out
 
 SIDES = ("North-South", "East-West")

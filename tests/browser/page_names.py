@@ -2,8 +2,9 @@
 import json
 import pathlib
 
+from page_browser import Browser
 from page_checks import check, holds, pair_text, part
-from page_devices import EXAMPLES, Browser, until
+from page_devices import EXAMPLES, until
 from page_layout import CUT, laid_out, pages_of
 
 LONG = "Wolfeschlegelsteinhausenbergerdorff von und zu Hohenlohe-Langen"

@@ -3,8 +3,9 @@ import json
 import pathlib
 import re
 
+from page_browser import Browser
 from page_checks import check, holds, part
-from page_devices import EXAMPLES, Browser, until
+from page_devices import EXAMPLES, until
 
 TABLES, PER_SET = 16, 8
 BOARDS = list(range(1, TABLES * PER_SET + 1))

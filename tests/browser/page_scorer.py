@@ -1,8 +1,9 @@
 """What a scorer on a phone meets: notices that stay in view, the pair that confirms, what is shown after it, and tables scrolled sideways."""
 import time
 
+from page_browser import Keys
 from page_checks import LeftOut, check, holds, pair_text, part, type_result
-from page_devices import Keys, until
+from page_devices import until
 
 NO_TRUMP_SET = {"by": "N", "doubled": 0, "level": 3, "strain": "N", "tricks": 8}  # board 7, both vulnerable: 100 for East-West
 

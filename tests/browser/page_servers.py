@@ -2,8 +2,10 @@
 import pathlib
 import time
 
+from page_browser import Browser
 from page_checks import FIVE_CLUBS, LeftOut, check, holds, part, type_result
-from page_devices import Browser, Hostile, until
+from page_devices import until
+from page_hostile import Hostile
 from page_layout import play_fits
 from page_scorer import in_view
 
