@@ -1,5 +1,6 @@
 """Parts of tests/runs/write_edition_runs.py: a commentator who plays, and one who loses and gains roles."""
-from judged_run import EMBARGO, OK, assign, deassign, disinherit, inherit, seat, unseat
+from account_commands import EMBARGO, assign, deassign, disinherit, inherit, seat, unseat
+from judged_run import OK
 from second_edition import BOARD_1, BOARD_2, BOARD_3, NEITHER, NO_MEMBER, second_edition
 from write_query_runs import ACCOUNTS_0, NEXT, NOTHING_EARNED, R420_ROW, played, void
 from write_stored_runs import FOUR_SPADES, confirm, enter

@@ -1,5 +1,6 @@
 """Parts of tests/runs/write_edition_runs.py: an embargo, and every query to every role before, under and after one."""
-from judged_run import EMBARGO, LIFT, OK, add, assign, seat, unseat
+from account_commands import EMBARGO, LIFT, add, assign, seat, unseat
+from judged_run import OK
 from second_edition import (ALL_ROLES, BOARD_1, BOARD_2, BOARD_3, HELD, NEITHER, NO_ACCOUNT, NO_MEMBER, NOT_DIRECTORS, ROLES_MORE, UNDER_EMBARGO,
                             second_edition)
 from write_query_runs import ABOUT_ALL, ABOUT_BOARDS, ABOUT_TABLES, CLOSE, FINALISE, NEXT, NOTHING_EARNED, STATUS_0, hold, played, release, rule

@@ -9,10 +9,11 @@ session (tests/runs/exposure_model.py) then works each answer out once more. Not
 """
 import json
 
+from account_commands import EMBARGO, LIFT, add, assign, deassign, disinherit, inherit, seat, unseat
 from exposure_model import COMMENTATOR, COMMENTS, DEALS, OK, USERS, Model
 from stored_runs import put
+from write_stored_runs import DIGEST
 
-DIGEST = "ba7816bf8f01cfea414140de5dae2223b00361a396177a9cb410ff61f20015ad"
 R420 = {"by": "N", "doubled": 0, "level": 4, "strain": "S", "tricks": 10}
 
 
@@ -40,35 +41,7 @@ def release(board):
     return {"board": board, "cmd": "Release"}
 
 
-def seat(name, pair, place):
-    return {"cmd": "Seat", "name": name, "pair": pair, "place": place}
-
-
-def unseat(name):
-    return {"cmd": "Unseat", "name": name}
-
-
-def add(name):
-    return {"cmd": "AddUser", "digest": DIGEST, "name": name}
-
-
-def assign(name, role):
-    return {"cmd": "Assign", "name": name, "role": role}
-
-
-def deassign(name, role):
-    return {"cmd": "Deassign", "name": name, "role": role}
-
-
-def inherit(senior, junior):
-    return {"cmd": "AddInheritance", "junior": junior, "senior": senior}
-
-
-def disinherit(senior, junior):
-    return {"cmd": "DeleteInheritance", "junior": junior, "senior": senior}
-
-
-NEXT, EMBARGO, LIFT = {"cmd": "NextRound"}, {"cmd": "Embargo"}, {"cmd": "Lift"}
+NEXT = {"cmd": "NextRound"}
 
 
 def do(name, *commands_and_answers):

@@ -1,42 +1,13 @@
-"""A script of the stored runs with a judged session beside it, and the commands of which such scripts are made."""
+"""A script of the stored runs with a judged session beside it."""
 import pathlib
 import sys
 
 sys.path[:0] = [str(pathlib.Path(__file__).resolve().parents[1] / folder) for folder in ("models",)]
 from message_reader import Fault, read_line
 from write_query_runs import Run
-from write_stored_runs import DIGEST, do, text_of
+from write_stored_runs import do, text_of
 
-EMBARGO, LIFT = {"cmd": "Embargo"}, {"cmd": "Lift"}
 OK = "ok"
-
-
-def assign(name, role):
-    return {"cmd": "Assign", "name": name, "role": role}
-
-
-def deassign(name, role):
-    return {"cmd": "Deassign", "name": name, "role": role}
-
-
-def seat(name, pair, place):
-    return {"cmd": "Seat", "name": name, "pair": pair, "place": place}
-
-
-def unseat(name):
-    return {"cmd": "Unseat", "name": name}
-
-
-def add(name):
-    return {"cmd": "AddUser", "digest": DIGEST, "name": name}
-
-
-def inherit(senior, junior):
-    return {"cmd": "AddInheritance", "junior": junior, "senior": senior}
-
-
-def disinherit(senior, junior):
-    return {"cmd": "DeleteInheritance", "junior": junior, "senior": senior}
 
 
 class JudgedRun(Run):

@@ -11,9 +11,10 @@ import pathlib
 import sys
 
 sys.path[:0] = [str(pathlib.Path(__file__).resolve().parents[1] / folder) for folder in ("models",)]
+from account_commands import EMBARGO, LIFT, add, assign, deassign, disinherit, inherit
 from commentator_parts import write_changed_commentator, write_commentator_who_plays
 from embargo_parts import write_all_roles, write_embargo
-from judged_run import EMBARGO, LIFT, OK, JudgedRun, add, assign, deassign, disinherit, inherit
+from judged_run import OK, JudgedRun
 from judged_session import JudgedSession
 from second_edition import (ALL_ROLES, BOARD_1, BOARD_2, NEITHER, NO_ACCOUNT, NO_MEMBER, NOT_DIRECTORS, ROLES_MORE, UNDER_EMBARGO,
                             second_edition)

@@ -12,7 +12,8 @@ import re
 import sys
 
 sys.path[:0] = [str(pathlib.Path(__file__).resolve().parents[1] / folder) for folder in ("models",)]
-from judged_run import OK, JudgedRun, seat
+from account_commands import seat
+from judged_run import OK, JudgedRun
 from judged_session import JudgedSession
 from write_query_runs import CLOSE, FINALISE, NEXT, correct, hold, played, release, rule, void
 from write_stored_runs import FOUR_SPADES, WHOLE_SUITS, contract, enter, game, text_of, user

@@ -12,7 +12,8 @@ import pathlib
 import sys
 
 sys.path[:0] = [str(pathlib.Path(__file__).resolve().parents[1] / folder) for folder in ("models",)]
-from judged_run import EMBARGO, LIFT, OK, JudgedRun, add, assign, deassign, seat, unseat
+from account_commands import EMBARGO, LIFT, add, assign, deassign, seat, unseat
+from judged_run import OK, JudgedRun
 from judged_session import JudgedSession
 from stored_runs import put
 from write_connection_run import Run as ConnectionRun
